@@ -1,0 +1,25 @@
+ghost use Rattle.std.specs.Prelude.{◌≡◌, IfOk};
+
+use crate::op::Op;
+use std::alloc::AllocError;
+
+/// A change and its sequence number.
+#[derive(Debug, PartialEq, Eq, Drop)]
+pub struct Write {
+    /// Its place in the order of all writes, from 1 to 2^56 - 1.
+    pub seq: u64,
+    /// What it changes.
+    pub op: Op,
+}
+
+impl Clone for Write {
+    /// A copy. It fails only for want of memory.
+    fn clone(&self) -> Result<Write, AllocError>
+        ensures { IfOk result (λ copy. copy ≡ self.now) }
+    {
+        Ok(Write {
+            seq: self.seq,
+            op: self.op.clone()?,
+        })
+    }
+}
