@@ -1,0 +1,6 @@
+pub mod Operation
+pub mod Counting
+pub mod Appending
+pub mod Greatest
+pub mod Merging
+pub mod Composition

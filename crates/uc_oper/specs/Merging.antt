@@ -1,0 +1,7 @@
+-- What an operand makes of a value, or of none.
+use Rattle.std.specs.Prelude.{ℕ, List, Option, Some, None}
+use Rattle.uc_oper.specs.Operation.{Operation}
+
+abbrev pub merged_with : Operation → Option (List ℕ) → List ℕ → List ℕ
+merged_with m None y = m.first y
+merged_with m (Some b) y = m.join b y

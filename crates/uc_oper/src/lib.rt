@@ -1,0 +1,21 @@
+//! Merge operators and effects.
+//!
+//! An operator is a type: it says how an operand of a merge combines with a value, or with an older
+//! operand, and proves the three laws under which operands may be combined in any grouping. An
+//! effect is what some writes together do to one key. Read `operator.rt` first, then `effect.rt`.
+#![tactic(auto)]
+
+mod append;
+mod counter;
+mod effect;
+mod maximum;
+mod operator;
+
+pub use append::Append;
+pub use counter::Counter;
+pub use effect::{Effect, apply_twice, then_is_associative, then_keeps_units};
+pub use maximum::Maximum;
+pub use operator::Operator;
+
+#[cfg(test)]
+mod tests;

@@ -1,0 +1,98 @@
+use super::*;
+use std::alloc::Global;
+use std::test::Fail;
+use uc_bytes::Bytes;
+
+const FIVE: [u8; 8] = [5, 0, 0, 0, 0, 0, 0, 0];
+
+const SEVEN: [u8; 8] = [7, 0, 0, 0, 0, 0, 0, 0];
+
+const TWELVE: [u8; 8] = [12, 0, 0, 0, 0, 0, 0, 0];
+
+const ZERO: [u8; 8] = [0; 8];
+
+const MOST: [u8; 8] = [255; 8];
+
+const ONE: [u8; 8] = [1, 0, 0, 0, 0, 0, 0, 0];
+
+#[test]
+fn counters_add_and_wrap(rt: HostRuntime) -> Result<(), Fail> {
+    let alloc = rt.alloc();
+    assert_eq!(rt;
+        Counter::join(alloc, &FIVE, &SEVEN)?.as_slice(),
+        TWELVE.as_slice()
+    );
+    assert_eq!(rt;
+        Counter::pair(alloc, &FIVE, &SEVEN)?.as_slice(),
+        TWELVE.as_slice()
+    );
+    assert_eq!(rt;
+        Counter::join(alloc, &MOST, &ONE)?.as_slice(),
+        ZERO.as_slice()
+    );
+    assert_eq!(rt; Counter::first(alloc, &SEVEN)?.as_slice(), SEVEN.as_slice());
+    assert_eq!(rt;
+        Counter::first(alloc, &[1, 2, 3])?.as_slice(),
+        ZERO.as_slice()
+    );
+    assert_eq!(rt;
+        Counter::join(alloc, &[0], &SEVEN)?.as_slice(),
+        SEVEN.as_slice()
+    );
+    Ok(())
+}
+
+#[test]
+fn texts_append_with_a_delimiter(rt: HostRuntime) -> Result<(), Fail> {
+    let alloc = rt.alloc();
+    assert_eq!(rt;
+        Append::<44>::join(alloc, b"", b"b")?.as_slice(),
+        b",b".as_slice()
+    );
+    assert_eq!(rt;
+        Append::<44>::pair(alloc, b"b", b"c")?.as_slice(),
+        b"b,c".as_slice()
+    );
+    assert_eq!(rt;
+        Append::<44>::first(alloc, b"b")?.as_slice(),
+        b"b".as_slice()
+    );
+    Ok(())
+}
+
+#[test]
+fn the_greater_text_stays(rt: HostRuntime) -> Result<(), Fail> {
+    let alloc = rt.alloc();
+    assert_eq!(rt;
+        Maximum::join(alloc, b"a", b"ab")?.as_slice(),
+        b"ab".as_slice()
+    );
+    assert_eq!(rt;
+        Maximum::pair(alloc, b"ab", b"`")?.as_slice(),
+        b"ab".as_slice()
+    );
+    assert_eq!(rt; Maximum::first(alloc, b"b")?.as_slice(), b"b".as_slice());
+    Ok(())
+}
+
+fn bytes(alloc: Global, text: &[u8]) -> Result<Bytes, Fail> {
+    Ok(Bytes::from_slice(alloc, text)?)
+}
+
+#[test]
+fn effects_compose_and_apply(rt: HostRuntime) -> Result<(), Fail> {
+    let alloc = rt.alloc();
+    let older = Effect::Fold(bytes(alloc, b"b")?);
+    let both = older.then::<Append<44>>(alloc, Effect::Fold(bytes(alloc, b"c")?))?;
+    assert_eq!(rt; both, Effect::Fold(bytes(alloc, b"b,c")?));
+    let value = both.apply::<Append<44>>(alloc, Some(bytes(alloc, b"a")?))?;
+    assert_eq!(rt; value, Some(bytes(alloc, b"a,b,c")?));
+    let cleared = Effect::Set(None).then::<Append<44>>(alloc, Effect::Fold(bytes(alloc, b"d")?))?;
+    assert_eq!(rt; cleared, Effect::Set(Some(bytes(alloc, b"d")?)));
+    let kept = Effect::Keep.then::<Append<44>>(alloc, Effect::Keep)?;
+    assert_eq!(rt; kept, Effect::Keep);
+    then_is_associative::<Counter>();
+    then_keeps_units::<Maximum>();
+    apply_twice::<Append<44>>();
+    Ok(())
+}
