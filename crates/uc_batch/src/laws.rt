@@ -1,0 +1,11 @@
+ghost use Rattle.std.specs.Prelude.{◌≡◌, ℕ, ◌<◌, List, length, Ok};
+ghost use Rattle.uc_write.specs.declared.op.Op.{Op as Operation};
+ghost use Rattle.uc_batch.specs.Batch.{numbered, batch_of};
+ghost use Rattle.uc_batch.specs.Spelling.{batch_text, FitsBatch};
+
+/// What the writer writes is read again as the same operations, after every sequence that is below the
+/// batch's own.
+pub fn written_is_read()
+    ensures { (last seq : ℕ) (ops : List Operation) → FitsBatch seq ops → (0 < length ops → last < seq) →
+        batch_of last (batch_text seq ops) ≡ Ok (numbered seq ops) }
+{}

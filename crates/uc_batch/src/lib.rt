@@ -1,0 +1,23 @@
+//! Write batches, and the plain writes of a log.
+//!
+//! A batch is the payload of one log record: a sequence number, a count, and that many operations
+//! (RocksDB, `write_batch.cc`). Read `error.rt` and `form.rt` for what a batch may hold, then
+//! `reading.rt` and `writing.rt`.
+#![tactic(auto)]
+
+mod error;
+mod form;
+mod laws;
+mod reading;
+mod records;
+mod varint;
+mod writing;
+
+pub use error::BatchError;
+pub use laws::written_is_read;
+pub use reading::read_batch;
+pub use uc_write::{Op, Write};
+pub use writing::{fits_batch, write_batch};
+
+#[cfg(test)]
+mod tests;

@@ -1,0 +1,104 @@
+ghost use Rattle.std.specs.Prelude.{◌≡◌, ◌<◌, ◌≤◌, ◌^◌, ◌++◌, ◌↔◌, length, IsTrue, IfOk, OnOk};
+ghost use Rattle.uc_batch.specs.Varint.{room_for};
+ghost use Rattle.uc_batch.specs.Spelling.{varint_text, string_text, op_text, batch_text, FitsOp, FitsBatch};
+
+use std::alloc::{AllocError, Global};
+use uc_write::Op;
+
+/// How many bytes a number may have behind its first.
+const MORE_BYTES: u32 = 4;
+
+/// Above every sequence number.
+const SEQUENCES: u64 = 1 << 56;
+
+/// Above every length and every count.
+const LENGTHS: usize = 1 << 32;
+
+/// Writes a number at the end, in as few bytes as will do, at most `1 + more`.
+#[tactic(auto, unfolding(crate::specs::Spelling::varint_text))]
+fn push_varint(out: &mut Vec<u8>, number: u32, more: u32) -> Result<(), AllocError>
+    requires few { more ≤ 4 }
+    requires fits { number < room_for more }
+    ensures { OnOk result (out.new.items ≡ out.old.items ++ varint_text more number) }
+{
+    if more == 0 || number < 128 {
+        out.push(number as u8)?;
+        return Ok(());
+    }
+    out.push((number % 128 + 128) as u8)?;
+    push_varint(out, number / 128, more - 1)
+}
+
+/// Writes a length and the bytes at the end.
+fn push_string(out: &mut Vec<u8>, bytes: &[u8]) -> Result<(), AllocError>
+    requires { length bytes.now < 2 ^ 32 }
+    ensures { OnOk result (out.new.items ≡ out.old.items ++ string_text bytes.now) }
+{
+    push_varint(out, bytes.len() as u32, MORE_BYTES)?;
+    out.extend_from_slice(bytes)
+}
+
+/// Writes an operation's record at the end.
+fn push_op(out: &mut Vec<u8>, op: &Op) -> Result<(), AllocError>
+    requires { FitsOp op.now }
+    ensures { OnOk result (out.new.items ≡ out.old.items ++ op_text op.now) }
+{
+    match op {
+        Op::Delete(key) => {
+            out.push(0x00)?;
+            push_string(out, key.as_slice())
+        }
+        Op::Put(key, value) => {
+            out.push(0x01)?;
+            push_string(out, key.as_slice())?;
+            push_string(out, value.as_slice())
+        }
+        Op::Merge(key, operand) => {
+            out.push(0x02)?;
+            push_string(out, key.as_slice())?;
+            push_string(out, operand.as_slice())
+        }
+        Op::DeleteRange(begin, end) => {
+            out.push(0x0F)?;
+            push_string(out, begin.as_slice())?;
+            push_string(out, end.as_slice())
+        }
+    }
+}
+
+/// Whether each string of the operation is shorter than 2^32 bytes.
+fn fits_op(op: &Op) -> bool
+    ensures { IsTrue result ↔ FitsOp op.now }
+{
+    match op {
+        Op::Delete(key) => key.len() < LENGTHS,
+        Op::Put(key, value) => key.len() < LENGTHS && value.len() < LENGTHS,
+        Op::Merge(key, operand) => key.len() < LENGTHS && operand.len() < LENGTHS,
+        Op::DeleteRange(begin, end) => begin.len() < LENGTHS && end.len() < LENGTHS,
+    }
+}
+
+/// Whether the operations fit one batch whose first has the sequence `seq`: the sequence is from 1 on
+/// and the last one used below 2^56, there are fewer than 2^32 operations, and each string is shorter
+/// than 2^32 bytes.
+pub fn fits_batch(seq: u64, ops: &[Op]) -> bool
+    ensures { IsTrue result ↔ FitsBatch seq ops.now }
+{
+    let in_range = 1 <= seq && seq < SEQUENCES && ops.len() < LENGTHS;
+    in_range && ops.len() as u64 <= SEQUENCES - seq && ops.iter().all(|op| fits_op(op))
+}
+
+/// The text of a batch: the sequence of its first operation, how many there are, and each one's
+/// record, with plain tags and the shortest numbers. It fails only for want of memory.
+pub fn write_batch(alloc: Global, seq: u64, ops: &[Op]) -> Result<Vec<u8>, AllocError>
+    requires { FitsBatch seq ops.now }
+    ensures { IfOk result (λ text. text.items ≡ batch_text seq ops.now) }
+{
+    let mut out = Vec::new(alloc);
+    out.extend_from_slice(&seq.to_le_bytes())?;
+    out.extend_from_slice(&(ops.len() as u32).to_le_bytes())?;
+    for op in ops {
+        push_op(&mut out, op)?;
+    }
+    Ok(out)
+}
