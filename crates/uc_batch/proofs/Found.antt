@@ -214,6 +214,24 @@ counted_found seq count total body writes e =
     let right = passed (eqb (length read.0) count) faults.WrongCount (numbered seq read.0) writes read.2 in
     (read.0, records_found (length body) total body read.0 (omega arith) read.1, eqb-true (length read.0) count right.0, sym right.1)
 
+-- the numbers of a batch that is accepted, whatever its bytes are
+pub batch_numbers : (last : ℕ) (bytes : List ℕ) (writes : List Write) → batch_of last bytes ≡ Ok writes
+    → (seq : ℕ) × (ops : List Op) × ((0 < length ops → last < seq) × (0 < length ops → seq + length ops ≤ 2 ^ 56)) × (writes ≡ numbered seq ops)
+unfolding batch_of
+batch_numbers last bytes writes e =
+    let seq = from_le_bytes w64 (take 8 bytes) in
+    let count = from_le_bytes w32 (take 4 (drop 8 bytes)) in
+    let a = not_failed (ltb (length bytes) 12) faults.TooShort (judged last seq count >>= λ s. counted_of s count (length bytes) (drop 12 bytes)) writes e in
+    let j = bind_ok (judged last seq count) (λ s. counted_of s count (length bytes) (drop 12 bytes)) writes a.1 in
+    let fine = judged_found last seq count j.0 j.1 in
+    let c = counted_found j.0 count (length bytes) (drop 12 bytes) writes j.2 in
+    (
+      seq,
+      c.0,
+      (λ h. fine.1 (subst (λ (n : ℕ). 0 < n) c.2 h), λ h. subst (λ (n : ℕ). seq + n ≤ 2 ^ 56) (sym c.2) (fine.2 (subst (λ (n : ℕ). 0 < n) c.2 h))),
+      c.3 ∙ ap (λ (s : ℕ). numbered s c.0) fine.0,
+    )
+
 -- what is accepted is a batch
 pub batch_found : (last : ℕ) (bytes : List ℕ) (writes : List Write) → IsBytes bytes → batch_of last bytes ≡ Ok writes → Accepts last bytes writes
 unfolding batch_of

@@ -6,3 +6,5 @@ pub mod Text
 pub mod Again
 pub mod Accepted
 pub mod Found
+pub mod Rises
+pub mod Joined

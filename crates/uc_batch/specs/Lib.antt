@@ -5,3 +5,6 @@ pub mod Records
 pub mod Batch
 pub mod Spelling
 pub mod Grammar
+pub mod Rising
+pub mod WriteLog
+pub mod Log

@@ -5,18 +5,28 @@
 //! `reading.rt` and `writing.rt`.
 #![tactic(auto)]
 
+mod ended;
 mod error;
 mod form;
 mod laws;
+mod log;
+mod mode;
+mod read_error;
 mod reading;
 mod records;
 mod varint;
+mod writes;
 mod writing;
 
+pub use ended::Ended;
 pub use error::BatchError;
 pub use laws::written_is_read;
+pub use log::read_writes;
+pub use mode::Mode;
+pub use read_error::ReadError;
 pub use reading::read_batch;
 pub use uc_write::{Op, Write};
+pub use writes::Writes;
 pub use writing::{fits_batch, write_batch};
 
 #[cfg(test)]

@@ -1,0 +1,9 @@
+use Rattle.uc_batch.proofs.Joined.{joins}
+use Rattle.uc_batch.proofs.log.join_batches.Goals as goal
+
+pub loop-place-preserved : goal.loop-place-preserved
+loop-place-preserved c =
+    let l = c.loop-place in
+    let read = rw c.as_slice.ensures at c.in-Ok.ensures.exact in
+    rw (c.in_ok-last-in-Ok.ensures.last, c.in_ok-last-in-Ok.ensures.writes)
+    (joins c.args.payloads.now l.place l.last l.writes.items c.index-payloads-place.result c.loop-place-test.true c.index-payloads-place.is l.invariant c.in-Ok.batch.items read)
