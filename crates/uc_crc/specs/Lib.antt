@@ -1,0 +1,4 @@
+pub mod Bits
+pub mod Division
+pub mod Crc
+pub mod Mask

@@ -1,0 +1,4 @@
+pub mod Reading
+pub mod Records
+pub mod Writing
+pub mod RoundTrip

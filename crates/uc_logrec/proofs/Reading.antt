@@ -1,0 +1,113 @@
+-- Reading a log record by record, as a loop does.
+use Rattle.std.proofs.Common.{◌≡◌, ℕ, zero, suc, ◌+◌, ◌-◌, ◌≤◌, ◌<◌, List, [], ◌∷◌, ◌++◌, length, take, drop, Option, Some, None, Result, Ok, Err, refl, sym, ap, ◌∙◌, append_assoc, length-drop, arith, rules}
+use Rattle.std.proofs.lemmas.List.{append-nil}
+use Rattle.uc_logrec.specs.declared.ending.Ending.{Ending}
+use Rattle.uc_logrec.specs.declared.ending.Ending.TheVariants.{Fault}
+use Rattle.uc_logrec.specs.declared.kind.Kind.{Kind}
+use Rattle.uc_logrec.specs.declared.header.Stop.{Stop}
+use Rattle.uc_logrec.specs.declared.fragments.Fragments.{Fragments}
+use Rattle.uc_logrec.specs.declared.fragments.Turn.{Turn}
+use Rattle.uc_logrec.specs.declared.fragments.Turn.TheVariants.{Complete, Open, Refused}
+use Rattle.uc_logrec.specs.Format.{room, header_place, record_of}
+use Rattle.uc_logrec.specs.Log.{turn_of, ending_at, Reading, ended, after_turn, after_record, reading_from, reading_of}
+
+-- what was read before, and what is read behind it
+abbrev pub with_front : List (List ℕ) → Reading → Reading
+with_front front reading = record { payloads = front ++ reading.payloads; ending = reading.ending }
+
+-- what is read from an offset on is the rest of the reading of the whole log
+pub record Completes (bytes : List ℕ) (front : List (List ℕ)) (unfinished : Option Fragments) (offset : ℕ) (left : List ℕ) : Type 0 where
+  pub places : ℕ
+  pub enough : length left < places
+  pub whole : reading_of bytes ≡ with_front front (reading_from places unfinished offset left)
+
+pub Completes-start : (bytes : List ℕ) → Completes bytes [] None 0 bytes
+unfolding reading_of
+Completes-start bytes = record { places = suc (length bytes); enough = omega arith; whole = refl }
+
+-- the bytes from the next header place on
+abbrev pub here : ℕ → List ℕ → List ℕ
+here offset left = drop (header_place offset - offset) left
+
+-- what reading from a place on is, where one place less is left for what stands behind it
+abbrev from_place : ℕ → Option Fragments → ℕ → List ℕ → Reading
+from_place places unfinished offset left = after_record (reading_from places) unfinished (header_place offset) (here offset left) (record_of (room (header_place offset)) (here offset left))
+
+one_of : (places : ℕ) (unfinished : Option Fragments) (offset : ℕ) (left : List ℕ) → length left < places
+    → (fewer : ℕ) × (length left ≤ fewer) × (reading_from places unfinished offset left ≡ from_place fewer unfinished offset left)
+unfolding reading_from
+one_of zero unfinished offset left lt = absurd (omega arith)
+one_of (suc n) unfinished offset left lt = (n, omega arith, refl)
+
+one_place : (bytes : List ℕ) (front : List (List ℕ)) (unfinished : Option Fragments) (offset : ℕ) (left : List ℕ) → Completes bytes front unfinished offset left
+    → (fewer : ℕ) × (length left ≤ fewer) × (reading_of bytes ≡ with_front front (from_place fewer unfinished offset left))
+one_place bytes front unfinished offset left c =
+    let o = one_of c.places unfinished offset left c.enough in
+    (o.0, o.1, c.whole ∙ ap (with_front front) o.2)
+
+abbrev pub stopped : List (List ℕ) → Ending → Reading
+stopped payloads ending = record { payloads = payloads; ending = ending }
+
+stopped_front : (front : List (List ℕ)) (ending : Ending) → with_front front (ended ending) ≡ stopped front ending
+stopped_front front ending = ap (λ (ps : List (List ℕ)). stopped ps ending) (append-nil front)
+
+-- where no record stands
+pub stops : (bytes : List ℕ) (front : List (List ℕ)) (unfinished : Option Fragments) (offset : ℕ) (left : List ℕ) (stop : Stop) → Completes bytes front unfinished offset left
+    → record_of (room (header_place offset)) (here offset left) ≡ Err stop → reading_of bytes ≡ stopped front (ending_at stop unfinished (header_place offset))
+stops bytes front unfinished offset left stop c e =
+    let p = one_place bytes front unfinished offset left c in
+    p.2 ∙ rw e (stopped_front front (ending_at stop unfinished (header_place offset)))
+
+-- the bytes behind a record
+abbrev pub behind : ℕ → List ℕ → ℕ → List ℕ
+behind offset left len = drop len (drop 7 (here offset left))
+
+-- a record that may stand there
+abbrev pub Goes : List ℕ → List (List ℕ) → ℕ → List ℕ → ℕ → Turn → Type 0
+Goes bytes front offset left len (Complete payload) = Completes bytes (front ++ payload ∷ []) None (header_place offset + 7 + len) (behind offset left len)
+Goes bytes front offset left len (Open fragments) = Completes bytes front (Some fragments) (header_place offset + 7 + len) (behind offset left len)
+Goes bytes front offset left len (Refused fault) = reading_of bytes ≡ stopped front (Fault fault (header_place offset))
+
+behind_shorter : (offset : ℕ) (left : List ℕ) (len : ℕ) → 7 + len ≤ length (here offset left) → length (behind offset left len) < length left
+behind_shorter offset left len h = omega (arith, length-drop len (drop 7 (here offset left)), length-drop 7 (here offset left), length-drop (header_place offset - offset) left)
+
+goes_on : (bytes : List ℕ) (front : List (List ℕ)) (unfinished : Option Fragments) (offset : ℕ) (left : List ℕ) (kind : Kind) (len : ℕ) (turn : Turn) (fewer : ℕ) → length left ≤ fewer → 7 + len ≤ length (here offset left)
+    → reading_of bytes ≡ with_front front (after_turn (λ still. reading_from fewer still (header_place offset + 7 + len) (behind offset left len)) (header_place offset) turn)
+    → Goes bytes front offset left len turn
+goes_on bytes front unfinished offset left kind len (Complete payload) fewer le within e =
+    record { places = fewer; enough = omega (arith, behind_shorter offset left len within); whole = e ∙ ap (λ (ps : List (List ℕ)). stopped ps (reading_from fewer None (header_place offset + 7 + len) (behind offset left len)).ending) (sym (append_assoc front (payload ∷ []) (reading_from fewer None (header_place offset + 7 + len) (behind offset left len)).payloads)) }
+goes_on bytes front unfinished offset left kind len (Open fragments) fewer le within e =
+    record { places = fewer; enough = omega (arith, behind_shorter offset left len within); whole = e }
+goes_on bytes front unfinished offset left kind len (Refused fault) fewer le within e = e ∙ stopped_front front (Fault fault (header_place offset))
+
+-- where a record stands
+pub goes : (bytes : List ℕ) (front : List (List ℕ)) (unfinished : Option Fragments) (offset : ℕ) (left : List ℕ) (kind : Kind) (len : ℕ) (turn : Turn) → Completes bytes front unfinished offset left
+    → record_of (room (header_place offset)) (here offset left) ≡ Ok (kind, len) → 7 + len ≤ length (here offset left)
+    → turn ≡ turn_of unfinished (header_place offset) kind (take len (drop 7 (here offset left))) → Goes bytes front offset left len turn
+goes bytes front unfinished offset left kind len turn c found within turns =
+    let p = one_place bytes front unfinished offset left c in
+    let turned : from_place p.0 unfinished offset left ≡ after_turn (λ still. reading_from p.0 still (header_place offset + 7 + len) (behind offset left len)) (header_place offset) turn = rw (found, turns) refl in
+    goes_on bytes front unfinished offset left kind len turn p.0 p.1 within (p.2 ∙ ap (with_front front) turned)
+
+-- what was found behind a trailer is what stands at the header place
+pub found_there : (offset : ℕ) (left : List ℕ) (place space : ℕ) (rest : List ℕ) (found : Result (Kind × ℕ) Stop) → place ≡ header_place offset → rest ≡ here offset left → space ≡ room place → found ≡ record_of space rest
+    → record_of (room (header_place offset)) (here offset left) ≡ found
+found_there offset left place space rest found e f g h = sym (h ∙ rw (g, e, f) refl)
+
+-- and so it is with what it does
+pub turned_there : (unfinished : Option Fragments) (offset : ℕ) (left : List ℕ) (place : ℕ) (rest fragment : List ℕ) (kind : Kind) (len : ℕ) (turn : Turn) → place ≡ header_place offset → rest ≡ here offset left → fragment ≡ take len (drop 7 rest)
+    → turn ≡ turn_of unfinished place kind fragment → turn ≡ turn_of unfinished (header_place offset) kind (take len (drop 7 (here offset left)))
+turned_there unfinished offset left place rest fragment kind len turn e f g h =
+    h ∙ (ap (λ (p : ℕ). turn_of unfinished p kind fragment) e ∙ ap (turn_of unfinished (header_place offset) kind) (g ∙ ap (λ (r : List ℕ). take len (drop 7 r)) f))
+
+-- the bytes behind it, and how many they are
+pub behind_there : (offset : ℕ) (left rest after : List ℕ) (len : ℕ) → rest ≡ here offset left → after ≡ drop len (drop 7 rest) → after ≡ behind offset left len
+behind_there offset left rest after len f g = g ∙ ap (λ (r : List ℕ). drop len (drop 7 r)) f
+
+pub still_within : (offset : ℕ) (left : List ℕ) (len whole : ℕ) → 7 + len ≤ length (here offset left) → offset + length left ≡ whole → header_place offset + 7 + len + length (behind offset left len) ≡ whole
+still_within offset left len whole h e =
+    let a = length-drop len (drop 7 (here offset left)) in
+    let b = length-drop 7 (here offset left) in
+    let d = length-drop (header_place offset - offset) left in
+    let later : offset ≤ header_place offset = search rules in
+    omega (arith, a, b, d)

@@ -1,0 +1,95 @@
+//! The payload that is not complete yet.
+ghost use Rattle.std.specs.Prelude.{◌≡◌, ◌++◌, IfOk};
+ghost use Rattle.uc_logrec.specs.Log.{outside, inside, turn_of};
+
+use crate::fault::LogFault;
+use crate::kind::Kind;
+use std::alloc::{AllocError, Global};
+use uc_bytes::Bytes;
+
+/// The fragments of a payload whose LAST has not come yet.
+#[derive(Drop)]
+pub(crate) struct Fragments {
+    /// The offset of its FIRST in the log.
+    pub(crate) start: u64,
+    /// The data of the fragments, joined.
+    pub(crate) payload: Bytes,
+    /// Whether there is nothing but a FIRST without data. Old writers left such a one at the end of a block,
+    /// so it is dropped where another payload begins behind it.
+    pub(crate) is_lone: bool,
+}
+
+/// What a record does to the payload that is open.
+#[derive(Drop)]
+pub(crate) enum Turn {
+    /// This payload is complete, and none is open now.
+    Complete(Bytes),
+    /// This payload is open now.
+    Open(Fragments),
+    /// The record can't stand there.
+    Refused(LogFault),
+}
+
+/// What a record at an offset does.
+pub(crate) fn turn_at(
+    alloc: Global,
+    unfinished: Option<Fragments>,
+    offset: u64,
+    kind: Kind,
+    fragment: &[u8],
+) -> Result<Turn, AllocError>
+    ensures { IfOk result (λ turn. turn ≡ turn_of unfinished offset kind fragment.now) }
+{
+    match unfinished {
+        None => begin(alloc, offset, kind, fragment),
+        Some(fragments) => go_on(alloc, fragments, offset, kind, fragment),
+    }
+}
+
+/// What a record does where no payload is open.
+fn begin(alloc: Global, offset: u64, kind: Kind, fragment: &[u8]) -> Result<Turn, AllocError>
+    ensures { IfOk result (λ turn. turn ≡ outside offset kind fragment.now) }
+{
+    match kind {
+        Kind::Full => Ok(Turn::Complete(Bytes::from_slice(alloc, fragment)?)),
+        Kind::First => Ok(Turn::Open(Fragments {
+            start: offset,
+            payload: Bytes::from_slice(alloc, fragment)?,
+            is_lone: fragment.is_empty(),
+        })),
+        Kind::Middle => Ok(Turn::Refused(LogFault::MiddleAlone)),
+        Kind::Last => Ok(Turn::Refused(LogFault::LastAlone)),
+    }
+}
+
+/// What a record does to an open payload.
+fn go_on(
+    alloc: Global,
+    unfinished: Fragments,
+    offset: u64,
+    kind: Kind,
+    fragment: &[u8],
+) -> Result<Turn, AllocError>
+    ensures { IfOk result (λ turn. turn ≡ inside unfinished offset kind fragment.now) }
+{
+    match kind {
+        Kind::Full | Kind::First if unfinished.is_lone => begin(alloc, offset, kind, fragment),
+        Kind::Full => Ok(Turn::Refused(LogFault::FullInside)),
+        Kind::First => Ok(Turn::Refused(LogFault::FirstInside)),
+        Kind::Middle => Ok(Turn::Open(Fragments {
+            start: unfinished.start,
+            payload: joined(unfinished.payload, fragment)?,
+            is_lone: false,
+        })),
+        Kind::Last => Ok(Turn::Complete(joined(unfinished.payload, fragment)?)),
+    }
+}
+
+/// The bytes with the data at their end. The payload's bytes are not copied unless its vector grows.
+fn joined(payload: Bytes, fragment: &[u8]) -> Result<Bytes, AllocError>
+    ensures { IfOk result (λ all. all ≡ payload ++ fragment.now) }
+{
+    let mut bytes = payload.into_vec();
+    bytes.extend_from_slice(fragment)?;
+    Ok(Bytes::from(bytes))
+}

@@ -1,0 +1,30 @@
+//! The records of a write-ahead log, read and written: LevelDB's `log_format.md`.
+//!
+//! A log is a row of blocks of 32,768 bytes. A record has a header of seven bytes (a masked CRC-32C, a
+//! length, a type) and its data; a payload that does not fit its block is cut into a FIRST, MIDDLEs and
+//! a LAST. [`read_log`] gives the payloads of a log and says how it ends; [`LogWriter`] writes a log.
+//!
+//! Read `kind.rt` and `header.rt` first: what a record is. `fragments.rt` has the payload that is not
+//! complete yet, and `reader.rt` and `writer.rt` the two directions.
+#![tactic(auto)]
+
+mod ending;
+mod fault;
+mod fragments;
+mod header;
+mod kind;
+mod laws;
+mod payloads;
+mod reader;
+mod writer;
+
+pub use ending::Ending;
+pub use fault::LogFault;
+pub use laws::round_trip;
+pub use payloads::Payloads;
+pub use reader::{LogRead, read_log};
+pub use uc_crc::{crc32c, mask, unmask};
+pub use writer::LogWriter;
+
+#[cfg(test)]
+mod tests;

@@ -1,0 +1,128 @@
+//! From payloads to the bytes of a log.
+ghost use Rattle.std.specs.Prelude.{◌≡◌, ℕ, ◌+◌, ◌-◌, ◌<◌, ◌≤◌, ◌^◌, List, [], ◌∷◌, ◌++◌, length, OnOk, OnErr, IfOk, vec_len};
+ghost use Rattle.uc_logrec.specs.Format.{room, code_of, record_text};
+ghost use Rattle.uc_logrec.specs.Log.{payload_text, records_text, rest_text, trailer, log_text, Extends};
+
+use crate::header::{BLOCK, HEADER, checksum, room_at};
+use crate::kind::Kind;
+use std::alloc::{AllocError, Global};
+use std::marker::Model;
+
+/// Writes a log into memory, payload by payload.
+///
+/// A contract sees it as the list of the payloads that were added.
+#[derive(Debug, Drop)]
+pub struct LogWriter {
+    text: Vec<u8>,
+}
+
+impl Model for LogWriter {
+    ghost use Rattle.std.specs.Prelude.{◌≡◌, List, ℕ};
+    ghost use Rattle.uc_logrec.specs.Log.{payloads_of, log_text};
+
+    ghost Value = { List (List ℕ) };
+
+    ghost view = { λ w. payloads_of w.text.items };
+
+    ghost invariant = { λ w. w.text.items ≡ log_text (payloads_of w.text.items) };
+}
+
+impl LogWriter {
+    /// A writer of a log without payloads. It takes no memory.
+    pub fn new(alloc: Global) -> LogWriter
+        ensures { result ≡ [] }
+    {
+        LogWriter {
+            text: Vec::new(alloc),
+        }
+    }
+
+    /// Adds a payload: one record where it fits the rest of the block, else a FIRST, MIDDLEs and a LAST.
+    ///
+    /// It fails only for want of memory, and then adds nothing.
+    pub fn add(&mut self, payload: &[u8]) -> Result<(), AllocError>
+        ensures ok { OnOk result (self.new ≡ self.old ++ payload.now ∷ []) }
+        ensures err { OnErr result (self.new ≡ self.old) }
+    {
+        let before = self.text.len();
+        if let Err(error) = push_payload(&mut self.text, payload) {
+            self.text.truncate(before);
+            return Err(error);
+        }
+        Ok(())
+    }
+
+    /// The bytes of the log. It takes no memory.
+    pub fn finish(self) -> Vec<u8>
+        ensures { result.items ≡ log_text self }
+    {
+        self.text
+    }
+}
+
+/// The most data that a record has: a whole block's.
+const MOST: usize = BLOCK - HEADER;
+
+/// Writes a record at the end.
+#[tactic(auto, using(std::proofs::lemmas::List::append_assoc), unfolding(crate::specs::Format::record_text))]
+fn push_record(text: &mut Vec<u8>, kind: Kind, fragment: &[u8]) -> Result<(), AllocError>
+    requires { length fragment.now < 2 ^ 16 }
+    ensures ok { OnOk result (text.new.items ≡ text.old.items ++ record_text kind fragment.now) }
+    ensures kept { Extends text.old.items text.new.items }
+{
+    text.extend_from_slice(&checksum(kind.code(), fragment).to_le_bytes())?;
+    text.extend_from_slice(&(fragment.len() as u16).to_le_bytes())?;
+    text.push(kind.code())?;
+    text.extend_from_slice(fragment)?;
+    Ok(())
+}
+
+/// Writes the trailer that stands before the next header place.
+fn push_trailer(text: &mut Vec<u8>) -> Result<(), AllocError>
+    ensures ok { OnOk result (text.new.items ≡ text.old.items ++ trailer (length text.old.items)) }
+    ensures kept { Extends text.old.items text.new.items }
+{
+    let room = room_at(text.len());
+    if room < HEADER {
+        text.extend_from_slice(&[0; HEADER][..room])?;
+    }
+    Ok(())
+}
+
+/// Writes what is left of a payload behind its FIRST, from a block's start on.
+fn push_rest(text: &mut Vec<u8>, payload: &[u8]) -> Result<(), AllocError>
+    ensures ok { OnOk result (text.new.items ≡ text.old.items ++ rest_text payload.now) }
+    ensures kept { Extends text.old.items text.new.items }
+{
+    let mut left = payload;
+    while left.len() > MOST {
+        let (middle, behind) = left.split_at(MOST);
+        push_record(text, Kind::Middle, middle)?;
+        left = behind;
+    }
+    push_record(text, Kind::Last, left)
+}
+
+/// Writes the records of a payload at a header place.
+fn push_records(text: &mut Vec<u8>, payload: &[u8]) -> Result<(), AllocError>
+    requires { 7 ≤ room (length text.old.items) }
+    ensures ok { OnOk result (text.new.items ≡ text.old.items ++ records_text (length text.old.items) payload.now) }
+    ensures kept { Extends text.old.items text.new.items }
+{
+    let fits = room_at(text.len()) - HEADER;
+    if payload.len() <= fits {
+        return push_record(text, Kind::Full, payload);
+    }
+    let (first, rest) = payload.split_at(fits);
+    push_record(text, Kind::First, first)?;
+    push_rest(text, rest)
+}
+
+/// Writes a payload at the end.
+fn push_payload(text: &mut Vec<u8>, payload: &[u8]) -> Result<(), AllocError>
+    ensures ok { OnOk result (text.new.items ≡ text.old.items ++ payload_text (length text.old.items) payload.now) }
+    ensures kept { Extends text.old.items text.new.items }
+{
+    push_trailer(text)?;
+    push_records(text, payload)
+}

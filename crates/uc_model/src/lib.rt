@@ -1,0 +1,15 @@
+//! What a read means, and the plain slow program that computes it.
+//!
+//! The model is one flat list of writes and one left fold for each key. It knows no run, memtable or
+//! compaction: whatever keeps the writes in another way has to answer as this crate does. Read
+//! `specs/Meaning.antt` first.
+#![tactic(auto)]
+
+mod laws;
+mod value;
+
+pub use laws::{effect_gives_value, later_writes_change_nothing, untouched_key_keeps_its_value};
+pub use value::{effect_at, touches, value_at};
+
+#[cfg(test)]
+mod tests;
