@@ -1,0 +1,141 @@
+-- What a script asks.
+use Rattle.std.specs.Prelude.{ℕ, ◌+◌, ◌==◌, Bool, true, false, List, [], ◌∷◌, length, position, codes, Option, Some, None, is_none, Result, Ok, Err, if◌then◌else◌}
+use Rattle.std.specs.List.{before_first, after_first, filter_map}
+use Rattle.std.specs.Option.{option_map, option_or}
+use Rattle.uc_script.specs.Lines.{lines_of, fields_of, is_skipped, says}
+use Rattle.uc_script.specs.Texts.{◌>>=◌, number_of, text_of, seq_of, high_of}
+use Rattle.uc_script.specs.declared.call.Call.{Call}
+use Rattle.uc_script.specs.declared.call.Call.TheVariants.{Get, Scan}
+use Rattle.uc_script.specs.declared.setup.SetupLine.{SetupLine}
+use Rattle.uc_script.specs.declared.setup.SetupLine.TheVariants as setup
+use Rattle.uc_script.specs.declared.asking.CallLine.{CallLine}
+use Rattle.uc_script.specs.declared.asking.CallLine.TheVariants as asking
+use Rattle.uc_script.specs.declared.script.Script.{Script}
+use Rattle.uc_write.specs.declared.op.Op.{Op}
+use Rattle.uc_write.specs.declared.op.Op.TheVariants.{Put, Delete, Merge, DeleteRange}
+
+-- ---- lines before `open`
+
+-- `delete K` and `keep S`
+unfoldable pub with_one : List ℕ → List ℕ → Option SetupLine
+with_one word argument =
+    if says word (codes "delete") then (do
+      key ← text_of argument
+      Some (setup.Change (Delete key)))
+    else if says word (codes "keep") then (do
+      number ← number_of argument
+      Some (setup.Keep number))
+    else None
+
+-- `put K V`, `merge K V` and `range B E`
+unfoldable pub with_two : List ℕ → List ℕ → List ℕ → Option SetupLine
+with_two word first second = do
+  key ← text_of first
+  value ← text_of second
+  if says word (codes "put") then Some (setup.Change (Put key value))
+      else if says word (codes "merge") then Some (setup.Change (Merge key value))
+      else if says word (codes "range") then Some (setup.Change (DeleteRange key value))
+      else None
+
+-- What a line before the first `open` says by its fields, that line too.
+unfoldable pub setup_of : List (List ℕ) → Option SetupLine
+setup_of (word ∷ []) = if says word (codes "open") then Some setup.Open else None
+setup_of (word ∷ argument ∷ []) = with_one word argument
+setup_of (word ∷ first ∷ second ∷ []) = with_two word first second
+setup_of _ = None
+
+-- What such a line says, or None where it is not as it should be.
+unfoldable pub setup_line : List ℕ → Option SetupLine
+setup_line line = if is_skipped line then Some setup.Skipped else setup_of (fields_of line)
+
+-- ---- lines after `open`
+
+-- `get K S`
+unfoldable pub get_of : List ℕ → List ℕ → Option Call
+get_of key at = do
+  k ← text_of key
+  s ← seq_of at
+  Some (Get k s)
+
+-- `scan LOW HIGH LIMIT S`
+unfoldable pub scan_of : List ℕ → List ℕ → List ℕ → List ℕ → Option Call
+scan_of low high limit at = do
+  l ← text_of low
+  h ← high_of high
+  n ← number_of limit
+  s ← seq_of at
+  Some (Scan l h n s)
+
+-- What a line after the first `open` says by its fields.
+unfoldable pub call_of : List (List ℕ) → Option Call
+call_of (word ∷ key ∷ at ∷ []) = if says word (codes "get") then get_of key at else None
+call_of (word ∷ low ∷ high ∷ limit ∷ at ∷ []) = if says word (codes "scan") then scan_of low high limit at else None
+call_of _ = None
+
+-- What a line after the first `open` says, or None where it is not as it should be.
+unfoldable pub call_line : List ℕ → Option CallLine
+call_line line = if is_skipped line then Some asking.Skipped else option_map asking.Ask (call_of (fields_of line))
+
+-- ---- the whole script
+
+abbrev is_open : Option SetupLine → Bool
+is_open (Some setup.Open) = true
+is_open _ = false
+
+-- Whether this is an `open` line.
+unfoldable pub says_open : List ℕ → Bool
+says_open line = is_open (setup_line line)
+
+-- The lines before the first `open`, and the lines after it.
+abbrev pub lines_before : List (List ℕ) → List (List ℕ)
+lines_before lines = before_first says_open lines
+
+abbrev pub lines_after : List (List ℕ) → List (List ℕ)
+lines_after lines = after_first says_open lines
+
+abbrev pub changed : Option SetupLine → Option Op
+changed (Some (setup.Change op)) = Some op
+changed _ = None
+
+abbrev kept : Option SetupLine → Option ℕ
+kept (Some (setup.Keep number)) = Some number
+kept _ = None
+
+abbrev asked : Option CallLine → Option Call
+asked (Some (asking.Ask call)) = Some call
+asked _ = None
+
+-- The change, the number kept and the call that a line names, if it names one.
+unfoldable pub change_in : List ℕ → Option Op
+change_in line = changed (setup_line line)
+
+unfoldable pub keep_in : List ℕ → Option ℕ
+keep_in line = kept (setup_line line)
+
+unfoldable pub call_in : List ℕ → Option Call
+call_in line = asked (call_line line)
+
+-- How many lines stand before the first line at fault, if there is one. Before the first `open` that is
+-- a line that is no setup line, after it one that is no call. Where no line is `open`, it is the line that
+-- is missing behind the last.
+abbrev pub fault_at : List (List ℕ) → Option ℕ
+fault_at lines =
+    option_or (position (λ line. is_none (setup_line line)) (lines_before lines))
+    (if length (lines_before lines) == length lines then Some (length lines)
+    else option_map (λ k. length (lines_before lines) + 1 + k) (position (λ line. is_none (call_line line)) (lines_after lines)))
+
+-- What lines without a fault ask, all in the order of the lines.
+abbrev pub asked_by : List (List ℕ) → Script
+asked_by lines = record {
+  ops = filter_map change_in (lines_before lines);
+  keeps = filter_map keep_in (lines_before lines);
+  calls = filter_map call_in (lines_after lines);
+}
+
+abbrev pub unless_fault : Option ℕ → Script → Result Script ℕ
+unless_fault (Some k) script = Err (k + 1)
+unless_fault None script = Ok script
+
+-- What a script asks, or the number of its first line at fault, from 1.
+unfoldable pub script_of : List ℕ → Result Script ℕ
+script_of text = unless_fault (fault_at (lines_of text)) (asked_by (lines_of text))

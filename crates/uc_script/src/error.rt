@@ -1,0 +1,33 @@
+ghost use Rattle.std.specs.Prelude.{◌≡◌};
+ghost use Rattle.uc_script.specs.declared.error.ScriptError.TheVariants.{Memory};
+
+use std::alloc::{AllocError, AllocFailed};
+use thiserror::Error;
+
+/// Why a script could not be read.
+#[derive(Debug, Drop, Error)]
+pub enum ScriptError {
+    /// The number, from 1, of the first line that is not as it should be. Where only `open` is
+    /// missing, that is the line behind the last.
+    #[error("line {0} of the script is not as it should be")]
+    Fault(u64),
+    /// There was no memory for what the script says.
+    #[error("out of memory")]
+    Memory,
+}
+
+impl From<AllocError> for ScriptError {
+    ghost from_gives = { λ _ e. e ≡ Memory };
+
+    fn from(_e: AllocError) -> ScriptError {
+        ScriptError::Memory
+    }
+}
+
+impl<T: Drop> From<AllocFailed<T>> for ScriptError {
+    ghost from_gives = { λ _ e. e ≡ Memory };
+
+    fn from(_e: AllocFailed<T>) -> ScriptError {
+        ScriptError::Memory
+    }
+}

@@ -1,0 +1,37 @@
+//! What the definitions of this crate mean, as laws. Each is a contract, and its function does
+//! nothing.
+
+ghost use Rattle.std.specs.Prelude.{◌≡◌, ℕ, ◌<◌, ◌^◌, List, length, Ok, Some, Result, All};
+ghost use Rattle.std.specs.Fmt.{decimal};
+ghost use Rattle.uc_script.specs.Cases.{ComesTo};
+ghost use Rattle.uc_script.specs.Lines.{lines_of};
+ghost use Rattle.uc_script.specs.Script.{script_of};
+ghost use Rattle.uc_script.specs.Short.{AreNoLonger};
+ghost use Rattle.uc_script.specs.Texts.{number_of, text_of, hex_text};
+ghost use Rattle.uc_script.specs.declared.script.Script.{Script};
+
+/// A script is setup lines, one `open` and calls, and asks what they name in the order of the lines.
+/// Any other text has its fault at the first line that does not fit, or one past the last line
+/// where the `open` does not come. There is no other outcome, and no two of them.
+pub fn a_script_is_its_lines()
+    ensures comes { (text : List ℕ) → ComesTo (lines_of text) (script_of text) }
+    ensures alone { (text : List ℕ) (outcome : Result Script ℕ)
+        → ComesTo (lines_of text) outcome → outcome ≡ script_of text }
+{}
+
+/// A script names at most as many changes as it has bytes, and each of their texts is no longer than it.
+pub fn a_script_names_no_more_than_it_has()
+    ensures { (text : List ℕ) (script : Script) → script_of text ≡ Ok script
+        → AreNoLonger (length text) script.ops }
+{}
+
+/// What is printed for bytes is read as these bytes.
+pub fn printed_bytes_are_read()
+    ensures { (bytes : List ℕ) → All (λ byte. byte < 256) bytes
+        → text_of (hex_text bytes) ≡ Some bytes }
+{}
+
+/// What is printed for a number is read as this number.
+pub fn printed_numbers_are_read()
+    ensures { (number : ℕ) → number < 2 ^ 64 → number_of (decimal number) ≡ Some number }
+{}

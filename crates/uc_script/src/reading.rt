@@ -1,0 +1,102 @@
+//! From a script's bytes to what it asks.
+
+ghost use Rattle.std.specs.Prelude.{◌≡◌, [], ◌+◌, ◌≤◌, ◌^◌, ◌<◌, length, IfOk};
+ghost use Rattle.uc_script.specs.Lines.{lines_of};
+ghost use Rattle.uc_script.specs.Script.{script_of};
+ghost use Rattle.uc_script.specs.Reading.{Gives, seen, setup_after, calls_after};
+
+use crate::asking::{CallLine, read_call_line};
+use crate::call::Call;
+use crate::error::ScriptError;
+use crate::lines::next_line;
+use crate::listing::Listing;
+use crate::script::Script;
+use crate::setup::{SetupLine, read_setup_line};
+use std::alloc::Global;
+use uc_write::Op;
+
+/// What was read up to `open`, and where to go on.
+#[derive(Drop)]
+struct Opened<'a> {
+    ops: Vec<Op>,
+    keeps: Vec<u64>,
+    /// The number of the line behind `open`, from 1.
+    number: u64,
+    /// The lines behind `open`.
+    rest: &'a [u8],
+}
+
+/// What a script asks.
+///
+/// Its lines end with LF, and the last may lack it. Fields are separated by one space. Empty lines
+/// and lines that begin with `#` are skipped and counted. Before the one `open` stand `put K V`,
+/// `delete K`, `merge K V`, `range B E` and `keep S`, where S is a number; after it `get K S` and
+/// `scan LOW HIGH LIMIT S`, where S may be `last` and HIGH may be `-`. Keys and values are
+/// hexadecimal in either case, or `.` for no bytes. Numbers are decimal without sign or needless
+/// zeros, at most 2^64 - 1.
+///
+/// It fails with the number of the first line that is not so, from 1, which is one past the last
+/// line where only `open` is missing; and for want of memory.
+pub fn read_script(alloc: Global, text: &[u8]) -> Result<Script, ScriptError>
+    ensures { Gives (λ script. script) result (script_of text.now) }
+{
+    let opened = read_setup(alloc, text)?;
+    let calls = read_calls(alloc, opened.number, opened.rest)?;
+    Ok(Script {
+        ops: Listing::from(opened.ops),
+        keeps: Listing::from(opened.keeps),
+        calls: Listing::from(calls),
+    })
+}
+
+/// Reads the lines up to the first `open`.
+fn read_setup(alloc: Global, text: &[u8]) -> Result<Opened<'_>, ScriptError>
+    ensures read { Gives seen result (setup_after [] [] 1 (lines_of text.now)) }
+    ensures counted { IfOk result (λ opened. opened.number + length opened.rest.now ≤ length text.now + 1) }
+{
+    let mut ops = Vec::new(alloc);
+    let mut keeps = Vec::new(alloc);
+    let mut number = 1;
+    let mut rest = text;
+    while !rest.is_empty() {
+        let (line, after) = next_line(rest);
+        rest = after;
+        match read_setup_line(alloc, line)? {
+            None => return Err(ScriptError::Fault(number)),
+            Some(SetupLine::Skipped) => {}
+            Some(SetupLine::Change(op)) => ops.push(op)?,
+            Some(SetupLine::Keep(keep)) => keeps.push(keep)?,
+            Some(SetupLine::Open) => {
+                return Ok(Opened {
+                    ops,
+                    keeps,
+                    number: number + 1,
+                    rest,
+                });
+            }
+        }
+        number += 1;
+    }
+    Err(ScriptError::Fault(number))
+}
+
+/// Reads the lines after `open`, the first of which has this number.
+fn read_calls(alloc: Global, first: u64, text: &[u8]) -> Result<Vec<Call>, ScriptError>
+    requires { first + length text.now < 2 ^ 64 }
+    ensures { Gives (λ calls. calls.items) result (calls_after [] first (lines_of text.now)) }
+{
+    let mut calls = Vec::new(alloc);
+    let mut number = first;
+    let mut rest = text;
+    while !rest.is_empty() {
+        let (line, after) = next_line(rest);
+        rest = after;
+        match read_call_line(alloc, line)? {
+            None => return Err(ScriptError::Fault(number)),
+            Some(CallLine::Skipped) => {}
+            Some(CallLine::Ask(call)) => calls.push(call)?,
+        }
+        number += 1;
+    }
+    Ok(calls)
+}

@@ -1,0 +1,85 @@
+//! Lines before `open`, that line too.
+
+ghost use Rattle.std.specs.Prelude.{◌≡◌, IfOk};
+ghost use Rattle.uc_script.specs.Script.{with_one, with_two, setup_line};
+
+use crate::field::{number, text};
+use crate::lines::{Fields, skips, split_line};
+use std::alloc::{AllocError, Global};
+use uc_write::Op;
+
+/// What a line before `open` says, that line too.
+#[derive(Drop)]
+pub(crate) enum SetupLine {
+    /// Nothing: the line is empty or a comment.
+    Skipped,
+    /// A change to write.
+    Change(Op),
+    /// A sequence to keep.
+    Keep(u64),
+    /// The end of this part of the script.
+    Open,
+}
+
+/// What a line says, or `None` where it is not as it should be.
+#[tactic(auto, unfolding(crate::specs::Script::setup_line, crate::specs::Script::setup_of))]
+pub(crate) fn read_setup_line(alloc: Global, line: &[u8]) -> Result<Option<SetupLine>, AllocError>
+    ensures { IfOk result (λ said. said ≡ setup_line line.now) }
+{
+    if skips(line) {
+        return Ok(Some(SetupLine::Skipped));
+    }
+    match split_line(line) {
+        Fields::One(word) => Ok((word == b"open".as_slice()).then_some(SetupLine::Open)),
+        Fields::Two(word, argument) => with_one(alloc, word, argument),
+        Fields::Three(word, first, second) => with_two(alloc, word, first, second),
+        _ => Ok(None),
+    }
+}
+
+/// `delete K` or `keep S`.
+#[tactic(auto, unfolding(crate::specs::Script::with_one))]
+fn with_one(alloc: Global, word: &[u8], argument: &[u8]) -> Result<Option<SetupLine>, AllocError>
+    ensures { IfOk result (λ said. said ≡ with_one word.now argument.now) }
+{
+    if word == b"delete".as_slice() {
+        let Some(key) = text(alloc, argument)? else {
+            return Ok(None);
+        };
+        return Ok(Some(SetupLine::Change(Op::Delete(key))));
+    }
+    if word == b"keep".as_slice() {
+        let Some(number) = number(argument) else {
+            return Ok(None);
+        };
+        return Ok(Some(SetupLine::Keep(number)));
+    }
+    Ok(None)
+}
+
+/// `put K V`, `merge K V` or `range B E`.
+#[tactic(auto, unfolding(crate::specs::Script::with_two))]
+fn with_two(
+    alloc: Global,
+    word: &[u8],
+    first: &[u8],
+    second: &[u8],
+) -> Result<Option<SetupLine>, AllocError>
+    ensures { IfOk result (λ said. said ≡ with_two word.now first.now second.now) }
+{
+    let Some(key) = text(alloc, first)? else {
+        return Ok(None);
+    };
+    let Some(value) = text(alloc, second)? else {
+        return Ok(None);
+    };
+    if word == b"put".as_slice() {
+        Ok(Some(SetupLine::Change(Op::Put(key, value))))
+    } else if word == b"merge".as_slice() {
+        Ok(Some(SetupLine::Change(Op::Merge(key, value))))
+    } else if word == b"range".as_slice() {
+        Ok(Some(SetupLine::Change(Op::DeleteRange(key, value))))
+    } else {
+        Ok(None)
+    }
+}

@@ -1,0 +1,222 @@
+use super::*;
+use std::alloc::Global;
+use std::process::Abort;
+use std::test::Fail;
+use uc_bytes::Bytes;
+use uc_write::Op;
+
+/// The line at fault, if there is one.
+fn fault(rt: &impl Abort, alloc: Global, text: &[u8]) -> Option<u64> {
+    match read_script(alloc, text) {
+        Ok(_) => None,
+        Err(ScriptError::Fault(line)) => Some(line),
+        Err(ScriptError::Memory) => panic!(rt; "there is memory"),
+    }
+}
+
+fn script(alloc: Global, text: &[u8]) -> Result<Script, Fail> {
+    Ok(read_script(alloc, text)?)
+}
+
+fn bytes(alloc: Global, bytes: &[u8]) -> Result<Bytes, Fail> {
+    Ok(Bytes::from_slice(alloc, bytes)?)
+}
+
+#[test]
+fn a_script_without_open(rt: HostRuntime) {
+    let table: [(&[u8], u64); 7] = [
+        (b"", 1),
+        (b"\n", 2),
+        (b"\n\n", 3),
+        (b"# nothing", 2),
+        (b"# nothing\n", 2),
+        (b"put 61 62\n", 2),
+        (b"put 61 62\n\nkeep 1", 4),
+    ];
+    for (text, line) in table {
+        assert_eq!(rt; fault(&rt, rt.alloc(), text), Some(line));
+    }
+}
+
+#[test]
+fn the_first_faulty_line_comes_first(rt: HostRuntime) {
+    let table: [(&[u8], u64); 6] = [
+        (b"open\nopen\n", 2),
+        (b"# one\n# two\nput 61\n", 3),
+        (b"\n\nclaim\nopen\nget 61 9 9\n", 3),
+        (b"get 61 0\nopen\n", 1),
+        (b"open\n# two\n\nput 61 62\nnothing\n", 4),
+        (b"keep last\nopen\n", 1),
+    ];
+    for (text, line) in table {
+        assert_eq!(rt; fault(&rt, rt.alloc(), text), Some(line));
+    }
+}
+
+/// Each is put before an `open`, and is a fault there.
+#[test]
+fn faulty_lines_before_open(rt: HostRuntime) -> Result<(), Fail> {
+    let table: [&[u8]; 34] = [
+        b"put 61",
+        b"put 61 62 63",
+        b"put  61 62",
+        b"put 61  62",
+        b" put 61 62",
+        b"put 61 62 ",
+        b"put\t61 62",
+        b"put 61 62\r",
+        b" ",
+        b" #",
+        b"\r",
+        b"put 6 62",
+        b"put 61 6",
+        b"put 6g 62",
+        b"put 61 ..",
+        b"put 61 -",
+        b"Put 61 62",
+        b"put",
+        b"delete",
+        b"delete 61 62",
+        b"merge 61",
+        b"range 61",
+        b"keep",
+        b"keep last",
+        b"keep 1 2",
+        b"keep +1",
+        b"keep 00",
+        b"keep 01",
+        b"keep 18446744073709551616",
+        b"keep ",
+        b"get 61 1",
+        b"scan 61 62 1 1",
+        b"open ",
+        b"open open",
+    ];
+    for line in table {
+        let mut text = line.to_vec(rt.alloc())?;
+        text.extend_from_slice(b"\nopen\n")?;
+        assert_eq!(rt; fault(&rt, rt.alloc(), text.as_slice()), Some(1));
+    }
+    Ok(())
+}
+
+/// Each is put behind an `open` and a comment, and is a fault there.
+#[test]
+fn faulty_lines_after_open(rt: HostRuntime) -> Result<(), Fail> {
+    let table: [&[u8]; 27] = [
+        b"open",
+        b"put 61 62",
+        b"keep 1",
+        b"get 61",
+        b"get 61 1 1",
+        b"get 6 1",
+        b"get 61 first",
+        b"get 61 Last",
+        b"get - 1",
+        b"get 61 -1",
+        b"get 61 1\r",
+        b"scan 61 62 1",
+        b"scan 61 62 1 1 1",
+        b"scan 61 62 01 1",
+        b"scan 61 62 last 1",
+        b"scan - 62 1 1",
+        b"scan 61 -- 1 1",
+        b"scan 61 62 1 18446744073709551616",
+        b"claim 0 0 1",
+        b"install 0",
+        b"abandon 0",
+        b"compact 0 1",
+        b"pick",
+        b"report",
+        b"scan 61 62 1 1 ",
+        b" ",
+        b"a b c d e f g h",
+    ];
+    for line in table {
+        let mut text = b"open\n# two\n".to_vec(rt.alloc())?;
+        text.extend_from_slice(line)?;
+        assert_eq!(rt; fault(&rt, rt.alloc(), text.as_slice()), Some(3));
+        text.push(b'\n')?;
+        assert_eq!(rt; fault(&rt, rt.alloc(), text.as_slice()), Some(3));
+    }
+    Ok(())
+}
+
+#[test]
+fn the_changes_in_order(rt: HostRuntime) -> Result<(), Fail> {
+    let alloc = rt.alloc();
+    let text =
+        b"# \xff\x00 any byte\nput 61 62\n\ndelete 6A\nmerge aB Cd\nrange 61 .\nput . .\nopen";
+    let read = script(alloc, text)?;
+    let ops = [
+        Op::Put(bytes(alloc, b"a")?, bytes(alloc, b"b")?),
+        Op::Delete(bytes(alloc, b"j")?),
+        Op::Merge(bytes(alloc, b"\xab")?, bytes(alloc, b"\xcd")?),
+        Op::DeleteRange(bytes(alloc, b"a")?, bytes(alloc, b"")?),
+        Op::Put(bytes(alloc, b"")?, bytes(alloc, b"")?),
+    ];
+    assert!(rt; read.ops.as_slice() == ops.as_slice());
+    assert!(rt; read.keeps.as_slice().is_empty());
+    assert!(rt; read.calls.as_slice().is_empty());
+    let taken = read.ops.into_vec();
+    assert_eq!(rt; taken.len(), 5);
+    Ok(())
+}
+
+#[test]
+fn the_keeps_in_order(rt: HostRuntime) -> Result<(), Fail> {
+    let text = b"keep 7\nkeep 0\nkeep 18446744073709551615\nkeep 7\nopen\n#\n";
+    let read = script(rt.alloc(), text)?;
+    let keeps = [7, 0, u64::MAX, 7];
+    assert_eq!(rt; read.keeps.as_slice(), keeps.as_slice());
+    assert!(rt; read.ops.as_slice().is_empty());
+    Ok(())
+}
+
+#[test]
+fn the_calls_in_order(rt: HostRuntime) -> Result<(), Fail> {
+    let alloc = rt.alloc();
+    let text =
+        b"open\nget 61 last\n# then\n\nscan . - 0 0\nscan 61 . 18446744073709551615 last\nget . 10";
+    let read = script(alloc, text)?;
+    let calls = [
+        Call::Get {
+            key: bytes(alloc, b"a")?,
+            at: Seq::Last,
+        },
+        Call::Scan {
+            low: bytes(alloc, b"")?,
+            high: None,
+            limit: 0,
+            at: Seq::Number(0),
+        },
+        Call::Scan {
+            low: bytes(alloc, b"a")?,
+            high: Some(bytes(alloc, b"")?),
+            limit: u64::MAX,
+            at: Seq::Last,
+        },
+        Call::Get {
+            key: bytes(alloc, b"")?,
+            at: Seq::Number(10),
+        },
+    ];
+    assert!(rt; read.calls.as_slice() == calls.as_slice());
+    assert!(rt; read.ops.as_slice().is_empty());
+    Ok(())
+}
+
+#[test]
+fn printed_texts(rt: HostRuntime) -> Result<(), Fail> {
+    let mut out = b"= ".to_vec(rt.alloc())?;
+    push_hex(&mut out, b"\x00\x9f\xFF")?;
+    push_hex(&mut out, b"")?;
+    push_number(&mut out, 0)?;
+    out.push(b' ')?;
+    push_number(&mut out, 18446744073709551615)?;
+    assert_eq!(rt;
+        out.as_slice(),
+        b"= 009fff.0 18446744073709551615".as_slice()
+    );
+    Ok(())
+}

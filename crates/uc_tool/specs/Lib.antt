@@ -1,0 +1,3 @@
+pub mod Opening
+pub mod Output
+pub mod Input
