@@ -1,2 +1,5 @@
 pub mod Known
 pub mod LogAgain
+pub mod Telling
+pub mod Written
+pub mod Plays

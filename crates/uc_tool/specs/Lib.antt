@@ -1,3 +1,9 @@
-pub mod Opening
-pub mod Output
 pub mod Input
+pub mod Output
+pub mod Opening
+pub mod Told
+pub mod Texts
+pub mod Options
+pub mod Play
+pub mod Prepared
+pub mod Ending

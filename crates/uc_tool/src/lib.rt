@@ -1,14 +1,20 @@
 //! The program's work over any reader and writer.
 //!
 //! `play` opens a store over a script's writes and answers its reads. What it writes is a stated
-//! function of the bytes that it reads. Read `specs/Play.antt` first, then `play.rt`; `input.rt`
+//! function of the bytes that it reads. Read `specs/Play.antt` first, then `playing.rt`; `input.rt`
 //! and `output.rt` are the two ends.
 #![tactic(auto)]
 
 mod done;
+mod ending;
 mod input;
 mod opening;
+mod options;
 mod output;
+mod playing;
+mod texts;
 
 pub use done::Done;
+pub use options::Options;
+pub use playing::play;
 

@@ -1,0 +1,43 @@
+ghost use Rattle.std.specs.Prelude.{◌≡◌};
+ghost use Rattle.uc_tool.specs.Output.{AppendsFront};
+ghost use Rattle.uc_tool.specs.Ending.{Finishes, Settles};
+
+use crate::done::Done;
+use crate::output::{Halt, write_bytes};
+use std::io::Write;
+
+/// Flushes what was written before a run ends so.
+fn settle<W: Write>(writer: &mut W, done: Done) -> Done
+    ensures { Settles done (W.contents writer.old) (W.contents writer.new) result }
+{
+    match writer.flush() {
+        Ok(()) => done,
+        Err(_) => Done::Device,
+    }
+}
+
+/// Ends a run: says where memory ran out, and flushes what was written. After a write fault nothing more
+/// is written.
+pub fn finish<W: Write>(writer: &mut W, outcome: Result<Done, Halt>) -> Done
+    ensures { Finishes outcome (W.contents writer.old) (W.contents writer.new) result }
+{
+    match outcome {
+        Ok(done) => settle(writer, done),
+        Err(Halt::Device) => Done::Device,
+        Err(Halt::Memory) => match write_bytes(writer, b"out of memory\n") {
+            Ok(()) => settle(writer, Done::NoMemory),
+            Err(_) => Done::Device,
+        },
+    }
+}
+
+/// Ends a run whose input can't be judged, with a text that says why.
+pub fn fail<W: Write>(writer: &mut W, text: &[u8]) -> Done
+    ensures front { AppendsFront (W.contents writer.old) (W.contents writer.new) text.now }
+    ensures device { result ≡ Done.Device }
+{
+    if write_bytes(writer, text).is_ok() {
+        let _ = writer.flush();
+    }
+    Done::Device
+}
