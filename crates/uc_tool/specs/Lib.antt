@@ -7,3 +7,4 @@ pub mod Options
 pub mod Play
 pub mod Prepared
 pub mod Ending
+pub mod Status
