@@ -2,3 +2,8 @@ pub mod Reading
 pub mod Records
 pub mod Writing
 pub mod RoundTrip
+pub mod Parsing
+pub mod Standing
+pub mod Along
+pub mod Endings
+pub mod OneMeaning

@@ -72,6 +72,10 @@ record Completed (payload : List ℕ) (unfinished : Option Fragments) (offset : 
   enough : length after < fewer
   reads : reading_from places unfinished offset (text ++ after) ≡ with_payload payload (reading_from fewer None (offset + length text) after)
 
+completed_there : (payload : List ℕ) (unfinished : Option Fragments) (offset there : ℕ) (text after : List ℕ) (places fewer : ℕ) → length after < fewer → {one : Reading} → reading_from places unfinished offset (text ++ after) ≡ one → one ≡ with_payload payload (reading_from fewer None there after)
+    → there ≡ offset + length text → Completed payload unfinished offset text after places
+completed_there payload unfinished offset there text after places fewer enough e f same = record { fewer = fewer; enough = enough; reads = e ∙ f ∙ ap (λ (o : ℕ). with_payload payload (reading_from fewer None o after)) same }
+
 -- a LAST
 read_last : (places : ℕ) (open_one : Fragments) (offset : ℕ) (fragment after : List ℕ) → offset % 32768 ≡ 0 → length fragment ≤ 32761 → length (record_text Last fragment ++ after) < places → Completed (open_one.payload ++ fragment) (Some open_one) offset (record_text Last fragment) after places
 read_last zero open_one offset fragment after start le enough = absurd (omega arith)
@@ -167,11 +171,7 @@ read_pieces (suc places) offset fragment rest after full enough =
     let begun : Fragments = record { start = place; payload = fragment; is_lone = eqb (length fragment) 0 } in
     let behind = read_rest (suc (length rest)) places begun (place + 7 + length fragment) rest after (omega arith) (omega arith) (omega arith) in
     let there : place + 7 + length fragment + length (rest_text rest) ≡ offset + length (trailer offset ++ pieces) = omega arith in
-    record {
-      fewer = behind.fewer;
-      enough = behind.enough;
-      reads = one ∙ rw (behind.reads, there) refl;
-    }
+    completed_there (fragment ++ rest) None offset (place + 7 + length fragment + length (rest_text rest)) (trailer offset ++ pieces) after (suc places) behind.fewer behind.enough one behind.reads there
 
 read_payload : (places offset : ℕ) (payload after : List ℕ) → length (payload_text offset payload ++ after) < places → Completed payload None offset (payload_text offset payload) after places
 read_payload places offset payload after enough =

@@ -5,7 +5,9 @@
 //! a LAST. [`read_log`] gives the payloads of a log and says how it ends; [`LogWriter`] writes a log.
 //!
 //! Read `kind.rt` and `header.rt` first: what a record is. `fragments.rt` has the payload that is not
-//! complete yet, and `reader.rt` and `writer.rt` the two directions.
+//! complete yet, and `reader.rt` and `writer.rt` the two directions. What a log means is said in
+//! `specs/Grammar.antt`, by the grammar of its records; [`meaning`] is the law that the reader keeps to it,
+//! and [`round_trip`] the law that what is written is read again.
 #![tactic(auto)]
 
 mod ending;
@@ -20,7 +22,7 @@ mod writer;
 
 pub use ending::Ending;
 pub use fault::LogFault;
-pub use laws::round_trip;
+pub use laws::{meaning, round_trip};
 pub use payloads::Payloads;
 pub use reader::{LogRead, read_log};
 pub use uc_crc::{crc32c, mask, unmask};

@@ -1,4 +1,5 @@
 use std::marker::Model;
+use std::slice;
 use uc_bytes::Bytes;
 
 /// A list of payloads. A contract sees it as the list of their bytes.
@@ -19,6 +20,7 @@ impl Model for Payloads {
 
 impl Payloads {
     ghost use Rattle.std.specs.Prelude.{◌≡◌};
+    ghost use Rattle.std.specs.Slice.Iter.{iter_rest};
 
     /// The payloads as the vector that holds them. It takes no memory.
     pub fn into_vec(self) -> Vec<Bytes>
@@ -32,6 +34,13 @@ impl Payloads {
         ensures { result.now ≡ self.now }
     {
         self.payloads.as_slice()
+    }
+
+    /// Goes over the payloads, in the order in which they stand in the log.
+    pub fn iter(&self) -> slice::Iter<'_, Bytes>
+        ensures { iter_rest result ≡ self.now }
+    {
+        self.payloads.iter()
     }
 }
 

@@ -1,6 +1,7 @@
 //! From the bytes of a log to its payloads.
 ghost use Rattle.std.specs.Prelude.{◌≡◌, IfOk};
 ghost use Rattle.uc_logrec.specs.Log.{ending_at, payloads_of, ending_of};
+ghost use Rattle.uc_logrec.specs.Grammar.{Reads};
 
 use crate::ending::Ending;
 use crate::fragments::{Fragments, Turn, turn_at};
@@ -24,6 +25,8 @@ pub struct LogRead {
 pub fn read_log(alloc: Global, bytes: &[u8]) -> Result<LogRead, AllocError>
     ensures payloads { IfOk result (λ read. read.payloads ≡ payloads_of bytes.now) }
     ensures ending { IfOk result (λ read. read.ending ≡ ending_of bytes.now) }
+    // By the grammar of records.
+    ensures meaning { IfOk result (λ read. Reads bytes.now read.payloads read.ending) }
 {
     let mut payloads = Vec::new(alloc);
     let mut unfinished = None;

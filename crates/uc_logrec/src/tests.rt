@@ -86,7 +86,7 @@ fn one_batch(rt: HostRuntime) -> Result<(), Fail> {
     assert_eq!(rt; log.as_slice(), LOG.as_slice());
     let read = read_log(rt.alloc(), &log)?;
     assert_eq!(rt; read.ending, Ending::Clean);
-    for payload in read.payloads.as_slice() {
+    for payload in read.payloads.iter() {
         assert_eq!(rt; payload.as_slice(), BATCH.as_slice());
     }
     assert_eq!(rt; read.payloads.into_vec().len(), 1);

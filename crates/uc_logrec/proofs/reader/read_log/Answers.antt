@@ -4,6 +4,7 @@ use Rattle.uc_logrec.specs.declared.fragments.Turn.TheVariants.{Refused}
 use Rattle.uc_logrec.specs.Format.{header_place}
 use Rattle.uc_logrec.specs.Log.{Reading, reading_of}
 use Rattle.uc_logrec.proofs.Reading.{Completes-start, here, stopped, stops, goes, found_there, turned_there, behind_there, still_within}
+use Rattle.uc_logrec.proofs.OneMeaning.{reads_as}
 use Rattle.uc_logrec.proofs.reader.read_log.Goals as goal
 use Rattle.uc_logrec.proofs.reader.read_log.Goals.{in-Complete+in_ok-push-in-Complete, in-Open, After-from-in-Refused}
 
@@ -57,3 +58,9 @@ loop-record-preserved c =
       ];
       within = still_within l.place l.left.now len (length c.args.bytes.now) within l.invariant.within;
     })
+
+pub returns-in-Err-clause-meaning : goal.returns-in-Err-clause-meaning
+returns-in-Err-clause-meaning c = reads_as c.args.bytes.now _ _ (λ i. omega (arith, c.type_inv.bytes i)) (returns-in-Err-clause-payloads c) (returns-in-Err-clause-ending c)
+
+pub returns-in-Refused-clause-meaning : goal.returns-in-Refused-clause-meaning
+returns-in-Refused-clause-meaning c = reads_as c.args.bytes.now _ _ (λ i. omega (arith, c.type_inv.bytes i)) (returns-in-Refused-clause-payloads c) (returns-in-Refused-clause-ending c)
