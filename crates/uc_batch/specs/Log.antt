@@ -38,13 +38,14 @@ ended_by ending.Clean = ended.Clean
 ended_by (ending.Torn offset) = ended.Torn offset
 ended_by (ending.Fault fault offset) = ended.LogFault fault offset
 
--- what stands before the first refused payload or, failing that, before the log's ending
+-- it is read to the first refused payload or, failing that, to its ending
+abbrev pub ended_at : Option (ℕ × BatchError) → Ending → Ended
+ended_at None ending = ended_by ending
+ended_at (Some refused) ending = ended.BatchFault refused.0 refused.1
+
+-- what stands before that
 abbrev pub kept : Batches → Ending → WriteLog
-kept batches ending = record { list = batches.writes; ended = by batches.refused }
-  where
-    by : Option (ℕ × BatchError) → Ended
-    by None = ended_by ending
-    by (Some refused) = ended.BatchFault refused.0 refused.1
+kept batches ending = record { list = batches.writes; ended = ended_at batches.refused ending }
 
 -- a torn tail is accepted, and no fault
 abbrev pub unless_faulty : Batches → Ending → Option (ℕ × BatchError) → Result WriteLog ReadError

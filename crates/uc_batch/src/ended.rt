@@ -1,5 +1,8 @@
+ghost use Rattle.std.specs.Prelude.{◌≡◌};
+ghost use Rattle.uc_batch.specs.Log.{ended_by};
+
 use crate::error::BatchError;
-use uc_logrec::LogFault;
+use uc_logrec::{Ending, LogFault};
 
 /// How far a log was read.
 #[derive(Clone, Copy, Debug, PartialEq, Eq)]
@@ -13,4 +16,17 @@ pub enum Ended {
     LogFault(LogFault, u64),
     /// To the payload of this number, from 1, which isn't a batch, or not one that may follow.
     BatchFault(u64, BatchError),
+}
+
+/// How far a log was read, none of whose payloads is refused.
+impl From<Ending> for Ended {
+    ghost from_gives = { λ ending ended. ended ≡ ended_by ending };
+
+    fn from(ending: Ending) -> Ended {
+        match ending {
+            Ending::Clean => Ended::Clean,
+            Ending::Torn(offset) => Ended::Torn(offset),
+            Ending::Fault(fault, offset) => Ended::LogFault(fault, offset),
+        }
+    }
 }

@@ -26,7 +26,7 @@ pub use mode::Mode;
 pub use read_error::ReadError;
 pub use reading::read_batch;
 pub use uc_write::{Op, Write};
-pub use writes::Writes;
+pub use writes::{Writes, last_used};
 pub use writing::{fits_batch, write_batch};
 
 #[cfg(test)]

@@ -2,7 +2,7 @@ ghost use Rattle.std.specs.Prelude.{◌≡◌, ℕ, ◌≢◌, ◌++◌, Ok, Err
 ghost use Rattle.uc_batch.specs.declared.error.BatchError.TheVariants as faults;
 ghost use Rattle.uc_batch.specs.declared.read_error.ReadError.TheVariants as errors;
 ghost use Rattle.uc_batch.specs.Rising.{IsRising, last_of};
-ghost use Rattle.uc_batch.specs.Log.{batches_of, ended_by as ended_as, writes_of, Refuses};
+ghost use Rattle.uc_batch.specs.Log.{batches_of, writes_of, Refuses};
 
 use crate::ended::Ended;
 use crate::error::BatchError;
@@ -12,7 +12,7 @@ use crate::reading::read_batch;
 use crate::writes::{Writes, last_used};
 use std::alloc::{AllocError, Global};
 use uc_bytes::Bytes;
-use uc_logrec::{Ending, read_log};
+use uc_logrec::read_log;
 use uc_write::Write;
 
 /// Adds the writes of a batch that comes after the sequence `last`, and gives the last one used then.
@@ -52,17 +52,6 @@ fn join_batches(alloc: Global, payloads: &[Bytes]) -> Result<Joined, AllocError>
     Ok((writes, None))
 }
 
-/// How far a log was read, none of whose payloads is refused.
-fn ended_by(ending: Ending) -> Ended
-    ensures { result ≡ ended_as ending }
-{
-    match ending {
-        Ending::Clean => Ended::Clean,
-        Ending::Torn(offset) => Ended::Torn(offset),
-        Ending::Fault(fault, offset) => Ended::LogFault(fault, offset),
-    }
-}
-
 /// The plain writes of a log: the operations of its batches in order, with their sequences.
 ///
 /// `Mode::TornTail` refuses a log with a fault or a refused batch; `Mode::PointInTime` keeps what stands
@@ -77,7 +66,7 @@ pub fn read_writes(alloc: Global, bytes: &[u8], mode: Mode) -> Result<Writes, Re
     let ended = match (refused, mode) {
         (Some((number, fault)), Mode::TornTail) => return Err(ReadError::Batch(number, fault)),
         (Some((number, fault)), Mode::PointInTime) => Ended::BatchFault(number, fault),
-        (None, _) => ended_by(log.ending),
+        (None, _) => Ended::from(log.ending),
     };
     match (ended, mode) {
         (Ended::LogFault(fault, offset), Mode::TornTail) => Err(ReadError::Log(fault, offset)),

@@ -40,8 +40,8 @@ fn is_rising(list: &[Write]) -> bool
     true
 }
 
-/// The last sequence of the writes, or `last` where there is none.
-pub(crate) fn last_used(list: &[Write], last: u64) -> u64
+/// The last sequence used after a batch with these writes, where `last` was the last one before it.
+pub fn last_used(list: &[Write], last: u64) -> u64
     ensures { result ≡ last_of last list.now }
 {
     match list.last() {

@@ -3,3 +3,4 @@ pub mod LogAgain
 pub mod Telling
 pub mod Written
 pub mod Plays
+pub mod Dumps

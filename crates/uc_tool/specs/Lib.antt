@@ -8,3 +8,4 @@ pub mod Play
 pub mod Prepared
 pub mod Ending
 pub mod Status
+pub mod Dump

@@ -6,8 +6,10 @@
 #![tactic(auto)]
 
 mod done;
+mod dumping;
 mod ending;
 mod input;
+mod log_texts;
 mod opening;
 mod options;
 mod output;
@@ -15,6 +17,7 @@ mod playing;
 mod texts;
 
 pub use done::Done;
+pub use dumping::dump;
 pub use options::Options;
 pub use playing::play;
 

@@ -1,0 +1,129 @@
+ghost use Rattle.std.specs.Prelude.{◌≡◌, ◌++◌, ◌∷◌, [], codes, IfOk, OnOk};
+ghost use Rattle.std.specs.List.{flat_map};
+ghost use Rattle.std.specs.Fmt.{decimal};
+ghost use Rattle.uc_script.specs.Texts.{hex_text};
+ghost use Rattle.uc_tool.specs.Dump.{op_text, write_line, log_words as words_of, batch_words, ended_line as ending_of};
+
+use crate::texts::numbered_line;
+use std::alloc::{AllocError, Global};
+use uc_batch::{BatchError, Ended};
+use uc_bytes::Bytes;
+use uc_logrec::LogFault;
+use uc_script::{push_hex, push_number};
+use uc_write::{Op, Write};
+
+/// Prints words and a text.
+fn push_text(out: &mut Vec<u8>, words: &[u8], text: &Bytes) -> Result<(), AllocError>
+    ensures { OnOk result (out.new.items ≡ out.old.items ++ words.now ++ hex_text text.now) }
+{
+    out.extend_from_slice(words)?;
+    push_hex(out, text.as_slice())
+}
+
+/// Prints what a change does, and to which texts.
+fn push_op(out: &mut Vec<u8>, op: &Op) -> Result<(), AllocError>
+    ensures { OnOk result (out.new.items ≡ out.old.items ++ op_text op.now) }
+{
+    match op {
+        Op::Put(key, value) => {
+            push_text(out, b" put ", key)?;
+            push_text(out, b" ", value)
+        }
+        Op::Delete(key) => push_text(out, b" delete ", key),
+        Op::Merge(key, operand) => {
+            push_text(out, b" merge ", key)?;
+            push_text(out, b" ", operand)
+        }
+        Op::DeleteRange(begin, end) => {
+            push_text(out, b" range ", begin)?;
+            push_text(out, b" ", end)
+        }
+    }
+}
+
+/// Prints the line of a write.
+fn push_write(out: &mut Vec<u8>, write: &Write) -> Result<(), AllocError>
+    ensures { OnOk result (out.new.items ≡ out.old.items ++ write_line write.now) }
+{
+    push_number(out, write.seq)?;
+    push_op(out, &write.op)?;
+    out.push(b'\n')?;
+    Ok(())
+}
+
+/// Prints a line for each write.
+pub fn push_writes(out: &mut Vec<u8>, writes: &[Write]) -> Result<(), AllocError>
+    ensures { OnOk result (out.new.items ≡ out.old.items ++ flat_map write_line writes.now) }
+{
+    for write in writes {
+        push_write(out, write)?;
+    }
+    Ok(())
+}
+
+/// What a fault of a log is called.
+fn log_words(fault: LogFault) -> &'static [u8]
+    ensures { result.now ≡ words_of fault }
+{
+    match fault {
+        LogFault::BadLength => b"log fault bad length ",
+        LogFault::BadChecksum => b"log fault bad checksum ",
+        LogFault::UnsupportedType => b"log fault unsupported type ",
+        LogFault::MiddleAlone => b"log fault middle alone ",
+        LogFault::LastAlone => b"log fault last alone ",
+        LogFault::FullInside => b"log fault full inside ",
+        LogFault::FirstInside => b"log fault first inside ",
+    }
+}
+
+/// Prints words and a number.
+fn push_counted(out: &mut Vec<u8>, words: &[u8], number: u64) -> Result<(), AllocError>
+    ensures { OnOk result (out.new.items ≡ out.old.items ++ words.now ++ decimal number) }
+{
+    out.extend_from_slice(words)?;
+    push_number(out, number)
+}
+
+/// Prints why a batch was refused.
+fn push_fault(out: &mut Vec<u8>, fault: BatchError) -> Result<(), AllocError>
+    ensures { OnOk result (out.new.items ≡ out.old.items ++ batch_words fault) }
+{
+    match fault {
+        BatchError::TooShort => out.extend_from_slice(b" too short")?,
+        BatchError::SequenceBack(last) => push_counted(out, b" sequence back ", last)?,
+        BatchError::SequenceTooLarge => out.extend_from_slice(b" sequence too large")?,
+        BatchError::BadTag(tag, offset) => {
+            push_counted(out, b" bad tag ", u64::from(tag))?;
+            push_counted(out, b" ", offset)?;
+        }
+        BatchError::Cut(offset) => push_counted(out, b" cut ", offset)?,
+        BatchError::BadVarint(offset) => push_counted(out, b" bad varint ", offset)?,
+        BatchError::OtherFamily(id) => push_counted(out, b" other family ", u64::from(id))?,
+        BatchError::WrongCount => out.extend_from_slice(b" wrong count")?,
+        BatchError::Memory => out.extend_from_slice(b" out of memory")?,
+    }
+    Ok(())
+}
+
+/// The line of a refused batch.
+fn batch_line(alloc: Global, number: u64, fault: BatchError) -> Result<Vec<u8>, AllocError>
+    ensures { IfOk result (λ line. line.items ≡ codes "batch fault " ++ decimal number ++ batch_words fault ++ 10 ∷ []) }
+{
+    let mut line = Vec::from_slice(alloc, b"batch fault ")?;
+    push_number(&mut line, number)?;
+    push_fault(&mut line, fault)?;
+    line.push(b'\n')?;
+    Ok(line)
+}
+
+/// The line that says how far a log was read.
+pub fn ended_line(alloc: Global, ended: Ended) -> Result<Vec<u8>, AllocError>
+    ensures { IfOk result (λ line. line.items ≡ ending_of ended) }
+{
+    match ended {
+        Ended::Clean => Vec::from_slice(alloc, b"clean\n"),
+        Ended::Torn(offset) => numbered_line(alloc, b"torn ", offset),
+        Ended::LogFault(fault, offset) => numbered_line(alloc, log_words(fault), offset),
+        Ended::BatchFault(number, fault) => batch_line(alloc, number, fault),
+    }
+}
