@@ -87,11 +87,36 @@ fn play<'a>(alloc: Global) -> Result<Command<'a>, AllocError> {
         .arg(greatest.value_parser(value_parser!(u32)))
 }
 
+const DUMP_ABOUT: &str = "Print what a write-ahead log holds, and where it breaks";
+
+const DUMP_HELP: &str = "\
+Reads a write-ahead log of LevelDB or RocksDB on standard input, at most 64 MiB. Prints a line for each
+write, in the words of a script behind its sequence, and then one that says how the log ends:
+
+  clean               it was read to its end
+  torn OFFSET         it ends inside a payload, which begins there, as when its writer was stopped
+  log fault ...       no record may stand at that offset
+  batch fault ...     the payload of that number, from 1, is not a batch, or not one that may follow
+
+Of RocksDB's logs these are read: records that aren't recycled, uncompressed, without timestamps, of the
+default column family, without transactions.
+
+Status: 0 clean or torn, 3 a fault, 2 a refused command line, 4 out of memory, 5 a read or write fault or
+too long an input.";
+
+/// `ucstore dump`.
+fn dump<'a>(alloc: Global) -> Command<'a> {
+    Command::new(alloc, "dump")
+        .about(DUMP_ABOUT)
+        .after_help(DUMP_HELP)
+}
+
 /// The whole command line.
 pub fn ucstore<'a>(alloc: Global) -> Result<Command<'a>, AllocError> {
     Command::new(alloc, "ucstore")
         .about(ABOUT)
         .version("0.1.0")
         .subcommand_required(true)
-        .subcommand(play(alloc)?)
+        .subcommand(play(alloc)?)?
+        .subcommand(dump(alloc))
 }

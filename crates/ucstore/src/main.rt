@@ -10,7 +10,7 @@ use std::env;
 use std::io::{self, BufWriter, Read, Write};
 use std::process::ExitCode;
 use uc_oper::{Append, Counter, Maximum};
-use uc_tool::{Done, Options, play};
+use uc_tool::{Done, Options, dump, play};
 
 /// The status of a refused command line.
 const REFUSED_WORDS: u8 = 2;
@@ -68,11 +68,12 @@ fn run<R: Print + Eprint + Input + AllocGlobal>(rt: &R, words: &[String]) -> io:
         Ok(matches) => matches,
         Err(error) => return Ok(explain(rt, &error)),
     };
-    let Some(play) = matches.subcommand_matches("play") else {
-        return Ok(REFUSED_WORDS);
-    };
     let mut writer = BufWriter::new(alloc, io::writer(rt))?;
-    let done = play_script(alloc, play, &mut rt.reader(), &mut writer);
+    let done = match matches.subcommand_matches("play") {
+        Some(play) => play_script(alloc, play, &mut rt.reader(), &mut writer),
+        // The parser requires a subcommand, and `dump` is the only other one.
+        None => dump(alloc, &mut rt.reader(), &mut writer),
+    };
     Ok(done.status())
 }
 
