@@ -1,8 +1,8 @@
 //! The program's work over any reader and writer.
 //!
-//! `play` opens a store over a script's writes and answers its reads. What it writes is a stated
-//! function of the bytes that it reads. Read `specs/Play.antt` first, then `playing.rt`; `input.rt`
-//! and `output.rt` are the two ends.
+//! `play` opens a store over a script's writes and answers its reads; `dump` prints what a log holds.
+//! What each writes is a stated function of the bytes that it reads. Read `specs/Told.antt` and
+//! `specs/Play.antt` first, then `playing.rt`; `input.rt` and `output.rt` are the two ends.
 #![tactic(auto)]
 
 mod done;
@@ -21,3 +21,5 @@ pub use dumping::dump;
 pub use options::Options;
 pub use playing::play;
 
+#[cfg(test)]
+mod tests;
