@@ -7,3 +7,6 @@
 mod bytes;
 
 pub use bytes::Bytes;
+
+#[cfg(test)]
+mod tests;

@@ -1,10 +1,11 @@
 -- Laws of the meaning.
-use Rattle.std.proofs.Common.{◌≡◌, ℕ, ◌<◌, ◌≤◌, Bool, true, false, cond, leb, List, [], ◌∷◌, ◌++◌, Option, Some, None, fold, filter, refl, ap, sym, ◌∙◌, arith}
+use Rattle.std.proofs.Common.{◌≡◌, ℕ, ◌<◌, Bool, true, false, cond, leb, List, [], ◌∷◌, ◌++◌, Option, None, fold, filter, refl, ap, ◌∙◌, arith}
 use Rattle.std.specs.Prelude.{◌&&◌}
 use Rattle.std.specs.List.{AllByRecursion}
 use Rattle.std.proofs.lemmas.Bool.Decides.{nat_tests}
+use Rattle.std.proofs.lemmas.List.Elements.{filter-append}
 use Rattle.uc_oper.specs.Operation.{Operation, IsLawful}
-use Rattle.uc_oper.specs.Composition.{composed, applied, applied-composed}
+use Rattle.uc_oper.specs.Composition.{composed, applied, applied-composed, composed_assoc}
 use Rattle.uc_oper.specs.declared.effect.Effect.{Effect}
 use Rattle.uc_oper.specs.declared.effect.Effect.TheVariants.{Keep}
 use Rattle.uc_write.specs.declared.op.Op.{Op}
@@ -56,3 +57,34 @@ untouched_fails at key (v ∷ vs) none = (and_false (leb v.seq at) (touches_key 
 -- writes that don't touch a key don't change its value
 pub untouched_keeps : (m : Operation) (ws vs : List Write) (key : List ℕ) (at : ℕ) → AllByRecursion (λ w. touches_key key w.op ≡ false) vs → value_of m (ws ++ vs) key at ≡ value_of m ws key at
 untouched_keeps m ws vs key at none = ap (fold (λ v w. changed m v w.op) None) (filter-append_none (λ w. leb w.seq at && touches_key key w.op) ws vs (untouched_fails at key vs none))
+
+fold_on : {A X : Type 0} (f : A → X → A) (a : A) (xs ys : List X) → fold f a (xs ++ ys) ≡ fold f (fold f a xs) ys
+fold_on f a [] ys = refl
+fold_on f a (x ∷ xs) ys = fold_on f (f a x) xs ys
+
+last_changes : (m : Operation) (value : Option (List ℕ)) (w : Write) (b : Bool) → fold (λ v x. changed m v x.op) value (cond b (w ∷ []) []) ≡ cond b (changed m value w.op) value
+last_changes m value w true = refl
+last_changes m value w false = refl
+
+-- one more write changes the value of what it touches
+pub more_changes : (m : Operation) (ws : List Write) (w : Write) (key : List ℕ) (at : ℕ) → value_of m (ws ++ w ∷ []) key at ≡ cond (leb w.seq at && touches_key key w.op) (changed m (value_of m ws key at) w.op) (value_of m ws key at)
+more_changes m ws w key at =
+    let seen = λ (x : Write). leb x.seq at && touches_key key x.op in
+    let step = λ (v : Option (List ℕ)) (x : Write). changed m v x.op in
+    ap (fold step None) (filter-append seen ws (w ∷ []))
+    ∙ fold_on step None (filter seen ws) (filter seen (w ∷ []))
+    ∙ last_changes m (value_of m ws key at) w (seen w)
+
+composed_fold : (m : Operation) → IsLawful m → (ws : List Write) (a e : Effect) → fold (λ effect w. composed m effect (effect_of w.op)) (composed m a e) ws ≡ composed m a (fold (λ effect w. composed m effect (effect_of w.op)) e ws)
+composed_fold m laws [] a e = refl
+composed_fold m laws (w ∷ ws) a e =
+    ap (λ (x : Effect). fold (λ effect v. composed m effect (effect_of v.op)) x ws) (composed_assoc m laws a e (effect_of w.op)) ∙ composed_fold m laws ws a (composed m e (effect_of w.op))
+
+-- the effect of two parts is that of the first, and then that of the second
+pub parts_compose : (m : Operation) → IsLawful m → (ws vs : List Write) (key : List ℕ) (at : ℕ) → effect_on m (ws ++ vs) key at ≡ composed m (effect_on m ws key at) (effect_on m vs key at)
+parts_compose m laws ws vs key at =
+    let seen = λ (x : Write). leb x.seq at && touches_key key x.op in
+    let step = λ (effect : Effect) (w : Write). composed m effect (effect_of w.op) in
+    ap (fold step Keep) (filter-append seen ws vs)
+    ∙ fold_on step Keep (filter seen ws) (filter seen vs)
+    ∙ composed_fold m laws (filter seen vs) (effect_on m ws key at) Keep

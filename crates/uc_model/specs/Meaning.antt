@@ -1,10 +1,10 @@
 -- What a read means (RocksDB wiki: "Merge Operator", "DeleteRange", "Snapshot").
-use Rattle.std.specs.Prelude.{◌≡◌, ℕ, ◌<◌, Bool, ◌&&◌, true, false, List, [], ◌∷◌, Option, Some, None, nat_le, filter, fold, All}
+use Rattle.std.specs.Prelude.{ℕ, Bool, ◌&&◌, List, Option, Some, None, nat_le, filter, fold}
 use Rattle.std.specs.Ordering.{is_lt, is_le}
 use Rattle.uc_bytes.specs.Bytes.{bytes_cmp, same_bytes}
 use Rattle.uc_oper.specs.Operation.{Operation}
 use Rattle.uc_oper.specs.Merging.{merged_with}
-use Rattle.uc_oper.specs.Composition.{composed, applied}
+use Rattle.uc_oper.specs.Composition.{composed}
 use Rattle.uc_oper.specs.declared.effect.Effect.{Effect}
 use Rattle.uc_oper.specs.declared.effect.Effect.TheVariants.{Keep, Fold, Set}
 use Rattle.uc_write.specs.declared.op.Op.{Op}

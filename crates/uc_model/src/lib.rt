@@ -8,7 +8,10 @@
 mod laws;
 mod value;
 
-pub use laws::{effect_gives_value, later_writes_change_nothing, untouched_key_keeps_its_value};
+pub use laws::{
+    each_write_changes_what_it_touches, effect_gives_value, effects_of_parts_compose,
+    later_writes_change_nothing, untouched_key_keeps_its_value,
+};
 pub use value::{effect_at, touches, value_at};
 
 #[cfg(test)]

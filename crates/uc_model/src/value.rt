@@ -1,4 +1,4 @@
-ghost use Rattle.std.specs.Prelude.{◌≡◌, IfOk};
+ghost use Rattle.std.specs.Prelude.{◌≡◌, ◌&&◌, nat_le, IfOk};
 ghost use Rattle.uc_model.specs.Meaning.{touches_key, changed, value_of, effect_of, effect_on};
 
 use std::alloc::{AllocError, Global};
@@ -19,6 +19,14 @@ pub fn touches(op: &Op, key: &[u8]) -> bool
             begin.as_slice().cmp(&key).is_le() && key.cmp(&end.as_slice()).is_lt()
         }
     }
+}
+
+/// Whether a read of a key at a sequence sees a write: it stands at or below the sequence, and touches
+/// the key.
+fn is_seen(write: &Write, key: &[u8], at: u64) -> bool
+    ensures { result ≡ (nat_le write.now.seq at && touches_key key.now write.now.op) }
+{
+    write.seq <= at && touches(&write.op, key)
 }
 
 /// The value that an operation leaves of a key that it touches.
@@ -54,7 +62,7 @@ pub fn value_at<O: Operator>(
 {
     let mut value = None;
     for write in writes {
-        if write.seq <= at && touches(&write.op, key) {
+        if is_seen(write, key, at) {
             value = change::<O>(alloc, value, &write.op)?;
         }
     }
@@ -73,7 +81,7 @@ pub fn effect_at<O: Operator>(
 {
     let mut effect = Effect::Keep;
     for write in writes {
-        if write.seq <= at && touches(&write.op, key) {
+        if is_seen(write, key, at) {
             effect = effect.then::<O>(alloc, single(&write.op)?)?;
         }
     }

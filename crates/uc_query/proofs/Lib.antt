@@ -1,0 +1,4 @@
+pub mod Members
+pub mod NamedKeys
+pub mod FirstRows
+pub mod AnswerLaws

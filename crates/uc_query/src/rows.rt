@@ -29,7 +29,8 @@ impl Rows {
     pub fn into_vec(self) -> Vec<(Bytes, Bytes)>
         ensures { result.items ≡ self }
     {
-        self.pairs
+        let Rows { pairs } = self;
+        pairs
     }
 }
 

@@ -8,3 +8,6 @@ mod write;
 
 pub use op::Op;
 pub use write::Write;
+
+#[cfg(test)]
+mod tests;

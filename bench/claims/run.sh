@@ -1,0 +1,35 @@
+#!/bin/sh
+# Takes and gives per second by 1, 2 and 4 threads, beside the same loop in plain Rust.
+# Needs rustc, and crates/bench_claims/out/bench_claims, which `rt run` in crates/bench_claims builds.
+# A round is one take of two slots and, where it won, their give. Disjoint: two slots of its own for each
+# thread. Contended: the same two for all. Each line has the medians of 9 runs, which take turns.
+set -eu
+here=$(cd "$(dirname "$0")" && pwd)
+ours=${OURS:-$here/../../crates/bench_claims/out/bench_claims}
+rounds=${ROUNDS:-3000000}
+work=$(mktemp -d)
+trap 'rm -r "$work"' EXIT
+rustc -O "$here/baseline.rs" -o "$work/baseline"
+
+grep -m1 'model name' /proc/cpuinfo || true
+printf '%-8s %-10s %14s %14s %8s %14s %14s\n' threads layout 'ours M/s' 'rust M/s' ratio 'ours won M/s' 'rust won M/s'
+for layout in disjoint contended; do
+    for threads in 1 2 4; do
+        : > "$work/ours"
+        : > "$work/rust"
+        for _ in 1 2 3 4 5 6 7 8 9; do
+            "$ours" "$threads" "$layout" "$rounds" >> "$work/ours"
+            "$work/baseline" "$threads" "$layout" "$rounds" >> "$work/rust"
+        done
+        sort -n "$work/ours" | sed -n 5p > "$work/one"
+        sort -n "$work/rust" | sed -n 5p >> "$work/one"
+        awk -v threads="$threads" -v layout="$layout" -v rounds="$rounds" '
+            { time[NR] = $1; won[NR] = $2 }
+            END {
+                all = threads * rounds
+                printf "%-8s %-10s %14.1f %14.1f %8.2f %14.1f %14.1f\n", threads, layout,
+                    all * 1000 / time[1], all * 1000 / time[2], time[1] / time[2],
+                    won[1] * 1000 / time[1], won[2] * 1000 / time[2]
+            }' "$work/one"
+    done
+done

@@ -1,0 +1,149 @@
+//! Takes and gives slots by 1, 2 or 4 threads, for `bench/claims`.
+//!
+//! `bench_claims THREADS LAYOUT ROUNDS` prints the nanoseconds that it took and how many takes won. The
+//! layout is `disjoint`, where each thread has two slots of its own, or `contended`, where all want the same
+//! two. Without words it does a little of both, and says that every slot is free again.
+#![tactic(auto)]
+
+ghost use Rattle.std.specs.Prelude.{◌≡◌, ◌<◌, All};
+ghost use Rattle.uc_claims.specs.Holding.{AreDistinct};
+
+use anyhow::{Result, ensure};
+use std::alloc::Global;
+use std::env;
+use std::thread::{Threads, join};
+use std::time::Instant;
+use uc_claims::{ClaimTable, MOST_SLOTS, Seat};
+
+const COUNT: usize = 8;
+
+/// What each thread does: which slots it wants, and how often.
+#[derive(Clone, Copy)]
+struct Plan {
+    contended: bool,
+    rounds: u32,
+}
+
+fn asked(thread: u64, contended: bool) -> &'static [usize]
+    ensures distinct { AreDistinct result.now }
+    ensures below { All (λ slot. slot < COUNT) result.now }
+{
+    if contended {
+        return &[0, 1];
+    }
+    match thread {
+        0 => &[0, 1],
+        1 => &[2, 3],
+        2 => &[4, 5],
+        _ => &[6, 7],
+    }
+}
+
+// One thread's rounds, and how many takes won.
+fn work(table: &ClaimTable, mut seat: Seat, thread: u64, plan: Plan) -> (Seat, u64)
+    requires table { seat.table ≡ table.now.table }
+    requires count { table.now.count ≡ COUNT }
+    ensures { result.0.table ≡ table.now.table }
+{
+    let slots = asked(thread, plan.contended);
+    let mut won = 0u64;
+    for _ in 0..plan.rounds {
+        seat = match table.take(seat, slots) {
+            Ok(held) => {
+                won = won.wrapping_add(1);
+                table.give(held)
+            }
+            Err((seat, _)) => seat,
+        };
+    }
+    (seat, won)
+}
+
+fn work_two<R: Threads + Sync>(
+    rt: &R,
+    table: &ClaimTable,
+    seat: Seat,
+    first: u64,
+    plan: Plan,
+) -> (Seat, u64)
+    requires table { seat.table ≡ table.now.table }
+    requires count { table.now.count ≡ COUNT }
+    ensures { result.0.table ≡ table.now.table }
+{
+    let (a, b) = table.split(seat);
+    let second = first.wrapping_add(1);
+    let ((a, x), (b, y)) = join(
+        rt,
+        move || -> (Seat, u64)
+            requires { (a.table ≡ table.now.table) × (table.now.count ≡ COUNT) }
+            ensures { result.0.table ≡ table.entry.now.table }
+        { work(table, a, first, plan) },
+        move || -> (Seat, u64)
+            requires { (b.table ≡ table.now.table) × (table.now.count ≡ COUNT) }
+            ensures { result.0.table ≡ table.entry.now.table }
+        { work(table, b, second, plan) },
+    );
+    (table.join(a, b), x.wrapping_add(y))
+}
+
+fn work_four<R: Threads + Sync>(rt: &R, table: &ClaimTable, seat: Seat, plan: Plan) -> (Seat, u64)
+    requires table { seat.table ≡ table.now.table }
+    requires count { table.now.count ≡ COUNT }
+    ensures { result.0.table ≡ table.now.table }
+{
+    let (a, b) = table.split(seat);
+    let ((a, x), (b, y)) = join(
+        rt,
+        move || -> (Seat, u64)
+            requires { (a.table ≡ table.now.table) × (table.now.count ≡ COUNT) }
+            ensures { result.0.table ≡ table.entry.now.table }
+        { work_two(rt, table, a, 0, plan) },
+        move || -> (Seat, u64)
+            requires { (b.table ≡ table.now.table) × (table.now.count ≡ COUNT) }
+            ensures { result.0.table ≡ table.entry.now.table }
+        { work_two(rt, table, b, 2, plan) },
+    );
+    (table.join(a, b), x.wrapping_add(y))
+}
+
+// All threads' rounds on a new table. How many takes won, and whether every slot is free at the end.
+fn run<R: Threads + Sync>(rt: &R, alloc: Global, threads: u64, plan: Plan) -> Result<(u64, bool)> {
+    let (table, seat) = ClaimTable::new(alloc, COUNT)?;
+    let (seat, won) = match threads {
+        1 => work(&table, seat, 0, plan),
+        2 => work_two(rt, &table, seat, 0, plan),
+        _ => work_four(rt, &table, seat, plan),
+    };
+    Ok((won, table.close(seat) == [false; MOST_SLOTS]))
+}
+
+fn small<R: Threads + Sync + Print>(rt: &R, alloc: Global) -> Result<()> {
+    for contended in [false, true] {
+        let plan = Plan {
+            contended,
+            rounds: 1000,
+        };
+        let (_, free) = run(rt, alloc, 4, plan)?;
+        ensure!(free, "a slot is taken at the end");
+    }
+    println!(rt; "every slot is free again")?;
+    Ok(())
+}
+
+fn main(rt: HostRuntime) -> Result<()> {
+    let words: Vec<String> = env::args(&rt)?.collect(rt.alloc())?;
+    if words.len() < 4 {
+        return small(&rt, rt.alloc());
+    }
+    let threads = words[1].parse::<u64>()?;
+    let plan = Plan {
+        contended: words[2].as_str() == "contended",
+        rounds: words[3].parse::<u32>()?,
+    };
+    let start = Instant::now(&rt)?;
+    let (won, free) = run(&rt, rt.alloc(), threads, plan)?;
+    let nanoseconds = start.elapsed(&rt)?.as_nanos();
+    ensure!(free, "a slot is taken at the end");
+    println!(rt; "{nanoseconds} {won}")?;
+    Ok(())
+}

@@ -1,0 +1,64 @@
+//! A seat with the slots that it holds.
+ghost use Rattle.std.specs.Prelude.{◌≡◌, ℕ, ◌<◌, ◌↔◌, IsTrue, Contains};
+ghost use Rattle.uc_claims.specs.Holding.{free_seat};
+
+use crate::rule::Claimant;
+use crate::seat::Seat;
+use crate::table::MOST_SLOTS;
+use atomic_table::Seat as Token;
+use std::marker::Model;
+
+/// A seat and the slots that it holds. While it lives, no other seat of its table gets one of them.
+///
+/// Contracts see it as a `Holding`, whose list has the slots in the order in which they were taken.
+/// Give it back by [`ClaimTable::give`](crate::ClaimTable::give): dropped, it leaves its slots taken for good.
+#[derive(Drop)]
+pub struct HeldSlots {
+    pub(crate) token: Token<(), Claimant>,
+    // Which slots stand in the list, which itself exists in proofs alone.
+    pub(crate) flags: [bool; MOST_SLOTS],
+}
+
+impl Model for HeldSlots {
+    ghost use Rattle.std.specs.Prelude.{◌≡◌, []};
+    ghost use Rattle.uc_claims.specs.Holding.{Holding};
+
+    ghost Value = { Holding };
+
+    ghost use Rattle.uc_claims.specs.Claims.{Recorded};
+
+    ghost view = { λ h. record { table = h.token.table_id; whole = h.token.me.0.whole; slots = h.token.me.0.slots } };
+
+    ghost invariant = { λ h. (h.token.me.1 ≡ []) × Recorded h.token.table_id.words h.flags h.token.me.0.slots };
+}
+
+impl HeldSlots {
+    /// A seat that holds nothing yet.
+    pub(crate) fn none(seat: Seat) -> HeldSlots
+        ensures held { result ≡ free_seat seat.table seat.whole }
+        ensures same { result ≡ seat }
+    {
+        let Seat { token } = seat;
+        HeldSlots {
+            token,
+            flags: [false; MOST_SLOTS],
+        }
+    }
+
+    /// The seat alone, where it holds nothing any more.
+    pub(crate) fn into_seat(self) -> Seat
+        requires { (slot : ℕ) → slot < self.table.words → ¬ Contains self.slots slot }
+        ensures seat { result ≡ free_seat self.table self.whole }
+        ensures same { result ≡ self }
+    {
+        let HeldSlots { token, flags: _ } = self;
+        Seat { token }
+    }
+
+    /// Whether the slot is among those held here. A slot that the table has not is never.
+    pub fn has(&self, slot: usize) -> bool
+        ensures { IsTrue result ↔ Contains self.now.slots slot }
+    {
+        self.flags.get(slot).copied().unwrap_or(false)
+    }
+}

@@ -1,0 +1,257 @@
+//! The table of claim words, and all that is done with it.
+ghost use Rattle.std.specs.Prelude.{◌≡◌, ℕ, ◌<◌, ◌≤◌, ◌++◌, true, false, [], ◌∷◌, All, Contains, IfOk, IfErr, IsOk, OnOk, MatchBool, nat_lt, slice_index, slice_index_or};
+ghost use Rattle.std.specs.Slots.{slots_items, slots_len, IsFull};
+ghost use Rattle.std.specs.Bool.{OnTrue, OnFalse};
+ghost use Rattle.uc_claims.specs.Claims.{Ended};
+ghost use Rattle.uc_claims.specs.Holding.{free_seat, AreDistinct, without, NoneHeld, IsFirstHeld};
+
+use crate::busy::Busy;
+use crate::held_slots::HeldSlots;
+use crate::rule::{ClaimRule, Claimant, Exchange, Give, InTwo, IntoOne, Look};
+use crate::seat::Seat;
+use atomic_table::{Closed, Table};
+use std::alloc::{AllocError, Global};
+use std::marker::Model;
+
+/// The most slots that a table may have.
+pub const MOST_SLOTS: usize = 64;
+
+// A claim word while nobody has its slot.
+const FREE: u64 = 0;
+
+// A claim word while somebody has its slot.
+const TAKEN: u64 = 1;
+
+/// A word for each slot, by which threads claim slots. Threads share it by reference.
+///
+/// Contracts see its identity, `table`, which its tokens carry too, and its number of slots, `count`.
+#[derive(Drop)]
+pub struct ClaimTable {
+    table: Table<(), Claimant, usize, ClaimRule, Global>,
+}
+
+impl Model for ClaimTable {
+    ghost use Rattle.uc_claims.specs.Holding.{Slots, IsLaid};
+
+    ghost Value = { Slots };
+
+    ghost view = { λ t. record { table = t.table.shared.table_id; count = t.table.shared.table_id.words } };
+
+    ghost invariant = { λ t. IsLaid t.table.shared.key t.table.shared.table_id };
+}
+
+impl ClaimTable {
+    /// A table of `count` free slots, numbered from 0, with a whole seat. `Err` where memory runs out: no
+    /// other call takes any.
+    pub fn new(alloc: Global, count: usize) -> Result<(ClaimTable, Seat), AllocError>
+        requires some { 0 < count }
+        requires few { count ≤ MOST_SLOTS }
+        ensures table { IfOk result (λ r. r.0.count ≡ count) }
+        ensures seat { IfOk result (λ r. r.1 ≡ free_seat r.0.table true) }
+    {
+        let words = [FREE; MOST_SLOTS];
+        let (table, token) = Table::of_words(alloc, &words[..count], &count)?;
+        Ok((ClaimTable { table }, Seat { token }))
+    }
+
+    /// Two seats in place of one, neither of them whole.
+    pub fn split(&self, mut seat: Seat) -> (Seat, Seat)
+        requires { seat.table ≡ self.now.table }
+        ensures left { result.0 ≡ free_seat self.now.table false }
+        ensures right { result.1 ≡ free_seat self.now.table false }
+    {
+        let token = self.table.shared.split_seat::<InTwo>(&mut seat.token);
+        (seat, Seat { token })
+    }
+
+    /// One seat in place of two. It is not whole, since slots may have been dropped in between.
+    pub fn join(&self, mut seat: Seat, other: Seat) -> Seat
+        requires seat { seat.table ≡ self.now.table }
+        requires other { other.table ≡ self.now.table }
+        ensures { result ≡ free_seat self.now.table false }
+    {
+        let Seat { token } = other;
+        self.table
+            .shared
+            .join_seat::<IntoOne>(&mut seat.token, token);
+        seat
+    }
+
+    /// Takes the slots, in the order of the list, all of them or none.
+    ///
+    /// At the first one that is taken already it gives those before it back, and the answer is that slot
+    /// with the seat as it was. A whole seat gets what it asks for.
+    pub fn take(&self, seat: Seat, slots: &[usize]) -> Result<HeldSlots, (Seat, Busy)>
+        requires table { seat.table ≡ self.now.table }
+        requires below { All (λ slot. slot < self.now.count) slots.now }
+        requires distinct { AreDistinct slots.now }
+        ensures was_empty { seat.slots ≡ [] }
+        ensures ok { IfOk result (λ held. held ≡ record seat { slots = slots.now }) }
+        ensures busy { IfErr result (λ refused. (refused.0 ≡ seat) × Contains slots.now refused.1.0) }
+        ensures whole { seat.whole ≡ true → IsOk result }
+    {
+        let mut held = HeldSlots::none(seat);
+        match self.take_all(&mut held, slots) {
+            Ok(()) => Ok(held),
+            Err(busy) => Err((held.into_seat(), busy)),
+        }
+    }
+
+    /// Takes further slots in the same way, behind those that are held.
+    ///
+    /// At the first one that is taken already, by whomever, it gives those before it back, and the answer is
+    /// that slot with what was held before. A whole seat is refused exactly where it holds a slot that it
+    /// asks for, and the first such slot is named.
+    pub fn take_more(
+        &self,
+        mut held: HeldSlots,
+        slots: &[usize],
+    ) -> Result<HeldSlots, (HeldSlots, Busy)>
+        requires table { held.table ≡ self.now.table }
+        requires below { All (λ slot. slot < self.now.count) slots.now }
+        requires distinct { AreDistinct slots.now }
+        ensures ok { IfOk result (λ more. more ≡ record held { slots = held.slots ++ slots.now }) }
+        ensures apart { OnOk result (NoneHeld slots.now held.slots) }
+        ensures busy { IfErr result (λ refused. (refused.0 ≡ held) × Contains slots.now refused.1.0) }
+        ensures whole { held.whole ≡ true → IfErr result (λ refused. IsFirstHeld slots.now held.slots refused.1.0) }
+    {
+        match self.take_all(&mut held, slots) {
+            Ok(()) => Ok(held),
+            Err(busy) => Err((held, busy)),
+        }
+    }
+
+    /// Gives some of the slots back. The others stay held, in their order.
+    pub fn give_some(&self, mut held: HeldSlots, slots: &[usize]) -> HeldSlots
+        requires table { held.table ≡ self.now.table }
+        requires distinct { AreDistinct slots.now }
+        requires held { All (Contains held.slots) slots.now }
+        ensures { result ≡ record held { slots = without slots.now held.slots } }
+    {
+        self.free_all(&mut held, slots);
+        held
+    }
+
+    /// Gives all slots back.
+    pub fn give(&self, mut held: HeldSlots) -> Seat
+        requires { held.table ≡ self.now.table }
+        ensures { result ≡ free_seat held.table held.whole }
+    {
+        for slot in 0..self.count() {
+            if held.has(slot) {
+                self.free(&mut held, slot);
+            }
+        }
+        held.into_seat()
+    }
+
+    /// Whether the slot is taken, at one moment during the call. The seat stays as it was.
+    ///
+    /// To a whole seat the answer is `false`: there is no other seat, and it holds no slot itself. To another
+    /// seat the answer may be out of date once it is there.
+    pub fn busy(&self, seat: &mut Seat, slot: usize) -> bool
+        requires table { seat.old.table ≡ self.now.table }
+        requires below { slot < self.now.count }
+        ensures seat { seat.new ≡ seat.old }
+        ensures whole { seat.old.whole ≡ true → result ≡ false }
+    {
+        self.table.shared.load::<Look>(&mut seat.token, slot) != FREE
+    }
+
+    /// Ends the table, and says which slots stand in the list of some seat still: of one that was dropped with
+    /// its slots, or that is left over. Past the last slot of the table the flags are false.
+    pub fn close(self, seat: Seat) -> [bool; MOST_SLOTS]
+        requires { seat.table ≡ self.table }
+        ensures flags { Ended self.count seat.whole result }
+        ensures past { (slot : ℕ) → self.count ≤ slot → slice_index_or result slot false ≡ false }
+        ensures whole { seat.whole ≡ true → All (λ taken. taken ≡ false) result }
+    {
+        let ClaimTable { table } = self;
+        let Seat { token } = seat;
+        let count = table.word_count();
+        let closed = table.close_with(token);
+        let flags = taken_flags(&closed, count);
+        closed.free();
+        flags
+    }
+
+    fn count(&self) -> usize
+        ensures count { result ≡ self.now.count }
+        ensures words { result ≡ self.now.table.words }
+    {
+        self.table.word_count()
+    }
+
+    // Takes these slots, all of them or none.
+    fn take_all(&self, held: &mut HeldSlots, slots: &[usize]) -> Result<(), Busy>
+        requires table { held.old.table ≡ self.now.table }
+        requires below { All (λ slot. slot < self.now.count) slots.now }
+        requires distinct { AreDistinct slots.now }
+        ensures ok { OnOk result (held.new ≡ record held.old { slots = held.old.slots ++ slots.now }) }
+        ensures apart { OnOk result (NoneHeld slots.now held.old.slots) }
+        ensures busy { IfErr result (λ busy. (held.new ≡ held.old) × Contains slots.now busy.0) }
+        ensures whole { held.old.whole ≡ true → IfErr result (λ busy. IsFirstHeld slots.now held.old.slots busy.0) }
+    {
+        for (taken, &slot) in slots.iter().enumerate() {
+            if !self.win(held, slot) {
+                self.free_all(held, &slots[..taken]);
+                return Err(Busy(slot));
+            }
+        }
+        Ok(())
+    }
+
+    // Takes one slot, if it is free: a won or a lost exchange.
+    fn win(&self, held: &mut HeldSlots, slot: usize) -> bool
+        requires table { held.old.table ≡ self.now.table }
+        requires below { slot < self.now.count }
+        ensures held { MatchBool result (held.new ≡ record held.old { slots = held.old.slots ++ slot ∷ [] }) (held.new ≡ held.old) }
+        ensures won { OnTrue result (¬ Contains held.old.slots slot) }
+        ensures lost { OnFalse result (held.old.whole ≡ true → Contains held.old.slots slot) }
+    {
+        let found = self
+            .table
+            .shared
+            .compare_exchange::<Exchange>(&mut held.token, slot, FREE, TAKEN);
+        if found != FREE {
+            return false;
+        }
+        held.flags[slot] = true;
+        true
+    }
+
+    // Gives one slot back.
+    fn free(&self, held: &mut HeldSlots, slot: usize)
+        requires table { held.old.table ≡ self.now.table }
+        requires held { Contains held.old.slots slot }
+        ensures { held.new ≡ record held.old { slots = without (slot ∷ []) held.old.slots } }
+    {
+        self.table.shared.store::<Give>(&mut held.token, slot, FREE);
+        held.flags[slot] = false;
+    }
+
+    // Gives these slots back.
+    fn free_all(&self, held: &mut HeldSlots, slots: &[usize])
+        requires table { held.old.table ≡ self.now.table }
+        requires distinct { AreDistinct slots.now }
+        requires held { All (Contains held.old.slots) slots.now }
+        ensures { held.new ≡ record held.old { slots = without slots.now held.old.slots } }
+    {
+        for &slot in slots {
+            self.free(held, slot);
+        }
+    }
+}
+
+// Which words of a closed table are not 0.
+fn taken_flags(closed: &Closed<(), Global>, count: usize) -> [bool; MOST_SLOTS]
+    requires counts { (count ≡ slots_len closed.now.words) × (count ≤ MOST_SLOTS) }
+    requires full { IsFull closed.now.words }
+    ensures { (slot : ℕ) → slice_index_or result slot false ≡ nat_lt 0 (slice_index (slots_items closed.now.words) slot) }
+{
+    let mut flags = [false; MOST_SLOTS];
+    for slot in 0..count {
+        flags[slot] = closed.word(slot) != FREE;
+    }
+    flags
+}

@@ -1,0 +1,24 @@
+//! Tests of what no clause says: worked sequences, a plain list of flags beside a lone seat, and four threads.
+mod lone;
+mod threads;
+mod worked;
+
+ghost use Rattle.std.specs.Prelude.{◌≡◌, ◌<◌, IsTrue, All};
+ghost use Rattle.uc_claims.specs.Holding.{AreDistinct};
+
+// Whether no slot stands in the list twice.
+fn are_distinct(slots: &[usize]) -> bool
+    ensures { IsTrue result → AreDistinct slots.now }
+{
+    match slots {
+        [] => true,
+        [slot, rest @ ..] => !rest.contains(slot) && are_distinct(rest),
+    }
+}
+
+// Whether all these slots are below the bound.
+fn are_below(slots: &[usize], bound: usize) -> bool
+    ensures { IsTrue result → All (λ slot. slot < bound) slots.now }
+{
+    slots.iter().all(|slot| *slot < bound)
+}

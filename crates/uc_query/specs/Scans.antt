@@ -1,0 +1,39 @@
+-- What a scan shows: the first rows, in byte order, of the keys that are there to be shown.
+use Rattle.std.specs.Prelude.{◌≡◌, ℕ, ◌≤◌, List, Option, Some, All, Any, Contains, IsTrue, length, ◌⊎◌}
+use Rattle.std.specs.declared.cmp.Ordering.TheVariants.{Less}
+use Rattle.std.specs.List.Sorted.{IsStrictlySortedBy}
+use Rattle.uc_bytes.specs.Bytes.{bytes_cmp}
+use Rattle.uc_oper.specs.Operation.{Operation}
+use Rattle.uc_write.specs.declared.op.Op.{Op}
+use Rattle.uc_write.specs.declared.op.Op.TheVariants.{Put, Delete, Merge, DeleteRange}
+use Rattle.uc_write.specs.declared.write.Write.{Write}
+use Rattle.uc_model.specs.Meaning.{value_of}
+use Rattle.uc_query.specs.Answers.{is_in_range}
+
+-- an operation gives a key something to show: it puts the key, or merges into it
+abbrev pub Gives : List ℕ → Op → Type 0
+Gives key (Put named value) = named ≡ key
+Gives key (Delete named) = ⊥
+Gives key (Merge named operand) = named ≡ key
+Gives key (DeleteRange begin end) = ⊥
+
+-- a key that a scan looks at: it is in the range, and some put or merge names it
+abbrev pub IsNamed : List Write → List ℕ → Option (List ℕ) → List ℕ → Type 0
+IsNamed writes low high key = IsTrue (is_in_range low high key) × Any (λ w. Gives key w.op) writes
+
+-- a row that a scan may show: such a key, with its value at the sequence
+abbrev pub IsRow : Operation → List Write → List ℕ → Option (List ℕ) → ℕ → List ℕ × List ℕ → Type 0
+IsRow m writes low high at row = IsNamed writes low high row.0 × (value_of m writes row.0 at ≡ Some row.1)
+
+-- the first `limit` pairs with P, in byte order of their keys
+pub record AreFirst (P : List ℕ × List ℕ → Type 0) (limit : ℕ) (rows : List (List ℕ × List ℕ)) : Type 0 where
+  -- their keys rise, so each stands once
+  pub rise : IsStrictlySortedBy (λ row other. bytes_cmp row.0 other.0) rows
+  pub only : All P rows
+  pub few : length rows ≤ limit
+  -- a pair with P is left out only behind `limit` others
+  pub first : (row : List ℕ × List ℕ) → P row → Contains rows row ⊎ ((length rows ≡ limit) × All (λ other. bytes_cmp other.0 row.0 ≡ Less) rows)
+
+-- the rows of a scan
+abbrev pub IsScan : Operation → List Write → List ℕ → Option (List ℕ) → ℕ → ℕ → List (List ℕ × List ℕ) → Type 0
+IsScan m writes low high at limit rows = AreFirst (IsRow m writes low high at) limit rows

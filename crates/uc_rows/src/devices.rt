@@ -1,0 +1,209 @@
+//! Readers that fail, give little at a time or too much, and writers that fail.
+use crate::plays::small;
+use std::alloc::Global;
+use std::io;
+use std::io::{ErrorKind, Read, Write};
+use std::process::Abort;
+use uc_oper::Counter;
+use uc_tool::{Done, play};
+
+/// A script of 72 bytes.
+const SCRIPT: &[u8] =
+    b"put 6b 0500000000000000\nmerge 6b 0700000000000000\nopen\nget 6b 2\nget 6b 1";
+
+/// What it prints, 48 bytes.
+const PRINTED: &[u8] = b"opened 2\nvalue 0c00000000000000\nnot protected 1\n";
+
+/// Gives some bytes, at most `step` at a time, and fails at one of its reads.
+#[derive(Drop)]
+struct Source {
+    left: &'static [u8],
+    step: usize,
+    /// How many reads come before the one that fails.
+    good: usize,
+}
+
+impl Read for Source {
+    fn read(&mut self, buf: &mut [u8]) -> io::Result<usize> {
+        if self.good == 0 {
+            return Err(io::Error::from(ErrorKind::ConnectionReset));
+        }
+        self.good -= 1;
+        let count = buf.len().min(self.left.len()).min(self.step);
+        buf[..count].copy_from_slice(&self.left[..count]);
+        self.left = &self.left[count..];
+        Ok(count)
+    }
+}
+
+/// Gives so many bytes, which nobody keeps: each is what stood in the buffer.
+#[derive(Drop)]
+struct Untouched(usize);
+
+impl Read for Untouched {
+    fn read(&mut self, buf: &mut [u8]) -> io::Result<usize> {
+        let count = buf.len().min(self.0);
+        self.0 -= count;
+        Ok(count)
+    }
+}
+
+/// How a writer fails.
+#[derive(Clone, Copy, PartialEq, Eq)]
+enum Failure {
+    /// A write answers an error.
+    Error,
+    /// A write takes nothing.
+    Nothing,
+    /// What was written isn't flushed.
+    Flush,
+}
+
+/// Takes at most `step` bytes at a time, and fails behind some good writes.
+#[derive(Drop)]
+struct Sink {
+    text: Vec<u8>,
+    step: usize,
+    /// How many writes come before the one that fails.
+    good: usize,
+    failure: Failure,
+    /// How many writes came behind the one that failed.
+    late: usize,
+    has_failed: bool,
+}
+
+impl Write for Sink {
+    fn write(&mut self, buf: &[u8]) -> io::Result<usize> {
+        if self.has_failed {
+            self.late = self.late.saturating_add(1);
+        }
+        if self.good == 0 && self.failure != Failure::Flush {
+            self.has_failed = true;
+            return match self.failure {
+                Failure::Nothing => Ok(0),
+                _ => Err(io::Error::from(ErrorKind::BrokenPipe)),
+            };
+        }
+        self.good = self.good.saturating_sub(1);
+        let count = buf.len().min(self.step);
+        if self.text.extend_from_slice(&buf[..count]).is_err() {
+            return Err(io::Error::from(ErrorKind::OutOfMemory));
+        }
+        Ok(count)
+    }
+
+    fn flush(&mut self) -> io::Result<()> {
+        match self.failure {
+            Failure::Flush => Err(io::Error::from(ErrorKind::BrokenPipe)),
+            _ => Ok(()),
+        }
+    }
+}
+
+/// Runs the script through a reader into a vector, and asserts what is written and how it ends.
+fn reads<R: Read>(rt: &impl Abort, alloc: Global, reader: &mut R, want: &[u8], ended: Done) {
+    let mut text = Vec::new(alloc);
+    let done = play::<Counter, R, Vec<u8>>(alloc, reader, &mut text, &small());
+    assert_eq!(rt; text.as_slice(), want);
+    assert_eq!(rt; done, ended);
+}
+
+/// A read that fails is told alone, whichever it is; the one behind the last isn't made.
+#[test]
+fn reads_that_fail(rt: HostRuntime) {
+    for step in [1, 7, 36, 71, 72, 73] {
+        // One for each piece, and one that finds the end.
+        let count = SCRIPT.len().div_ceil(step) + 1;
+        for good in 0..count + 2 {
+            let mut reader = Source {
+                left: SCRIPT,
+                step,
+                good,
+            };
+            if good < count {
+                reads(&rt, rt.alloc(), &mut reader, b"read fault\n", Done::Device);
+            } else {
+                reads(&rt, rt.alloc(), &mut reader, PRINTED, Done::Fine);
+            }
+        }
+    }
+    assert_eq!(rt; Done::Device.status(), 5);
+}
+
+/// An input of 64 MiB is judged: its one line is no line of a script.
+#[test]
+fn an_input_at_the_limit(rt: HostRuntime) {
+    let mut reader = Untouched(67_108_864);
+    reads(
+        &rt,
+        rt.alloc(),
+        &mut reader,
+        b"fault line 1\n",
+        Done::Refused,
+    );
+}
+
+/// An input of a byte more isn't judged.
+#[test]
+fn an_input_above_the_limit(rt: HostRuntime) {
+    let mut reader = Untouched(67_108_865);
+    reads(
+        &rt,
+        rt.alloc(),
+        &mut reader,
+        b"input too long\n",
+        Done::Device,
+    );
+}
+
+/// Runs the script into a writer that fails, and asserts that the first `count` bytes of a text went out
+/// and nothing was written behind the failure.
+fn writes<R: Read>(rt: &impl Abort, alloc: Global, reader: &mut R, sink: Sink, want: &[u8]) {
+    let mut writer = sink;
+    let done = play::<Counter, R, Sink>(alloc, reader, &mut writer, &small());
+    assert_eq!(rt; writer.text.as_slice(), want);
+    assert_eq!(rt; done, Done::Device);
+    assert_eq!(rt; writer.late, 0);
+}
+
+/// A writer of a byte at a time, whose write behind `good` ones fails.
+fn failing(alloc: Global, good: usize, failure: Failure) -> Sink {
+    Sink {
+        text: Vec::new(alloc),
+        step: 1,
+        good,
+        failure,
+        late: 0,
+        has_failed: false,
+    }
+}
+
+/// What went out is a front of the text, and nothing is written behind it.
+#[test]
+fn writes_that_fail(rt: HostRuntime) {
+    for good in 0..PRINTED.len() {
+        for failure in [Failure::Error, Failure::Nothing] {
+            let mut reader = SCRIPT;
+            let sink = failing(rt.alloc(), good, failure);
+            writes(&rt, rt.alloc(), &mut reader, sink, &PRINTED[..good]);
+        }
+    }
+    let mut reader = SCRIPT;
+    let sink = failing(rt.alloc(), 0, Failure::Flush);
+    writes(&rt, rt.alloc(), &mut reader, sink, PRINTED);
+}
+
+/// Where the reader fails and the writer too, a front of what says so went out.
+#[test]
+fn both_fail(rt: HostRuntime) {
+    let told = b"read fault\n";
+    for good in 0..told.len() {
+        let mut reader = Source {
+            left: SCRIPT,
+            step: 3,
+            good: 4,
+        };
+        let sink = failing(rt.alloc(), good, Failure::Error);
+        writes(&rt, rt.alloc(), &mut reader, sink, &told[..good]);
+    }
+}

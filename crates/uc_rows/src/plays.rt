@@ -1,0 +1,46 @@
+//! Runs of scripts over memory.
+use std::alloc::Global;
+use std::process::Abort;
+use std::str;
+use uc_oper::Operator;
+use uc_tool::{Done, Options, play};
+
+/// A script, and what it prints.
+pub type Row = (&'static str, &'static str);
+
+/// A byte of memtable, so that each write stands in a run of its own.
+pub fn small() -> Options {
+    Options {
+        memtable: 1,
+        ..Options::usual()
+    }
+}
+
+/// What a script prints, and how its run ends.
+pub fn plays<O: Operator>(alloc: Global, options: &Options, script: &[u8]) -> (Vec<u8>, Done) {
+    let mut reader = script;
+    let mut text = Vec::new(alloc);
+    let done = play::<O, &[u8], Vec<u8>>(alloc, &mut reader, &mut text, options);
+    (text, done)
+}
+
+/// Asserts what a script prints, and how its run ends.
+pub fn shows<O: Operator>(
+    rt: &impl Abort,
+    alloc: Global,
+    options: &Options,
+    (script, want): Row,
+    ended: Done,
+) {
+    let (text, done) = plays::<O>(alloc, options, script.as_bytes());
+    let printed = str::from_utf8(&text).unwrap_or("other bytes than text");
+    assert_eq!(rt; printed, want, "after {script}");
+    assert_eq!(rt; done, ended, "after {script}");
+}
+
+/// Asserts that each script is answered, and what it prints.
+pub fn all_show<O: Operator>(rt: &impl Abort, alloc: Global, rows: &[Row]) {
+    for row in rows {
+        shows::<O>(rt, alloc, &small(), *row, Done::Fine);
+    }
+}
