@@ -1,23 +1,19 @@
 -- What the grammar relates is read so.
-use Rattle.std.proofs.Common.{◌≡◌, ℕ, zero, suc, ◌+◌, ◌-◌, ◌*◌, ◌^◌, ◌<◌, ◌≤◌, Bool, true, false, ltb, eqb, List, [], ◌∷◌, ◌++◌, length, take, drop, Option, Some, None, option_to_list, Result, Ok, Err, refl, ap, sym, ◌∙◌, subst, append_assoc, lt-ltb, eq-eqb, arith, inl, inr, ◌⊎◌}
+use Rattle.std.proofs.Common.{◌≡◌, ℕ, zero, suc, ◌+◌, ◌-◌, ◌*◌, ◌^◌, ◌<◌, ◌≤◌, Bool, true, false, ltb, List, [], ◌∷◌, ◌++◌, length, take, drop, Option, Some, option_to_list, Ok, refl, ap, sym, ◌∙◌, append_assoc, lt-ltb, eq-eqb, arith, inl, inr}
 use Rattle.std.specs.List.{flat_map, AllByRecursion}
 use Rattle.std.specs.Int.{w32, w64, to_le_bytes, from_le_bytes}
 use Rattle.std.proofs.lemmas.Bool.{le-ltb}
-use Rattle.std.proofs.lemmas.List.{take_at, drop_at, length-append, append-nil}
+use Rattle.std.proofs.lemmas.List.{take_at, drop_at, length-append}
 use Rattle.std.proofs.lemmas.Nat.{from_le_bytes-to_le_bytes_4, from_le_bytes-to_le_bytes_8}
 use Rattle.uc_write.specs.declared.op.Op.{Op}
-use Rattle.uc_write.specs.declared.op.Op.TheVariants as op
 use Rattle.uc_write.specs.declared.write.Write.{Write}
-use Rattle.uc_batch.specs.declared.error.BatchError.{BatchError}
 use Rattle.uc_batch.specs.declared.form.Form.{Form}
 use Rattle.uc_batch.specs.declared.form.Form.TheVariants as form
 use Rattle.uc_batch.specs.declared.form.Layout.{Layout}
-use Rattle.uc_batch.specs.Form.{layout_at}
-use Rattle.uc_batch.specs.Reads.{◌>>=◌}
 use Rattle.uc_batch.specs.Varint.{varint_from}
 use Rattle.uc_batch.specs.Records.{string_at, strings_at, family_at, body_at, after_family, laid_out, record_at, records_from, operations}
 use Rattle.uc_batch.specs.Batch.{numbered, counted_of, judged, batch_of}
-use Rattle.uc_batch.specs.Grammar.{Spells, IsString, AreStrings, IsFamily, IsBody, HasParts, IsRecord, AreRecords, IsBatch, Accepts}
+use Rattle.uc_batch.specs.Grammar.{Spells, IsString, AreStrings, IsFamily, IsBody, IsRecord, Accepts}
 use Rattle.uc_batch.proofs.Counted.{one_record}
 use Rattle.uc_batch.proofs.Again.{by_parts, judged_again}
 

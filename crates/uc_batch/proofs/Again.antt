@@ -1,6 +1,5 @@
 -- What the writer wrote is read again.
-use Rattle.std.proofs.Common.{◌≡◌, ℕ, zero, suc, ◌+◌, ◌-◌, ◌*◌, ◌/◌, ◌%◌, ◌^◌, ◌<◌, ◌≤◌, Bool, true, false, cond, ltb, leb, eqb, List, [], ◌∷◌, ◌++◌, length, take, drop, Option, Some, None, option_to_list, Result, Ok, Err, refl, ap, sym, ◌∙◌, append_assoc, lt-ltb, eq-eqb, arith, inl, inr, ◌⊎◌}
-use Rattle.std.specs.Prelude.{All}
+use Rattle.std.proofs.Common.{◌≡◌, ℕ, zero, suc, ◌+◌, ◌-◌, ◌*◌, ◌/◌, ◌%◌, ◌^◌, ◌<◌, ◌≤◌, false, ltb, List, [], ◌∷◌, ◌++◌, length, take, drop, Some, Ok, refl, ap, ◌∙◌, append_assoc, lt-ltb, eq-eqb, arith, inl, inr}
 use Rattle.std.specs.List.{flat_map, AllByRecursion}
 use Rattle.std.specs.Int.{w32, w64, to_le_bytes, from_le_bytes}
 use Rattle.std.proofs.lemmas.Bool.{le-ltb, cases_lt}
@@ -11,10 +10,6 @@ use Rattle.std.proofs.lemmas.Nat.{from_le_bytes-to_le_bytes_4, from_le_bytes-to_
 use Rattle.uc_write.specs.declared.op.Op.{Op}
 use Rattle.uc_write.specs.declared.op.Op.TheVariants.{Put, Delete, Merge, DeleteRange}
 use Rattle.uc_write.specs.declared.write.Write.{Write}
-use Rattle.uc_batch.specs.declared.error.BatchError.{BatchError}
-use Rattle.uc_batch.specs.declared.error.BatchError.TheVariants as faults
-use Rattle.uc_batch.specs.declared.form.Form.TheVariants as form
-use Rattle.uc_batch.specs.Reads.{◌>>=◌}
 use Rattle.uc_batch.specs.Varint.{varint_from, room_for}
 use Rattle.uc_batch.specs.Records.{string_at, strings_at, body_at, after_family, laid_out, record_at, records_from, operations}
 use Rattle.uc_batch.specs.Batch.{numbered, counted_of, judged, batch_of}

@@ -1,5 +1,5 @@
 -- Reading records one after the other, as a loop does, and keeping as many as the header counts.
-use Rattle.std.proofs.Common.{◌≡◌, ◌≢◌, ℕ, zero, suc, ◌+◌, ◌-◌, ◌<◌, ◌≤◌, Bool, true, false, cond, eqb, List, [], ◌∷◌, ◌++◌, length, take, drop, Option, Some, None, option_to_list, Result, Ok, Err, refl, ap, sym, ◌∙◌, append_assoc, eq-eqb, arith}
+use Rattle.std.proofs.Common.{◌≡◌, ◌≢◌, ℕ, zero, suc, ◌+◌, ◌<◌, ◌≤◌, cond, eqb, List, [], ◌∷◌, ◌++◌, length, take, Option, Some, None, option_to_list, Result, Ok, Err, refl, ap, sym, ◌∙◌, append_assoc, eq-eqb, arith}
 use Rattle.std.proofs.lemmas.Bool.Decides.{nat_tests}
 use Rattle.std.proofs.lemmas.List.{append-nil, length-append, take_all, take-append-le}
 use Rattle.uc_write.specs.declared.op.Op.{Op}
@@ -9,7 +9,6 @@ use Rattle.uc_batch.specs.declared.error.BatchError.TheVariants as faults
 use Rattle.uc_batch.specs.Reads.{◌>>=◌, Fails}
 use Rattle.uc_batch.specs.Records.{record_at, records_from, operations}
 use Rattle.uc_batch.specs.Batch.{numbered, counted_of}
-use Rattle.uc_batch.proofs.Steps.{bind_ok}
 use Rattle.uc_batch.proofs.Shorter.{record_shorter}
 
 -- what was read before, and what is still read

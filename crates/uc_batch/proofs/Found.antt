@@ -1,12 +1,10 @@
 -- What is read is related by the grammar.
-use Rattle.std.proofs.Common.{◌≡◌, ℕ, zero, suc, ◌+◌, ◌-◌, ◌*◌, ◌^◌, ◌<◌, ◌≤◌, Bool, true, false, cond, ltb, leb, eqb, List, [], ◌∷◌, ◌++◌, length, get_or, take, drop, Option, Some, None, option_to_list, Result, Ok, Err, refl, ap, sym, ◌∙◌, subst, append_assoc, lt-ltb, arith, inl, inr, ◌⊎◌}
+use Rattle.std.proofs.Common.{◌≡◌, ℕ, zero, suc, ◌+◌, ◌-◌, ◌*◌, ◌^◌, ◌<◌, ◌≤◌, Bool, true, false, cond, ltb, leb, eqb, List, [], ◌∷◌, ◌++◌, length, get_or, take, drop, Option, Some, None, option_to_list, Result, Ok, Err, refl, ap, sym, ◌∙◌, subst, append_assoc, lt-ltb, arith, inl, inr}
 use Rattle.std.specs.Prelude.{◌&&◌, IfOk}
 use Rattle.std.specs.Global.{Vec}
-use Rattle.std.specs.List.{flat_map, AllByRecursion}
 use Rattle.std.specs.Int.{w32, w64, to_le_bytes, from_le_bytes}
 use Rattle.std.proofs.lemmas.Bool.{ltb-false, ltb-true, leb-false, eqb-true}
-use Rattle.std.proofs.lemmas.Bool.Decides.{nat_tests}
-use Rattle.std.proofs.lemmas.List.{take-append-drop, length-take, length-drop, length-append, append-nil, get_or-take, get_or-drop, get_or_past, drop-drop}
+use Rattle.std.proofs.lemmas.List.{take-append-drop, length-take, length-drop, get_or-take, get_or-drop, get_or_past, drop-drop}
 use Rattle.std.proofs.lemmas.Bool.{cases_lt}
 use Rattle.std.proofs.lemmas.Nat.{le_bytes_4, le_bytes_8}
 use Rattle.uc_write.specs.declared.op.Op.{Op}
@@ -22,7 +20,7 @@ use Rattle.uc_batch.specs.Reads.{◌>>=◌, Gives}
 use Rattle.uc_batch.specs.Varint.{varint_from}
 use Rattle.uc_batch.specs.Records.{string_at, strings_at, family_at, body_at, after_family, laid_out, record_at, records_from, operations}
 use Rattle.uc_batch.specs.Batch.{numbered, counted_of, judged, batch_of}
-use Rattle.uc_batch.specs.Grammar.{Spells, IsString, AreStrings, IsFamily, IsBody, HasParts, IsRecord, AreRecords, IsBatch, Accepts}
+use Rattle.uc_batch.specs.Grammar.{Spells, IsString, AreStrings, IsFamily, IsBody, HasParts, IsRecord, AreRecords, Accepts}
 use Rattle.uc_batch.proofs.Steps.{bind_ok, passed, avoided, ok_is}
 use Rattle.uc_batch.proofs.Shorter.{record_shorter}
 
@@ -224,8 +222,7 @@ batch_numbers last bytes writes e =
     let a = not_failed (ltb (length bytes) 12) faults.TooShort (judged last seq count >>= λ s. counted_of s count (length bytes) (drop 12 bytes)) writes e in
     let j = bind_ok (judged last seq count) (λ s. counted_of s count (length bytes) (drop 12 bytes)) writes a.1 in
     let fine = judged_found last seq count j.0 j.1 in
-    let c = counted_found j.0 count (length bytes) (drop 12 bytes) writes j.2 in
-    (
+    let c = counted_found j.0 count (length bytes) (drop 12 bytes) writes j.2 in (
       seq,
       c.0,
       (λ h. fine.1 (subst (λ (n : ℕ). 0 < n) c.2 h), λ h. subst (λ (n : ℕ). seq + n ≤ 2 ^ 56) (sym c.2) (fine.2 (subst (λ (n : ℕ). 0 < n) c.2 h))),

@@ -1,5 +1,5 @@
 -- How large a number in a few bytes may be.
-use Rattle.std.proofs.Common.{◌≡◌, ◌≢◌, ℕ, zero, suc, ◌+◌, ◌-◌, ◌*◌, ◌^◌, ◌<◌, ◌≤◌, refl, ap, sub-one, arith}
+use Rattle.std.proofs.Common.{◌≡◌, ◌≢◌, ℕ, zero, suc, ◌-◌, ◌*◌, ◌^◌, ◌≤◌, refl, arith}
 use Rattle.uc_batch.specs.Varint.{room_for}
 
 pub room_from : (k : ℕ) → k ≢ 0 → room_for k ≡ 128 * room_for (k - 1)

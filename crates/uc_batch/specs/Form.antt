@@ -1,5 +1,5 @@
 -- The records of a batch by their tags (RocksDB, `dbformat.h`, `ValueType`, and `write_batch.cc`).
-use Rattle.std.specs.Prelude.{ℕ, ◌==◌, ◌||◌, Bool, true, false, Option, Some, None, if◌then◌else◌}
+use Rattle.std.specs.Prelude.{ℕ, ◌==◌, ◌||◌, true, false, Option, Some, None, if◌then◌else◌}
 use Rattle.uc_batch.specs.declared.form.Form.{Form}
 use Rattle.uc_batch.specs.declared.form.Form.TheVariants.{Deletion, Value, Merge, LogData, NoOp, RangeDeletion}
 use Rattle.uc_batch.specs.declared.form.Layout.{Layout}

@@ -26,7 +26,10 @@ mod setup;
 
 pub use call::Call;
 pub use error::ScriptError;
-pub use laws::{a_script_is_its_lines, a_script_names_no_more_than_it_has, printed_bytes_are_read, printed_numbers_are_read};
+pub use laws::{
+    a_script_is_its_lines, a_script_names_no_more_than_it_has, printed_bytes_are_read,
+    printed_numbers_are_read,
+};
 pub use listing::{Calls, Keeps, Listing, Ops};
 pub use printing::{push_hex, push_number};
 pub use reading::read_script;

@@ -3,7 +3,7 @@ use Rattle.std.proofs.Common.{◌≡◌, ◌≢◌, ℕ, zero, suc, ◌+◌, ◌
 use Rattle.std.specs.Prelude.{OnOk, OnErr, IfErr}
 use Rattle.std.specs.List.{flat_map}
 use Rattle.std.specs.Io.KnownBytes.{Appends}
-use Rattle.std.proofs.lemmas.List.{append-nil, drop_more, drop_all, map-append}
+use Rattle.std.proofs.lemmas.List.{drop_more, drop_all, map-append}
 use Rattle.std.proofs.lemmas.List.Concat.{flat_map-append}
 use Rattle.uc_write.specs.declared.write.Write.{Write}
 use Rattle.uc_batch.specs.declared.error.BatchError.{BatchError}
@@ -123,9 +123,9 @@ module _ (payloads : List (List ℕ)) (place last : ℕ) (old here : Option (Lis
       -- the batch was told
       pub goes_on : (after : Option (List ℕ)) → Appends here after (joined (map write_line batch)) → DumpsOn payloads (place + 1) (last_of last batch) old after
       goes_on after p = record {
-          lines = λ new r q. so_far.lines new r (subst (λ (ls : List (List ℕ)). Tells ls here new r) (sym lines_are) (tells_behind (map write_line batch) (map write_line others.writes) here after new r p q));
-          refused = sym (ap (λ (b : Batches). b.refused) behind) ∙ so_far.refused;
-        }
+        lines = λ new r q. so_far.lines new r (subst (λ (ls : List (List ℕ)). Tells ls here new r) (sym lines_are) (tells_behind (map write_line batch) (map write_line others.writes) here after new r p q));
+        refused = sym (ap (λ (b : Batches). b.refused) behind) ∙ so_far.refused;
+      }
 
       -- there was a halt within it
       pub stops : (after : Option (List ℕ)) (e : Halt) → Stops (map write_line batch) here after e → Stops (map write_line (batches_of 0 1 payloads).writes) old after e

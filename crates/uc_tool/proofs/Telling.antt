@@ -1,8 +1,8 @@
 -- Replies that go out one after the other.
-use Rattle.std.proofs.Common.{◌≡◌, ℕ, zero, suc, ◌+◌, ◌<◌, ◌≤◌, List, [], ◌∷◌, ◌++◌, length, get_or, take, drop, map, Option, Some, None, Result, Ok, Err, refl, ap, sym, ◌∙◌, subst, append_assoc, arith}
+use Rattle.std.proofs.Common.{◌≡◌, ℕ, suc, ◌+◌, ◌<◌, ◌≤◌, List, ◌∷◌, ◌++◌, length, get_or, take, drop, map, Option, Result, Ok, Err, ap, sym, ◌∙◌, subst, append_assoc}
 use Rattle.std.specs.Io.KnownBytes.{Appends}
-use Rattle.std.proofs.lemmas.List.{append-nil, drop_more, drop_all}
-use Rattle.uc_tool.specs.Output.{BeginsWith, AppendsFront}
+use Rattle.std.proofs.lemmas.List.{drop_more, drop_all}
+use Rattle.uc_tool.specs.Output.{AppendsFront}
 use Rattle.uc_tool.specs.Told.{joined, Stops, Tells}
 use Rattle.uc_tool.specs.declared.output.Halt.{Halt}
 use Rattle.uc_tool.specs.declared.output.Halt.TheVariants as halt

@@ -1,9 +1,9 @@
 -- What was written in the end.
-use Rattle.std.proofs.Common.{◌≡◌, ℕ, ◌≤◌, ◌<◌, List, [], ◌∷◌, ◌++◌, length, take, codes, Option, Some, None, Result, Ok, Err, refl, ap, sym, ◌∙◌, subst, arith, inl, inr}
+use Rattle.std.proofs.Common.{◌≡◌, ℕ, ◌≤◌, ◌<◌, List, [], length, take, codes, Option, Some, None, Result, Ok, Err, refl, sym, ◌∙◌, subst, inl, inr}
 use Rattle.std.specs.Prelude.{IfOk, IfSome}
-use Rattle.std.specs.Io.KnownBytes.{Appends, Keeps}
+use Rattle.std.specs.Io.KnownBytes.{Appends}
 use Rattle.std.proofs.lemmas.List.{append-nil}
-use Rattle.uc_tool.specs.Output.{BeginsWith, AppendsFront}
+use Rattle.uc_tool.specs.Output.{AppendsFront}
 use Rattle.uc_tool.specs.Ending.{Finishes, Settles, IsWhole}
 use Rattle.uc_tool.specs.Told.{Told, joined, text_of, without_memory, Tells, MayTell, HasWritten}
 use Rattle.uc_tool.specs.declared.done.Done.{Done}
@@ -11,7 +11,7 @@ use Rattle.uc_tool.specs.declared.done.Done.TheVariants.{Fine, Refused, BadLog, 
 use Rattle.uc_tool.specs.declared.input.TheConstants.{INPUT_LIMIT}
 use Rattle.uc_tool.specs.declared.output.Halt.{Halt}
 use Rattle.uc_tool.specs.declared.output.Halt.TheVariants as halt
-use Rattle.uc_tool.proofs.Known.{appends_none, appends_more, appends_kept}
+use Rattle.uc_tool.proofs.Known.{appends_more, appends_kept}
 use Rattle.uc_tool.proofs.Telling.{front_behind}
 
 whole_front : (a b : Option (List ℕ)) (text : List ℕ) → Appends a b text → AppendsFront a b text

@@ -1,5 +1,3 @@
-
-
 /// How a run of the program ended.
 #[derive(Clone, Copy, Debug, PartialEq, Eq)]
 pub enum Done {

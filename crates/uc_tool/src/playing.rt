@@ -79,7 +79,10 @@ fn query_from(last: u64, call: Call) -> Query
 fn queries_from(alloc: Global, last: u64, calls: Vec<Call>) -> Result<Vec<Query>, AllocError>
     ensures { IfOk result (λ queries. queries.items ≡ map (query_of last) calls.items) }
 {
-    calls.into_iter().map(|call| query_from(last, call)).collect(alloc)
+    calls
+        .into_iter()
+        .map(|call| query_from(last, call))
+        .collect(alloc)
 }
 
 /// The first kept sequence above the last one, which no snapshot can protect.

@@ -27,7 +27,10 @@ fn a_script_is_played(rt: HostRuntime) -> Result<(), Fail> {
     let options = Options::usual();
     let done = play::<Counter, &[u8], Vec<u8>>(alloc, &mut reader, &mut text, &options);
     assert!(rt; options.are_good());
-    assert_eq!(rt; text.as_slice(), b"opened 1\nvalue 0500000000000000\n".as_slice());
+    assert_eq!(rt;
+        text.as_slice(),
+        b"opened 1\nvalue 0500000000000000\n".as_slice()
+    );
     assert_eq!(rt; done, Done::Fine);
     Ok(())
 }

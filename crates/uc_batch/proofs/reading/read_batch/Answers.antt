@@ -1,4 +1,4 @@
-use Rattle.std.proofs.Common.{Ok, subst, arith}
+use Rattle.std.proofs.Common.{subst, arith}
 use Rattle.uc_batch.specs.Reads.{Gives}
 use Rattle.uc_batch.proofs.Accepted.{batch_accepted}
 use Rattle.uc_batch.proofs.Found.{is_sound}

@@ -1,8 +1,8 @@
-use Rattle.std.proofs.Common.{◌≡◌, ◌<◌, ◌≤◌, [], length, subst, sym, ◌∙◌, Ok, Some, ap, arith, rules}
+use Rattle.std.proofs.Common.{◌≡◌, ◌<◌, [], length, Ok, Some, arith, rules}
 use Rattle.std.proofs.lemmas.List.{nil_from_length}
 use Rattle.std.proofs.lemmas.Result.{err_from_is_err_and}
 use Rattle.uc_batch.specs.Records.{record_at}
-use Rattle.uc_batch.proofs.Counted.{ReadsOn, passes, keeps, drops, is_whole, is_wrong, fails}
+use Rattle.uc_batch.proofs.Counted.{passes, keeps, drops, is_whole, is_wrong, fails}
 use Rattle.uc_batch.proofs.reading.read_counted.Goals.{then-records-from+in_ok-push, else-records-from}
 use Rattle.uc_batch.proofs.reading.read_counted.Goals as goal
 

@@ -1,4 +1,4 @@
-use Rattle.std.proofs.Common.{arith, rules}
+use Rattle.std.proofs.Common.{arith}
 use Rattle.uc_batch.proofs.Rises.{open_rising, close_rising}
 use Rattle.uc_batch.proofs.writes.is_rising.Goals.{then-write-last-via-then-write-last, then-write-last-via-else-write-last+then-write}
 use Rattle.uc_batch.proofs.writes.is_rising.Goals as goal
@@ -7,8 +7,7 @@ pub loop-write-preserved : goal.loop-write-preserved
 loop-write-preserved c =
     let l = c.loop-write in
     let ws = c.args.list.now in
-    let w = c.write-item.result in
-    (
+    let w = c.write-item.result in (
       λ h. l.invariant.0 (close_rising l.last l.write-index ws w c.loop-write-test.true c.write-item.is (c.if-write-last.false, c.if-write.false, h)),
       λ h. (open_rising l.last l.write-index ws w c.loop-write-test.true c.write-item.is (l.invariant.1 h)).2,
     )
@@ -17,13 +16,12 @@ pub returns-then-write-last : goal.returns-then-write-last
 returns-then-write-last c =
     let l = c.loop-write in
     let ws = c.args.list.now in
-    let w = c.write-item.result in
-    (
+    let w = c.write-item.result in (
       λ no. absurd cc,
       λ h.
-        let opened = open_rising l.last l.write-index ws w c.loop-write-test.true c.write-item.is (l.invariant.1 h) in
-        elim c.then-write-last.branch [
-          then-write-last-via-then-write-last b ↦ absurd (omega arith)
-          | then-write-last-via-else-write-last+then-write b ↦ absurd (omega arith)
-        ],
+          let opened = open_rising l.last l.write-index ws w c.loop-write-test.true c.write-item.is (l.invariant.1 h) in
+          elim c.then-write-last.branch [
+            | then-write-last-via-then-write-last b ↦ absurd (omega arith)
+            | then-write-last-via-else-write-last+then-write b ↦ absurd (omega arith)
+          ],
     )

@@ -1,9 +1,9 @@
-use Rattle.std.proofs.Common.{map, subst, sym, ap, [], ◌∷◌, ◌++◌, ◌∙◌, Err}
+use Rattle.std.proofs.Common.{map, ap, [], ◌∷◌, ◌∙◌}
 use Rattle.std.proofs.lemmas.Result.{err_from_is_err_and}
 use Rattle.uc_logrec.specs.Log.{payloads_of, ending_of}
 use Rattle.uc_batch.specs.Log.{batches_of, ended_at}
 use Rattle.uc_tool.specs.Dump.{write_line, ended_line}
-use Rattle.uc_tool.proofs.Dumps.{stops_within, tells_behind, no_last, halts_at_last}
+use Rattle.uc_tool.proofs.Dumps.{stops_within, no_last, halts_at_last}
 use Rattle.uc_tool.proofs.dumping.run.Goals as goal
 
 pub returns-in_err-refused-clause-told : goal.returns-in_err-refused-clause-told

@@ -9,4 +9,4 @@ returns g c =
     let lines = rw c.clear.ensures.items at c.in_ok-push_writes.ensures in
     let all = c.deref.ensures.value ∙ lines ∙ joined_map write_line c.args.writes.now in
     tells_at_once (map write_line c.args.writes.now) (contents c.args.writer.now) (contents c.write_bytes.new.writer) c.write_bytes.result
-        (rw all at c.write_bytes.ensures.ok) (rw all at c.write_bytes.ensures.err) c.write_bytes.ensures.device
+    (rw all at c.write_bytes.ensures.ok) (rw all at c.write_bytes.ensures.err) c.write_bytes.ensures.device

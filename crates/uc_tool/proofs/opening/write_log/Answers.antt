@@ -1,4 +1,4 @@
-use Rattle.std.proofs.Common.{◌≡◌, ◌+◌, ◌++◌, drop, [], sym, ap, ◌∙◌, arith}
+use Rattle.std.proofs.Common.{◌≡◌, ◌++◌, drop, [], sym, ap, ◌∙◌, arith}
 use Rattle.std.proofs.lemmas.List.{append-nil, drop_all}
 use Rattle.uc_logrec.specs.Log.{log_text}
 use Rattle.uc_tool.specs.Opening.{batch_texts}
@@ -13,8 +13,7 @@ pub loop-op-preserved : goal.loop-op-preserved
 loop-op-preserved c =
     let l = c.loop-op in
     let text = rw c.from_ref.ensures.value at c.in_ok-batch.ensures in
-    let payload = c.deref.ensures.value ∙ text in
-    (
+    let payload = c.deref.ensures.value ∙ text in (
       omega (arith, l.invariant.0),
       rw (c.in_ok-add.ensures.ok, payload) (batch_more l.log l.seq l.op-index c.args.ops.now c.op-item.result (batch_texts 1 c.args.ops.now) c.loop-op-test.true c.op-item.is l.invariant.1),
     )
