@@ -1,4 +1,4 @@
-//! Dumps of logs that are worked out by hand.
+//! Dumps of logs that are worked out by hand. `examples/logs` has one of each kind.
 use std::alloc::Global;
 use std::process::Abort;
 use std::test::Fail;
@@ -10,11 +10,7 @@ type Row = (&'static str, &'static str, Done);
 /// Records without data, alone and behind one another.
 const EMPTY_RECORDS: [Row; 11] = [
     ("", "clean\n", Done::Fine),
-    (
-        "052b2843000001",
-        "batch fault 1 too short\n",
-        Done::BadLog,
-    ),
+    ("052b2843000001", "batch fault 1 too short\n", Done::BadLog),
     ("6451d0e9000002", "torn 0\n", Done::Fine),
     (
         "6451d0e9000002052b2843000001",
@@ -31,16 +27,8 @@ const EMPTY_RECORDS: [Row; 11] = [
         "batch fault 1 too short\n",
         Done::BadLog,
     ),
-    (
-        "a716202b000004",
-        "log fault last alone 0\n",
-        Done::BadLog,
-    ),
-    (
-        "336dcde3000003",
-        "log fault middle alone 0\n",
-        Done::BadLog,
-    ),
+    ("a716202b000004", "log fault last alone 0\n", Done::BadLog),
+    ("336dcde3000003", "log fault middle alone 0\n", Done::BadLog),
     (
         "6451d0e9000002336dcde3000003052b2843000001",
         "log fault full inside 14\n",
@@ -108,6 +96,45 @@ const ONE_BATCH: [Row; 10] = [
     ),
 ];
 
+/// Logs of one payload: each refusal of a batch that can stand first, and every kind of change.
+const BATCHES: [Row; 7] = [
+    (
+        "bdb39be4160001ffffffffffffff000200000001016101310101610131",
+        "batch fault 1 sequence too large\n",
+        Done::BadLog,
+    ),
+    (
+        "138fe77f0d000101000000000000000100000009",
+        "batch fault 1 bad tag 9 12\n",
+        Done::BadLog,
+    ),
+    (
+        "5620ee5b0f0001010000000000000001000000010161",
+        "batch fault 1 cut 12\n",
+        Done::BadLog,
+    ),
+    (
+        "c00594a112000101000000000000000100000001ffffffff10",
+        "batch fault 1 bad varint 13\n",
+        Done::BadLog,
+    ),
+    (
+        "702ff392120001010000000000000001000000050101610131",
+        "batch fault 1 other family 1\n",
+        Done::BadLog,
+    ),
+    (
+        "27712a111100010100000000000000020000000101610131",
+        "batch fault 1 wrong count\n",
+        Done::BadLog,
+    ),
+    (
+        "6ef526bc210001010000000000000004000000010161013100016203026869020163000f01610164",
+        "1 put 61 31\n2 delete 62\n3 merge 63 .\n4 range 61 64\nclean\n",
+        Done::Fine,
+    ),
+];
+
 /// Asserts what the dump of a log prints, and how its run ends.
 fn shows(rt: &impl Abort, alloc: Global, (log, want, ended): Row) -> Result<(), Fail> {
     let log = hex::decode(alloc, log)?;
@@ -130,6 +157,14 @@ fn records_without_data_are_dumped(rt: HostRuntime) -> Result<(), Fail> {
 #[test]
 fn one_batch_is_dumped(rt: HostRuntime) -> Result<(), Fail> {
     for row in ONE_BATCH {
+        shows(&rt, rt.alloc(), row)?;
+    }
+    Ok(())
+}
+
+#[test]
+fn batches_are_dumped(rt: HostRuntime) -> Result<(), Fail> {
+    for row in BATCHES {
         shows(&rt, rt.alloc(), row)?;
     }
     Ok(())
