@@ -4,10 +4,12 @@ use Rattle.std.specs.Prelude.{IfOk, IfSome}
 use Rattle.std.specs.Io.KnownBytes.{Appends}
 use Rattle.std.proofs.lemmas.List.{append-nil}
 use Rattle.uc_tool.specs.Output.{AppendsFront}
-use Rattle.uc_tool.specs.Ending.{Finishes, Settles, IsWhole}
+use Rattle.uc_tool.specs.Ending.{Finishes, Settles, IsUnread, IsWhole}
 use Rattle.uc_tool.specs.Told.{Told, joined, text_of, without_memory, Tells, MayTell, HasWritten}
 use Rattle.uc_tool.specs.declared.done.Done.{Done}
 use Rattle.uc_tool.specs.declared.done.Done.TheVariants.{Fine, Refused, BadLog, NoMemory, Device}
+use Rattle.uc_tool.specs.declared.input.InputError.{InputError}
+use Rattle.uc_tool.specs.declared.input.InputError.TheVariants as unread
 use Rattle.uc_tool.specs.declared.input.TheConstants.{INPUT_LIMIT}
 use Rattle.uc_tool.specs.declared.output.Halt.{Halt}
 use Rattle.uc_tool.specs.declared.output.Halt.TheVariants as halt
@@ -43,16 +45,16 @@ written told input a b c (Err halt.Device) result short w p d f =
     device told input a c result f.0 (text_of told, inl refl, (p.0, p.1, appends_kept a b c p.0 p.2 f.1))
 
 -- memory ran out before the input was read
-pub unread : (told : Told) (input : List ℕ) (a c : Option (List ℕ)) (result : Done) → Finishes (Err halt.Memory) a c result → HasWritten told input a c result
-unread told input a c result (inl f) = subst (HasWritten told input a c) (sym f.0) (0, f.1)
-unread told input a c result (inr f) = device told input a c result f.0 (without_memory told 0, inr (inl (0, refl)), f.1)
+without_input : (told : Told) (input : List ℕ) (a c : Option (List ℕ)) (result : Done) → Finishes (Err halt.Memory) a c result → HasWritten told input a c result
+without_input told input a c result (inl f) = subst (HasWritten told input a c) (sym f.0) (0, f.1)
+without_input told input a c result (inr f) = device told input a c result f.0 (without_memory told 0, inr (inl (0, refl)), f.1)
 
 -- the reader failed
-pub unreadable : (told : Told) (input : List ℕ) (a c : Option (List ℕ)) (result : Done) → result ≡ Device → AppendsFront a c (codes "read fault\n") → HasWritten told input a c result
+unreadable : (told : Told) (input : List ℕ) (a c : Option (List ℕ)) (result : Done) → result ≡ Device → AppendsFront a c (codes "read fault\n") → HasWritten told input a c result
 unreadable told input a c result is f = device told input a c result is (codes "read fault\n", inr (inr (inl refl)), f)
 
 -- the input is too long
-pub too_long : (told : Told) (input : List ℕ) (a c : Option (List ℕ)) (result : Done) → INPUT_LIMIT < length input → result ≡ Device → AppendsFront a c (codes "input too long\n") → HasWritten told input a c result
+too_long : (told : Told) (input : List ℕ) (a c : Option (List ℕ)) (result : Done) → INPUT_LIMIT < length input → result ≡ Device → AppendsFront a c (codes "input too long\n") → HasWritten told input a c result
 too_long told input a c result long is f = device told input a c result is (codes "input too long\n", inr (inr (inr (long, refl))), f)
 
 -- it was said that memory ran out, and flushed
@@ -70,14 +72,10 @@ module _ (tell : List ℕ → Told) (whole : (input : List ℕ) → IsWhole (tel
   of_input (Some input) read a b c outcome result e short p d f =
       subst (λ (i : List ℕ). HasWritten (tell i) i a c result) e (written (tell read) read a b c outcome result short (whole read) p d f)
 
-pub of_unread : (tell : List ℕ → Told) (remaining a c : Option (List ℕ)) (result : Done) → Finishes (Err halt.Memory) a c result → IfSome remaining (λ input. HasWritten (tell input) input a c result)
-of_unread tell None a c result f = tt
-of_unread tell (Some input) a c result f = unread (tell input) input a c result f
-
-pub of_unreadable : (tell : List ℕ → Told) (remaining a c : Option (List ℕ)) (result : Done) → result ≡ Device → AppendsFront a c (codes "read fault\n") → IfSome remaining (λ input. HasWritten (tell input) input a c result)
-of_unreadable tell None a c result is f = tt
-of_unreadable tell (Some input) a c result is f = unreadable (tell input) input a c result is f
-
-pub of_too_long : (tell : List ℕ → Told) (remaining a c : Option (List ℕ)) (result : Done) → IfSome remaining (λ bytes. INPUT_LIMIT < length bytes) → result ≡ Device → AppendsFront a c (codes "input too long\n") → IfSome remaining (λ input. HasWritten (tell input) input a c result)
-of_too_long tell None a c result long is f = tt
-of_too_long tell (Some input) a c result long is f = too_long (tell input) input a c result long is f
+-- where the input couldn't be read
+pub of_unread : (tell : List ℕ → Told) (remaining a c : Option (List ℕ)) (e : InputError) (result : Done)
+    → (e ≡ unread.TooLong → IfSome remaining (λ bytes. INPUT_LIMIT < length bytes)) → IsUnread e a c result → IfSome remaining (λ input. HasWritten (tell input) input a c result)
+of_unread tell None a c e result long u = tt
+of_unread tell (Some input) a c unread.Memory result long u = without_input (tell input) input a c result u
+of_unread tell (Some input) a c unread.Fault result long u = unreadable (tell input) input a c result u.0 u.1
+of_unread tell (Some input) a c unread.TooLong result long u = too_long (tell input) input a c result (long refl) u.0 u.1

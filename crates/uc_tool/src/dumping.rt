@@ -4,8 +4,8 @@ ghost use Rattle.uc_tool.specs.Dump.{write_line, done_of, dump_of};
 ghost use Rattle.uc_tool.specs.Told.{Tells, HasWritten};
 
 use crate::done::Done;
-use crate::ending::{fail, finish};
-use crate::input::{InputError, read_input};
+use crate::ending::{end_unread, finish};
+use crate::input::read_input;
 use crate::log_texts::{ended_line, push_writes};
 use crate::output::{Halt, write_bytes};
 use std::alloc::Global;
@@ -101,8 +101,6 @@ pub fn dump<R: Read, W: io::Write>(alloc: Global, reader: &mut R, writer: &mut W
             let outcome = run(alloc, &input, writer);
             finish(writer, outcome)
         }
-        Err(InputError::Memory) => finish(writer, Err(Halt::Memory)),
-        Err(InputError::Fault) => fail(writer, b"read fault\n"),
-        Err(InputError::TooLong) => fail(writer, b"input too long\n"),
+        Err(error) => end_unread(writer, error),
     }
 }

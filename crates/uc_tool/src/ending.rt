@@ -1,8 +1,9 @@
 ghost use Rattle.std.specs.Prelude.{◌≡◌};
 ghost use Rattle.uc_tool.specs.Output.{AppendsFront};
-ghost use Rattle.uc_tool.specs.Ending.{Finishes, Settles};
+ghost use Rattle.uc_tool.specs.Ending.{Finishes, IsUnread, Settles};
 
 use crate::done::Done;
+use crate::input::InputError;
 use crate::output::{Halt, write_bytes};
 use std::io::Write;
 
@@ -31,8 +32,8 @@ pub fn finish<W: Write>(writer: &mut W, outcome: Result<Done, Halt>) -> Done
     }
 }
 
-/// Ends a run whose input can't be judged, with a text that says why.
-pub fn fail<W: Write>(writer: &mut W, text: &[u8]) -> Done
+/// Ends a run whose device failed or whose input is too long, with a text that says so.
+fn fail<W: Write>(writer: &mut W, text: &[u8]) -> Done
     ensures front { AppendsFront (W.contents writer.old) (W.contents writer.new) text.now }
     ensures device { result ≡ Done.Device }
 {
@@ -40,4 +41,15 @@ pub fn fail<W: Write>(writer: &mut W, text: &[u8]) -> Done
         let _ = writer.flush();
     }
     Done::Device
+}
+
+/// Ends a run whose input couldn't be read whole.
+pub fn end_unread<W: Write>(writer: &mut W, error: InputError) -> Done
+    ensures { IsUnread error (W.contents writer.old) (W.contents writer.new) result }
+{
+    match error {
+        InputError::Memory => finish(writer, Err(Halt::Memory)),
+        InputError::Fault => fail(writer, b"read fault\n"),
+        InputError::TooLong => fail(writer, b"input too long\n"),
+    }
 }

@@ -7,8 +7,8 @@ ghost use Rattle.uc_tool.specs.Prepared.{PreparesWrites, Prepares, told_by, repl
 ghost use Rattle.uc_tool.specs.Told.{Tells, HasWritten};
 
 use crate::done::Done;
-use crate::ending::{fail, finish};
-use crate::input::{InputError, read_input};
+use crate::ending::{end_unread, finish};
+use crate::input::read_input;
 use crate::opening::open;
 use crate::options::Options;
 use crate::output::{Halt, write_bytes};
@@ -216,8 +216,6 @@ pub fn play<O: Operator, R: Read, W: Write>(
             let outcome = run::<O, W>(alloc, &input, options, writer);
             finish(writer, outcome)
         }
-        Err(InputError::Memory) => finish(writer, Err(Halt::Memory)),
-        Err(InputError::Fault) => fail(writer, b"read fault\n"),
-        Err(InputError::TooLong) => fail(writer, b"input too long\n"),
+        Err(error) => end_unread(writer, error),
     }
 }
