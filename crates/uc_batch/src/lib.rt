@@ -24,9 +24,9 @@ pub use laws::written_is_read;
 pub use log::read_writes;
 pub use mode::Mode;
 pub use read_error::ReadError;
-pub use reading::read_batch;
-pub use uc_write::{Op, Write};
-pub use writes::{Writes, last_used};
+pub use reading::{last_used, read_batch, read_batch_in_place};
+pub use uc_write::{Op, OpKind, OpRef, Write, WriteRef};
+pub use writes::Writes;
 pub use writing::{fits_batch, write_batch};
 
 #[cfg(test)]

@@ -1,33 +1,19 @@
-ghost use Rattle.std.specs.Prelude.{◌≡◌, ℕ, ◌≢◌, ◌++◌, Ok, Err, IfOk, OnOk, IfErr, IfSome};
+ghost use Rattle.std.specs.Prelude.{◌≡◌, ℕ, ◌≢◌, Ok, Err, IfOk, IfErr, IfSome};
 ghost use Rattle.uc_batch.specs.declared.error.BatchError.TheVariants as faults;
 ghost use Rattle.uc_batch.specs.declared.read_error.ReadError.TheVariants as errors;
-ghost use Rattle.uc_batch.specs.Rising.{IsRising, last_of};
+ghost use Rattle.uc_batch.specs.Rising.{IsRising};
 ghost use Rattle.uc_batch.specs.Log.{batches_of, writes_of, Refuses};
 
 use crate::ended::Ended;
 use crate::error::BatchError;
 use crate::mode::Mode;
 use crate::read_error::ReadError;
-use crate::reading::read_batch;
-use crate::writes::{Writes, last_used};
+use crate::reading::{append_copies, last_used, read_batch_in_place};
+use crate::writes::Writes;
 use std::alloc::{AllocError, Global};
 use uc_bytes::Bytes;
 use uc_logrec::read_log;
 use uc_write::Write;
-
-/// Adds the writes of a batch that comes after the sequence `last`, and gives the last one used then.
-fn append_batch(
-    writes: &mut Vec<Write>,
-    last: u64,
-    mut batch: Vec<Write>,
-) -> Result<u64, AllocError>
-    ensures last { IfOk result (λ used. used ≡ last_of last batch.items) }
-    ensures writes { OnOk result (writes.new.items ≡ writes.old.items ++ batch.items) }
-{
-    let used = last_used(&batch, last);
-    writes.append(&mut batch)?;
-    Ok(used)
-}
 
 /// Writes, and the number and the fault of the first payload that is refused.
 type Joined = (Vec<Write>, Option<(u64, BatchError)>);
@@ -43,8 +29,11 @@ fn join_batches(alloc: Global, payloads: &[Bytes]) -> Result<Joined, AllocError>
     let mut writes = Vec::new(alloc);
     let mut last = 0;
     for (place, payload) in payloads.iter().enumerate() {
-        match read_batch(alloc, payload.as_slice(), last) {
-            Ok(batch) => last = append_batch(&mut writes, last, batch)?,
+        match read_batch_in_place(alloc, payload.as_slice(), last) {
+            Ok(batch) => {
+                append_copies(alloc, &mut writes, &batch)?;
+                last = last_used(&batch, last);
+            }
             Err(BatchError::Memory) => return Err(AllocError),
             Err(fault) => return Ok((writes, Some((place as u64 + 1, fault)))),
         }

@@ -1,13 +1,14 @@
-ghost use Rattle.std.specs.Prelude.{◌≡◌, ◌<◌, ◌≤◌, ◌+◌, ◌^◌, List, length, IfOk, Ok};
+ghost use Rattle.std.specs.Prelude.{◌≡◌, ◌<◌, ◌≤◌, ◌+◌, ◌^◌, ◌++◌, List, length, IfOk, OnOk, Ok};
 ghost use Rattle.uc_batch.specs.Reads.{Gives};
 ghost use Rattle.uc_batch.specs.Batch.{judged, counted_of, batch_of};
 ghost use Rattle.uc_batch.specs.Grammar.{Accepts};
+ghost use Rattle.uc_batch.specs.Rising.{last_of};
 ghost use Rattle.uc_write.specs.declared.write.Write.{Write as WriteOf};
 
 use crate::error::BatchError;
 use crate::records::read_record;
-use std::alloc::Global;
-use uc_write::Write;
+use std::alloc::{AllocError, Global};
+use uc_write::{Write, WriteRef};
 
 /// The bytes of a batch's sequence and count.
 const HEADER: usize = 12;
@@ -38,7 +39,7 @@ fn read_counted(
     total: usize,
     sequence: u64,
     count: u32,
-) -> Result<Vec<Write>, BatchError>
+) -> Result<Vec<WriteRef<'_>>, BatchError>
     requires within { length body.now ≤ total }
     requires room { 0 < count → sequence + count ≤ 2 ^ 56 }
     ensures { Gives (λ writes. writes.items) result (counted_of sequence count total body.now) }
@@ -47,11 +48,11 @@ fn read_counted(
     let mut records = 0;
     let mut rest = body;
     while !rest.is_empty() {
-        let (op, after) = read_record(alloc, rest, total)?;
+        let (op, after) = read_record(rest, total)?;
         if let Some(op) = op {
             if records < u64::from(count) {
                 let seq = sequence + records;
-                writes.push(Write { seq, op })?;
+                writes.push(WriteRef::new(seq, op))?;
             }
             records += 1;
         }
@@ -63,9 +64,14 @@ fn read_counted(
     Ok(writes)
 }
 
-/// Reads the header, and then the records.
+/// Reads a batch as [`read_batch`] does, and gives its writes with their texts as they stand in it: the
+/// only memory that it takes is the list's.
 #[tactic(auto, unfolding(crate::specs::Batch::batch_of))]
-fn read_header(alloc: Global, bytes: &[u8], last: u64) -> Result<Vec<Write>, BatchError>
+pub fn read_batch_in_place(
+    alloc: Global,
+    bytes: &[u8],
+    last: u64,
+) -> Result<Vec<WriteRef<'_>>, BatchError>
     ensures { Gives (λ writes. writes.items) result (batch_of last bytes.now) }
 {
     if bytes.len() < HEADER {
@@ -78,6 +84,40 @@ fn read_header(alloc: Global, bytes: &[u8], last: u64) -> Result<Vec<Write>, Bat
     let count = u32::from_le_bytes([header[8], header[9], header[10], header[11]]);
     let sequence = judge_sequence(sequence, count, last)?;
     read_counted(alloc, body, bytes.len(), sequence, count)
+}
+
+/// The last sequence used after a batch with these writes, where `last` was the last one before it.
+pub fn last_used(batch: &[WriteRef<'_>], last: u64) -> u64
+    ensures { result ≡ last_of last batch.now }
+{
+    match batch.last() {
+        Some(write) => write.seq(),
+        None => last,
+    }
+}
+
+/// Adds copies of writes, with their texts.
+pub(crate) fn append_copies(
+    alloc: Global,
+    list: &mut Vec<Write>,
+    writes: &[WriteRef<'_>],
+) -> Result<(), AllocError>
+    ensures { OnOk result (list.new.items ≡ list.old.items ++ writes.now) }
+{
+    for write in writes {
+        list.push(write.to_write(alloc)?)?;
+    }
+    Ok(())
+}
+
+/// Reads a batch, and copies its writes.
+fn copy_batch(alloc: Global, bytes: &[u8], last: u64) -> Result<Vec<Write>, BatchError>
+    ensures { Gives (λ writes. writes.items) result (batch_of last bytes.now) }
+{
+    let writes = read_batch_in_place(alloc, bytes, last)?;
+    let mut list = Vec::new(alloc);
+    append_copies(alloc, &mut list, &writes)?;
+    Ok(list)
 }
 
 /// Reads a batch that comes after the sequence `last` (0 where no sequence was used before), and gives
@@ -96,5 +136,5 @@ pub fn read_batch(alloc: Global, bytes: &[u8], last: u64) -> Result<Vec<Write>, 
     // Which fault it is.
     ensures exact { Gives (λ writes. writes.items) result (batch_of last bytes.now) }
 {
-    read_header(alloc, bytes, last)
+    copy_batch(alloc, bytes, last)
 }

@@ -5,9 +5,7 @@ ghost use Rattle.uc_batch.specs.Records.{string_at, strings_at, after_family, fa
 use crate::error::BatchError;
 use crate::form::{Form, layout_of};
 use crate::varint::read_varint;
-use std::alloc::Global;
-use uc_bytes::Bytes;
-use uc_write::Op;
+use uc_write::OpRef;
 
 /// How many bytes a number may have behind its first: five hold any of 32 bits.
 const MORE_BYTES: u32 = 4;
@@ -43,34 +41,29 @@ fn read_family(bytes: &[u8], total: usize, start: u64) -> Result<&[u8], BatchErr
     Ok(rest)
 }
 
-/// Reads two strings, and copies them.
+/// Two strings, and what stands behind them.
+type Strings<'a> = ((&'a [u8], &'a [u8]), &'a [u8]);
+
+/// Reads two strings, which it borrows.
 #[tactic(auto, unfolding(crate::specs::Records::strings_at))]
-fn read_strings(
-    alloc: Global,
-    bytes: &[u8],
-    total: usize,
-    start: u64,
-) -> Result<((Bytes, Bytes), &[u8]), BatchError>
+fn read_strings(bytes: &[u8], total: usize, start: u64) -> Result<Strings<'_>, BatchError>
     requires { length bytes.now ≤ total }
-    ensures value { Gives (λ read. (read.0, read.1.now)) result (strings_at total start bytes.now) }
+    ensures value { Gives (λ read. ((read.0.0.now, read.0.1.now), read.1.now)) result (strings_at total start bytes.now) }
     ensures shorter { IfOk result (λ read. length read.1.now ≤ length bytes.now) }
 {
     let (first, rest) = read_string(bytes, total, start)?;
-    let first = Bytes::from_slice(alloc, first)?;
     let (second, rest) = read_string(rest, total, start)?;
-    let second = Bytes::from_slice(alloc, second)?;
     Ok(((first, second), rest))
 }
 
 /// Reads what stands behind the tag and the family, and gives the operation, if it is counted.
 #[tactic(auto, unfolding(crate::specs::Records::body_at))]
 fn read_body(
-    alloc: Global,
     form: Form,
     bytes: &[u8],
     total: usize,
     start: u64,
-) -> Result<(Option<Op>, &[u8]), BatchError>
+) -> Result<(Option<OpRef<'_>>, &[u8]), BatchError>
     requires { length bytes.now ≤ total }
     ensures value { Gives (λ read. (read.0, read.1.now)) result (body_at form total start bytes.now) }
     ensures shorter { IfOk result (λ read. length read.1.now ≤ length bytes.now) }
@@ -78,16 +71,15 @@ fn read_body(
     match form {
         Form::Deletion => {
             let (key, rest) = read_string(bytes, total, start)?;
-            let key = Bytes::from_slice(alloc, key)?;
-            Ok((Some(Op::Delete(key)), rest))
+            Ok((Some(OpRef::delete(key)), rest))
         }
         Form::Value => {
-            let ((key, value), rest) = read_strings(alloc, bytes, total, start)?;
-            Ok((Some(Op::Put(key, value)), rest))
+            let ((key, value), rest) = read_strings(bytes, total, start)?;
+            Ok((Some(OpRef::put(key, value)), rest))
         }
         Form::Merge => {
-            let ((key, operand), rest) = read_strings(alloc, bytes, total, start)?;
-            Ok((Some(Op::Merge(key, operand)), rest))
+            let ((key, operand), rest) = read_strings(bytes, total, start)?;
+            Ok((Some(OpRef::merge(key, operand)), rest))
         }
         Form::LogData => {
             let (_, rest) = read_string(bytes, total, start)?;
@@ -95,8 +87,8 @@ fn read_body(
         }
         Form::NoOp => Ok((None, bytes)),
         Form::RangeDeletion => {
-            let ((begin, end), rest) = read_strings(alloc, bytes, total, start)?;
-            Ok((Some(Op::DeleteRange(begin, end)), rest))
+            let ((begin, end), rest) = read_strings(bytes, total, start)?;
+            Ok((Some(OpRef::delete_range(begin, end)), rest))
         }
     }
 }
@@ -123,11 +115,7 @@ fn skip_family(
 /// Reads the record at the front, of a batch of `total` bytes of which these are the last, and gives
 /// the operation, if it is counted, and what is behind the record.
 #[tactic(auto, unfolding(crate::specs::Records::record_at, crate::specs::Records::laid_out))]
-pub fn read_record(
-    alloc: Global,
-    bytes: &[u8],
-    total: usize,
-) -> Result<(Option<Op>, &[u8]), BatchError>
+pub fn read_record(bytes: &[u8], total: usize) -> Result<(Option<OpRef<'_>>, &[u8]), BatchError>
     requires within { length bytes.now ≤ total }
     requires some { 0 < length bytes.now }
     ensures value { Gives (λ read. (read.0, read.1.now)) result (record_at total bytes.now) }
@@ -139,5 +127,5 @@ pub fn read_record(
         return Err(BatchError::BadTag(tag, start));
     };
     let rest = skip_family(layout.has_family, rest, total, start)?;
-    read_body(alloc, layout.form, rest, total, start)
+    read_body(layout.form, rest, total, start)
 }

@@ -40,16 +40,6 @@ fn is_rising(list: &[Write]) -> bool
     true
 }
 
-/// The last sequence used after a batch with these writes, where `last` was the last one before it.
-pub fn last_used(list: &[Write], last: u64) -> u64
-    ensures { result ≡ last_of last list.now }
-{
-    match list.last() {
-        Some(write) => write.seq,
-        None => last,
-    }
-}
-
 impl Writes {
     /// The writes, where their sequences rise from 1 on and stay below 2^56. Else there are none, and
     /// the list is lost. They count as a log that was read to its end.
@@ -89,7 +79,10 @@ impl Writes {
     pub fn last(&self) -> u64
         ensures { result ≡ last_of 0 self.now.list }
     {
-        last_used(&self.list, 0)
+        match self.list().last() {
+            Some(write) => write.seq,
+            None => 0,
+        }
     }
 
     /// How far the log was read.

@@ -16,7 +16,7 @@ use Rattle.uc_logrec.proofs.Parsing.{State, start, turned, run, run-none}
 pub record CompletesAt (bytes : List ℕ) (s : State) (rest : List ℕ) : Type 0 where
   pub offset : ℕ
   pub left : List ℕ
-  pub completes : Completes bytes s.front s.fragments offset left
+  pub completes : Completes (reading_of bytes) s.front s.fragments offset left
   pub place_is : header_place offset ≡ s.place
   pub rest_is : here offset left ≡ rest
 
@@ -37,7 +37,7 @@ past_is : (place offset : ℕ) (found : LogRecord) (behind_it left : List ℕ) �
 past_is place offset found behind_it left e f = ap (λ (p : ℕ). here (p + 7 + length found.1) behind_it) e ∙ ap (λ (bs : List ℕ). here (place + 7 + length found.1) bs) f
 
 moved : (bytes : List ℕ) (s : State) (found : LogRecord) (left : List ℕ) (offset : ℕ) (before : List ℕ) (turn : Turn) → header_place offset ≡ s.place → behind offset before (length found.1) ≡ left
-    → Goes bytes s.front offset before (length found.1) turn → Moved bytes s found left turn
+    → Goes (reading_of bytes) s.front offset before (length found.1) turn → Moved bytes s found left turn
 moved bytes s found left offset before (Complete payload) e f g = record { offset = header_place offset + 7 + length found.1; left = behind offset before (length found.1); completes = g; place_is = next_is s.place offset found e; rest_is = past_is s.place offset found (behind offset before (length found.1)) left e f }
 moved bytes s found left offset before (Open fragments) e f g = record { offset = header_place offset + 7 + length found.1; left = behind offset before (length found.1); completes = g; place_is = next_is s.place offset found e; rest_is = past_is s.place offset found (behind offset before (length found.1)) left e f }
 moved bytes s found left offset before (Refused fault) e f g = g ∙ ap (λ (p : ℕ). stopped s.front (Fault fault p)) e
@@ -57,14 +57,14 @@ moves bytes s rest found left turn c fits text turns =
     let after : behind c.offset c.left len ≡ left = ap (λ (bs : List ℕ). drop len (drop 7 bs)) c.rest_is ∙ left_there rest found left text in
     let turned_is : turn ≡ turn_of s.fragments (header_place c.offset) found.0 (take len (drop 7 (here c.offset c.left))) =
     turns ∙ (ap (λ (p : ℕ). turn_of s.fragments p found.0 found.1) (sym c.place_is) ∙ ap (turn_of s.fragments (header_place c.offset) found.0) (sym fragment)) in
-    moved bytes s found left c.offset c.left turn c.place_is after (goes bytes s.front s.fragments c.offset c.left found.0 len turn c.completes there within turned_is)
+    moved bytes s found left c.offset c.left turn c.place_is after (goes (reading_of bytes) s.front s.fragments c.offset c.left found.0 len turn c.completes there within turned_is)
 
 -- no record
 pub stops_there : (bytes : List ℕ) (s : State) (rest : List ℕ) (stop : Stop) → CompletesAt bytes s rest → record_of (room s.place) rest ≡ Err stop → reading_of bytes ≡ stopped s.front (ending_at stop s.fragments s.place)
 stops_there bytes s rest stop c none =
     let there : record_of (room (header_place c.offset)) (here c.offset c.left) ≡ Err stop =
     ap (λ (p : ℕ). record_of (room p) (here c.offset c.left)) c.place_is ∙ (ap (record_of (room s.place)) c.rest_is ∙ none) in
-    stops bytes s.front s.fragments c.offset c.left stop c.completes there ∙ ap (λ (p : ℕ). stopped s.front (ending_at stop s.fragments p)) c.place_is
+    stops (reading_of bytes) s.front s.fragments c.offset c.left stop c.completes there ∙ ap (λ (p : ℕ). stopped s.front (ending_at stop s.fragments p)) c.place_is
 
 -- a row of records
 along_turn : (bytes : List ℕ) (s : State) (found : LogRecord) (records : List LogRecord) (left rest : List ℕ) (end : State) (turn : Turn)

@@ -7,3 +7,4 @@ pub mod Standing
 pub mod Along
 pub mod Endings
 pub mod OneMeaning
+pub mod Ahead

@@ -1,5 +1,5 @@
 -- Reading a log record by record, as a loop does.
-use Rattle.std.proofs.Common.{◌≡◌, ℕ, zero, suc, ◌+◌, ◌-◌, ◌≤◌, ◌<◌, List, [], ◌∷◌, ◌++◌, length, take, drop, Option, Some, None, Result, Ok, Err, refl, sym, ap, ◌∙◌, append_assoc, length-drop, arith, rules}
+use Rattle.std.proofs.Common.{◌≡◌, ℕ, zero, suc, ◌+◌, ◌-◌, ◌≤◌, ◌<◌, List, [], ◌∷◌, ◌++◌, length, take, drop, Option, Some, None, Result, Ok, Err, refl, sym, ap, subst, ◌∙◌, append_assoc, length-drop, arith, rules}
 use Rattle.std.proofs.lemmas.List.{append-nil}
 use Rattle.uc_logrec.specs.declared.ending.Ending.{Ending}
 use Rattle.uc_logrec.specs.declared.ending.Ending.TheVariants.{Fault}
@@ -9,21 +9,25 @@ use Rattle.uc_logrec.specs.declared.fragments.Fragments.{Fragments}
 use Rattle.uc_logrec.specs.declared.fragments.Turn.{Turn}
 use Rattle.uc_logrec.specs.declared.fragments.Turn.TheVariants.{Complete, Open, Refused}
 use Rattle.uc_logrec.specs.Format.{room, header_place, record_of}
+use Rattle.uc_logrec.specs.Position.{ahead_at}
 use Rattle.uc_logrec.specs.Log.{turn_of, ending_at, Reading, ended, after_turn, after_record, reading_from, reading_of}
 
 -- what was read before, and what is read behind it
 abbrev pub with_front : List (List ℕ) → Reading → Reading
 with_front front reading = record { payloads = front ++ reading.payloads; ending = reading.ending }
 
--- what is read from an offset on is the rest of the reading of the whole log
-pub record Completes (bytes : List ℕ) (front : List (List ℕ)) (unfinished : Option Fragments) (offset : ℕ) (left : List ℕ) : Type 0 where
+-- what is read from an offset on is the rest of a whole reading
+pub record Completes (all : Reading) (front : List (List ℕ)) (unfinished : Option Fragments) (offset : ℕ) (left : List ℕ) : Type 0 where
   pub places : ℕ
   pub enough : length left < places
-  pub whole : reading_of bytes ≡ with_front front (reading_from places unfinished offset left)
+  pub whole : all ≡ with_front front (reading_from places unfinished offset left)
 
-pub Completes-start : (bytes : List ℕ) → Completes bytes [] None 0 bytes
+pub Completes-here : (offset : ℕ) (left : List ℕ) → Completes (ahead_at offset left) [] None offset left
+Completes-here offset left = record { places = suc (length left); enough = omega arith; whole = refl }
+
+pub Completes-start : (bytes : List ℕ) → Completes (reading_of bytes) [] None 0 bytes
 unfolding reading_of
-Completes-start bytes = record { places = suc (length bytes); enough = omega arith; whole = refl }
+Completes-start bytes = Completes-here 0 bytes
 
 -- the bytes from the next header place on
 abbrev pub here : ℕ → List ℕ → List ℕ
@@ -39,23 +43,23 @@ unfolding reading_from
 one_of zero unfinished offset left lt = absurd (omega arith)
 one_of (suc n) unfinished offset left lt = (n, omega arith, refl)
 
-one_place : (bytes : List ℕ) (front : List (List ℕ)) (unfinished : Option Fragments) (offset : ℕ) (left : List ℕ) → Completes bytes front unfinished offset left
-    → (fewer : ℕ) × (length left ≤ fewer) × (reading_of bytes ≡ with_front front (from_place fewer unfinished offset left))
-one_place bytes front unfinished offset left c =
+one_place : (all : Reading) (front : List (List ℕ)) (unfinished : Option Fragments) (offset : ℕ) (left : List ℕ) → Completes all front unfinished offset left
+    → (fewer : ℕ) × (length left ≤ fewer) × (all ≡ with_front front (from_place fewer unfinished offset left))
+one_place all front unfinished offset left c =
     let o = one_of c.places unfinished offset left c.enough in
     (o.0, o.1, c.whole ∙ ap (with_front front) o.2)
 
 abbrev pub stopped : List (List ℕ) → Ending → Reading
 stopped payloads ending = record { payloads = payloads; ending = ending }
 
-stopped_front : (front : List (List ℕ)) (ending : Ending) → with_front front (ended ending) ≡ stopped front ending
+pub stopped_front : (front : List (List ℕ)) (ending : Ending) → with_front front (ended ending) ≡ stopped front ending
 stopped_front front ending = ap (λ (ps : List (List ℕ)). stopped ps ending) (append-nil front)
 
 -- where no record stands
-pub stops : (bytes : List ℕ) (front : List (List ℕ)) (unfinished : Option Fragments) (offset : ℕ) (left : List ℕ) (stop : Stop) → Completes bytes front unfinished offset left
-    → record_of (room (header_place offset)) (here offset left) ≡ Err stop → reading_of bytes ≡ stopped front (ending_at stop unfinished (header_place offset))
-stops bytes front unfinished offset left stop c e =
-    let p = one_place bytes front unfinished offset left c in
+pub stops : (all : Reading) (front : List (List ℕ)) (unfinished : Option Fragments) (offset : ℕ) (left : List ℕ) (stop : Stop) → Completes all front unfinished offset left
+    → record_of (room (header_place offset)) (here offset left) ≡ Err stop → all ≡ stopped front (ending_at stop unfinished (header_place offset))
+stops all front unfinished offset left stop c e =
+    let p = one_place all front unfinished offset left c in
     p.2 ∙ rw e (stopped_front front (ending_at stop unfinished (header_place offset)))
 
 -- the bytes behind a record
@@ -63,31 +67,31 @@ abbrev pub behind : ℕ → List ℕ → ℕ → List ℕ
 behind offset left len = drop len (drop 7 (here offset left))
 
 -- a record that may stand there
-abbrev pub Goes : List ℕ → List (List ℕ) → ℕ → List ℕ → ℕ → Turn → Type 0
-Goes bytes front offset left len (Complete payload) = Completes bytes (front ++ payload ∷ []) None (header_place offset + 7 + len) (behind offset left len)
-Goes bytes front offset left len (Open fragments) = Completes bytes front (Some fragments) (header_place offset + 7 + len) (behind offset left len)
-Goes bytes front offset left len (Refused fault) = reading_of bytes ≡ stopped front (Fault fault (header_place offset))
+abbrev pub Goes : Reading → List (List ℕ) → ℕ → List ℕ → ℕ → Turn → Type 0
+Goes all front offset left len (Complete payload) = Completes all (front ++ payload ∷ []) None (header_place offset + 7 + len) (behind offset left len)
+Goes all front offset left len (Open fragments) = Completes all front (Some fragments) (header_place offset + 7 + len) (behind offset left len)
+Goes all front offset left len (Refused fault) = all ≡ stopped front (Fault fault (header_place offset))
 
-behind_shorter : (offset : ℕ) (left : List ℕ) (len : ℕ) → 7 + len ≤ length (here offset left) → length (behind offset left len) < length left
+pub behind_shorter : (offset : ℕ) (left : List ℕ) (len : ℕ) → 7 + len ≤ length (here offset left) → length (behind offset left len) < length left
 behind_shorter offset left len h = omega (arith, length-drop len (drop 7 (here offset left)), length-drop 7 (here offset left), length-drop (header_place offset - offset) left)
 
-goes_on : (bytes : List ℕ) (front : List (List ℕ)) (unfinished : Option Fragments) (offset : ℕ) (left : List ℕ) (kind : Kind) (len : ℕ) (turn : Turn) (fewer : ℕ) → length left ≤ fewer → 7 + len ≤ length (here offset left)
-    → reading_of bytes ≡ with_front front (after_turn (λ still. reading_from fewer still (header_place offset + 7 + len) (behind offset left len)) (header_place offset) turn)
-    → Goes bytes front offset left len turn
-goes_on bytes front unfinished offset left kind len (Complete payload) fewer le within e =
+goes_on : (all : Reading) (front : List (List ℕ)) (unfinished : Option Fragments) (offset : ℕ) (left : List ℕ) (kind : Kind) (len : ℕ) (turn : Turn) (fewer : ℕ) → length left ≤ fewer → 7 + len ≤ length (here offset left)
+    → all ≡ with_front front (after_turn (λ still. reading_from fewer still (header_place offset + 7 + len) (behind offset left len)) (header_place offset) turn)
+    → Goes all front offset left len turn
+goes_on all front unfinished offset left kind len (Complete payload) fewer le within e =
     record { places = fewer; enough = omega (arith, behind_shorter offset left len within); whole = e ∙ ap (λ (ps : List (List ℕ)). stopped ps (reading_from fewer None (header_place offset + 7 + len) (behind offset left len)).ending) (sym (append_assoc front (payload ∷ []) (reading_from fewer None (header_place offset + 7 + len) (behind offset left len)).payloads)) }
-goes_on bytes front unfinished offset left kind len (Open fragments) fewer le within e =
+goes_on all front unfinished offset left kind len (Open fragments) fewer le within e =
     record { places = fewer; enough = omega (arith, behind_shorter offset left len within); whole = e }
-goes_on bytes front unfinished offset left kind len (Refused fault) fewer le within e = e ∙ stopped_front front (Fault fault (header_place offset))
+goes_on all front unfinished offset left kind len (Refused fault) fewer le within e = e ∙ stopped_front front (Fault fault (header_place offset))
 
 -- where a record stands
-pub goes : (bytes : List ℕ) (front : List (List ℕ)) (unfinished : Option Fragments) (offset : ℕ) (left : List ℕ) (kind : Kind) (len : ℕ) (turn : Turn) → Completes bytes front unfinished offset left
+pub goes : (all : Reading) (front : List (List ℕ)) (unfinished : Option Fragments) (offset : ℕ) (left : List ℕ) (kind : Kind) (len : ℕ) (turn : Turn) → Completes all front unfinished offset left
     → record_of (room (header_place offset)) (here offset left) ≡ Ok (kind, len) → 7 + len ≤ length (here offset left)
-    → turn ≡ turn_of unfinished (header_place offset) kind (take len (drop 7 (here offset left))) → Goes bytes front offset left len turn
-goes bytes front unfinished offset left kind len turn c found within turns =
-    let p = one_place bytes front unfinished offset left c in
+    → turn ≡ turn_of unfinished (header_place offset) kind (take len (drop 7 (here offset left))) → Goes all front offset left len turn
+goes all front unfinished offset left kind len turn c found within turns =
+    let p = one_place all front unfinished offset left c in
     let turned : from_place p.0 unfinished offset left ≡ after_turn (λ still. reading_from p.0 still (header_place offset + 7 + len) (behind offset left len)) (header_place offset) turn = rw (found, turns) refl in
-    goes_on bytes front unfinished offset left kind len turn p.0 p.1 within (p.2 ∙ ap (with_front front) turned)
+    goes_on all front unfinished offset left kind len turn p.0 p.1 within (p.2 ∙ ap (with_front front) turned)
 
 -- what was found behind a trailer is what stands at the header place
 pub found_there : (offset : ℕ) (left : List ℕ) (place space : ℕ) (rest : List ℕ) (found : Result (Kind × ℕ) Stop) → place ≡ header_place offset → rest ≡ here offset left → space ≡ room place → found ≡ record_of space rest
@@ -111,3 +115,11 @@ still_within offset left len whole h e =
     let d = length-drop (header_place offset - offset) left in
     let later : offset ≤ header_place offset = search rules in
     omega (arith, a, b, d)
+
+-- a record that was found behind a trailer, and what it does
+pub goes_there : (all : Reading) (front : List (List ℕ)) (unfinished : Option Fragments) (offset : ℕ) (left : List ℕ) (place space : ℕ) (rest fragment : List ℕ) (kind : Kind) (len : ℕ) (turn : Turn)
+    → Completes all front unfinished offset left → place ≡ header_place offset → rest ≡ here offset left → space ≡ room place → Ok (kind, len) ≡ record_of space rest → 7 + len ≤ length rest
+    → fragment ≡ take len (drop 7 rest) → turn ≡ turn_of unfinished place kind fragment → Goes all front offset left len turn
+goes_there all front unfinished offset left place space rest fragment kind len turn c e f g found within cut turns =
+    goes all front unfinished offset left kind len turn c (found_there offset left place space rest (Ok (kind, len)) e f g found) (subst (λ (r : List ℕ). 7 + len ≤ length r) f within)
+    (turned_there unfinished offset left place rest fragment kind len turn e f cut turns)

@@ -1,3 +1,4 @@
 pub mod Format
 pub mod Log
 pub mod Grammar
+pub mod Position

@@ -223,3 +223,31 @@ fn checksums(rt: HostRuntime) {
     assert_eq!(rt; mask(0xe306_9283), 0xc78a_b0e5);
     assert_eq!(rt; unmask(0xc78a_b0e5), 0xe306_9283);
 }
+
+#[test]
+fn payloads_come_one_at_a_time(rt: HostRuntime) -> Result<(), Fail> {
+    let alloc = rt.alloc();
+    let mut log = Vec::from_slice(alloc, &LOG)?;
+    log.extend_from_slice(&FULL)?;
+    log.extend_from_slice(&LAST)?;
+    let mut reader = LogReader::new(&log);
+    let mut spare = Vec::new(alloc);
+    for (place, payload) in [BATCH.as_slice(), &[]].iter().enumerate() {
+        assert_eq!(rt; reader.given(), place as u64);
+        match reader.next(spare)? {
+            Next::Payload(found) => {
+                assert_eq!(rt; found.as_slice(), *payload);
+                spare = found.into_vec();
+            }
+            Next::Ended(ending) => panic!(rt; "the log ended as {ending:?}"),
+        }
+    }
+    for _ in 0..2 {
+        match reader.next(Vec::new(alloc))? {
+            Next::Payload(_) => panic!(rt; "a payload behind the fault"),
+            Next::Ended(ending) => assert_eq!(rt; ending, Ending::Fault(LogFault::LastAlone, 31)),
+        }
+    }
+    assert_eq!(rt; reader.given(), 2);
+    Ok(())
+}

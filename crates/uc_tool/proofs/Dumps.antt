@@ -11,15 +11,18 @@ use Rattle.uc_batch.specs.declared.error.BatchError.TheVariants as faults
 use Rattle.uc_batch.specs.Reads.{Fails}
 use Rattle.uc_batch.specs.Batch.{batch_of}
 use Rattle.uc_batch.specs.Rising.{last_of}
-use Rattle.uc_logrec.specs.Log.{payloads_of, ending_of}
+use Rattle.uc_logrec.specs.declared.ending.Ending.{Ending}
+use Rattle.uc_logrec.specs.Log.{Reading, ended, with_payload, reading_of}
+use Rattle.uc_logrec.specs.Position.{Position}
 use Rattle.uc_batch.specs.declared.ended.Ended.{Ended}
-use Rattle.uc_batch.specs.declared.ended.Ended.TheVariants as ended
-use Rattle.uc_batch.specs.Log.{Batches, after_batch, batches_of, kept}
+use Rattle.uc_batch.specs.declared.ended.Ended.TheVariants as ends_at
+use Rattle.uc_batch.specs.Log.{Batches, after_batch, batches_of, ended_by, kept}
+use Rattle.uc_batch.specs.WriteLog.{WriteLog}
 use Rattle.uc_batch.proofs.Joined.{fault_is}
 use Rattle.uc_tool.specs.Output.{AppendsFront}
 use Rattle.uc_tool.specs.Told.{joined, Stops, Tells}
 use Rattle.uc_tool.specs.Ending.{IsWhole}
-use Rattle.uc_tool.specs.Dump.{write_line, done_of, dump_of}
+use Rattle.uc_tool.specs.Dump.{write_line, log_of, done_of, dump_of}
 use Rattle.uc_tool.specs.declared.output.Halt.{Halt}
 use Rattle.uc_tool.specs.declared.output.Halt.TheVariants as halt
 use Rattle.uc_tool.proofs.Known.{appends_none, appends_more}
@@ -79,74 +82,87 @@ module _ (xs : List (List ℕ)) (line : List ℕ) (a b : Option (List ℕ)) (tol
   pub halts_at_last : (c : Option (List ℕ)) → AppendsFront b c line → Stops (xs ++ line ∷ []) a c halt.Device
   halts_at_last c p = stops_behind xs (line ∷ []) a b c halt.Device told (front_of_first b c line [] p)
 
--- What is still told, and the refusal that still stands there, when the payloads before this place are told.
-pub record DumpsOn (payloads : List (List ℕ)) (place last : ℕ) (old here : Option (List ℕ)) : Type 0 where
-  pub lines : GoesOn (map write_line (batches_of 0 1 payloads).writes) (map write_line (batches_of last (place + 1) (drop place payloads)).writes) old here
-  pub refused : (batches_of last (place + 1) (drop place payloads)).refused ≡ (batches_of 0 1 payloads).refused
+-- what still stands in a log before its first fault, where this is ahead, the next payload has this number and this
+-- is the last sequence used
+abbrev pub kept_from : ℕ → ℕ → Reading → WriteLog
+kept_from last number ahead = kept (batches_of last number ahead.payloads) ahead.ending
 
-pub begins : (payloads : List (List ℕ)) (old : Option (List ℕ)) → DumpsOn payloads 0 0 old old
-begins payloads old = record { lines = λ new r q. q; refused = refl }
+-- What is still told of a log, and how far it is read, when the payloads before this position are told.
+pub record DumpsOn (all : WriteLog) (last : ℕ) (position : Position) (old here : Option (List ℕ)) : Type 0 where
+  pub lines : GoesOn (map write_line all.list) (map write_line (kept_from last (position.given + 1) position.ahead).list) old here
+  pub ended : (kept_from last (position.given + 1) position.ahead).ended ≡ all.ended
 
-module _ (payloads : List (List ℕ)) (place last : ℕ) (old here : Option (List ℕ)) (so_far : DumpsOn payloads place last old here) where
+pub begins : (input : List ℕ) (position : Position) (old : Option (List ℕ)) → position ≡ record { given = 0; ahead = reading_of input } → DumpsOn (log_of input) 0 position old old
+begins input position old e = subst (λ (p : Position). DumpsOn (log_of input) 0 p old old) (sym e) (record { lines = λ new r q. q; ended = refl })
+
+module _ (all : WriteLog) (last : ℕ) (position : Position) (old here : Option (List ℕ)) (so_far : DumpsOn all last position old here) where
   -- memory ran out before the next batch
-  pub no_memory : Stops (map write_line (batches_of 0 1 payloads).writes) old here halt.Memory
+  pub no_memory : Stops (map write_line all.list) old here halt.Memory
   no_memory = so_far.lines here (Err halt.Memory) (0, appends_none here)
 
   -- nothing more is told
-  all_lines : (rest : Batches) → batches_of last (place + 1) (drop place payloads) ≡ rest → rest.writes ≡ [] → Appends old here (joined (map write_line (batches_of 0 1 payloads).writes))
-  all_lines rest e none = so_far.lines here (Ok tt) (subst (λ (ws : List Write). Appends here here (joined (map write_line ws))) (sym (ap (λ (b : Batches). b.writes) e ∙ none)) (appends_none here))
+  nothing_more : (rest : WriteLog) → kept_from last (position.given + 1) position.ahead ≡ rest → rest.list ≡ [] → Appends old here (joined (map write_line all.list))
+  nothing_more rest e none = so_far.lines here (Ok tt) (subst (λ (ws : List Write). Appends here here (joined (map write_line ws))) (sym (ap (λ (l : WriteLog). l.list) e ∙ none)) (appends_none here))
 
-  module _ (past : length payloads ≤ place) where
-    ends : batches_of last (place + 1) (drop place payloads) ≡ record { writes = []; refused = None }
-    ends = ap (batches_of last (place + 1)) (drop_all place payloads past)
+  module _ (ending : Ending) (is_end : position.ahead ≡ ended ending) where
+    ends : kept_from last (position.given + 1) position.ahead ≡ record { list = []; ended = ended_by ending }
+    ends = ap (kept_from last (position.given + 1)) is_end
 
-    pub ends_lines : Appends old here (joined (map write_line (batches_of 0 1 payloads).writes))
-    ends_lines = all_lines (record { writes = []; refused = None }) ends refl
+    pub ends_lines : Appends old here (joined (map write_line all.list))
+    ends_lines = nothing_more (record { list = []; ended = ended_by ending }) ends refl
 
-    pub ends_refused : None ≡ (batches_of 0 1 payloads).refused
-    ends_refused = sym (ap (λ (b : Batches). b.refused) ends) ∙ so_far.refused
+    pub ends_ended : ended_by ending ≡ all.ended
+    ends_ended = sym (ap (λ (l : WriteLog). l.ended) ends) ∙ so_far.ended
 
-  module _ (payload : List ℕ) (within : place < length payloads) (at : payload ≡ get_or payloads place payload) where
-    at_payload : batches_of last (place + 1) (drop place payloads) ≡ after_batch (λ used. batches_of used (place + 1 + 1) (drop (place + 1) payloads)) last (place + 1) (batch_of last payload)
-    at_payload = ap (batches_of last (place + 1)) (drop_more payloads place payload within ∙ ap (λ (p : List ℕ). p ∷ drop (place + 1) payloads) (sym at))
+  module _ (payload : List ℕ) (next : Position) (comes : (position.ahead ≡ with_payload payload next.ahead) × (next.given ≡ position.given + 1)) where
+    at_payload : batches_of last (position.given + 1) position.ahead.payloads ≡ after_batch (λ used. batches_of used (next.given + 1) next.ahead.payloads) last next.given (batch_of last payload)
+    at_payload =
+        ap (λ (r : Reading). batches_of last (position.given + 1) r.payloads) comes.0
+        ∙ ap (λ (n : ℕ). after_batch (λ used. batches_of used (n + 1) next.ahead.payloads) last n (batch_of last payload)) (sym comes.1)
+
+    same_ending : position.ahead.ending ≡ next.ahead.ending
+    same_ending = ap (λ (r : Reading). r.ending) comes.0
+
+    kept_is : (rest : Batches) → after_batch (λ used. batches_of used (next.given + 1) next.ahead.payloads) last next.given (batch_of last payload) ≡ rest → kept_from last (position.given + 1) position.ahead ≡ kept rest next.ahead.ending
+    kept_is rest e = ap (λ (b : Batches). kept b position.ahead.ending) (at_payload ∙ e) ∙ ap (kept rest) same_ending
 
     module _ (batch : List Write) (read : batch_of last payload ≡ Ok batch) where
       abbrev others : Batches
-      others = batches_of (last_of last batch) (place + 1 + 1) (drop (place + 1) payloads)
+      others = batches_of (last_of last batch) (next.given + 1) next.ahead.payloads
 
-      behind : batches_of last (place + 1) (drop place payloads) ≡ record { writes = batch ++ others.writes; refused = others.refused }
-      behind = at_payload ∙ ap (after_batch (λ used. batches_of used (place + 1 + 1) (drop (place + 1) payloads)) last (place + 1)) read
+      behind : kept_from last (position.given + 1) position.ahead ≡ kept (record { writes = batch ++ others.writes; refused = others.refused }) next.ahead.ending
+      behind = kept_is (record { writes = batch ++ others.writes; refused = others.refused }) (ap (after_batch (λ used. batches_of used (next.given + 1) next.ahead.payloads) last next.given) read)
 
-      lines_are : map write_line (batches_of last (place + 1) (drop place payloads)).writes ≡ map write_line batch ++ map write_line others.writes
-      lines_are = ap (λ (b : Batches). map write_line b.writes) behind ∙ map-append write_line batch others.writes
+      lines_are : map write_line (kept_from last (position.given + 1) position.ahead).list ≡ map write_line batch ++ map write_line others.writes
+      lines_are = ap (λ (l : WriteLog). map write_line l.list) behind ∙ map-append write_line batch others.writes
 
       -- the batch was told
-      pub goes_on : (after : Option (List ℕ)) → Appends here after (joined (map write_line batch)) → DumpsOn payloads (place + 1) (last_of last batch) old after
+      pub goes_on : (after : Option (List ℕ)) → Appends here after (joined (map write_line batch)) → DumpsOn all (last_of last batch) next old after
       goes_on after p = record {
         lines = λ new r q. so_far.lines new r (subst (λ (ls : List (List ℕ)). Tells ls here new r) (sym lines_are) (tells_behind (map write_line batch) (map write_line others.writes) here after new r p q));
-        refused = sym (ap (λ (b : Batches). b.refused) behind) ∙ so_far.refused;
+        ended = sym (ap (λ (l : WriteLog). l.ended) behind) ∙ so_far.ended;
       }
 
       -- there was a halt within it
-      pub stops : (after : Option (List ℕ)) (e : Halt) → Stops (map write_line batch) here after e → Stops (map write_line (batches_of 0 1 payloads).writes) old after e
+      pub stops : (after : Option (List ℕ)) (e : Halt) → Stops (map write_line batch) here after e → Stops (map write_line all.list) old after e
       stops after e p = so_far.lines after (Err e) (subst (λ (ls : List (List ℕ)). Stops ls here after e) (sym lines_are) (stops_within (map write_line batch) (map write_line others.writes) here after e p))
 
     module _ (e : BatchError) (other : e ≢ faults.Memory) (f : Fails e (batch_of last payload)) where
-      refuses : batches_of last (place + 1) (drop place payloads) ≡ record { writes = []; refused = Some (place + 1, e) }
-      refuses = at_payload ∙ ap (after_batch (λ used. batches_of used (place + 1 + 1) (drop (place + 1) payloads)) last (place + 1)) (fault_is e (batch_of last payload) other f)
+      refuses : kept_from last (position.given + 1) position.ahead ≡ record { list = []; ended = ends_at.BatchFault next.given e }
+      refuses = kept_is (record { writes = []; refused = Some (next.given, e) }) (ap (after_batch (λ used. batches_of used (next.given + 1) next.ahead.payloads) last next.given) (fault_is e (batch_of last payload) other f))
 
-      pub refused_lines : Appends old here (joined (map write_line (batches_of 0 1 payloads).writes))
-      refused_lines = all_lines (record { writes = []; refused = Some (place + 1, e) }) refuses refl
+      pub refused_lines : Appends old here (joined (map write_line all.list))
+      refused_lines = nothing_more (record { list = []; ended = ends_at.BatchFault next.given e }) refuses refl
 
-      pub refused_is : Some (place + 1, e) ≡ (batches_of 0 1 payloads).refused
-      refused_is = sym (ap (λ (b : Batches). b.refused) refuses) ∙ so_far.refused
+      pub refused_ended : ends_at.BatchFault next.given e ≡ all.ended
+      refused_ended = sym (ap (λ (l : WriteLog). l.ended) refuses) ∙ so_far.ended
 
 -- a dump that is told whole ends as one
 ended_whole : (ended : Ended) → IsWhole (done_of ended)
-ended_whole ended.Clean = tt
-ended_whole (ended.Torn offset) = tt
-ended_whole (ended.LogFault fault offset) = tt
-ended_whole (ended.BatchFault number fault) = tt
+ended_whole ends_at.Clean = tt
+ended_whole (ends_at.Torn offset) = tt
+ended_whole (ends_at.LogFault fault offset) = tt
+ended_whole (ends_at.BatchFault number fault) = tt
 
 pub dump_whole : (input : List ℕ) → IsWhole (dump_of input).done
-dump_whole input = ended_whole (kept (batches_of 0 1 (payloads_of input)) (ending_of input)).ended
+dump_whole input = ended_whole (log_of input).ended

@@ -3,6 +3,8 @@ use Rattle.std.specs.Prelude.{ℕ, List, [], ◌∷◌, ◌++◌, map, codes}
 use Rattle.std.specs.Fmt.{decimal}
 use Rattle.uc_write.specs.declared.op.Op.{Op}
 use Rattle.uc_write.specs.declared.op.Op.TheVariants.{Put, Delete, Merge, DeleteRange}
+use Rattle.uc_write.specs.declared.op_ref.OpKind.{OpKind}
+use Rattle.uc_write.specs.declared.op_ref.OpKind.TheVariants as kind
 use Rattle.uc_write.specs.declared.write.Write.{Write}
 use Rattle.uc_logrec.specs.declared.fault.LogFault.{LogFault}
 use Rattle.uc_logrec.specs.declared.fault.LogFault.TheVariants as log
@@ -18,6 +20,13 @@ use Rattle.uc_tool.specs.Texts.{numbered_line}
 use Rattle.uc_tool.specs.Told.{Told}
 use Rattle.uc_tool.specs.declared.done.Done.{Done}
 use Rattle.uc_tool.specs.declared.done.Done.TheVariants.{Fine, BadLog}
+
+-- what a kind of change is called
+abbrev pub op_words : OpKind → List ℕ
+op_words kind.Put = codes " put "
+op_words kind.Delete = codes " delete "
+op_words kind.Merge = codes " merge "
+op_words kind.DeleteRange = codes " range "
 
 -- what a change does, and to which texts
 abbrev pub op_text : Op → List ℕ
@@ -68,6 +77,10 @@ done_of (ended.BatchFault number fault) = BadLog
 abbrev pub shown : WriteLog → Told
 shown log = record { replies = map write_line log.list ++ ended_line log.ended ∷ []; done = done_of log.ended }
 
--- what the dump of a log's bytes tells: what stands before its first fault, as point-in-time recovery keeps it
+-- what stands in a log's bytes before its first fault, as point-in-time recovery keeps it
+abbrev pub log_of : List ℕ → WriteLog
+log_of input = kept (batches_of 0 1 (payloads_of input)) (ending_of input)
+
+-- what the dump of a log's bytes tells
 abbrev pub dump_of : List ℕ → Told
-dump_of input = shown (kept (batches_of 0 1 (payloads_of input)) (ending_of input))
+dump_of input = shown (log_of input)

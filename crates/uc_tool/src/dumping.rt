@@ -1,6 +1,5 @@
 ghost use Rattle.std.specs.Prelude.{◌≡◌, ◌≤◌, length, map, IfOk, IfSome};
-ghost use Rattle.uc_batch.specs.Log.{batches_of, ended_at};
-ghost use Rattle.uc_tool.specs.Dump.{write_line, done_of, dump_of};
+ghost use Rattle.uc_tool.specs.Dump.{write_line, log_of, done_of, dump_of};
 ghost use Rattle.uc_tool.specs.Told.{Tells, HasWritten};
 
 use crate::done::Done;
@@ -11,16 +10,15 @@ use crate::output::{Halt, write_bytes};
 use std::alloc::Global;
 use std::io;
 use std::io::Read;
-use uc_batch::{BatchError, Ended, last_used, read_batch};
-use uc_bytes::Bytes;
-use uc_logrec::{Ending, read_log};
-use uc_write::Write;
+use uc_batch::{BatchError, Ended, last_used, read_batch_in_place};
+use uc_logrec::{LogReader, Next};
+use uc_write::WriteRef;
 
 /// Tells the writes of a batch, a line each. The lines are put together in a buffer first, whose bytes
 /// are of no use before or after.
 fn tell_writes<W: io::Write>(
     lines: &mut Vec<u8>,
-    writes: &[Write],
+    writes: &[WriteRef<'_>],
     writer: &mut W,
 ) -> Result<(), Halt>
     ensures { Tells (map write_line writes.now) (W.contents writer.old) (W.contents writer.new) result }
@@ -30,37 +28,30 @@ fn tell_writes<W: io::Write>(
     write_bytes(writer, lines)
 }
 
-/// Tells the writes of payloads, up to the first that is refused, and gives its number and its fault.
-fn tell_batches<W: io::Write>(
-    alloc: Global,
-    payloads: &[Bytes],
-    writer: &mut W,
-) -> Result<Option<(u64, BatchError)>, Halt>
-    ensures told { Tells (map write_line (batches_of 0 1 payloads.now).writes) (W.contents writer.old) (W.contents writer.new) result }
-    ensures refused { IfOk result (λ refused. refused ≡ (batches_of 0 1 payloads.now).refused) }
+/// Tells the writes of a log, up to its first fault, and gives how far it was read. Only one payload is
+/// held at a time.
+fn tell_log<W: io::Write>(alloc: Global, input: &[u8], writer: &mut W) -> Result<Ended, Halt>
+    ensures told { Tells (map write_line (log_of input.now).list) (W.contents writer.old) (W.contents writer.new) result }
+    ensures ended { IfOk result (λ ended. ended ≡ (log_of input.now).ended) }
 {
+    let mut log = LogReader::new(input);
+    let mut spare = Vec::new(alloc);
     let mut lines = Vec::new(alloc);
     let mut last = 0;
-    for (place, payload) in payloads.iter().enumerate() {
-        match read_batch(alloc, payload.as_slice(), last) {
+    loop {
+        let payload = match log.next(spare)? {
+            Next::Payload(payload) => payload,
+            Next::Ended(ending) => return Ok(Ended::from(ending)),
+        };
+        match read_batch_in_place(alloc, payload.as_slice(), last) {
             Ok(batch) => {
                 tell_writes(&mut lines, &batch, writer)?;
                 last = last_used(&batch, last);
             }
             Err(BatchError::Memory) => return Err(Halt::Memory),
-            Err(fault) => return Ok(Some((place as u64 + 1, fault))),
+            Err(fault) => return Ok(Ended::BatchFault(log.given(), fault)),
         }
-    }
-    Ok(None)
-}
-
-/// How far a log was read.
-fn ended_from(refused: Option<(u64, BatchError)>, ending: Ending) -> Ended
-    ensures { result ≡ ended_at refused ending }
-{
-    match refused {
-        Some((number, fault)) => Ended::BatchFault(number, fault),
-        None => Ended::from(ending),
+        spare = payload.into_vec();
     }
 }
 
@@ -79,9 +70,7 @@ fn run<W: io::Write>(alloc: Global, input: &[u8], writer: &mut W) -> Result<Done
     ensures told { Tells (dump_of input.now).replies (W.contents writer.old) (W.contents writer.new) result }
     ensures done { IfOk result (λ done. done ≡ (dump_of input.now).done) }
 {
-    let log = read_log(alloc, input)?;
-    let refused = tell_batches(alloc, log.payloads.as_slice(), writer)?;
-    let ended = ended_from(refused, log.ending);
+    let ended = tell_log(alloc, input, writer)?;
     let line = ended_line(alloc, ended)?;
     write_bytes(writer, &line)?;
     Ok(done_from(ended))

@@ -1,58 +1,53 @@
 ghost use Rattle.std.specs.Prelude.{◌≡◌, ◌++◌, ◌∷◌, [], codes, IfOk, OnOk};
 ghost use Rattle.std.specs.List.{flat_map};
 ghost use Rattle.std.specs.Fmt.{decimal};
-ghost use Rattle.uc_script.specs.Texts.{hex_text};
-ghost use Rattle.uc_tool.specs.Dump.{op_text, write_line, log_words as words_of, batch_words, ended_line as ending_of};
+ghost use Rattle.uc_tool.specs.Dump.{op_words as words_of_op, op_text, write_line, log_words as words_of, batch_words, ended_line as ending_of};
 
 use crate::texts::numbered_line;
 use std::alloc::{AllocError, Global};
 use uc_batch::{BatchError, Ended};
-use uc_bytes::Bytes;
 use uc_logrec::LogFault;
 use uc_script::{push_hex, push_number};
-use uc_write::{Op, Write};
+use uc_write::{OpKind, OpRef, WriteRef};
 
-/// Prints words and a text.
-fn push_text(out: &mut Vec<u8>, words: &[u8], text: &Bytes) -> Result<(), AllocError>
-    ensures { OnOk result (out.new.items ≡ out.old.items ++ words.now ++ hex_text text.now) }
+/// What a kind of change is called, with a space before and after it.
+fn op_words(kind: OpKind) -> &'static [u8]
+    ensures { result.now ≡ words_of_op kind }
 {
-    out.extend_from_slice(words)?;
-    push_hex(out, text.as_slice())
-}
-
-/// Prints what a change does, and to which texts.
-fn push_op(out: &mut Vec<u8>, op: &Op) -> Result<(), AllocError>
-    ensures { OnOk result (out.new.items ≡ out.old.items ++ op_text op.now) }
-{
-    match op {
-        Op::Put(key, value) => {
-            push_text(out, b" put ", key)?;
-            push_text(out, b" ", value)
-        }
-        Op::Delete(key) => push_text(out, b" delete ", key),
-        Op::Merge(key, operand) => {
-            push_text(out, b" merge ", key)?;
-            push_text(out, b" ", operand)
-        }
-        Op::DeleteRange(begin, end) => {
-            push_text(out, b" range ", begin)?;
-            push_text(out, b" ", end)
-        }
+    match kind {
+        OpKind::Put => b" put ",
+        OpKind::Delete => b" delete ",
+        OpKind::Merge => b" merge ",
+        OpKind::DeleteRange => b" range ",
     }
 }
 
+/// Prints what a change does, and to which texts.
+fn push_op(out: &mut Vec<u8>, op: &OpRef<'_>) -> Result<(), AllocError>
+    ensures { OnOk result (out.new.items ≡ out.old.items ++ op_text op.now) }
+{
+    let (kind, first, second) = op.parts();
+    out.extend_from_slice(op_words(kind))?;
+    push_hex(out, first)?;
+    if kind != OpKind::Delete {
+        out.push(b' ')?;
+        push_hex(out, second)?;
+    }
+    Ok(())
+}
+
 /// Prints the line of a write.
-fn push_write(out: &mut Vec<u8>, write: &Write) -> Result<(), AllocError>
+fn push_write(out: &mut Vec<u8>, write: &WriteRef<'_>) -> Result<(), AllocError>
     ensures { OnOk result (out.new.items ≡ out.old.items ++ write_line write.now) }
 {
-    push_number(out, write.seq)?;
-    push_op(out, &write.op)?;
+    push_number(out, write.seq())?;
+    push_op(out, write.op())?;
     out.push(b'\n')?;
     Ok(())
 }
 
 /// Prints a line for each write.
-pub fn push_writes(out: &mut Vec<u8>, writes: &[Write]) -> Result<(), AllocError>
+pub fn push_writes(out: &mut Vec<u8>, writes: &[WriteRef<'_>]) -> Result<(), AllocError>
     ensures { OnOk result (out.new.items ≡ out.old.items ++ flat_map write_line writes.now) }
 {
     for write in writes {

@@ -23,7 +23,7 @@ loop-rest-preserved-after-records-from c =
       omega (arith, l.invariant.0, c.in_ok-op.ensures.shorter),
       elim c.if-records-from.branch [
         | then-records-from+in_ok-push w ↦
-            rw (w.writes-is, w.in_ok-push.ensures.items) (keeps a.sequence a.count a.total a.body.now l.writes.items l.records l.rest.now c.in_ok-op.after.now some c.in_ok-op.ensures.shorter l.invariant.1 c.in-Some.op read (omega arith))
+            rw (w.writes-is, w.in_ok-push.ensures.items, w.new.ensures) (keeps a.sequence a.count a.total a.body.now l.writes.items l.records l.rest.now c.in_ok-op.after.now some c.in_ok-op.ensures.shorter l.invariant.1 c.in-Some.op read (omega arith))
         | else-records-from w ↦
             rw w.writes-is (drops a.sequence a.count a.total a.body.now l.writes.items l.records l.rest.now c.in_ok-op.after.now some c.in_ok-op.ensures.shorter l.invariant.1 c.in-Some.op read (omega arith))
       ],

@@ -1,9 +1,10 @@
-use Rattle.std.proofs.Common.{◌≡◌, ◌+◌, length}
-use Rattle.uc_logrec.proofs.Reading.{Completes}
+use Rattle.std.proofs.Common.{◌≡◌, length}
+use Rattle.uc_logrec.specs.Log.{reading_of}
+use Rattle.uc_logrec.proofs.Reading.{with_front}
 use Rattle.uc_logrec.proofs.reader.read_log.Given as goal
 
-abbrev pub invariant-loop-record : goal.invariant-loop-record
-invariant-loop-record l = record { completes : Completes l.bytes l.payloads.items l.unfinished l.place l.left; within : l.place + length l.left ≡ length l.bytes }
+abbrev pub invariant-loop-payloads : goal.invariant-loop-payloads
+invariant-loop-payloads l = reading_of l.bytes ≡ with_front l.payloads.items l.log.ahead
 
-abbrev pub decreases-loop-record : goal.decreases-loop-record
-decreases-loop-record l = length l.left
+abbrev pub decreases-loop-payloads : goal.decreases-loop-payloads
+decreases-loop-payloads l = length l.log.ahead.payloads

@@ -1,0 +1,125 @@
+//! A log's payloads, one at a time.
+ghost use Rattle.std.specs.Prelude.{◌≡◌, ◌+◌, ◌<◌, ◌^◌, length, IfOk, OnErr};
+ghost use Rattle.uc_logrec.specs.Log.{reading_of, ending_at};
+ghost use Rattle.uc_logrec.specs.Position.{Comes, Leads, open_in};
+
+use crate::ending::Ending;
+use crate::fragments::{Turn, Unfinished, turn_at};
+use crate::header::{HEADER, Stop, parts, past_trailer, record_at, room_at};
+use std::alloc::AllocError;
+use std::marker::Model;
+use uc_bytes::Bytes;
+
+/// What comes next in a log.
+#[derive(Debug, Drop)]
+pub enum Next {
+    /// A complete payload.
+    Payload(Bytes),
+    /// Behind the last payload, how the log ends.
+    Ended(Ending),
+}
+
+/// Goes through a log, front to back, and gives its complete payloads one at a time.
+///
+/// Contracts see how many it has given, and what is ahead of it: the payloads to come and the ending.
+#[derive(Debug, Drop)]
+pub struct LogReader<'a> {
+    // Where the last payload ended, and the bytes from there.
+    place: usize,
+    left: &'a [u8],
+    given: u64,
+}
+
+impl<'a> Model for LogReader<'a> {
+    ghost use Rattle.std.specs.Prelude.{◌<◌, ◌≤◌, ◌+◌, ◌^◌, length};
+    ghost use Rattle.uc_logrec.specs.Position.{Position, ahead_at};
+
+    ghost Value = { Position };
+
+    ghost view = { λ r. record { given = r.given; ahead = ahead_at r.place r.left.now } };
+
+    ghost invariant = { λ r. (r.given ≤ r.place) × (r.place + length r.left.now < 2 ^ 63) };
+}
+
+impl<'a> LogReader<'a> {
+    /// A reader at the start of a log.
+    pub fn new(log: &'a [u8]) -> LogReader<'a>
+        ensures { result ≡ record { given = 0; ahead = reading_of log.now } }
+    {
+        LogReader {
+            place: 0,
+            left: log,
+            given: 0,
+        }
+    }
+
+    /// How many payloads it has given.
+    pub fn given(&self) -> u64
+        ensures { result ≡ self.now.given }
+    {
+        self.given
+    }
+
+    /// The next payload or, behind the last one, the ending, which is given again if it is asked for again.
+    ///
+    /// The payload's bytes are put into `spare`, whatever stands there: its memory can be used for one
+    /// payload after the other. It fails only for want of memory, and then nothing is passed over. It takes
+    /// memory for data that is there, whatever a length field says.
+    pub fn next(&mut self, spare: Vec<u8>) -> Result<Next, AllocError>
+        ensures ok { IfOk result (λ next. Comes next self.old self.new) }
+        ensures err { OnErr result (self.new ≡ self.old) }
+    {
+        let (next, place, left) = next_at(spare, self.place, self.left)?;
+        if let Next::Payload(_) = next {
+            self.place = place;
+            self.left = left;
+            self.given += 1;
+        }
+        Ok(next)
+    }
+}
+
+/// What comes next at a place, and then the place behind a payload and the bytes from there.
+fn next_at(
+    spare: Vec<u8>,
+    mut place: usize,
+    mut left: &[u8],
+) -> Result<(Next, usize, &[u8]), AllocError>
+    requires { place + length left.now < 2 ^ 63 }
+    ensures { IfOk result (λ found. Leads found.0 place left.now found.1 found.2.now) }
+{
+    let mut unfinished = Unfinished::Spare(spare);
+    loop {
+        let (offset, rest) = past_trailer(place, left);
+        let (kind, len) = match record_at(room_at(offset), rest) {
+            Ok(record) => record,
+            Err(stop) => {
+                let ending = stopped(stop, &unfinished, offset as u64);
+                return Ok((Next::Ended(ending), place, left));
+            }
+        };
+        let (fragment, behind) = parts(rest, len);
+        place = offset + HEADER + len;
+        left = behind;
+        match turn_at(unfinished, offset as u64, kind, fragment)? {
+            Turn::Complete(payload) => return Ok((Next::Payload(payload), place, left)),
+            Turn::Open(fragments) => unfinished = Unfinished::Open(fragments),
+            Turn::Refused(fault) => {
+                let ending = Ending::Fault(fault, offset as u64);
+                return Ok((Next::Ended(ending), place, left));
+            }
+        }
+    }
+}
+
+/// How the log ends at an offset where no record stands.
+fn stopped(stop: Stop, unfinished: &Unfinished, offset: u64) -> Ending
+    ensures { result ≡ ending_at stop (open_in unfinished.now) offset }
+{
+    match (stop, unfinished) {
+        (Stop::End, Unfinished::Spare(_)) => Ending::Clean,
+        (Stop::Cut, Unfinished::Spare(_)) => Ending::Torn(offset),
+        (Stop::Bad(fault), _) => Ending::Fault(fault, offset),
+        (_, Unfinished::Open(fragments)) => Ending::Torn(fragments.start),
+    }
+}
