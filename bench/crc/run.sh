@@ -1,0 +1,45 @@
+#!/bin/sh
+# CRC-32C by `uc_crc` beside the same algorithm, slicing by 8, in plain Rust.
+# Needs rustc, and crates/bench_crc/out/bench_crc, which `rt run` in crates/bench_crc builds.
+# A round is the sum of the whole buffer. Each line has the medians of 9 runs, which take turns, and both
+# programs must come to the same checksum. The load is the machine's, over the last minute, 5 and 15.
+set -eu
+here=$(cd "$(dirname "$0")" && pwd)
+ours=${OURS:-$here/../../crates/bench_crc/out/bench_crc}
+work=$(mktemp -d)
+trap 'rm -r "$work"' EXIT
+rustc --edition 2021 -O "$here/baseline.rs" -o "$work/baseline"
+
+load() {
+    echo "load: $(cut -d ' ' -f 1-3 /proc/loadavg)"
+}
+
+measure() { # SIZE_MIB ROUNDS
+    : > "$work/ours"
+    : > "$work/rust"
+    for _ in 1 2 3 4 5 6 7 8 9; do
+        "$ours" "$1" "$2" >> "$work/ours"
+        "$work/baseline" "$1" "$2" >> "$work/rust"
+    done
+    if [ "$(cut -d ' ' -f 2 "$work/ours" "$work/rust" | sort -u | wc -l)" -ne 1 ]; then
+        echo "run.sh: the checksums of $1 MiB differ" >&2
+        exit 1
+    fi
+    sort -n "$work/ours" | sed -n 5p > "$work/one"
+    sort -n "$work/rust" | sed -n 5p >> "$work/one"
+    awk -v size="$1" -v rounds="$2" '
+        { seconds[NR] = $1 / 1e9 }
+        END {
+            all = size * rounds
+            printf "%-8s %8s %10.4f %10.4f %11.0f %11.0f %8.2f\n", size, rounds, seconds[1], seconds[2],
+                all / seconds[1], all / seconds[2], seconds[1] / seconds[2]
+        }' "$work/one"
+}
+
+grep -m1 'model name' /proc/cpuinfo || true
+load
+printf '%-8s %8s %10s %10s %11s %11s %8s\n' MiB rounds 'ours s' 'rust s' 'ours MiB/s' 'rust MiB/s' ratio
+measure 1 1024
+measure 8 128
+measure 64 16
+load

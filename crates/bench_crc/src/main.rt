@@ -1,0 +1,69 @@
+//! Sums a buffer by CRC-32C, for `bench/crc`.
+//!
+//! `bench_crc SIZE_MIB ROUNDS` makes a buffer of so many MiB, sums it so many times, and prints the
+//! nanoseconds that the sums took and the last checksum. Without words it sums a small buffer twice and prints
+//! that checksum.
+#![tactic(auto)]
+
+ghost use Rattle.std.specs.Prelude.{◌≡◌, IfOk, vec_len};
+
+use anyhow::{Result, ensure};
+use std::alloc::Global;
+use std::env;
+use std::time::Instant;
+use uc_crc::crc32c;
+
+const MIB: usize = 1 << 20;
+
+const MOST_MIB: usize = 1024;
+
+// Bytes of a linear congruential generator (Knuth's MMIX): the highest of each state.
+fn generated(alloc: Global, size: usize) -> Result<Vec<u8>>
+    ensures { IfOk result (λ bytes. vec_len bytes ≡ size) }
+{
+    let mut bytes = Vec::with_capacity(alloc, size)?;
+    let mut state = 0u64;
+    for _ in 0..size {
+        state = state
+            .wrapping_mul(6364136223846793005)
+            .wrapping_add(1442695040888963407);
+        bytes.push((state >> 56) as u8)?;
+    }
+    Ok(bytes)
+}
+
+// The last checksum. Each round puts the low byte of the one before in front of the bytes, so that no round
+// can be left out.
+fn summed(bytes: &mut [u8], rounds: u32) -> u32 {
+    let mut checksum = 0;
+    for _ in 0..rounds {
+        if let Some(first) = bytes.first_mut() {
+            *first = (checksum & 0xff) as u8;
+        }
+        checksum = crc32c(bytes);
+    }
+    checksum
+}
+
+fn small<R: Print>(rt: &R, alloc: Global) -> Result<()> {
+    let mut bytes = generated(alloc, 1001)?;
+    let checksum = summed(&mut bytes, 2);
+    println!(rt; "{checksum:08x}")?;
+    Ok(())
+}
+
+fn main(rt: HostRuntime) -> Result<()> {
+    let words: Vec<String> = env::args(&rt)?.collect(rt.alloc())?;
+    if words.len() < 3 {
+        return small(&rt, rt.alloc());
+    }
+    let size = words[1].parse::<usize>()?;
+    let rounds = words[2].parse::<u32>()?;
+    ensure!(size <= MOST_MIB, "at most {MOST_MIB} MiB");
+    let mut bytes = generated(rt.alloc(), size * MIB)?;
+    let start = Instant::now(&rt)?;
+    let checksum = summed(&mut bytes, rounds);
+    let nanoseconds = start.elapsed(&rt)?.as_nanos();
+    println!(rt; "{nanoseconds} {checksum:08x}")?;
+    Ok(())
+}
