@@ -1,9 +1,10 @@
 -- The bits of numbers and of bytes.
 use mathlib.Core.Bool.{xor}
-use Rattle.std.proofs.Common.{◌≡◌, ℕ, zero, suc, ◌+◌, ◌*◌, ◌/◌, ◌%◌, ◌^◌, ◌<◌, Bool, true, false, cond, not, eqb, bit_xor, List, [], ◌∷◌, ◌++◌, length, replicate, refl, sym, ap, ap₂, ◌∙◌, arith, append-nil, length-append, w32, shr-shr, pow-suc}
+use Rattle.std.proofs.Common.{◌≡◌, ℕ, zero, suc, ◌+◌, ◌*◌, ◌/◌, ◌%◌, ◌^◌, ◌<◌, Bool, true, false, cond, not, eqb, bit_xor, List, [], ◌∷◌, ◌++◌, length, replicate, refl, sym, ap, ap₂, ◌∙◌, arith, append-nil, length-append, w64, shr-shr, pow-suc}
+use Rattle.std.proofs.Math.Nat.{div-div-eq-div-mul}
 use Rattle.std.proofs.lemmas.Nat.{mod-pow-add}
 use Rattle.std.specs.Int.Bits.{xor_mod, xor_shr}
-use Rattle.std.specs.Int.{to_le_bytes}
+use Rattle.std.specs.Int.{to_le_bytes, byte_at, bytes_low_first}
 use Rattle.std.proofs.lemmas.Grind.{flat_map-append}
 use Rattle.uc_crc.specs.Bits.{lowest_first, number_of, bits_of, inverted, zeros}
 use Rattle.uc_crc.specs.Division.{xor_bits}
@@ -143,18 +144,27 @@ bits_of-zero_bytes zero = refl
 bits_of-zero_bytes (suc n) =
     bits_of-cons 0 (replicate n 0) ∙ ap₂ (λ (ps qs : List Bool). ps ++ qs) (lowest_first-zero 8) (bits_of-zero_bytes n) ∙ sym (zeros-add 8 (8 * n)) ∙ ap zeros (omega arith)
 
--- the first byte's bits, and those of the others
-first_byte : (n x rest : ℕ) → x / 256 ≡ rest → lowest_first (8 + n) x ≡ lowest_first 8 (x % 256) ++ lowest_first n rest
-first_byte n x rest e = lowest_first-add 8 n x ∙ ap₂ (λ (ps qs : List Bool). ps ++ qs) (sym (lowest_first-mod 8 x)) (ap (lowest_first n) e)
+byte_at-value : (i x : ℕ) → byte_at i x ≡ x / 256 ^ i % 256
+byte_at-value zero x = omega arith
+byte_at-value (suc i) x = refl
 
-pub bits_of-to_le_bytes : (x : ℕ) → bits_of (to_le_bytes w32 x) ≡ lowest_first 32 x
+-- the bytes of a number from one on hold its bits from there on
+bits_of-bytes_low_first : (i count x : ℕ) → bits_of (bytes_low_first i count x) ≡ lowest_first (8 * count) (x / 256 ^ i)
 unfolding bits_of lowest_first
+bits_of-bytes_low_first i zero x = refl
+bits_of-bytes_low_first i (suc count) x =
+    let next : x / 256 ^ suc i ≡ x / 256 ^ i / 2 ^ 8 = sym (div-div-eq-div-mul x (256 ^ i) 256 ∙ ap (λ (n : ℕ). x / n) (sym (pow-suc 256 i))) in
+    let more : 8 * suc count ≡ 8 + 8 * count = omega arith in
+    bits_of-cons (byte_at i x) (bytes_low_first (suc i) count x)
+    ∙ ap₂ (λ (ps qs : List Bool). ps ++ qs)
+    (ap (lowest_first 8) (byte_at-value i x) ∙ lowest_first-mod 8 (x / 256 ^ i))
+    (bits_of-bytes_low_first (suc i) count x ∙ ap (lowest_first (8 * count)) next)
+    ∙ sym (ap (λ (n : ℕ). lowest_first n (x / 256 ^ i)) more ∙ lowest_first-add 8 (8 * count) (x / 256 ^ i))
+
+pub bits_of-to_le_bytes : (x : ℕ) → bits_of (to_le_bytes w64 x) ≡ lowest_first 64 x
 bits_of-to_le_bytes x =
-    let first = first_byte 24 x (x / 256) refl in
-    let second = first_byte 16 (x / 256) (x / 65536) (omega arith) in
-    let third = first_byte 8 (x / 65536) (x / 16777216) (omega arith) in
-    let fourth = first_byte 0 (x / 16777216) (x / 16777216 / 256) refl in
-    sym (first ∙ ap (λ (bits : List Bool). lowest_first 8 (x % 256) ++ bits) (second ∙ ap (λ (bits : List Bool). lowest_first 8 (x / 256 % 256) ++ bits) (third ∙ ap (λ (bits : List Bool). lowest_first 8 (x / 65536 % 256) ++ bits) fourth)))
+    let whole : x / 256 ^ 0 ≡ x = omega arith in
+    bits_of-bytes_low_first 0 8 x ∙ ap (lowest_first 64) whole
 
 -- a register that is shifted by a byte has zeros behind
 pub lowest_first-high : (x : ℕ) → x < 2 ^ 32 → lowest_first 32 (x / 256) ≡ lowest_first 24 (x / 256) ++ zeros 8

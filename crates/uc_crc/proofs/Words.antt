@@ -1,5 +1,5 @@
 -- Eight bytes at a time.
-use Rattle.std.proofs.Common.{◌≡◌, ℕ, zero, suc, ◌+◌, ◌*◌, ◌/◌, ◌≤◌, Bool, List, [], ◌∷◌, ◌++◌, length, take, drop, replicate, get_or, bit_xor, refl, sym, ap, ap₂, ◌∙◌, arith, append_assoc, append-nil, length-append, w32}
+use Rattle.std.proofs.Common.{◌≡◌, ℕ, zero, suc, ◌+◌, ◌*◌, ◌/◌, ◌^◌, ◌<◌, ◌≤◌, Bool, List, [], ◌∷◌, ◌++◌, length, take, drop, replicate, get_or, bit_xor, refl, sym, ap, ap₂, ◌∙◌, arith, append_assoc, append-nil, length-append, w64}
 use Rattle.std.specs.Int.{to_le_bytes}
 use Rattle.std.specs.List.{concat}
 use Rattle.std.specs.Simd.{first_chunks}
@@ -8,47 +8,42 @@ use Rattle.std.proofs.lemmas.List.Folds.{concat-append}
 use Rattle.uc_crc.specs.Bits.{lowest_first, bits_of, zeros}
 use Rattle.uc_crc.specs.Division.{xor_bits, divide_steps}
 use Rattle.uc_crc.specs.Crc.{register_after}
-use Rattle.uc_crc.proofs.BitLists.{xor_bits-nil_left, xor_bits_assoc, xor_bits-append, length-zeros, zeros-add}
+use Rattle.uc_crc.proofs.BitLists.{xor_bits-nil_left, xor_bits_comm, xor_bits-append, xor_bits-zeros, length-zeros, zeros-add}
 use Rattle.uc_crc.proofs.Dividing.{divide_steps-split}
-use Rattle.uc_crc.proofs.Numbers.{length-lowest_first, lowest_first-xor, bits_of-cons, length-bits_of, bits_of-zero_bytes, bits_of-to_le_bytes}
+use Rattle.uc_crc.proofs.Numbers.{length-lowest_first, lowest_first-xor, lowest_first-add, lowest_first-zero, bits_of-cons, length-bits_of, bits_of-zero_bytes, bits_of-to_le_bytes}
 use Rattle.uc_crc.proofs.Shifts.{register_after-steps, register_after-append, alone-steps}
 
--- ---- a register and the bytes behind it
+-- ---- a register and a word behind it
 
--- each byte of the front is added to the byte at its place
-added : List ℕ → List ℕ → List ℕ
-added [] bytes = bytes
-added (x ∷ front) [] = []
-added (x ∷ front) (byte ∷ bytes) = bit_xor x byte ∷ added front bytes
+-- the register's bits are added to the first 32 of the word's number
+added_bits : (x n : ℕ) → x < 2 ^ 32 → xor_bits (lowest_first 32 x) (lowest_first 64 n ++ zeros 32) ≡ lowest_first 64 (bit_xor n x) ++ zeros 32
+added_bits x n l =
+    let register = lowest_first 32 x in
+    let low = lowest_first 32 n in
+    let high = lowest_first 32 (n / 2 ^ 32) in
+    let none : x / 2 ^ 32 ≡ 0 = omega arith in
+    let same : length register ≡ length low = length-lowest_first 32 x ∙ sym (length-lowest_first 32 n) in
+    let sum : lowest_first 64 (bit_xor n x) ≡ xor_bits low register ++ high =
+    lowest_first-xor 64 n x
+    ∙ ap₂ xor_bits (lowest_first-add 32 32 n) (lowest_first-add 32 32 x ∙ ap (λ (bits : List Bool). register ++ bits) (ap (lowest_first 32) none ∙ lowest_first-zero 32))
+    ∙ xor_bits-append low high register (zeros 32) (sym same)
+    ∙ ap (λ (bits : List Bool). xor_bits low register ++ bits) (xor_bits_comm high (zeros 32) ∙ xor_bits-zeros 32 high (omega (arith, length-lowest_first 32 (n / 2 ^ 32)))) in
+    ap (λ (bits : List Bool). xor_bits register (bits ++ zeros 32)) (lowest_first-add 32 32 n)
+    ∙ ap₂ xor_bits (sym (append-nil register)) (append_assoc low high (zeros 32))
+    ∙ xor_bits-append register [] low (high ++ zeros 32) same
+    ∙ ap₂ (λ (ps qs : List Bool). ps ++ qs) (xor_bits_comm register low) (xor_bits-nil_left (high ++ zeros 32))
+    ∙ sym (append_assoc (xor_bits low register) high (zeros 32))
+    ∙ ap (λ (bits : List Bool). bits ++ zeros 32) (sym sum)
 
-bits_of-added : (front bytes : List ℕ) → length front ≤ length bytes → xor_bits (bits_of front) (bits_of bytes ++ zeros 32) ≡ bits_of (added front bytes) ++ zeros 32
-unfolding added bits_of
-bits_of-added [] bytes le = xor_bits-nil_left (bits_of bytes ++ zeros 32)
-bits_of-added (x ∷ front) [] le = absurd (omega arith)
-bits_of-added (x ∷ front) (byte ∷ bytes) le =
-    let a = lowest_first 8 x in
-    let b = lowest_first 8 byte in
-    ap₂ (λ (ps qs : List Bool). xor_bits ps (qs ++ zeros 32)) (bits_of-cons x front) (bits_of-cons byte bytes)
-    ∙ ap (xor_bits (a ++ bits_of front)) (append_assoc b (bits_of bytes) (zeros 32))
-    ∙ xor_bits-append a (bits_of front) b (bits_of bytes ++ zeros 32) (length-lowest_first 8 x ∙ sym (length-lowest_first 8 byte))
-    ∙ ap₂ (λ (ps qs : List Bool). ps ++ qs) (sym (lowest_first-xor 8 x byte)) (bits_of-added front bytes (omega arith))
-    ∙ sym (append_assoc (lowest_first 8 (bit_xor x byte)) (bits_of (added front bytes)) (zeros 32))
-    ∙ ap (λ (bits : List Bool). bits ++ zeros 32) (sym (bits_of-cons (bit_xor x byte) (added front bytes)))
-
-length-added : (front bytes : List ℕ) → length front ≤ length bytes → length (added front bytes) ≡ length bytes
-unfolding added
-length-added [] bytes le = refl
-length-added (x ∷ front) [] le = absurd (omega arith)
-length-added (x ∷ front) (byte ∷ bytes) le = ap suc (length-added front bytes (omega arith))
-
--- a register of four bytes is added to the bytes behind it
-behind_bytes : (front bytes : List ℕ) → length front ≡ 4 → length front ≤ length bytes → register_after (bits_of front) bytes ≡ register_after (zeros 32) (added front bytes)
-behind_bytes front bytes four le =
-    let e : length (bits_of front) ≡ 32 = length-bits_of front ∙ omega arith in
-    let same : length (bits_of (added front bytes)) ≡ length (bits_of bytes) = length-bits_of (added front bytes) ∙ ap (λ (n : ℕ). 8 * n) (length-added front bytes le) ∙ sym (length-bits_of bytes) in
-    register_after-steps (bits_of front) bytes e
-    ∙ ap (divide_steps (length (bits_of bytes))) (bits_of-added front bytes le)
-    ∙ sym (alone-steps (length (bits_of bytes)) (added front bytes) same)
+-- behind a register, a word leads where it leads alone once the register is added to its number
+pub behind_register : (x n : ℕ) (word bytes : List ℕ) → x < 2 ^ 32 → to_le_bytes w64 n ≡ word → bytes ≡ to_le_bytes w64 (bit_xor n x) → register_after (lowest_first 32 x) word ≡ register_after (zeros 32) bytes
+behind_register x n word bytes l is_word is_sum =
+    let over_word : bits_of word ≡ lowest_first 64 n = ap bits_of (sym is_word) ∙ bits_of-to_le_bytes n in
+    let over_bytes : bits_of bytes ≡ lowest_first 64 (bit_xor n x) = ap bits_of is_sum ∙ bits_of-to_le_bytes (bit_xor n x) in
+    register_after-steps (lowest_first 32 x) word (length-lowest_first 32 x)
+    ∙ ap (λ (bits : List Bool). divide_steps (length bits) (xor_bits (lowest_first 32 x) (bits ++ zeros 32))) over_word
+    ∙ ap₂ divide_steps (length-lowest_first 64 n) (added_bits x n l ∙ ap (λ (bits : List Bool). bits ++ zeros 32) (sym over_bytes))
+    ∙ sym (alone-steps 64 bytes (ap length over_bytes ∙ length-lowest_first 64 (bit_xor n x)))
 
 -- ---- the sum over the bytes
 
@@ -72,22 +67,13 @@ alone-cons byte bytes =
 abbrev pub IsEntry : ℕ → ℕ → ℕ → Type 0
 IsEntry behind byte entry = lowest_first 32 entry ≡ register_after (zeros 32) (byte ∷ replicate behind 0)
 
--- one more entry is added
-more : (sum entry byte : ℕ) (bytes : List ℕ) (all : List Bool) → IsEntry (length bytes) byte entry → all ≡ xor_bits (lowest_first 32 sum) (register_after (zeros 32) (byte ∷ bytes)) → all ≡ xor_bits (lowest_first 32 (bit_xor sum entry)) (register_after (zeros 32) bytes)
-more sum entry byte bytes all e so_far =
-    let rest = register_after (zeros 32) bytes in
-    so_far
-    ∙ ap (xor_bits (lowest_first 32 sum)) (alone-cons byte bytes ∙ ap (λ (bits : List Bool). xor_bits bits rest) (sym e))
-    ∙ sym (xor_bits_assoc (lowest_first 32 sum) (lowest_first 32 entry) rest)
-    ∙ ap (λ (bits : List Bool). xor_bits bits rest) (sym (lowest_first-xor 32 sum entry))
-
--- the last entry of all
-last : (sum entry byte : ℕ) (all : List Bool) → IsEntry 0 byte entry → all ≡ xor_bits (lowest_first 32 sum) (register_after (zeros 32) (byte ∷ [])) → lowest_first 32 (bit_xor sum entry) ≡ all
-last sum entry byte all e so_far = lowest_first-xor 32 sum entry ∙ ap (xor_bits (lowest_first 32 sum)) e ∙ sym so_far
-
--- the first entry of all
-first : (entry byte : ℕ) (bytes : List ℕ) (all : List Bool) → IsEntry (length bytes) byte entry → all ≡ register_after (zeros 32) (byte ∷ bytes) → all ≡ xor_bits (lowest_first 32 entry) (register_after (zeros 32) bytes)
-first entry byte bytes all e whole = whole ∙ alone-cons byte bytes ∙ ap (λ (bits : List Bool). xor_bits bits (register_after (zeros 32) bytes)) (sym e)
+-- the entry of one more byte is added in front
+more : (sum entry byte : ℕ) (bytes : List ℕ) → lowest_first 32 sum ≡ register_after (zeros 32) bytes → IsEntry (length bytes) byte entry → lowest_first 32 (bit_xor sum entry) ≡ register_after (zeros 32) (byte ∷ bytes)
+more sum entry byte bytes so_far e =
+    lowest_first-xor 32 sum entry
+    ∙ ap₂ xor_bits so_far e
+    ∙ xor_bits_comm (register_after (zeros 32) bytes) (register_after (zeros 32) (byte ∷ replicate (length bytes) 0))
+    ∙ sym (alone-cons byte bytes)
 
 -- ---- one word
 
@@ -98,53 +84,27 @@ is_eight : (word : List ℕ) → length word ≡ 8 → word ≡ eight word
 is_eight (a ∷ b ∷ c ∷ d ∷ e ∷ f ∷ g ∷ h ∷ []) l = refl
 is_eight _ l = absurd (omega arith)
 
-abbrev four : List ℕ → List ℕ
-four front = get_or front 0 0 ∷ get_or front 1 0 ∷ get_or front 2 0 ∷ get_or front 3 0 ∷ []
-
-is_four : (front : List ℕ) → length front ≡ 4 → front ≡ four front
-is_four (a ∷ b ∷ c ∷ d ∷ []) l = refl
-is_four _ l = absurd (omega arith)
-
--- the word's bytes, the register's four added to the first four
-indexes : List ℕ → List ℕ → List ℕ
-indexes front word = bit_xor (get_or front 0 0) (get_or word 0 0) ∷ bit_xor (get_or front 1 0) (get_or word 1 0) ∷ bit_xor (get_or front 2 0) (get_or word 2 0) ∷ bit_xor (get_or front 3 0) (get_or word 3 0) ∷ get_or word 4 0 ∷ get_or word 5 0 ∷ get_or word 6 0 ∷ get_or word 7 0 ∷ []
-
--- behind a register, a word leads where its indexes lead alone
-behind_register : (x : ℕ) (front word : List ℕ) → front ≡ to_le_bytes w32 x → length word ≡ 8 → register_after (lowest_first 32 x) word ≡ register_after (zeros 32) (indexes front word)
-unfolding added indexes
-behind_register x front word e l =
-    let long : length front ≡ 4 = ap length e in
-    ap (λ (r : List Bool). register_after r word) (sym (ap bits_of e ∙ bits_of-to_le_bytes x))
-    ∙ behind_bytes front word long (omega arith)
-    ∙ ap (register_after (zeros 32)) (ap₂ added (is_four front long) (is_eight word l))
-
--- a word is shifted in by one entry for each of its bytes
-pub shifted_word : (x : ℕ) (front word : List ℕ) → front ≡ to_le_bytes w32 x → length word ≡ 8 → (a b c d e f g h : ℕ)
-    → IsEntry 7 (bit_xor (get_or front 0 0) (get_or word 0 0)) a → IsEntry 6 (bit_xor (get_or front 1 0) (get_or word 1 0)) b
-    → IsEntry 5 (bit_xor (get_or front 2 0) (get_or word 2 0)) c → IsEntry 4 (bit_xor (get_or front 3 0) (get_or word 3 0)) d
-    → IsEntry 3 (get_or word 4 0) e → IsEntry 2 (get_or word 5 0) f → IsEntry 1 (get_or word 6 0) g → IsEntry 0 (get_or word 7 0) h
-    → lowest_first 32 (bit_xor (bit_xor (bit_xor (bit_xor (bit_xor (bit_xor (bit_xor a b) c) d) e) f) g) h) ≡ register_after (lowest_first 32 x) word
-unfolding indexes
-shifted_word x front word is_front long a b c d e f g h at7 at6 at5 at4 at3 at2 at1 at0 =
-    let all = register_after (lowest_first 32 x) word in
-    let i1 = bit_xor (get_or front 1 0) (get_or word 1 0) in
-    let i2 = bit_xor (get_or front 2 0) (get_or word 2 0) in
-    let i3 = bit_xor (get_or front 3 0) (get_or word 3 0) in
+-- a word alone is shifted in by one entry for each of its bytes, from the last to the first
+pub shifted_word : (word : List ℕ) → length word ≡ 8 → (a b c d e f g h : ℕ)
+    → IsEntry 0 (get_or word 7 0) a → IsEntry 1 (get_or word 6 0) b → IsEntry 2 (get_or word 5 0) c → IsEntry 3 (get_or word 4 0) d
+    → IsEntry 4 (get_or word 3 0) e → IsEntry 5 (get_or word 2 0) f → IsEntry 6 (get_or word 1 0) g → IsEntry 7 (get_or word 0 0) h
+    → lowest_first 32 (bit_xor (bit_xor (bit_xor (bit_xor (bit_xor (bit_xor (bit_xor a b) c) d) e) f) g) h) ≡ register_after (zeros 32) word
+shifted_word word long a b c d e f g h at0 at1 at2 at3 at4 at5 at6 at7 =
     let from7 = get_or word 7 0 ∷ [] in
     let from6 = get_or word 6 0 ∷ from7 in
     let from5 = get_or word 5 0 ∷ from6 in
     let from4 = get_or word 4 0 ∷ from5 in
-    let from3 = i3 ∷ from4 in
-    let from2 = i2 ∷ from3 in
-    let from1 = i1 ∷ from2 in
-    let s1 = first a (bit_xor (get_or front 0 0) (get_or word 0 0)) from1 all at7 (behind_register x front word is_front long) in
-    let s2 = more a b i1 from2 all at6 s1 in
-    let s3 = more (bit_xor a b) c i2 from3 all at5 s2 in
-    let s4 = more (bit_xor (bit_xor a b) c) d i3 from4 all at4 s3 in
-    let s5 = more (bit_xor (bit_xor (bit_xor a b) c) d) e (get_or word 4 0) from5 all at3 s4 in
-    let s6 = more (bit_xor (bit_xor (bit_xor (bit_xor a b) c) d) e) f (get_or word 5 0) from6 all at2 s5 in
-    let s7 = more (bit_xor (bit_xor (bit_xor (bit_xor (bit_xor a b) c) d) e) f) g (get_or word 6 0) from7 all at1 s6 in
-    last (bit_xor (bit_xor (bit_xor (bit_xor (bit_xor (bit_xor a b) c) d) e) f) g) h (get_or word 7 0) all at0 s7
+    let from3 = get_or word 3 0 ∷ from4 in
+    let from2 = get_or word 2 0 ∷ from3 in
+    let from1 = get_or word 1 0 ∷ from2 in
+    let s1 = more a b (get_or word 6 0) from7 at0 at1 in
+    let s2 = more (bit_xor a b) c (get_or word 5 0) from6 s1 at2 in
+    let s3 = more (bit_xor (bit_xor a b) c) d (get_or word 4 0) from5 s2 at3 in
+    let s4 = more (bit_xor (bit_xor (bit_xor a b) c) d) e (get_or word 3 0) from4 s3 at4 in
+    let s5 = more (bit_xor (bit_xor (bit_xor (bit_xor a b) c) d) e) f (get_or word 2 0) from3 s4 at5 in
+    let s6 = more (bit_xor (bit_xor (bit_xor (bit_xor (bit_xor a b) c) d) e) f) g (get_or word 1 0) from2 s5 at6 in
+    more (bit_xor (bit_xor (bit_xor (bit_xor (bit_xor (bit_xor a b) c) d) e) f) g) h (get_or word 0 0) from1 s6 at7
+    ∙ ap (register_after (zeros 32)) (sym (is_eight word long))
 
 -- ---- the words of a slice
 

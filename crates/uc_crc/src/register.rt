@@ -29,19 +29,20 @@ pub(crate) fn shift_in_bytes(mut register: u32, bytes: &[u8]) -> u32
 }
 
 // The remainder of a sum is the sum of the remainders. So each byte is looked up by itself, as if
-// zeros stood in place of the others; the register is added to the first four.
+// zeros stood in place of the others; the register is added to the first four. Those stand last in the
+// sum, since they alone wait for the word before.
 fn shift_in_word(register: u32, word: &[u8; 8]) -> u32
     ensures { lowest_first 32 result ≡ register_after (lowest_first 32 register) word.now }
 {
-    let front = register.to_le_bytes();
-    remainder_of(7, front[0] ^ word[0])
-        ^ remainder_of(6, front[1] ^ word[1])
-        ^ remainder_of(5, front[2] ^ word[2])
-        ^ remainder_of(4, front[3] ^ word[3])
-        ^ remainder_of(3, word[4])
-        ^ remainder_of(2, word[5])
-        ^ remainder_of(1, word[6])
-        ^ remainder_of(0, word[7])
+    let bytes = (u64::from_le_bytes(*word) ^ register as u64).to_le_bytes();
+    remainder_of(0, bytes[7])
+        ^ remainder_of(1, bytes[6])
+        ^ remainder_of(2, bytes[5])
+        ^ remainder_of(3, bytes[4])
+        ^ remainder_of(4, bytes[3])
+        ^ remainder_of(5, bytes[2])
+        ^ remainder_of(6, bytes[1])
+        ^ remainder_of(7, bytes[0])
 }
 
 // The byte pushes the register's low byte out. What remains of the two together is added to the
