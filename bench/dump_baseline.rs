@@ -47,10 +47,15 @@ fn update(mut rest: u32, bytes: &[u8]) -> u32 {
     let mut words = bytes.chunks_exact(8);
     for word in &mut words {
         let word = u64::from_le_bytes(word.try_into().unwrap()) ^ u64::from(rest);
-        rest = 0;
-        for (place, byte) in word.to_le_bytes().into_iter().enumerate() {
-            rest ^= TABLES[7 - place][byte as usize];
-        }
+        // The look-ups that wait for the word before stand last.
+        rest = TABLES[0][(word >> 56) as usize]
+            ^ TABLES[1][(word >> 48 & 0xff) as usize]
+            ^ TABLES[2][(word >> 40 & 0xff) as usize]
+            ^ TABLES[3][(word >> 32 & 0xff) as usize]
+            ^ TABLES[4][(word >> 24 & 0xff) as usize]
+            ^ TABLES[5][(word >> 16 & 0xff) as usize]
+            ^ TABLES[6][(word >> 8 & 0xff) as usize]
+            ^ TABLES[7][(word & 0xff) as usize];
     }
     for byte in words.remainder() {
         rest = TABLES[0][(rest as u8 ^ byte) as usize] ^ (rest >> 8);

@@ -7,7 +7,7 @@
 //!
 //! Read `reading.rt` first: it is the whole way from bytes to a [`Script`]. `lines.rt` cuts the
 //! text, `field.rt` reads a field, `setup.rt` and `asking.rt` a line of either part, and
-//! `printing.rt` is the way back for bytes and numbers. `laws.rt` says what the definitions in
+//! `hex_pairs.rt` and `printing.rt` are the way back for bytes and numbers. `laws.rt` says what the definitions in
 //! `specs/` mean.
 #![tactic(auto)]
 
@@ -15,6 +15,7 @@ mod asking;
 mod call;
 mod error;
 mod field;
+mod hex_pairs;
 mod laws;
 mod lines;
 mod listing;
@@ -26,12 +27,13 @@ mod setup;
 
 pub use call::Call;
 pub use error::ScriptError;
+pub use hex_pairs::HexPairs;
 pub use laws::{
     a_script_is_its_lines, a_script_names_no_more_than_it_has, printed_bytes_are_read,
     printed_numbers_are_read,
 };
 pub use listing::{Calls, Keeps, Listing, Ops};
-pub use printing::{push_hex, push_number};
+pub use printing::push_number;
 pub use reading::read_script;
 pub use script::Script;
 pub use seq::Seq;

@@ -1,0 +1,31 @@
+use Rattle.std.proofs.Common.{◌≡◌, ◌<◌, ◌/◌, ◌%◌, ℕ, [], ◌∷◌, ◌∙◌, refl, ap, length, slice_index, slice_index_or, slice_set, arith}
+use Rattle.std.proofs.lemmas.List.{length-set}
+use Rattle.hex.specs.Hex.{encode_with, encode_lower, lower_digits}
+use Rattle.hex.proofs.Pairs.{encode_step, encode_done}
+use Rattle.uc_script.proofs.hex_pairs.HexPairs.write.Goals as goal
+
+-- the first digit of a byte, and the second
+first_digit : (byte : ℕ) → slice_index_or (encode_lower (byte ∷ [])) 0 0 ≡ slice_index lower_digits (byte / 16)
+unfolding encode_with
+first_digit byte = refl
+
+second_digit : (byte : ℕ) → slice_index_or (encode_lower (byte ∷ [])) 1 0 ≡ slice_index lower_digits (byte % 16)
+unfolding encode_with
+second_digit byte = refl
+
+pub loop-place-preserved : goal.loop-place-preserved
+loop-place-preserved c =
+    let l = c.loop-place in
+    let bytes = c.args.bytes.now in
+    let small : c.from.result < 256 = omega (arith, c.from.ensures, c.type_inv.bytes l.place) in
+    let pair = c.args.self.now.are_pairs c.from.result small in
+    let first = ap (λ digits. slice_index_or digits 0 0) pair ∙ first_digit c.from.result in
+    let second = ap (λ digits. slice_index_or digits 1 0) pair ∙ second_digit c.from.result in (
+      length-set _ _ _ ∙ length-set _ _ _ ∙ l.invariant.0,
+      encode_step lower_digits bytes l.out l.place _ _ c.loop-place-test.true (omega (arith, l.invariant.0, c.loop-place-test.true)) (first ∙ ap (λ byte. slice_index lower_digits (byte / 16)) c.from.ensures) (second ∙ ap (λ byte. slice_index lower_digits (byte % 16)) c.from.ensures) l.invariant.1,
+    )
+
+pub returns : goal.returns
+returns c =
+    let l = c.loop-place in
+    encode_done lower_digits c.args.bytes.now l.out l.place (omega (arith, c.loop-place-test.false)) l.invariant.0 l.invariant.1
