@@ -1,0 +1,70 @@
+//! Runs every example as a user does, and compares what it prints with the file beside it.
+//!
+//! The folder that it runs in is `examples` of this repository: `data` leads there. It prints how many
+//! examples it ran, and stops at the first that prints something else.
+#![tactic(auto)]
+
+use anyhow::{Result, ensure};
+use std::alloc::Global;
+use std::fs;
+use std::rt::Files;
+use uc_oper::{Append, Counter, Operator};
+use uc_tool::{Options, dump, play};
+
+/// The delimiter of `--operator append`.
+const COMMA: u8 = b',';
+
+/// Compares what was printed with what a file says.
+fn check<R: Files + AllocGlobal>(rt: &R, path: &str, printed: &[u8]) -> Result<()> {
+    let expected = fs::read(rt, path)?;
+    ensure!(
+        expected.as_slice() == printed,
+        "another text than in {path}"
+    );
+    Ok(())
+}
+
+/// The path of an example, with an ending.
+fn path_of(alloc: Global, name: &str, ending: &str) -> Result<String> {
+    let mut path = String::from_str(alloc, name)?;
+    path.push_str(ending)?;
+    Ok(path)
+}
+
+/// Dumps an example of a log.
+fn check_log<R: Files + AllocGlobal>(rt: &R, name: &str) -> Result<()> {
+    let alloc = rt.alloc();
+    let log = fs::read(rt, path_of(alloc, name, ".log")?)?;
+    let mut printed = Vec::new(alloc);
+    let _done = dump(alloc, &mut log.as_slice(), &mut printed);
+    check(rt, path_of(alloc, name, ".expected")?.as_str(), &printed)
+}
+
+/// Plays an example of a script.
+fn check_script<O: Operator, R: Files + AllocGlobal>(rt: &R, name: &str) -> Result<()> {
+    let alloc = rt.alloc();
+    let script = fs::read(rt, path_of(alloc, name, ".script")?)?;
+    let mut printed = Vec::new(alloc);
+    let _done = play::<O, &[u8], Vec<u8>>(
+        alloc,
+        &mut script.as_slice(),
+        &mut printed,
+        &Options::usual(),
+    );
+    check(rt, path_of(alloc, name, ".expected")?.as_str(), &printed)
+}
+
+fn main(rt: HostRuntime) -> Result<()> {
+    let mut logs = 0u64;
+    for entry in fs::read_dir(&rt, "logs")? {
+        let entry = entry?;
+        if let Some(name) = entry.path().as_str().strip_suffix(".log") {
+            check_log(&rt, name)?;
+            logs = logs.saturating_add(1);
+        }
+    }
+    check_script::<Counter, _>(&rt, "first")?;
+    check_script::<Append<COMMA>, _>(&rt, "merge")?;
+    println!(rt; "{logs} logs and 2 scripts print what stands beside them")?;
+    Ok(())
+}
