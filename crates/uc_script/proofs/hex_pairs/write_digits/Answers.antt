@@ -2,7 +2,7 @@ use Rattle.std.proofs.Common.{◌≡◌, ◌<◌, ◌/◌, ◌%◌, ℕ, [], ◌
 use Rattle.std.proofs.lemmas.List.{length-set}
 use Rattle.hex.specs.Hex.{encode_with, encode_lower, lower_digits}
 use Rattle.hex.proofs.Pairs.{encode_step, encode_done}
-use Rattle.uc_script.proofs.hex_pairs.HexPairs.write.Goals as goal
+use Rattle.uc_script.proofs.hex_pairs.write_digits.Goals as goal
 
 -- the first digit of a byte, and the second
 first_digit : (byte : ℕ) → slice_index_or (encode_lower (byte ∷ [])) 0 0 ≡ slice_index lower_digits (byte / 16)
@@ -18,7 +18,7 @@ loop-place-preserved c =
     let l = c.loop-place in
     let bytes = c.args.bytes.now in
     let small : c.from.result < 256 = omega (arith, c.from.ensures, c.type_inv.bytes l.place) in
-    let pair = c.args.self.now.are_pairs c.from.result small in
+    let pair = c.requires.pairs c.from.result small in
     let first = ap (λ digits. slice_index_or digits 0 0) pair ∙ first_digit c.from.result in
     let second = ap (λ digits. slice_index_or digits 1 0) pair ∙ second_digit c.from.result in (
       length-set _ _ _ ∙ length-set _ _ _ ∙ l.invariant.0,
