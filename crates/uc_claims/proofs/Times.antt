@@ -3,7 +3,8 @@ use Rattle.std.proofs.Common.{◌≡◌, ℕ, zero, suc, ◌+◌, ◌<◌, ◌�
 use Rattle.std.specs.Prelude.{Contains, All}
 use Rattle.std.specs.List.{filter, list_any, IsDistinct, AllByRecursion}
 use Rattle.std.proofs.lemmas.Bool.{cases_eq, cases_lt, lt-ltb, le-ltb, cond_both, or_from, or_parts, ltb-false, eqb-false}
-use Rattle.std.proofs.lemmas.List.Sums.{sum_by-cons, sum_by-append, sum_by_push, sum_by-take-drop}
+use Rattle.std.proofs.lemmas.List.Sums.{length-filter, sum_by-cons, sum_by-append, sum_by_push, sum_by-take-drop}
+use Rattle.std.proofs.lemmas.List.Filters.{length-filter_both}
 use Rattle.std.proofs.lemmas.List.Elements.{filter-append, All-contains, Contains-append_cases}
 use Rattle.std.proofs.lemmas.List.{drop_more, take-append-drop}
 use Rattle.std.proofs.lemmas.Map.Keys.{IsDistinct-head, IsDistinct-tail}
@@ -175,6 +176,22 @@ Contains-without_kept gone xs k h stays =
 
 pub given_back : (slot : ℕ) (xs : List ℕ) → ¬ Contains (without (slot ∷ []) xs) slot
 given_back slot xs h = let some = times-from_Contains slot (without (slot ∷ []) xs) h in let none = times-without_same slot xs in absurd (omega arith)
+
+-- a list gets shorter where one of its slots is given back
+pub shorter : (slot : ℕ) (xs : List ℕ) → Contains xs slot → length (without (slot ∷ []) xs) < length xs
+shorter slot xs has = omega (arith, times-from_Contains slot xs has, length-filter gone xs, length-filter_both stays gone other xs)
+  where
+    stays : ℕ → Bool
+    stays k = not (list_any (λ x. eqb x k) (slot ∷ []))
+
+    gone : ℕ → Bool
+    gone k = eqb k slot
+
+    other : (k : ℕ) → gone k ≡ not (stays k)
+    other k =
+        ⊎_elim (λ (e : k ≡ slot). eq-eqb k slot e ∙ ap (λ b. not (not (b || false))) (sym (eq-eqb slot k (sym e))))
+        (λ (n : k ≡ slot → ⊥). ne_eqb k slot n ∙ ap (λ b. not (not (b || false))) (sym (ne_eqb slot k (λ e. n (sym e)))))
+        (cases_eq k slot)
 
 -- of a list without slots twice, what stands at a place doesn't stand before it
 pub new_at : (xs : List ℕ) (i : ℕ) → AreDistinct xs → i < length xs → times (get_or xs i 0) (take i xs) ≡ 0

@@ -1,6 +1,7 @@
 -- The rule of the claim words, and what a step tells the seat that makes it.
-use Rattle.std.specs.Prelude.{◌≡◌, ℕ, ◌<◌, ◌≤◌, ◌==◌, nat_lt, Bool, true, false, List, [], ◌∷◌, ◌++◌, length, slice_index, slice_index_or, count_by, Contains, MatchBool}
+use Rattle.std.specs.Prelude.{◌≡◌, ℕ, ◌<◌, ◌≤◌, ◌==◌, ◌/◌, ◌%◌, nat_lt, Bool, true, false, List, [], ◌∷◌, ◌++◌, length, slice_index, slice_index_or, count_by, Contains, MatchBool}
 use Rattle.std.specs.List.{sum_by}
+use Rattle.std.specs.Int.{bit_at}
 use mathlib.Core.Option.{some}
 use lib.ListN.{get_elem?}
 use Rattle.atomic_table.specs.Table.{Me, Step}
@@ -54,10 +55,13 @@ Gave at before stored after = (after.1 ≡ before.1) × (after.0 ≡ claimant be
 abbrev pub Looked : Step (Unit {0}) → Sitting → ℕ → Sitting → Type 0
 Looked at before found after = (after.1 ≡ before.1) × (after.0 ≡ before.0) × (before.0.whole ≡ true → found ≡ times at.word before.0.slots)
 
--- What a seat remembers at run time: a flag for each slot that stands in its list. There no slot stands twice, and none that the table has not
-pub record Recorded (count : ℕ) (flags : List Bool) (slots : List ℕ) : Type 0 where
-  pub flagged : (slot : ℕ) → slice_index_or flags slot false ≡ nat_lt 0 (times slot slots)
-  pub single : (slot : ℕ) → times slot slots ≤ 1
+-- the bit of a slot, of groups that have a bit each for 64 slots
+abbrev pub mark_at : List ℕ → ℕ → ℕ
+mark_at groups slot = bit_at (slice_index groups (slot / 64)) (slot % 64)
+
+-- What a seat remembers at run time: a bit for each slot, which is how often the slot stands in its list. There none stands that the table has not
+pub record Recorded (count : ℕ) (groups : List ℕ) (slots : List ℕ) : Type 0 where
+  pub marked : (slot : ℕ) → mark_at groups slot ≡ times slot slots
   pub inside : (slot : ℕ) → count ≤ slot → times slot slots ≡ 0
 
 -- What a closed table shows: with the seats' lists at the end, by the rule, which slots stand in one of them still. One of the seats is that which closed it

@@ -13,6 +13,7 @@
 mod busy;
 mod held_slots;
 pub mod laws;
+mod marks;
 mod rule;
 mod seat;
 mod table;

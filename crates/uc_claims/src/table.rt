@@ -137,10 +137,8 @@ impl ClaimTable {
         requires { held.table ≡ self.now.table }
         ensures { result ≡ free_seat held.table held.whole }
     {
-        for slot in 0..self.count() {
-            if held.has(slot) {
-                self.free(&mut held, slot);
-            }
+        while let Some(slot) = held.first() {
+            self.free(&mut held, slot);
         }
         held.into_seat()
     }
@@ -173,13 +171,6 @@ impl ClaimTable {
         let flags = taken_flags(&closed, count);
         closed.free();
         flags
-    }
-
-    fn count(&self) -> usize
-        ensures count { result ≡ self.now.count }
-        ensures words { result ≡ self.now.table.words }
-    {
-        self.table.word_count()
     }
 
     // Takes these slots, all of them or none.
@@ -216,7 +207,7 @@ impl ClaimTable {
         if found != FREE {
             return false;
         }
-        held.flags[slot] = true;
+        held.marks.add(slot);
         true
     }
 
@@ -227,7 +218,7 @@ impl ClaimTable {
         ensures { held.new ≡ record held.old { slots = without (slot ∷ []) held.old.slots } }
     {
         self.table.shared.store::<Give>(&mut held.token, slot, FREE);
-        held.flags[slot] = false;
+        held.marks.remove(slot);
     }
 
     // Gives these slots back.

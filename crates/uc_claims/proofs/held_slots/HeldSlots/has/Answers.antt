@@ -1,9 +1,10 @@
-use Rattle.std.proofs.Common.{false, unwrap_or, ap, ◌∙◌, subst, arith}
+use Rattle.std.proofs.Common.{ap, subst}
 use Rattle.std.specs.Prelude.{Contains, IsTrue, ◌↔◌}
-use Rattle.uc_claims.proofs.Records.{flag_says}
+use Rattle.uc_claims.proofs.Records.{marked_held}
 use Rattle.uc_claims.proofs.held_slots.HeldSlots.has.Goals as goal
 
 pub returns : goal.returns
 returns c =
-    subst (λ slots. IsTrue c.unwrap_or.result ↔ Contains slots c.args.slot) (ap (λ h. h.slots) c.self.view_is)
-    (flag_says c.self.invariant.1 c.args.slot c.unwrap_or.result (c.unwrap_or.ensures ∙ ap (λ o. unwrap_or o false) c.copied.ensures ∙ c.get.ensures.lookup.4 (omega arith) false))
+    let held = marked_held c.self.invariant.1 c.args.slot in
+    subst (λ slots. IsTrue c.has.result ↔ Contains slots c.args.slot) (ap (λ h. h.slots) c.self.view_is)
+    ((λ is. held.0 (c.has.ensures.0 is)), (λ has. c.has.ensures.1 (held.1 has)))

@@ -1,4 +1,4 @@
-use Rattle.std.proofs.Common.{ℕ, true, List, set, eq-eqb, ne_eqb, ap, sym, ◌∙◌, arith, subst}
+use Rattle.std.proofs.Common.{ℕ, List, eq-eqb, ne_eqb, ap, sym, ◌∙◌, arith, subst}
 use Rattle.std.specs.Prelude.{Contains}
 use Rattle.std.proofs.lemmas.Bool.{MatchBool-at_true, MatchBool-at_false}
 use Rattle.uc_claims.specs.Claims.{Recorded}
@@ -19,8 +19,8 @@ invariant_of-held c =
     let e = c.compare_exchange-found.ensures in
     let lost = MatchBool-at_false _ _ (ne_eqb _ 0 c.if-found-ne-FREE.true) e.2.1 in (
       e.2.0 ∙ c.held.invariant.0,
-      subst (λ (n : ℕ). Recorded n c.held.inside.flags c.compare_exchange-found.new.seat.me.0.slots) (sym (ap (λ t. t.words) e.0))
-          (subst (λ (slots : List ℕ). Recorded c.held.inside.token.table_id.words c.held.inside.flags slots) (sym (ap (λ v. v.slots) lost.0)) c.held.invariant.1),
+      subst (λ (n : ℕ). Recorded n c.held.inside.marks.groups c.compare_exchange-found.new.seat.me.0.slots) (sym (ap (λ t. t.words) e.0))
+          (subst (λ (slots : List ℕ). Recorded c.held.inside.token.table_id.words c.held.inside.marks.groups slots) (sym (ap (λ v. v.slots) lost.0)) c.held.invariant.1),
     )
 
 pub invariant_of-held-2 : goal.invariant_of-held-2
@@ -30,12 +30,17 @@ invariant_of-held-2 c =
     let words = ap (λ t. t.words) same in
     let e = c.compare_exchange-found.ensures in
     let won = MatchBool-at_true _ _ (eq-eqb _ 0 c.if-found-ne-FREE.false) e.2.1 in
-    let flags = set c.held.inside.flags c.args.slot true in (
+    let groups = c.add.new.self.groups in (
       e.2.0 ∙ c.held.invariant.0,
-      subst (λ (n : ℕ). Recorded n flags c.compare_exchange-found.new.seat.me.0.slots) (sym (ap (λ t. t.words) e.0))
-          (subst (λ (slots : List ℕ). Recorded c.held.inside.token.table_id.words flags slots) (sym (ap (λ v. v.slots) won.0))
-          (Recorded-won _ c.args.slot _ _ c.held.invariant.1 (omega (arith, c.self.invariant.few, c.held.told, c.requires.below)) (omega (arith, c.requires.below)) won.1)),
+      subst (λ (n : ℕ). Recorded n groups c.compare_exchange-found.new.seat.me.0.slots) (sym (ap (λ t. t.words) e.0))
+          (subst (λ (slots : List ℕ). Recorded c.held.inside.token.table_id.words groups slots) (sym (ap (λ v. v.slots) won.0))
+          (Recorded-won _ c.args.slot _ groups _ c.held.invariant.1 c.add.ensures.others c.add.ensures.same (omega (arith, c.requires.below)) won.1)),
     )
+
+pub add-requires : goal.add-requires
+add-requires c =
+    let count = ap (λ t. t.count) c.self.view_is in
+    omega (arith, c.self.invariant.few, c.requires.below)
 
 pub returns-then-found-ne-FREE-clause-lost : goal.returns-then-found-ne-FREE-clause-lost
 returns-then-found-ne-FREE-clause-lost c whole =

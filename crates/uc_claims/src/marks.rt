@@ -1,0 +1,99 @@
+//! A bit for each slot that a table may have.
+ghost use Rattle.std.specs.Prelude.{◌≡◌, ◌≢◌, ℕ, ◌<◌, ◌↔◌, IsTrue, IfSome, IfNone};
+ghost use Rattle.std.specs.Int.{bit_at};
+ghost use Rattle.uc_claims.specs.Claims.{mark_at};
+
+use crate::table::MOST_SLOTS;
+
+// How many slots share a group.
+const BITS: usize = 64;
+
+const GROUPS: usize = MOST_SLOTS / BITS;
+
+/// Which slots are marked. It is moved with each take and give, so it is to be a few numbers at the most.
+#[derive(Drop)]
+pub(crate) struct Marks {
+    groups: [u64; GROUPS],
+}
+
+impl Marks {
+    /// No slot is marked.
+    pub(crate) fn none() -> Marks
+        ensures { (slot : ℕ) → mark_at result.groups slot ≡ 0 }
+    {
+        Marks {
+            groups: [0; GROUPS],
+        }
+    }
+
+    /// Whether the slot is marked. A slot that no table has is never.
+    pub(crate) fn has(&self, slot: usize) -> bool
+        ensures { IsTrue result ↔ (mark_at self.now.groups slot ≡ 1) }
+    {
+        match self.groups.get(slot / BITS) {
+            Some(bits) => has_bit(*bits, slot % BITS),
+            None => false,
+        }
+    }
+
+    /// Marks the slot.
+    pub(crate) fn add(&mut self, slot: usize)
+        requires { slot < MOST_SLOTS }
+        ensures same { mark_at self.new.groups slot ≡ 1 }
+        ensures others { (k : ℕ) → k ≢ slot → mark_at self.new.groups k ≡ mark_at self.old.groups k }
+    {
+        self.groups[slot / BITS] = with_bit(self.groups[slot / BITS], slot % BITS);
+    }
+
+    /// Takes the slot's mark away.
+    pub(crate) fn remove(&mut self, slot: usize)
+        requires { slot < MOST_SLOTS }
+        ensures same { mark_at self.new.groups slot ≡ 0 }
+        ensures others { (k : ℕ) → k ≢ slot → mark_at self.new.groups k ≡ mark_at self.old.groups k }
+    {
+        self.groups[slot / BITS] = without_bit(self.groups[slot / BITS], slot % BITS);
+    }
+
+    /// One of the slots marked, if there is any.
+    pub(crate) fn first(&self) -> Option<usize>
+        ensures some { IfSome result (λ slot. mark_at self.now.groups slot ≡ 1) }
+        ensures none { IfNone result ((slot : ℕ) → mark_at self.now.groups slot ≡ 0) }
+    {
+        for (group, bits) in self.groups.iter().enumerate() {
+            if *bits != 0 {
+                return Some(group * BITS + lowest_bit(*bits));
+            }
+        }
+        None
+    }
+}
+
+fn has_bit(bits: u64, place: usize) -> bool
+    requires { place < BITS }
+    ensures { IsTrue result ↔ (bit_at bits place ≡ 1) }
+{
+    bits & (1 << place) != 0
+}
+
+fn with_bit(bits: u64, place: usize) -> u64
+    requires { place < BITS }
+    ensures same { bit_at result place ≡ 1 }
+    ensures others { (k : ℕ) → k ≢ place → bit_at result k ≡ bit_at bits k }
+{
+    bits | (1 << place)
+}
+
+fn without_bit(bits: u64, place: usize) -> u64
+    requires { place < BITS }
+    ensures same { bit_at result place ≡ 0 }
+    ensures others { (k : ℕ) → k < BITS → k ≢ place → bit_at result k ≡ bit_at bits k }
+{
+    bits & !(1 << place)
+}
+
+fn lowest_bit(bits: u64) -> usize
+    requires { 0 < bits }
+    ensures { (result < BITS) × (bit_at bits result ≡ 1) }
+{
+    bits.trailing_zeros() as usize
+}
