@@ -2,7 +2,12 @@
 use std::sync::atomic::{AtomicU64, Ordering::SeqCst};
 use std::time::Instant;
 
-const COUNT: usize = 8;
+const COUNT: usize = 64;
+
+/// Words that begin 16 bytes into a cache line, as `malloc` lays those of `bench_claims`. So in both programs the
+/// same slots share a line: 0 to 5, and 6 to 13.
+#[repr(align(64))]
+struct Lines([AtomicU64; COUNT + 2]);
 
 fn take(words: &[AtomicU64], slots: &[usize]) -> bool {
     for (taken, &slot) in slots.iter().enumerate() {
@@ -20,12 +25,15 @@ fn give(words: &[AtomicU64], slots: &[usize]) {
     }
 }
 
-fn asked(thread: usize, contended: bool) -> &'static [usize] {
-    match (contended, thread) {
-        (true, _) | (_, 0) => &[0, 1],
-        (_, 1) => &[2, 3],
-        (_, 2) => &[4, 5],
-        _ => &[6, 7],
+fn asked(thread: usize, layout: &str) -> &'static [usize] {
+    match (layout, thread) {
+        ("contended", _) | (_, 0) => &[0, 1],
+        ("disjoint", 1) => &[2, 3],
+        ("disjoint", 2) => &[4, 5],
+        ("disjoint", _) => &[6, 7],
+        (_, 1) => &[16, 17],
+        (_, 2) => &[32, 33],
+        _ => &[48, 49],
     }
 }
 
@@ -43,15 +51,15 @@ fn work(words: &[AtomicU64], slots: &[usize], rounds: u32) -> u64 {
 fn main() {
     let args: Vec<String> = std::env::args().collect();
     let threads: usize = args[1].parse().expect("a number of threads");
-    let contended = args[2] == "contended";
+    let layout = args[2].as_str();
     let rounds: u32 = args[3].parse().expect("a number of rounds");
-    let words: Vec<AtomicU64> = (0..COUNT).map(|_| AtomicU64::new(0)).collect();
+    let lines = Box::new(Lines(std::array::from_fn(|_| AtomicU64::new(0))));
+    let words = &lines.0[2..];
     let start = Instant::now();
     let won: u64 = std::thread::scope(|scope| {
         let mut running = Vec::new();
         for thread in 0..threads {
-            let words = &words;
-            running.push(scope.spawn(move || work(words, asked(thread, contended), rounds)));
+            running.push(scope.spawn(move || work(words, asked(thread, layout), rounds)));
         }
         running.into_iter().map(|thread| thread.join().expect("a thread's answer")).sum()
     });

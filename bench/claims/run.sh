@@ -1,19 +1,21 @@
 #!/bin/sh
 # Takes and gives per second by 1, 2 and 4 threads, beside the same loop in plain Rust.
 # Needs rustc, and crates/bench_claims/out/bench_claims, which `rt run` in crates/bench_claims builds.
-# A round is one take of two slots and, where it won, their give. Disjoint: two slots of its own for each
-# thread. Contended: the same two for all. Each line has the medians of 9 runs, which take turns.
+# A round is one take of two of 64 slots and, where it won, their give. Disjoint: two slots of its own for each
+# thread, side by side, so that those of several threads share a cache line. Spaced: these 16 slots apart, so that
+# no line has those of two threads. Contended: the same two for all.
+# Each line has the medians of 9 runs, which take turns.
 set -eu
 here=$(cd "$(dirname "$0")" && pwd)
 ours=${OURS:-$here/../../crates/bench_claims/out/bench_claims}
-rounds=${ROUNDS:-3000000}
+rounds=${ROUNDS:-10000000}
 work=$(mktemp -d)
 trap 'rm -r "$work"' EXIT
 rustc -O "$here/baseline.rs" -o "$work/baseline"
 
 grep -m1 'model name' /proc/cpuinfo || true
 printf '%-8s %-10s %14s %14s %8s %14s %14s\n' threads layout 'ours M/s' 'rust M/s' ratio 'ours won M/s' 'rust won M/s'
-for layout in disjoint contended; do
+for layout in disjoint spaced contended; do
     for threads in 1 2 4; do
         : > "$work/ours"
         : > "$work/rust"

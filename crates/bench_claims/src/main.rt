@@ -1,41 +1,61 @@
 //! Takes and gives slots by 1, 2 or 4 threads, for `bench/claims`.
 //!
 //! `bench_claims THREADS LAYOUT ROUNDS` prints the nanoseconds that it took and how many takes won. The
-//! layout is `disjoint`, where each thread has two slots of its own, or `contended`, where all want the same
-//! two. Without words it does a little of both, and says that every slot is free again.
+//! layout is `disjoint`, where each thread has two slots of its own, `spaced`, where these are also far enough
+//! from those of the others to share no cache line, or `contended`, where all want the same two.
+//! Without words it does a little of each, and says that every slot is free again.
 #![tactic(auto)]
 
 ghost use Rattle.std.specs.Prelude.{◌≡◌, ◌<◌, All};
 ghost use Rattle.uc_claims.specs.Holding.{AreDistinct};
 
-use anyhow::{Result, ensure};
+use anyhow::{Result, bail, ensure};
 use std::alloc::Global;
 use std::env;
 use std::thread::{Threads, join};
 use std::time::Instant;
 use uc_claims::{ClaimTable, MOST_SLOTS, Seat};
 
-const COUNT: usize = 8;
+const COUNT: usize = MOST_SLOTS;
+
+/// Where the slots lie that the threads want.
+#[derive(Clone, Copy)]
+enum Layout {
+    Disjoint,
+    Spaced,
+    Contended,
+}
+
+impl Layout {
+    fn named(name: &str) -> Option<Layout> {
+        match name {
+            "disjoint" => Some(Layout::Disjoint),
+            "spaced" => Some(Layout::Spaced),
+            "contended" => Some(Layout::Contended),
+            _ => None,
+        }
+    }
+}
 
 /// What each thread does: which slots it wants, and how often.
 #[derive(Clone, Copy)]
 struct Plan {
-    contended: bool,
+    layout: Layout,
     rounds: u32,
 }
 
-fn asked(thread: u64, contended: bool) -> &'static [usize]
+fn asked(thread: u64, layout: Layout) -> &'static [usize]
     ensures distinct { AreDistinct result.now }
     ensures below { All (λ slot. slot < COUNT) result.now }
 {
-    if contended {
-        return &[0, 1];
-    }
-    match thread {
-        0 => &[0, 1],
-        1 => &[2, 3],
-        2 => &[4, 5],
-        _ => &[6, 7],
+    match (layout, thread) {
+        (Layout::Contended, _) | (_, 0) => &[0, 1],
+        (Layout::Disjoint, 1) => &[2, 3],
+        (Layout::Disjoint, 2) => &[4, 5],
+        (Layout::Disjoint, _) => &[6, 7],
+        (Layout::Spaced, 1) => &[16, 17],
+        (Layout::Spaced, 2) => &[32, 33],
+        (Layout::Spaced, _) => &[48, 49],
     }
 }
 
@@ -45,7 +65,7 @@ fn work(table: &ClaimTable, mut seat: Seat, thread: u64, plan: Plan) -> (Seat, u
     requires count { table.now.count ≡ COUNT }
     ensures { result.0.table ≡ table.now.table }
 {
-    let slots = asked(thread, plan.contended);
+    let slots = asked(thread, plan.layout);
     let mut won = 0u64;
     for _ in 0..plan.rounds {
         seat = match table.take(seat, slots) {
@@ -118,9 +138,9 @@ fn run<R: Threads + Sync>(rt: &R, alloc: Global, threads: u64, plan: Plan) -> Re
 }
 
 fn small<R: Threads + Sync + Print>(rt: &R, alloc: Global) -> Result<()> {
-    for contended in [false, true] {
+    for layout in [Layout::Disjoint, Layout::Spaced, Layout::Contended] {
         let plan = Plan {
-            contended,
+            layout,
             rounds: 1000,
         };
         let (_, free) = run(rt, alloc, 4, plan)?;
@@ -136,8 +156,11 @@ fn main(rt: HostRuntime) -> Result<()> {
         return small(&rt, rt.alloc());
     }
     let threads = words[1].parse::<u64>()?;
+    let Some(layout) = Layout::named(words[2].as_str()) else {
+        bail!("the layout is disjoint, spaced or contended");
+    };
     let plan = Plan {
-        contended: words[2].as_str() == "contended",
+        layout,
         rounds: words[3].parse::<u32>()?,
     };
     let start = Instant::now(&rt)?;
