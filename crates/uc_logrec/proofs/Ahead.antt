@@ -2,9 +2,7 @@
 use Rattle.std.proofs.Common.{◌≡◌, ℕ, zero, suc, ◌+◌, ◌≤◌, ◌<◌, List, [], ◌∷◌, length, take, drop, Option, Some, None, Result, Ok, Err, refl, ap, ◌∙◌, arith}
 use Rattle.uc_logrec.specs.declared.kind.Kind.{Kind}
 use Rattle.uc_logrec.specs.declared.header.Stop.{Stop}
-use Rattle.uc_logrec.specs.declared.fragments.Fragments.{Fragments}
-use Rattle.uc_logrec.specs.declared.fragments.Turn.{Turn}
-use Rattle.uc_logrec.specs.declared.fragments.Turn.TheVariants.{Complete, Open, Refused}
+use Rattle.uc_logrec.specs.Turns.{Fragments, Turn, Complete, Open, Refused}
 use Rattle.uc_logrec.specs.Format.{room, header_place, record_of}
 use Rattle.uc_logrec.specs.Log.{turn_of, Reading, with_payload, after_turn, after_record, reading_from}
 use Rattle.uc_logrec.specs.Position.{ahead_at}

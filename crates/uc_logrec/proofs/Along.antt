@@ -2,8 +2,7 @@
 use Rattle.std.proofs.Common.{◌≡◌, ℕ, ◌+◌, ◌≤◌, List, [], ◌∷◌, ◌++◌, length, take, drop, Some, None, Ok, Err, refl, sym, ap, subst, ◌∙◌, length-append, arith}
 use Rattle.uc_logrec.specs.declared.ending.Ending.TheVariants.{Fault}
 use Rattle.uc_logrec.specs.declared.header.Stop.{Stop}
-use Rattle.uc_logrec.specs.declared.fragments.Turn.{Turn}
-use Rattle.uc_logrec.specs.declared.fragments.Turn.TheVariants.{Complete, Open, Refused}
+use Rattle.uc_logrec.specs.Turns.{Turn, Complete, Open, Refused}
 use Rattle.uc_logrec.specs.Format.{room, header_place, record_text, record_of}
 use Rattle.uc_logrec.specs.Log.{turn_of, ending_at, reading_of}
 use Rattle.uc_logrec.specs.Grammar.{LogRecord, next_place, past_trailer, Stand}

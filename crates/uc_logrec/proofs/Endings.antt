@@ -10,8 +10,7 @@ use Rattle.uc_logrec.specs.declared.kind.Kind.{Kind}
 use Rattle.uc_logrec.specs.declared.kind.Kind.TheVariants.{Full, First, Middle, Last}
 use Rattle.uc_logrec.specs.declared.header.Stop.{Stop}
 use Rattle.uc_logrec.specs.declared.header.Stop.TheVariants.{End, Cut, Bad}
-use Rattle.uc_logrec.specs.declared.fragments.Fragments.{Fragments}
-use Rattle.uc_logrec.specs.declared.fragments.Turn.TheVariants.{Complete, Open, Refused}
+use Rattle.uc_logrec.specs.Turns.{Fragments, Complete, Open, Refused}
 use Rattle.uc_logrec.specs.Format.{room, kind_of, checksum_of, typed, stored_checksum, stored_length, stored_code, record_of}
 use Rattle.uc_logrec.specs.Log.{turn_of, ending_at}
 use Rattle.uc_logrec.specs.Grammar.{over_at, cut_at, endings, first_row}

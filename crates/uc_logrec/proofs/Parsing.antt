@@ -8,9 +8,7 @@ use Rattle.uc_logrec.specs.declared.fault.LogFault.{LogFault}
 use Rattle.uc_logrec.specs.declared.fault.LogFault.TheVariants.{MiddleAlone, LastAlone, FullInside, FirstInside}
 use Rattle.uc_logrec.specs.declared.kind.Kind.{Kind}
 use Rattle.uc_logrec.specs.declared.kind.Kind.TheVariants.{Full, First, Middle, Last}
-use Rattle.uc_logrec.specs.declared.fragments.Fragments.{Fragments}
-use Rattle.uc_logrec.specs.declared.fragments.Turn.{Turn}
-use Rattle.uc_logrec.specs.declared.fragments.Turn.TheVariants.{Complete, Open, Refused}
+use Rattle.uc_logrec.specs.Turns.{Fragments, Turn, Complete, Open, Refused}
 use Rattle.uc_logrec.specs.Log.{turn_of}
 use Rattle.uc_logrec.specs.Grammar.{LogRecord, next_place, place_behind, Group, Whole, Pieces, empty_firsts, begun_records, group_records, payload_of, sentence, BeginSentence, Unfinished, records_of}
 

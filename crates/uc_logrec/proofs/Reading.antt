@@ -5,9 +5,7 @@ use Rattle.uc_logrec.specs.declared.ending.Ending.{Ending}
 use Rattle.uc_logrec.specs.declared.ending.Ending.TheVariants.{Fault}
 use Rattle.uc_logrec.specs.declared.kind.Kind.{Kind}
 use Rattle.uc_logrec.specs.declared.header.Stop.{Stop}
-use Rattle.uc_logrec.specs.declared.fragments.Fragments.{Fragments}
-use Rattle.uc_logrec.specs.declared.fragments.Turn.{Turn}
-use Rattle.uc_logrec.specs.declared.fragments.Turn.TheVariants.{Complete, Open, Refused}
+use Rattle.uc_logrec.specs.Turns.{Fragments, Turn, Complete, Open, Refused}
 use Rattle.uc_logrec.specs.Format.{room, header_place, record_of}
 use Rattle.uc_logrec.specs.Position.{ahead_at}
 use Rattle.uc_logrec.specs.Log.{turn_of, ending_at, Reading, ended, after_turn, after_record, reading_from, reading_of}

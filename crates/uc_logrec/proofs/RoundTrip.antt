@@ -6,7 +6,7 @@ use Rattle.std.proofs.Math.Seq.{drop-nil}
 use Rattle.uc_logrec.specs.declared.ending.Ending.TheVariants.{Clean}
 use Rattle.uc_logrec.specs.declared.kind.Kind.{Kind}
 use Rattle.uc_logrec.specs.declared.kind.Kind.TheVariants.{Full, First, Middle, Last}
-use Rattle.uc_logrec.specs.declared.fragments.Fragments.{Fragments}
+use Rattle.uc_logrec.specs.Turns.{Fragments}
 use Rattle.uc_logrec.specs.Format.{room, header_place, record_text, record_of}
 use Rattle.uc_logrec.specs.Log.{turn_of, Reading, with_payload, after_turn, reading_from, reading_of, payloads_of, trailer, blocks_text, rest_text, payload_text, text_from, log_text, IsReadAgain}
 use Rattle.uc_logrec.proofs.Reading.{here}

@@ -1,4 +1,5 @@
 pub mod Format
+pub mod Turns
 pub mod Log
 pub mod Grammar
 pub mod Position

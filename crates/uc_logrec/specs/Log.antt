@@ -7,9 +7,7 @@ use Rattle.uc_logrec.specs.declared.kind.Kind.{Kind}
 use Rattle.uc_logrec.specs.declared.kind.Kind.TheVariants.{Full, First, Middle, Last}
 use Rattle.uc_logrec.specs.declared.header.Stop.{Stop}
 use Rattle.uc_logrec.specs.declared.header.Stop.TheVariants.{End, Cut, Bad}
-use Rattle.uc_logrec.specs.declared.fragments.Fragments.{Fragments}
-use Rattle.uc_logrec.specs.declared.fragments.Turn.{Turn}
-use Rattle.uc_logrec.specs.declared.fragments.Turn.TheVariants.{Complete, Open, Refused}
+use Rattle.uc_logrec.specs.Turns.{Fragments, Turn, Complete, Open, Refused}
 use Rattle.uc_logrec.specs.Format.{room, header_place, record_text, record_of}
 
 -- where no payload is open, a FULL is one and a FIRST begins one

@@ -1,10 +1,7 @@
 -- Where a reader stands in a log, seen by what is ahead of it.
-use Rattle.std.specs.Prelude.{◌≡◌, ◌<◌, ℕ, suc, ◌+◌, List, length, Option, Some, None}
-use Rattle.uc_logrec.specs.declared.fragments.Fragments.{Fragments}
-use Rattle.uc_logrec.specs.declared.fragments.Unfinished.{Unfinished}
-use Rattle.uc_logrec.specs.declared.fragments.Unfinished.TheVariants.{Spare, Open}
+use Rattle.std.specs.Prelude.{◌≡◌, ◌<◌, ℕ, suc, ◌+◌, List, length, None}
 use Rattle.uc_logrec.specs.declared.log_reader.Next.{Next}
-use Rattle.uc_logrec.specs.declared.log_reader.Next.TheVariants.{Payload, Ended}
+use Rattle.uc_logrec.specs.declared.log_reader.Next.TheVariants.{Whole, Joined, Ended}
 use Rattle.uc_logrec.specs.Log.{Reading, ended, with_payload, reading_from}
 
 -- how many payloads were given, and what is ahead: the payloads to come, and the ending
@@ -16,18 +13,23 @@ pub record Position : Type 0 where
 abbrev pub ahead_at : ℕ → List ℕ → Reading
 ahead_at offset left = reading_from (suc (length left)) None offset left
 
--- the open payload, if there is one
-abbrev pub open_in : Unfinished → Option Fragments
-open_in (Spare memory) = None
-open_in (Open fragments) = Some fragments
+-- This payload is the first of those ahead, and the others are ahead behind it.
+abbrev pub ComesFirst : List ℕ → Position → Position → Type 0
+ComesFirst payload old new = (old.ahead ≡ with_payload payload new.ahead) × (new.given ≡ old.given + 1)
 
--- What comes next at a position, and the position behind it: the first payload of those ahead, or the ending where
--- none is ahead.
-abbrev pub Comes : Next → Position → Position → Type 0
-Comes (Payload payload) old new = (old.ahead ≡ with_payload payload new.ahead) × (new.given ≡ old.given + 1)
-Comes (Ended ending) old new = (old.ahead ≡ ended ending) × (new ≡ old)
+-- What comes next at a position, where this was joined in the buffer, and the position behind it: the first payload
+-- of those ahead, or the ending where none is ahead.
+abbrev pub Comes : Next → List ℕ → Position → Position → Type 0
+Comes (Whole payload) joined old new = ComesFirst payload.now old new
+Comes Joined joined old new = ComesFirst joined old new
+Comes (Ended ending) joined old new = (old.ahead ≡ ended ending) × (new ≡ old)
+
+-- This payload stands between two places, where these bytes are left at each.
+abbrev pub StandsBetween : List ℕ → ℕ → List ℕ → ℕ → List ℕ → Type 0
+StandsBetween payload place left after behind = (ahead_at place left ≡ with_payload payload (ahead_at after behind)) × (place < after) × (after + length behind ≡ place + length left)
 
 -- What comes next where a reader is at a place, and the place that it is at behind a payload.
-abbrev pub Leads : Next → ℕ → List ℕ → ℕ → List ℕ → Type 0
-Leads (Payload payload) place left after behind = (ahead_at place left ≡ with_payload payload (ahead_at after behind)) × (place < after) × (after + length behind ≡ place + length left)
-Leads (Ended ending) place left after behind = ahead_at place left ≡ ended ending
+abbrev pub Leads : Next → List ℕ → ℕ → List ℕ → ℕ → List ℕ → Type 0
+Leads (Whole payload) joined place left after behind = StandsBetween payload.now place left after behind
+Leads Joined joined place left after behind = StandsBetween joined place left after behind
+Leads (Ended ending) joined place left after behind = ahead_at place left ≡ ended ending

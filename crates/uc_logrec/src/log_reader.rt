@@ -1,20 +1,22 @@
 //! A log's payloads, one at a time.
-ghost use Rattle.std.specs.Prelude.{◌≡◌, ◌+◌, ◌<◌, ◌^◌, length, IfOk, OnErr};
+ghost use Rattle.std.specs.Prelude.{◌≡◌, ℕ, ◌+◌, ◌<◌, ◌^◌, List, length, IfOk, OnErr};
 ghost use Rattle.uc_logrec.specs.Log.{reading_of, ending_at};
-ghost use Rattle.uc_logrec.specs.Position.{Comes, Leads, open_in};
+ghost use Rattle.uc_logrec.specs.Position.{Comes, Leads};
+ghost use Rattle.uc_logrec.specs.Turns.{open_in};
 
 use crate::ending::Ending;
-use crate::fragments::{Turn, Unfinished, turn_at};
+use crate::fragments::{Step, Unfinished, step_at};
 use crate::header::{HEADER, Stop, parts, past_trailer, record_at, room_at};
 use std::alloc::AllocError;
 use std::marker::Model;
-use uc_bytes::Bytes;
 
 /// What comes next in a log.
-#[derive(Debug, Drop)]
-pub enum Next {
-    /// A complete payload.
-    Payload(Bytes),
+#[derive(Clone, Copy, Debug)]
+pub enum Next<'a> {
+    /// A payload that stands in the log in one piece.
+    Whole(&'a [u8]),
+    /// A payload of several pieces, which the buffer has now, joined.
+    Joined,
     /// Behind the last payload, how the log ends.
     Ended(Ending),
 }
@@ -62,15 +64,15 @@ impl<'a> LogReader<'a> {
 
     /// The next payload or, behind the last one, the ending, which is given again if it is asked for again.
     ///
-    /// The payload's bytes are put into `spare`, whatever stands there: its memory can be used for one
-    /// payload after the other. It fails only for want of memory, and then nothing is passed over. It takes
-    /// memory for data that is there, whatever a length field says.
-    pub fn next(&mut self, spare: Vec<u8>) -> Result<Next, AllocError>
-        ensures ok { IfOk result (λ next. Comes next self.old self.new) }
+    /// The buffer is for a payload that stands there in several pieces; what was in it before is of no
+    /// use, and one buffer serves for all payloads. It fails only for want of memory, and then nothing is passed
+    /// over. It takes memory for data that is there, whatever a length field says.
+    pub fn next(&mut self, joined: &mut Vec<u8>) -> Result<Next<'a>, AllocError>
+        ensures ok { IfOk result (λ next. Comes next joined.new.items self.old self.new) }
         ensures err { OnErr result (self.new ≡ self.old) }
     {
-        let (next, place, left) = next_at(spare, self.place, self.left)?;
-        if let Next::Payload(_) = next {
+        let (next, place, left) = next_at(joined, self.place, self.left)?;
+        if let Next::Whole(_) | Next::Joined = next {
             self.place = place;
             self.left = left;
             self.given += 1;
@@ -80,15 +82,15 @@ impl<'a> LogReader<'a> {
 }
 
 /// What comes next at a place, and then the place behind a payload and the bytes from there.
-fn next_at(
-    spare: Vec<u8>,
+fn next_at<'a>(
+    joined: &mut Vec<u8>,
     mut place: usize,
-    mut left: &[u8],
-) -> Result<(Next, usize, &[u8]), AllocError>
+    mut left: &'a [u8],
+) -> Result<(Next<'a>, usize, &'a [u8]), AllocError>
     requires { place + length left.now < 2 ^ 63 }
-    ensures { IfOk result (λ found. Leads found.0 place left.now found.1 found.2.now) }
+    ensures { IfOk result (λ found. Leads found.0 joined.new.items place left.now found.1 found.2.now) }
 {
-    let mut unfinished = Unfinished::Spare(spare);
+    let mut unfinished = None;
     loop {
         let (offset, rest) = past_trailer(place, left);
         let (kind, len) = match record_at(room_at(offset), rest) {
@@ -101,10 +103,11 @@ fn next_at(
         let (fragment, behind) = parts(rest, len);
         place = offset + HEADER + len;
         left = behind;
-        match turn_at(unfinished, offset as u64, kind, fragment)? {
-            Turn::Complete(payload) => return Ok((Next::Payload(payload), place, left)),
-            Turn::Open(fragments) => unfinished = Unfinished::Open(fragments),
-            Turn::Refused(fault) => {
+        match step_at(unfinished, joined, offset as u64, kind, fragment)? {
+            Step::Whole => return Ok((Next::Whole(fragment), place, left)),
+            Step::Joined => return Ok((Next::Joined, place, left)),
+            Step::Open(open) => unfinished = Some(open),
+            Step::Refused(fault) => {
                 let ending = Ending::Fault(fault, offset as u64);
                 return Ok((Next::Ended(ending), place, left));
             }
@@ -112,14 +115,14 @@ fn next_at(
     }
 }
 
-/// How the log ends at an offset where no record stands.
-fn stopped(stop: Stop, unfinished: &Unfinished, offset: u64) -> Ending
-    ensures { result ≡ ending_at stop (open_in unfinished.now) offset }
+/// How the log ends at an offset where no record stands. The open payload's data is of no account.
+fn stopped(stop: Stop, unfinished: &Option<Unfinished>, offset: u64) -> Ending
+    ensures { (joined : List ℕ) → result ≡ ending_at stop (open_in unfinished.now joined) offset }
 {
     match (stop, unfinished) {
-        (Stop::End, Unfinished::Spare(_)) => Ending::Clean,
-        (Stop::Cut, Unfinished::Spare(_)) => Ending::Torn(offset),
+        (Stop::End, None) => Ending::Clean,
+        (Stop::Cut, None) => Ending::Torn(offset),
         (Stop::Bad(fault), _) => Ending::Fault(fault, offset),
-        (_, Unfinished::Open(fragments)) => Ending::Torn(fragments.start),
+        (_, Some(unfinished)) => Ending::Torn(unfinished.start),
     }
 }

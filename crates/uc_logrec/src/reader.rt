@@ -7,6 +7,7 @@ use crate::ending::Ending;
 use crate::log_reader::{LogReader, Next};
 use crate::payloads::Payloads;
 use std::alloc::{AllocError, Global};
+use uc_bytes::Bytes;
 
 /// What a log holds.
 #[derive(Debug, Drop)]
@@ -28,16 +29,19 @@ pub fn read_log(alloc: Global, bytes: &[u8]) -> Result<LogRead, AllocError>
     ensures meaning { IfOk result (λ read. Reads bytes.now read.payloads read.ending) }
 {
     let mut payloads = Vec::new(alloc);
+    let mut joined = Vec::new(alloc);
     let mut log = LogReader::new(bytes);
     loop {
-        match log.next(Vec::new(alloc))? {
-            Next::Payload(payload) => payloads.push(payload)?,
+        let payload = match log.next(&mut joined)? {
+            Next::Whole(payload) => payload,
+            Next::Joined => joined.as_slice(),
             Next::Ended(ending) => {
                 return Ok(LogRead {
                     payloads: Payloads::from(payloads),
                     ending,
                 });
             }
-        }
+        };
+        payloads.push(Bytes::from_slice(alloc, payload)?)?;
     }
 }

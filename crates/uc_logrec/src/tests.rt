@@ -231,23 +231,41 @@ fn payloads_come_one_at_a_time(rt: HostRuntime) -> Result<(), Fail> {
     log.extend_from_slice(&FULL)?;
     log.extend_from_slice(&LAST)?;
     let mut reader = LogReader::new(&log);
-    let mut spare = Vec::new(alloc);
-    for (place, payload) in [BATCH.as_slice(), &[]].iter().enumerate() {
+    let mut joined = Vec::new(alloc);
+    for (place, payload) in [BATCH.as_slice(), &[]].into_iter().enumerate() {
         assert_eq!(rt; reader.given(), place as u64);
-        match reader.next(spare)? {
-            Next::Payload(found) => {
-                assert_eq!(rt; found.as_slice(), *payload);
-                spare = found.into_vec();
-            }
-            Next::Ended(ending) => panic!(rt; "the log ended as {ending:?}"),
+        match reader.next(&mut joined)? {
+            Next::Whole(found) => assert_eq!(rt; found, payload),
+            other => panic!(rt; "{other:?} in place of a whole payload"),
         }
     }
     for _ in 0..2 {
-        match reader.next(Vec::new(alloc))? {
-            Next::Payload(_) => panic!(rt; "a payload behind the fault"),
+        match reader.next(&mut joined)? {
             Next::Ended(ending) => assert_eq!(rt; ending, Ending::Fault(LogFault::LastAlone, 31)),
+            other => panic!(rt; "{other:?} behind the fault"),
         }
     }
     assert_eq!(rt; reader.given(), 2);
+    Ok(())
+}
+
+#[test]
+fn pieces_are_joined(rt: HostRuntime) -> Result<(), Fail> {
+    let alloc = rt.alloc();
+    let mut writer = LogWriter::new(alloc);
+    let payload = vec![in alloc; 7; 40_000]?;
+    writer.add(&payload)?;
+    writer.add(&BATCH)?;
+    let log = writer.finish();
+    let mut reader = LogReader::new(&log);
+    let mut joined = Vec::from_slice(alloc, b"of an earlier log")?;
+    match reader.next(&mut joined)? {
+        Next::Joined => assert!(rt; joined == payload),
+        other => panic!(rt; "{other:?} in place of a joined payload"),
+    }
+    match reader.next(&mut joined)? {
+        Next::Whole(found) => assert_eq!(rt; found, BATCH.as_slice()),
+        other => panic!(rt; "{other:?} in place of a whole payload"),
+    }
     Ok(())
 }

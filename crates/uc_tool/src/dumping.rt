@@ -30,23 +30,24 @@ fn tell_writes<W: io::Write>(
     write_bytes(writer, lines)
 }
 
-/// Tells the writes of a log, up to its first fault, and gives how far it was read. Only one payload is
-/// held at a time.
+/// Tells the writes of a log, up to its first fault, and gives how far it was read. A batch is read where it
+/// stands: a copy is made of a payload in several pieces alone, and there is one such copy at a time.
 fn tell_log<W: io::Write>(alloc: Global, input: &[u8], writer: &mut W) -> Result<Ended, Halt>
     ensures told { Tells (map write_line (log_of input.now).list) (W.contents writer.old) (W.contents writer.new) result }
     ensures ended { IfOk result (λ ended. ended ≡ (log_of input.now).ended) }
 {
     let mut log = LogReader::new(input);
-    let mut spare = Vec::new(alloc);
+    let mut joined = Vec::new(alloc);
     let mut lines = Vec::new(alloc);
     let digits = HexPairs::new();
     let mut last = 0;
     loop {
-        let payload = match log.next(spare)? {
-            Next::Payload(payload) => payload,
+        let payload = match log.next(&mut joined)? {
+            Next::Whole(payload) => payload,
+            Next::Joined => joined.as_slice(),
             Next::Ended(ending) => return Ok(Ended::from(ending)),
         };
-        match read_batch_in_place(alloc, payload.as_slice(), last) {
+        match read_batch_in_place(alloc, payload, last) {
             Ok(batch) => {
                 tell_writes(&mut lines, &digits, &batch, writer)?;
                 last = last_used(&batch, last);
@@ -54,7 +55,6 @@ fn tell_log<W: io::Write>(alloc: Global, input: &[u8], writer: &mut W) -> Result
             Err(BatchError::Memory) => return Err(Halt::Memory),
             Err(fault) => return Ok(Ended::BatchFault(log.given(), fault)),
         }
-        spare = payload.into_vec();
     }
 }
 

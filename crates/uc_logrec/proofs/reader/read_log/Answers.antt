@@ -3,12 +3,12 @@ use Rattle.uc_logrec.specs.Log.{Reading, reading_of}
 use Rattle.uc_logrec.proofs.Reading.{with_front, stopped, stopped_front}
 use Rattle.uc_logrec.proofs.OneMeaning.{reads_as}
 use Rattle.uc_logrec.proofs.reader.read_log.Goals as goal
-use Rattle.uc_logrec.proofs.reader.read_log.Goals.{After-from}
+use Rattle.uc_logrec.proofs.reader.read_log.Goals.{After-drop-joined-in-Ended}
 
 -- what is read is what was given, and this ending
-whole : (c : After-from) → reading_of c.args.bytes.now ≡ stopped c.loop-payloads.payloads.items c.in-Ended.ending
+whole : (c : After-drop-joined-in-Ended) → reading_of c.args.bytes.now ≡ stopped c.loop-joined.payloads.items c.in-Ended.ending
 whole c =
-    let l = c.loop-payloads in
+    let l = c.loop-joined in
     l.invariant ∙ (ap (with_front l.payloads.items) (rw c.in-Ended.is at c.in_ok-payload.ensures.ok).0 ∙ stopped_front l.payloads.items c.in-Ended.ending)
 
 pub returns-in-Ended-clause-payloads : goal.returns-in-Ended-clause-payloads

@@ -1,6 +1,7 @@
 use Rattle.std.proofs.Common.{◌≢◌, ◌∙◌, rules}
 use Rattle.std.proofs.lemmas.Result.{err_from_is_err_and}
 use Rattle.uc_batch.specs.declared.error.BatchError.TheVariants as faults
+use Rattle.uc_logrec.specs.Position.{ComesFirst}
 use Rattle.uc_tool.specs.Dump.{log_of}
 use Rattle.uc_tool.proofs.Dumps.{begins, no_memory, ends_lines, ends_ended, goes_on, stops, refused_lines, refused_ended}
 use Rattle.uc_tool.proofs.dumping.tell_log.Goals as goal
@@ -33,11 +34,10 @@ pub returns-in_err-tell_writes-in-Ok-clause-told : goal.returns-in_err-tell_writ
 returns-in_err-tell_writes-in-Ok-clause-told g c =
     let contents = g.W.Write.contents in
     let l = c.loop-lines in
-    let comes = rw c.in-Payload.is at c.in_ok-payload.ensures.ok in
-    let read = rw c.as_slice.ensures at c.in-Ok.ensures in
+    let comes : ComesFirst c.match-branch-2.payload.now l.log c.next.new.self = search rules in
     let halted = rw c.deref.ensures.value at c.in_err-tell_writes-in-Ok.ensures in
     let p = err_from_is_err_and c.from_residual-in_err-tell_writes-in-Ok.result c.from_residual-in_err-tell_writes-in-Ok.ensures.1 in
-    rw (p.1, p.2) (stops (log_of c.args.input.now) l.last l.log (contents c.args.writer.now) (contents l.writer) l.invariant c.in-Payload.payload c.next.new.self comes c.in-Ok.batch.items read (contents c.tell_writes.new.writer) c.in_err-tell_writes-in-Ok.field-0.0 halted)
+    rw (p.1, p.2) (stops (log_of c.args.input.now) l.last l.log (contents c.args.writer.now) (contents l.writer) l.invariant c.match-branch-2.payload.now c.next.new.self comes c.in-Ok.batch.items c.in-Ok.ensures (contents c.tell_writes.new.writer) c.in_err-tell_writes-in-Ok.field-0.0 halted)
 
 pub returns-in-Err-Memory-clause-told : goal.returns-in-Err-Memory-clause-told
 returns-in-Err-Memory-clause-told g c =
@@ -49,19 +49,17 @@ returns-in-Err g c =
     let contents = g.W.Write.contents in
     let l = c.loop-lines in
     let other : c.in-Err.fault ≢ faults.Memory = search rules in
-    let comes = rw c.in-Payload.is at c.in_ok-payload.ensures.ok in
-    let fails = rw c.as_slice.ensures at c.in-Err.ensures in
+    let comes : ComesFirst c.match-branch-2.payload.now l.log c.next.new.self = search rules in
     record {
-      told = refused_lines (log_of c.args.input.now) l.last l.log (contents c.args.writer.now) (contents l.writer) l.invariant c.in-Payload.payload c.next.new.self comes c.in-Err.fault other fails;
-      ended = rw c.given.ensures (refused_ended (log_of c.args.input.now) l.last l.log (contents c.args.writer.now) (contents l.writer) l.invariant c.in-Payload.payload c.next.new.self comes c.in-Err.fault other fails);
+      told = refused_lines (log_of c.args.input.now) l.last l.log (contents c.args.writer.now) (contents l.writer) l.invariant c.match-branch-2.payload.now c.next.new.self comes c.in-Err.fault other c.in-Err.ensures;
+      ended = rw c.given.ensures (refused_ended (log_of c.args.input.now) l.last l.log (contents c.args.writer.now) (contents l.writer) l.invariant c.match-branch-2.payload.now c.next.new.self comes c.in-Err.fault other c.in-Err.ensures);
     }
 
 pub loop-lines-preserved : goal.loop-lines-preserved
 loop-lines-preserved g c =
     let contents = g.W.Write.contents in
     let l = c.loop-lines in
-    let comes = rw c.in-Payload.is at c.in_ok-payload.ensures.ok in
-    let read = rw c.as_slice.ensures at c.in-Ok.ensures in
+    let comes : ComesFirst c.match-branch-2.payload.now l.log c.next.new.self = search rules in
     let sent = rw c.deref.ensures.value at c.in_ok-tell_writes-in-Ok.ensures in
     let last = rw c.deref-in-Ok.ensures.value at c.last_used-last.ensures in
-    rw last (goes_on (log_of c.args.input.now) l.last l.log (contents c.args.writer.now) (contents l.writer) l.invariant c.in-Payload.payload c.next.new.self comes c.in-Ok.batch.items read (contents c.tell_writes.new.writer) sent)
+    rw last (goes_on (log_of c.args.input.now) l.last l.log (contents c.args.writer.now) (contents l.writer) l.invariant c.match-branch-2.payload.now c.next.new.self comes c.in-Ok.batch.items c.in-Ok.ensures (contents c.tell_writes.new.writer) sent)
