@@ -1,19 +1,23 @@
 use super::*;
+use std::alloc::Global;
 use std::test::Fail;
 use uc_bytes::Bytes;
 
-#[test]
-fn copies_are_equal(rt: HostRuntime) -> Result<(), Fail> {
-    let alloc = rt.alloc();
+/// A change of each kind, to `a` and `b`.
+fn changes(alloc: Global) -> Result<Vec<Op>, Fail> {
     let first = Bytes::from_slice(alloc, b"a")?;
     let second = Bytes::from_slice(alloc, b"b")?;
-    let ops = vec![in alloc;
+    Ok(vec![in alloc;
         Op::Put(first.clone()?, second.clone()?),
         Op::Delete(first.clone()?),
         Op::Merge(first.clone()?, second.clone()?),
         Op::DeleteRange(first, second),
-    ]?;
-    for op in ops {
+    ]?)
+}
+
+#[test]
+fn copies_are_equal(rt: HostRuntime) -> Result<(), Fail> {
+    for op in changes(rt.alloc())? {
         assert_eq!(rt; op.clone()?, op);
         let write = Write { seq: 7, op };
         assert_eq!(rt; write.clone()?, write);
@@ -24,21 +28,13 @@ fn copies_are_equal(rt: HostRuntime) -> Result<(), Fail> {
 #[test]
 fn borrowed_changes_are_copied(rt: HostRuntime) -> Result<(), Fail> {
     let alloc = rt.alloc();
-    let first = Bytes::from_slice(alloc, b"a")?;
-    let second = Bytes::from_slice(alloc, b"b")?;
-    let ops = vec![in alloc;
-        Op::Put(first.clone()?, second.clone()?),
-        Op::Delete(first.clone()?),
-        Op::Merge(first.clone()?, second.clone()?),
-        Op::DeleteRange(first, second),
-    ]?;
     let borrowed = [
         OpRef::put(b"a", b"b"),
         OpRef::delete(b"a"),
         OpRef::merge(b"a", b"b"),
         OpRef::delete_range(b"a", b"b"),
     ];
-    for (op, want) in borrowed.into_iter().zip(ops) {
+    for (op, want) in borrowed.into_iter().zip(changes(alloc)?) {
         assert_eq!(rt; op.to_op(alloc)?, want);
         let write = WriteRef::new(7, op);
         assert_eq!(rt; write.seq(), 7);
