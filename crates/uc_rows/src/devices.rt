@@ -5,7 +5,14 @@ use std::io;
 use std::io::{ErrorKind, Read, Write};
 use std::process::Abort;
 use uc_oper::Counter;
-use uc_tool::{Done, play};
+use uc_tool::{Done, dump, play};
+
+/// What is run.
+#[derive(Clone, Copy)]
+enum Program {
+    Play,
+    Dump,
+}
 
 /// A script of 72 bytes.
 const SCRIPT: &[u8] =
@@ -13,6 +20,34 @@ const SCRIPT: &[u8] =
 
 /// What it prints, 48 bytes.
 const PRINTED: &[u8] = b"opened 2\nvalue 0c00000000000000\nnot protected 1\n";
+
+/// The log of a batch that sets the key `a` to `1`, and a byte behind it.
+const LOG: &[u8] = b"\xe9\x9f\x78\x19\x11\x00\x01\
+    \x01\x00\x00\x00\x00\x00\x00\x00\x01\x00\x00\x00\x01\x01a\x011\x01";
+
+/// What its dump prints.
+const DUMPED: &[u8] = b"1 put 61 31\ntorn 24\n";
+
+/// A program, what it reads, and what it prints.
+type Run = (Program, &'static [u8], &'static [u8]);
+
+const RUNS: [Run; 2] = [
+    (Program::Play, SCRIPT, PRINTED),
+    (Program::Dump, LOG, DUMPED),
+];
+
+/// Runs a program.
+fn runs<R: Read, W: Write>(
+    alloc: Global,
+    program: Program,
+    reader: &mut R,
+    writer: &mut W,
+) -> Done {
+    match program {
+        Program::Play => play::<Counter, R, W>(alloc, reader, writer, &small()),
+        Program::Dump => dump(alloc, reader, writer),
+    }
+}
 
 /// Gives some bytes, at most `step` at a time, and fails at one of its reads.
 #[derive(Drop)]
@@ -100,10 +135,16 @@ impl Write for Sink {
     }
 }
 
-/// Runs the script through a reader into a vector, and asserts what is written and how it ends.
-fn reads<R: Read>(rt: &impl Abort, alloc: Global, reader: &mut R, want: &[u8], ended: Done) {
+/// Runs a program from a reader into a vector, and asserts what is written and how it ends.
+fn reads<R: Read>(
+    rt: &impl Abort,
+    alloc: Global,
+    program: Program,
+    reader: &mut R,
+    (want, ended): (&[u8], Done),
+) {
     let mut text = Vec::new(alloc);
-    let done = play::<Counter, R, Vec<u8>>(alloc, reader, &mut text, &small());
+    let done = runs(alloc, program, reader, &mut text);
     assert_eq!(rt; text.as_slice(), want);
     assert_eq!(rt; done, ended);
 }
@@ -111,56 +152,64 @@ fn reads<R: Read>(rt: &impl Abort, alloc: Global, reader: &mut R, want: &[u8], e
 /// A read that fails is told alone, whichever it is; the one behind the last isn't made.
 #[test]
 fn reads_that_fail(rt: HostRuntime) {
-    for step in [1, 7, 36, 71, 72, 73] {
-        // One for each piece, and one that finds the end.
-        let count = SCRIPT.len().div_ceil(step) + 1;
-        for good in 0..count + 2 {
-            let mut reader = Source {
-                left: SCRIPT,
-                step,
-                good,
-            };
-            if good < count {
-                reads(&rt, rt.alloc(), &mut reader, b"read fault\n", Done::Device);
-            } else {
-                reads(&rt, rt.alloc(), &mut reader, PRINTED, Done::Fine);
+    for (program, input, printed) in RUNS {
+        for step in [1, 7, 24, 25, 36, 71, 72, 73] {
+            // One for each piece, and one that finds the end.
+            let count = input.len().div_ceil(step).saturating_add(1);
+            for good in 0..count.saturating_add(2) {
+                let mut reader = Source {
+                    left: input,
+                    step,
+                    good,
+                };
+                let told = if good < count {
+                    (b"read fault\n".as_slice(), Done::Device)
+                } else {
+                    (printed, Done::Fine)
+                };
+                reads(&rt, rt.alloc(), program, &mut reader, told);
             }
         }
     }
     assert_eq!(rt; Done::Device.status(), 5);
 }
 
-/// An input of 64 MiB is judged: its one line is no line of a script.
+/// What the programs print of 64 MiB of zero bytes: as a script they are one line, which is at fault, and as a
+/// log they hold nothing.
+const LONGEST: [(Program, &[u8], Done); 2] = [
+    (Program::Play, b"fault line 1\n", Done::Refused),
+    (Program::Dump, b"clean\n", Done::Fine),
+];
+
 #[test]
-fn an_input_at_the_limit(rt: HostRuntime) {
-    let mut reader = Untouched(67_108_864);
-    reads(
-        &rt,
-        rt.alloc(),
-        &mut reader,
-        b"fault line 1\n",
-        Done::Refused,
-    );
+fn inputs_at_the_limit(rt: HostRuntime) {
+    for (program, printed, ended) in LONGEST {
+        let mut reader = Untouched(67_108_864);
+        reads(&rt, rt.alloc(), program, &mut reader, (printed, ended));
+    }
 }
 
 /// An input of a byte more isn't judged.
 #[test]
-fn an_input_above_the_limit(rt: HostRuntime) {
-    let mut reader = Untouched(67_108_865);
-    reads(
-        &rt,
-        rt.alloc(),
-        &mut reader,
-        b"input too long\n",
-        Done::Device,
-    );
+fn inputs_above_the_limit(rt: HostRuntime) {
+    for program in [Program::Play, Program::Dump] {
+        let told = (b"input too long\n".as_slice(), Done::Device);
+        let mut reader = Untouched(67_108_865);
+        reads(&rt, rt.alloc(), program, &mut reader, told);
+    }
 }
 
-/// Runs the script into a writer that fails, and asserts that the first `count` bytes of a text went out
-/// and nothing was written behind the failure.
-fn writes<R: Read>(rt: &impl Abort, alloc: Global, reader: &mut R, sink: Sink, want: &[u8]) {
+/// Runs a program into a writer that fails, and asserts that these bytes of its text went out and nothing
+/// was written behind the failure.
+fn writes<R: Read>(
+    rt: &impl Abort,
+    alloc: Global,
+    program: Program,
+    reader: &mut R,
+    (sink, want): (Sink, &[u8]),
+) {
     let mut writer = sink;
-    let done = play::<Counter, R, Sink>(alloc, reader, &mut writer, &small());
+    let done = runs(alloc, program, reader, &mut writer);
     assert_eq!(rt; writer.text.as_slice(), want);
     assert_eq!(rt; done, Done::Device);
     assert_eq!(rt; writer.late, 0);
@@ -181,29 +230,33 @@ fn failing(alloc: Global, good: usize, failure: Failure) -> Sink {
 /// What went out is a front of the text, and nothing is written behind it.
 #[test]
 fn writes_that_fail(rt: HostRuntime) {
-    for good in 0..PRINTED.len() {
-        for failure in [Failure::Error, Failure::Nothing] {
-            let mut reader = SCRIPT;
-            let sink = failing(rt.alloc(), good, failure);
-            writes(&rt, rt.alloc(), &mut reader, sink, &PRINTED[..good]);
+    for (program, input, printed) in RUNS {
+        for good in 0..printed.len() {
+            for failure in [Failure::Error, Failure::Nothing] {
+                let mut reader = input;
+                let told = (failing(rt.alloc(), good, failure), &printed[..good]);
+                writes(&rt, rt.alloc(), program, &mut reader, told);
+            }
         }
+        let mut reader = input;
+        let told = (failing(rt.alloc(), 0, Failure::Flush), printed);
+        writes(&rt, rt.alloc(), program, &mut reader, told);
     }
-    let mut reader = SCRIPT;
-    let sink = failing(rt.alloc(), 0, Failure::Flush);
-    writes(&rt, rt.alloc(), &mut reader, sink, PRINTED);
 }
 
 /// Where the reader fails and the writer too, a front of what says so went out.
 #[test]
 fn both_fail(rt: HostRuntime) {
-    let told = b"read fault\n";
-    for good in 0..told.len() {
-        let mut reader = Source {
-            left: SCRIPT,
-            step: 3,
-            good: 4,
-        };
-        let sink = failing(rt.alloc(), good, Failure::Error);
-        writes(&rt, rt.alloc(), &mut reader, sink, &told[..good]);
+    let text = b"read fault\n";
+    for (program, input, _) in RUNS {
+        for good in 0..text.len() {
+            let mut reader = Source {
+                left: input,
+                step: 3,
+                good: 4,
+            };
+            let told = (failing(rt.alloc(), good, Failure::Error), &text[..good]);
+            writes(&rt, rt.alloc(), program, &mut reader, told);
+        }
     }
 }
