@@ -1,11 +1,7 @@
 //! Batches that are accepted, refused and cut: read alone, as the payload of a log, and dumped.
-use crate::known::{
-    BATCH, Change, FIRST_PAYLOAD, FIRST_WRITE, Known, Payload, Row, is_left, is_refused, nothing,
-    write, writes,
-};
+use crate::known::{BATCH, FIRST, Payload, are_told, is_left, is_refused};
 use std::alloc::Global;
 use std::process::Abort;
-use std::slice;
 use std::test::Fail;
 use uc_batch::{BatchError, read_batch};
 use uc_logrec::{Ending, LogWriter};
@@ -13,8 +9,22 @@ use uc_logrec::{Ending, LogWriter};
 /// The greatest sequence.
 const MAX: u64 = (1 << 56) - 1;
 
-/// A batch, by its sequence, its count and its records.
-type Batch = (u64, u8, &'static [u8]);
+/// The head of a batch of one record at sequence 1, and of one whose record is counted twice.
+const ONE: &[u8] = b"\x01\x00\x00\x00\x00\x00\x00\x00\x01\x00\x00\x00";
+
+const TWO: &[u8] = b"\x01\x00\x00\x00\x00\x00\x00\x00\x02\x00\x00\x00";
+
+/// The heads of batches of one record at the sequences 0 and 2^56, and at the greatest, also counted twice.
+const LOWEST: &[u8] = b"\x00\x00\x00\x00\x00\x00\x00\x00\x01\x00\x00\x00";
+
+const BEYOND: &[u8] = b"\x00\x00\x00\x00\x00\x00\x00\x01\x01\x00\x00\x00";
+
+const HIGHEST: &[u8] = b"\xff\xff\xff\xff\xff\xff\xff\x00\x01\x00\x00\x00";
+
+const HIGHEST_TWO: &[u8] = b"\xff\xff\xff\xff\xff\xff\xff\x00\x02\x00\x00\x00";
+
+/// A batch, by its head and its records.
+type Batch = (&'static [u8], &'static [u8]);
 
 /// Why a batch is refused, and how a dump says it. Offsets count from the batch's start, whose records begin
 /// at 12.
@@ -22,66 +32,62 @@ type Refusal = (BatchError, &'static str);
 
 const REFUSED: [(Batch, Refusal); 13] = [
     (
-        (1, 1, b"\x05\x01\x01a\x011"),
+        (ONE, b"\x05\x01\x01a\x011"),
         (BatchError::OtherFamily(1), "other family 1"),
     ),
     (
-        (1, 1, b"\x01\xff\xff\xff\xff\x1f"),
+        (ONE, b"\x01\xff\xff\xff\xff\x1f"),
         (BatchError::BadVarint(13), "bad varint 13"),
     ),
-    ((1, 1, b"\x01\x01a"), (BatchError::Cut(12), "cut 12")),
-    ((1, 1, b"\x09"), (BatchError::BadTag(9, 12), "bad tag 9 12")),
+    ((ONE, b"\x01\x01a"), (BatchError::Cut(12), "cut 12")),
+    ((ONE, b"\x09"), (BatchError::BadTag(9, 12), "bad tag 9 12")),
     (
-        (1, 1, b"\x01\x01a\x011\x09"),
+        (ONE, b"\x01\x01a\x011\x09"),
         (BatchError::BadTag(9, 17), "bad tag 9 17"),
     ),
     (
-        (1, 1, b"\x01\x01a\x011\x00"),
+        (ONE, b"\x01\x01a\x011\x00"),
         (BatchError::Cut(17), "cut 17"),
     ),
-    ((1, 1, b""), (BatchError::WrongCount, "wrong count")),
+    ((ONE, b""), (BatchError::WrongCount, "wrong count")),
     (
-        (1, 1, b"\x01\x01a\x011\x01\x01a\x011"),
+        (ONE, b"\x01\x01a\x011\x01\x01a\x011"),
         (BatchError::WrongCount, "wrong count"),
     ),
     (
-        (1, 1, b"\x03\x02ab"),
+        (ONE, b"\x03\x02ab"),
         (BatchError::WrongCount, "wrong count"),
     ),
     (
-        (1, 2, b"\x01\x01a\x011"),
+        (TWO, b"\x01\x01a\x011"),
         (BatchError::WrongCount, "wrong count"),
     ),
     (
-        (0, 1, b"\x01\x01a\x011"),
+        (LOWEST, b"\x01\x01a\x011"),
         (BatchError::SequenceBack(0), "sequence back 0"),
     ),
     (
-        (MAX, 2, b"\x01\x01a\x011"),
+        (HIGHEST_TWO, b"\x01\x01a\x011"),
         (BatchError::SequenceTooLarge, "sequence too large"),
     ),
     (
-        (MAX + 1, 1, b"\x01\x01a\x011"),
+        (BEYOND, b"\x01\x01a\x011"),
         (BatchError::SequenceTooLarge, "sequence too large"),
     ),
 ];
 
 /// Batches that all make the same change.
 const ACCEPTED: [Batch; 6] = [
-    (1, 1, b"\x01\x01a\x011"),
-    (1, 1, b"\x0d\x03\x02ab\x01\x01a\x011"),
-    (1, 1, b"\x05\x00\x01a\x011"),
-    (1, 1, b"\x01\x81\x00a\x011"),
-    (1, 1, b"\x01\x01a\x011\x03\x00"),
-    (1, 1, b"\x01\x01a\x011\x0d"),
+    (ONE, b"\x01\x01a\x011"),
+    (ONE, b"\x0d\x03\x02ab\x01\x01a\x011"),
+    (ONE, b"\x05\x00\x01a\x011"),
+    (ONE, b"\x01\x81\x00a\x011"),
+    (ONE, b"\x01\x01a\x011\x03\x00"),
+    (ONE, b"\x01\x01a\x011\x0d"),
 ];
 
-/// A batch at the greatest sequence.
-const HIGHEST: Batch = (MAX, 1, b"\x01\x01a\x011");
-
-fn bytes(alloc: Global, (seq, count, records): Batch) -> Result<Vec<u8>, Fail> {
-    let mut bytes = Vec::from_slice(alloc, &seq.to_le_bytes())?;
-    bytes.extend_from_slice(&[count, 0, 0, 0])?;
+fn bytes(alloc: Global, (head, records): Batch) -> Result<Vec<u8>, Fail> {
+    let mut bytes = Vec::from_slice(alloc, head)?;
     bytes.extend_from_slice(records)?;
     Ok(bytes)
 }
@@ -102,7 +108,7 @@ fn refuses(
 ) -> Result<(), Fail> {
     assert_eq!(rt; read_batch(alloc, batch, 0).err(), Some(fault));
     let log = log_of(alloc, batch)?;
-    is_refused(rt, alloc, &log, nothing(), (1, fault, words))
+    is_refused(rt, alloc, &log, &[], (1, fault, words))
 }
 
 #[test]
@@ -114,28 +120,28 @@ fn batches_that_are_refused(rt: HostRuntime) -> Result<(), Fail> {
     Ok(())
 }
 
-/// Asserts that a batch sets the key `a` to `1`, alone and as the payload of a log.
-fn sets(rt: &impl Abort, alloc: Global, batch: &[u8]) -> Result<(), Fail> {
-    let first = write(alloc, FIRST_WRITE)?;
-    let writes = slice::from_ref(&first);
-    assert_eq!(rt; read_batch(alloc, batch, 0)?.as_slice(), writes);
-    let payload = Payload {
-        bytes: batch,
-        ..FIRST_PAYLOAD
-    };
-    let known = Known {
-        payloads: &[payload],
-        writes,
-    };
-    let log = log_of(alloc, batch)?;
-    is_left(rt, alloc, &log, known, Ending::Clean)
+/// Asserts what a batch says behind a last sequence.
+fn says(rt: &impl Abort, alloc: Global, last: u64, payload: Payload<'_>) -> Result<(), Fail> {
+    let writes = read_batch(alloc, payload.bytes, last)?;
+    are_told(rt, alloc, &writes, payload.lines)
+}
+
+/// Asserts what a batch says, alone and as the payload of a log.
+fn is_read(rt: &impl Abort, alloc: Global, payload: Payload<'_>) -> Result<(), Fail> {
+    says(rt, alloc, 0, payload)?;
+    let log = log_of(alloc, payload.bytes)?;
+    is_left(rt, alloc, &log, &[payload], Ending::Clean)
 }
 
 #[test]
 fn batches_that_are_accepted(rt: HostRuntime) -> Result<(), Fail> {
     for batch in ACCEPTED {
-        let bytes = bytes(rt.alloc(), batch)?;
-        sets(&rt, rt.alloc(), &bytes)?;
+        let batch = bytes(rt.alloc(), batch)?;
+        let payload = Payload {
+            bytes: &batch,
+            ..FIRST
+        };
+        is_read(&rt, rt.alloc(), payload)?;
     }
     Ok(())
 }
@@ -151,7 +157,7 @@ fn a_batch_cut_at_each_byte(rt: HostRuntime) -> Result<(), Fail> {
         };
         refuses(&rt, rt.alloc(), &BATCH[..len], refusal)?;
     }
-    sets(&rt, rt.alloc(), &BATCH)
+    is_read(&rt, rt.alloc(), FIRST)
 }
 
 /// A batch of every kind of record, counted or not, with and without a family, and with numbers that are
@@ -173,60 +179,69 @@ const KINDS: &[u8; 65] = b"\x01\x00\x00\x00\x00\x00\x00\x00\x0a\x00\x00\x00\
 /// Where the records of that batch begin.
 const STARTS: [usize; 12] = [12, 15, 18, 23, 28, 32, 33, 38, 42, 48, 55, 59];
 
-/// What that batch says.
-const KIND_WRITES: [Row<'static>; 10] = [
-    (1, Change::Delete, b"a", b""),
-    (2, Change::Delete, b"b", b""),
-    (3, Change::Put, b"c", b"d"),
-    (4, Change::Merge, b"e", b""),
-    (5, Change::Range, b"h", b"i"),
-    (6, Change::Delete, b"j", b""),
-    (7, Change::Put, b"k", b"l"),
-    (8, Change::Merge, b"m", b"n"),
-    (9, Change::Delete, b"o", b""),
-    (10, Change::Range, b"p", b"q"),
-];
+const KINDS_PAYLOAD: Payload<'static> = Payload {
+    start: 0,
+    end: 72,
+    bytes: KINDS,
+    lines: "1 delete 61\n2 delete 62\n3 put 63 64\n4 merge 65 .\n5 range 68 69\n6 delete 6a\n7 put 6b 6c\n8 merge 6d 6e\n9 delete 6f\n10 range 70 71\n",
+};
+
+/// Where the last record begins that the batch has where it is cut.
+fn last_start(len: usize) -> usize {
+    let mut last = 12;
+    for start in STARTS {
+        if start <= len {
+            last = start;
+        }
+    }
+    last
+}
 
 /// A batch that is cut lacks records, or ends inside the last that it has.
 #[test]
 fn a_batch_of_every_kind_cut_at_each_byte(rt: HostRuntime) -> Result<(), Fail> {
     let alloc = rt.alloc();
     for len in 12..KINDS.len() {
-        let last = STARTS
-            .iter()
-            .copied()
-            .filter(|start| *start <= len)
-            .max()
-            .unwrap_or(12);
-        if last == len {
-            refuses(
-                &rt,
-                alloc,
-                &KINDS[..len],
-                (BatchError::WrongCount, "wrong count"),
-            )?;
+        let start = last_start(len);
+        let words = format!(in alloc; "cut {start}")?;
+        let refusal = if start == len {
+            (BatchError::WrongCount, "wrong count")
         } else {
-            let words = format!(in alloc; "cut {last}")?;
-            let cut = BatchError::Cut(last as u64);
-            refuses(&rt, alloc, &KINDS[..len], (cut, words.as_str()))?;
-        }
+            (BatchError::Cut(start as u64), words.as_str())
+        };
+        refuses(&rt, alloc, &KINDS[..len], refusal)?;
     }
-    let writes = writes(alloc, &KIND_WRITES)?;
-    assert_eq!(rt; read_batch(alloc, KINDS, 0)?, writes);
-    Ok(())
+    is_read(&rt, alloc, KINDS_PAYLOAD)
 }
+
+/// A batch without records.
+const NO_WRITES: Payload<'static> = Payload {
+    bytes: &[0; 12],
+    lines: "",
+    ..FIRST
+};
 
 /// A batch is above the last sequence used, unless it has no records.
 #[test]
 fn batches_behind_others(rt: HostRuntime) -> Result<(), Fail> {
     let alloc = rt.alloc();
-    let back = Some(BatchError::SequenceBack(1));
-    assert_eq!(rt; read_batch(alloc, &BATCH, 1).err(), back);
-    for last in [0, 1, MAX] {
-        assert_eq!(rt; read_batch(alloc, &[0; 12], last)?.len(), 0);
+    for last in [1, MAX] {
+        let back = Some(BatchError::SequenceBack(last));
+        assert_eq!(rt; read_batch(alloc, &BATCH, last).err(), back);
+        says(&rt, alloc, last, NO_WRITES)?;
     }
-    for write in &read_batch(alloc, &bytes(alloc, HIGHEST)?, MAX - 1)? {
-        assert_eq!(rt; write.seq, MAX);
-    }
-    Ok(())
+    is_read(&rt, alloc, NO_WRITES)
+}
+
+/// A batch at the greatest sequence.
+#[test]
+fn the_highest_batch(rt: HostRuntime) -> Result<(), Fail> {
+    let batch = bytes(rt.alloc(), (HIGHEST, b"\x01\x01a\x011"))?;
+    let highest = Payload {
+        bytes: &batch,
+        lines: "72057594037927935 put 61 31\n",
+        ..FIRST
+    };
+    says(&rt, rt.alloc(), MAX - 1, highest)?;
+    is_read(&rt, rt.alloc(), highest)
 }

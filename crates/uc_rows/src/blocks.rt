@@ -1,11 +1,10 @@
 //! Logs of more than one block: where their records stand, and what is left of them where they are cut.
-use crate::known::{
-    Change, Known, Payload, cut_at, front, gives, is_left, is_refused, is_written, write,
-};
+use crate::known::{Payload, cut_at, front, gives, is_left, is_refused, is_written};
 use std::alloc::Global;
 use std::ops::Range;
+use std::process::Abort;
 use std::test::Fail;
-use uc_batch::{BatchError, Write};
+use uc_batch::BatchError;
 use uc_logrec::Ending;
 
 /// A batch of so many bytes: it sets the key `a` to a value of `value_len` bytes `Z`.
@@ -50,24 +49,40 @@ const LONGER: Batch = Batch {
     value_len: 32_737,
 };
 
-fn value(alloc: Global, batch: Batch) -> Result<Vec<u8>, Fail> {
-    Ok(vec![in alloc; b'Z'; batch.value_len]?)
+/// Where a payload begins and ends.
+type Span = (u64, u64);
+
+/// A payload, and what a dump prints of it.
+#[derive(Drop)]
+struct Text {
+    bytes: Vec<u8>,
+    lines: String,
 }
 
-/// The bytes of a batch.
-fn bytes(alloc: Global, batch: Batch) -> Result<Vec<u8>, Fail> {
-    let mut bytes = vec![in alloc; batch.seq, 0, 0, 0, 0, 0, 0, 0]?;
-    bytes.extend_from_slice(b"\x01\x00\x00\x00\x01\x01a")?;
-    bytes.extend_from_slice(batch.varint)?;
-    bytes.extend_from_slice(&value(alloc, batch)?)?;
-    Ok(bytes)
-}
-
-/// What a dump prints of a batch.
-fn line(alloc: Global, batch: Batch) -> Result<String, Fail> {
+/// The bytes of a batch, and its line.
+fn text_of(alloc: Global, batch: Batch) -> Result<Text, Fail> {
     let seq = batch.seq;
-    let value = hex::encode(alloc, &value(alloc, batch)?)?;
-    Ok(format!(in alloc; "{seq} put 61 {value}\n")?)
+    let value = vec![in alloc; b'Z'; batch.value_len]?;
+    let mut bytes = vec![in alloc; seq, 0, 0, 0, 0, 0, 0, 0, 1, 0, 0, 0, 1, 1, b'a']?;
+    bytes.extend_from_slice(batch.varint)?;
+    bytes.extend_from_slice(&value)?;
+    let digits = hex::encode(alloc, &value)?;
+    let lines = format!(in alloc; "{seq} put 61 {digits}\n")?;
+    Ok(Text { bytes, lines })
+}
+
+/// Payloads at their places in a log.
+fn placed<'a>(alloc: Global, texts: &'a [Text], spans: &[Span]) -> Result<Vec<Payload<'a>>, Fail> {
+    let mut placed = Vec::new(alloc);
+    for (text, (start, end)) in texts.iter().zip(spans) {
+        placed.push(Payload {
+            start: *start,
+            end: *end,
+            bytes: &text.bytes,
+            lines: text.lines.as_str(),
+        })?;
+    }
+    Ok(placed)
 }
 
 /// A record, by its header and the part of a payload that it holds.
@@ -103,13 +118,13 @@ const LONGER_AND_BYTE: [Record; 3] = [
     (b"\xe0\x9a\x20\xdd\x01\x00\x01", 1, 0..1),
 ];
 
-/// A log, by its records.
-fn log_of(alloc: Global, records: &[Record], payloads: &[Vec<u8>]) -> Result<Vec<u8>, Fail> {
+/// A log, by its records and its payloads.
+fn log_of(alloc: Global, records: &[Record], payloads: &[Payload<'_>]) -> Result<Vec<u8>, Fail> {
     let mut log = Vec::new(alloc);
     for (header, number, part) in records {
-        let payload: &[u8] = payloads
+        let payload = payloads
             .get(*number)
-            .map_or(&[], |payload| payload.as_slice());
+            .map_or(&[][..], |payload| payload.bytes);
         log.extend_from_slice(header)?;
         log.extend_from_slice(payload.get(part.start..part.end).unwrap_or(&[]))?;
     }
@@ -117,53 +132,7 @@ fn log_of(alloc: Global, records: &[Record], payloads: &[Vec<u8>]) -> Result<Vec
 }
 
 /// Where the batches begin and end in their log.
-const SPANS: [(u64, u64); 3] = [(0, 1007), (1007, 98_298), (98_304, 106_311)];
-
-/// The batches, what a dump prints of them, and what they say.
-#[derive(Drop)]
-struct Texts {
-    payloads: Vec<Vec<u8>>,
-    lines: Vec<String>,
-    writes: Vec<Write>,
-}
-
-impl Texts {
-    fn of(alloc: Global, batches: &[Batch]) -> Result<Texts, Fail> {
-        let mut texts = Texts {
-            payloads: Vec::new(alloc),
-            lines: Vec::new(alloc),
-            writes: Vec::new(alloc),
-        };
-        for batch in batches {
-            texts.payloads.push(bytes(alloc, *batch)?)?;
-            texts.lines.push(line(alloc, *batch)?)?;
-            let value = value(alloc, *batch)?;
-            let row = (
-                u64::from(batch.seq),
-                Change::Put,
-                b"a".as_slice(),
-                value.as_slice(),
-            );
-            texts.writes.push(write(alloc, row)?)?;
-        }
-        Ok(texts)
-    }
-
-    /// The batches at their places in a log.
-    fn placed(&self, alloc: Global, spans: &[(u64, u64)]) -> Result<Vec<Payload<'_>>, Fail> {
-        let mut placed = Vec::new(alloc);
-        for ((bytes, line), span) in self.payloads.iter().zip(&self.lines).zip(spans) {
-            placed.push(Payload {
-                start: span.0,
-                end: span.1,
-                bytes: bytes.as_slice(),
-                lines: line.as_str(),
-                writes: placed.len().saturating_add(1),
-            })?;
-        }
-        Ok(placed)
-    }
-}
+const SPANS: [Span; 3] = [(0, 1007), (1007, 98_298), (98_304, 106_311)];
 
 /// Lengths to which the log of the batches is cut, how many batches are left, and how it ends then.
 const CUTS: [(usize, usize, Ending); 13] = [
@@ -185,33 +154,37 @@ const CUTS: [(usize, usize, Ending); 13] = [
 /// Where records and blocks of that log begin and end: it is cut at each byte near them too.
 const EDGES: [usize; 7] = [8, 1007, 32_768, 65_536, 98_298, 98_304, 106_303];
 
-#[test]
-fn batches_over_blocks_cut(rt: HostRuntime) -> Result<(), Fail> {
-    let alloc = rt.alloc();
-    let texts = Texts::of(alloc, &BATCHES)?;
-    let log = log_of(alloc, &RECORDS, &texts.payloads)?;
-    let payloads = texts.placed(alloc, &SPANS)?;
-    let known = Known {
-        payloads: &payloads,
-        writes: &texts.writes,
-    };
+/// Asserts what is left of the log of the batches where it is cut, and that a writer makes it.
+fn batches_are_cut(rt: &impl Abort, alloc: Global, payloads: &[Payload<'_>]) -> Result<(), Fail> {
+    let log = log_of(alloc, &RECORDS, payloads)?;
     for (len, count, ending) in CUTS {
-        let left = front(known, len as u64);
-        assert_eq!(rt; left.payloads.len(), count, "up to {len}");
-        is_left(&rt, alloc, log.get(..len).unwrap_or(&[]), left, ending)?;
+        let left = front(payloads, len as u64);
+        assert_eq!(rt; left.len(), count, "up to {len}");
+        is_left(rt, alloc, log.get(..len).unwrap_or(&[]), left, ending)?;
     }
     for edge in EDGES {
         for len in edge - 8..=edge + 8 {
-            let cut = len as u64;
-            let log = log.get(..len).unwrap_or(&[]);
-            gives(&rt, alloc, log, front(known, cut), cut_at(known, cut))?;
+            let left = front(payloads, len as u64);
+            let ending = cut_at(payloads, len as u64);
+            gives(rt, alloc, log.get(..len).unwrap_or(&[]), left, ending)?;
         }
     }
-    is_written(&rt, alloc, &texts.payloads, &log)
+    is_written(rt, alloc, payloads, &log)
+}
+
+#[test]
+fn batches_over_blocks(rt: HostRuntime) -> Result<(), Fail> {
+    let alloc = rt.alloc();
+    let mut texts = Vec::new(alloc);
+    for batch in BATCHES {
+        texts.push(text_of(alloc, batch)?)?;
+    }
+    let payloads = placed(alloc, &texts, &SPANS)?;
+    batches_are_cut(&rt, alloc, &payloads)
 }
 
 /// A batch and a payload behind it that is none: where they begin and end, and their records.
-type Pair = (Batch, &'static [u8], [(u64, u64); 2], &'static [Record]);
+type Pair = (Batch, &'static [u8], [Span; 2], &'static [Record]);
 
 const PAIRS: [Pair; 3] = [
     (
@@ -229,33 +202,36 @@ const PAIRS: [Pair; 3] = [
     ),
 ];
 
+/// Asserts what is left of the log of a pair where it is cut behind its batch, and that a writer makes it.
+fn pair_is_cut(
+    rt: &impl Abort,
+    alloc: Global,
+    records: &[Record],
+    payloads: &[Payload<'_>],
+) -> Result<(), Fail> {
+    let log = log_of(alloc, records, payloads)?;
+    for len in 32_740..log.len() {
+        let left = front(payloads, len as u64);
+        let ending = cut_at(payloads, len as u64);
+        is_left(rt, alloc, &log[..len], left, ending)?;
+    }
+    let short = (2, BatchError::TooShort, "too short");
+    is_refused(rt, alloc, &log, front(payloads, 32_762), short)?;
+    is_written(rt, alloc, payloads, &log)
+}
+
 /// What follows a record that leaves seven bytes of its block, or six.
 #[test]
 fn batches_up_to_the_end_of_a_block(rt: HostRuntime) -> Result<(), Fail> {
     let alloc = rt.alloc();
     for (batch, payload, spans, records) in PAIRS {
-        let mut texts = Texts::of(alloc, &[batch])?;
-        texts.payloads.push(Vec::from_slice(alloc, payload)?)?;
-        texts.lines.push(String::new(alloc))?;
-        let log = log_of(alloc, records, &texts.payloads)?;
-        let payloads = texts.placed(alloc, &spans)?;
-        let known = Known {
-            payloads: &payloads,
-            writes: &texts.writes,
+        let short = Text {
+            bytes: Vec::from_slice(alloc, payload)?,
+            lines: String::new(alloc),
         };
-        for len in 32_740..log.len() {
-            let cut = len as u64;
-            is_left(
-                &rt,
-                alloc,
-                &log[..len],
-                front(known, cut),
-                cut_at(known, cut),
-            )?;
-        }
-        let short = (2, BatchError::TooShort, "too short");
-        is_refused(&rt, alloc, &log, front(known, 32_762), short)?;
-        is_written(&rt, alloc, &texts.payloads, &log)?;
+        let texts = vec![in alloc; text_of(alloc, batch)?, short]?;
+        let payloads = placed(alloc, &texts, &spans)?;
+        pair_is_cut(&rt, alloc, records, &payloads)?;
     }
     Ok(())
 }

@@ -1,9 +1,5 @@
 //! A small log that is cut at each byte, and of which each byte is changed.
-use crate::known::{
-    BATCH_LOG, Change, FIRST_PAYLOAD, FIRST_WRITE, Known, Payload, Row, cut_at, front, gives,
-    is_left, nothing, writes,
-};
-use std::alloc::Global;
+use crate::known::{BATCH_LOG, FIRST, Payload, cut_at, front, gives, is_left};
 use std::test::Fail;
 use uc_logrec::{Ending, LogFault};
 
@@ -20,20 +16,18 @@ const LOG: &[u8; 105] = b"\xe9\x9f\x78\x19\x11\x00\x01\
     \x05\x00\x00\x00\x00\x00\x00\x00\x01\x00\x00\x00\x0f\x01d\x01e";
 
 const PAYLOADS: [Payload<'static>; 3] = [
-    FIRST_PAYLOAD,
+    FIRST,
     Payload {
         start: 24,
         end: 74,
         bytes: b"\x02\x00\x00\x00\x00\x00\x00\x00\x02\x00\x00\x00\x02\x01b\x03xyz\x00\x01c",
         lines: "2 merge 62 78797a\n3 delete 63\n",
-        writes: 3,
     },
     Payload {
         start: 74,
         end: 105,
         bytes: b"\x05\x00\x00\x00\x00\x00\x00\x00\x01\x00\x00\x00\x0f\x01d\x01e",
         lines: "5 range 64 65\n",
-        writes: 4,
     },
 ];
 
@@ -85,31 +79,12 @@ const RECORDS: [Record; 7] = [
     },
 ];
 
-/// What the log says.
-const WRITES: [Row<'static>; 4] = [
-    FIRST_WRITE,
-    (2, Change::Merge, b"b", b"xyz"),
-    (3, Change::Delete, b"c", b""),
-    (5, Change::Range, b"d", b"e"),
-];
-
 #[test]
 fn the_log_cut_at_each_byte(rt: HostRuntime) -> Result<(), Fail> {
-    let alloc = rt.alloc();
-    let writes = writes(alloc, &WRITES)?;
-    let known = Known {
-        payloads: &PAYLOADS,
-        writes: &writes,
-    };
     for len in 0..=LOG.len() {
-        let cut = len as u64;
-        is_left(
-            &rt,
-            alloc,
-            &LOG[..len],
-            front(known, cut),
-            cut_at(known, cut),
-        )?;
+        let left = front(&PAYLOADS, len as u64);
+        let ending = cut_at(&PAYLOADS, len as u64);
+        is_left(&rt, rt.alloc(), &LOG[..len], left, ending)?;
     }
     Ok(())
 }
@@ -151,15 +126,10 @@ fn changed_at(record: Record, place: u64, mask: u8) -> Ending {
 #[test]
 fn each_byte_of_the_log_changed(rt: HostRuntime) -> Result<(), Fail> {
     let alloc = rt.alloc();
-    let writes = writes(alloc, &WRITES)?;
-    let known = Known {
-        payloads: &PAYLOADS,
-        writes: &writes,
-    };
     let mut log = *LOG;
     for place in 0..LOG.len() {
         let record = record_at(place as u64);
-        let left = front(known, record.start);
+        let left = front(&PAYLOADS, record.start);
         for mask in 1..=255u8 {
             log[place] = LOG[place] ^ mask;
             let ending = changed_at(record, place as u64, mask);
@@ -186,7 +156,7 @@ fn a_byte_of_one_batch_changed(rt: HostRuntime) -> Result<(), Fail> {
                 (0x80, 5) => Ending::Fault(LogFault::BadLength, 0),
                 _ => Ending::Fault(LogFault::BadChecksum, 0),
             };
-            is_left(&rt, rt.alloc(), &log, nothing(), ending)?;
+            is_left(&rt, rt.alloc(), &log, &[], ending)?;
         }
     }
     Ok(())

@@ -107,7 +107,7 @@ const ONE_BATCH: [Row; 12] = [
 ];
 
 /// Logs of one payload: each refusal of a batch that can stand first, and every kind of change.
-const BATCHES: [Row; 9] = [
+const BATCHES: [Row; 7] = [
     (
         "bdb39be4160001ffffffffffffff000200000001016101310101610131",
         "batch fault 1 sequence too large\n",
@@ -141,16 +141,6 @@ const BATCHES: [Row; 9] = [
     (
         "6ef526bc210001010000000000000004000000010161013100016203026869020163000f01610164",
         "1 put 61 31\n2 delete 62\n3 merge 63 .\n4 range 61 64\nclean\n",
-        Done::Fine,
-    ),
-    (
-        "8bff3a52110001ffffffffffffff00010000000101610131",
-        "72057594037927935 put 61 31\nclean\n",
-        Done::Fine,
-    ),
-    (
-        "31816a5e41000101000000000000000a00000000016107016201016301640281006500030266670d0f016801690400016a0500016b016c068000016d016e0800016f0e0001700171",
-        "1 delete 61\n2 delete 62\n3 put 63 64\n4 merge 65 .\n5 range 68 69\n6 delete 6a\n7 put 6b 6c\n8 merge 6d 6e\n9 delete 6f\n10 range 70 71\nclean\n",
         Done::Fine,
     ),
 ];

@@ -1,9 +1,9 @@
 //! Logs that are known by their payloads, and what is asserted of what damage leaves of them.
+use crate::random::op_line;
 use std::alloc::Global;
 use std::process::Abort;
 use std::test::Fail;
-use uc_batch::{BatchError, Ended, Mode, Op, ReadError, Write, read_writes};
-use uc_bytes::Bytes;
+use uc_batch::{BatchError, Ended, Mode, ReadError, Write, read_writes};
 use uc_logrec::{Ending, LogFault, LogWriter, read_log};
 use uc_tool::{Done, dump};
 
@@ -15,17 +15,8 @@ pub struct Payload<'a> {
     /// Where its last record ends.
     pub end: u64,
     pub bytes: &'a [u8],
-    /// What a dump prints of it.
+    /// What it says, as a dump prints it.
     pub lines: &'a str,
-    /// How many writes the log has up to its end.
-    pub writes: usize,
-}
-
-/// What a log holds up to some place.
-#[derive(Clone, Copy)]
-pub struct Known<'a> {
-    pub payloads: &'a [Payload<'a>],
-    pub writes: &'a [Write],
 }
 
 /// A batch that sets the key `a` to `1` at sequence 1.
@@ -37,60 +28,16 @@ pub const BATCH_LOG: [u8; 24] = [
 ];
 
 /// The batch as it stands in that log.
-pub const FIRST_PAYLOAD: Payload<'static> = Payload {
+pub const FIRST: Payload<'static> = Payload {
     start: 0,
     end: 24,
     bytes: &BATCH,
     lines: "1 put 61 31\n",
-    writes: 1,
 };
 
-/// What a write does.
-#[derive(Clone, Copy)]
-pub enum Change {
-    Put,
-    Delete,
-    Merge,
-    Range,
-}
-
-/// A write, by its sequence, what it does, and its key and value, or its begin and end.
-pub type Row<'a> = (u64, Change, &'a [u8], &'a [u8]);
-
-/// What the batch says.
-pub const FIRST_WRITE: Row<'static> = (1, Change::Put, b"a", b"1");
-
-pub fn write(alloc: Global, (seq, change, first, second): Row<'_>) -> Result<Write, Fail> {
-    let first = Bytes::from_slice(alloc, first)?;
-    let second = Bytes::from_slice(alloc, second)?;
-    let op = match change {
-        Change::Put => Op::Put(first, second),
-        Change::Delete => Op::Delete(first),
-        Change::Merge => Op::Merge(first, second),
-        Change::Range => Op::DeleteRange(first, second),
-    };
-    Ok(Write { seq, op })
-}
-
-pub fn writes(alloc: Global, rows: &[Row<'_>]) -> Result<Vec<Write>, Fail> {
-    let mut writes = Vec::new(alloc);
-    for row in rows {
-        writes.push(write(alloc, *row)?)?;
-    }
-    Ok(writes)
-}
-
-/// What a log without payloads holds.
-pub fn nothing() -> Known<'static> {
-    Known {
-        payloads: &[],
-        writes: &[],
-    }
-}
-
 /// How a log ends that is cut: torn where the cut goes through a payload.
-pub fn cut_at(known: Known<'_>, len: u64) -> Ending {
-    for payload in known.payloads {
+pub fn cut_at(payloads: &[Payload<'_>], len: u64) -> Ending {
+    for payload in payloads {
         if payload.start < len && len < payload.end {
             return Ending::Torn(payload.start);
         }
@@ -98,20 +45,36 @@ pub fn cut_at(known: Known<'_>, len: u64) -> Ending {
     Ending::Clean
 }
 
-/// What is left of a log whose payloads up to an offset are whole.
-pub fn front(known: Known<'_>, offset: u64) -> Known<'_> {
-    let mut payloads = 0;
-    let mut writes = 0;
-    for (number, payload) in known.payloads.iter().enumerate() {
+/// The payloads that end at an offset or before.
+pub fn front<'a, 'b>(payloads: &'b [Payload<'a>], offset: u64) -> &'b [Payload<'a>] {
+    let mut count = 0;
+    for (number, payload) in payloads.iter().enumerate() {
         if payload.end <= offset {
-            payloads = number.saturating_add(1);
-            writes = payload.writes;
+            count = number.saturating_add(1);
         }
     }
-    Known {
-        payloads: known.payloads.get(..payloads).unwrap_or(&[]),
-        writes: known.writes.get(..writes).unwrap_or(&[]),
+    payloads.get(..count).unwrap_or(payloads)
+}
+
+/// The lines of payloads.
+fn lines_of(alloc: Global, payloads: &[Payload<'_>]) -> Result<String, Fail> {
+    let mut lines = String::new(alloc);
+    for payload in payloads {
+        lines.push_str(payload.lines)?;
     }
+    Ok(lines)
+}
+
+/// Asserts that writes say what stands in lines.
+pub fn are_told(rt: &impl Abort, alloc: Global, writes: &[Write], lines: &str) -> Result<(), Fail> {
+    let mut told = String::new(alloc);
+    for write in writes {
+        let seq = write.seq;
+        let line = op_line(alloc, &write.op)?;
+        told.push_str(format!(in alloc; "{seq} {line}")?.as_str())?;
+    }
+    assert_eq!(rt; told.as_bytes(), lines.as_bytes());
+    Ok(())
 }
 
 /// How a dump names a fault.
@@ -132,13 +95,10 @@ fn dumps(
     rt: &impl Abort,
     alloc: Global,
     log: &[u8],
-    left: Known<'_>,
+    left: &[Payload<'_>],
     last_line: &str,
 ) -> Result<(), Fail> {
-    let mut want = String::new(alloc);
-    for payload in left.payloads {
-        want.push_str(payload.lines)?;
-    }
+    let mut want = lines_of(alloc, left)?;
     want.push_str(last_line)?;
     let mut reader = log;
     let mut text = Vec::new(alloc);
@@ -158,13 +118,13 @@ pub fn gives(
     rt: &impl Abort,
     alloc: Global,
     log: &[u8],
-    left: Known<'_>,
+    left: &[Payload<'_>],
     ending: Ending,
 ) -> Result<(), Fail> {
     let read = read_log(alloc, log)?;
     assert_eq!(rt; read.ending, ending);
-    assert_eq!(rt; read.payloads.as_slice().len(), left.payloads.len());
-    for (payload, want) in read.payloads.iter().zip(left.payloads) {
+    assert_eq!(rt; read.payloads.as_slice().len(), left.len());
+    for (payload, want) in read.payloads.iter().zip(left) {
         assert_eq!(rt; payload.as_slice(), want.bytes);
     }
     Ok(())
@@ -176,15 +136,18 @@ fn reads(
     rt: &impl Abort,
     alloc: Global,
     log: &[u8],
-    left: Known<'_>,
+    left: &[Payload<'_>],
     ended: Ended,
 ) -> Result<(), Fail> {
+    let lines = lines_of(alloc, left)?;
     let lenient = read_writes(alloc, log, Mode::PointInTime)?;
-    assert_eq!(rt; lenient.list(), left.writes);
+    are_told(rt, alloc, lenient.list(), lines.as_str())?;
     assert_eq!(rt; lenient.ended(), ended);
     let strict = read_writes(alloc, log, Mode::TornTail);
     match ended {
-        Ended::Clean | Ended::Torn(_) => assert_eq!(rt; strict?.list(), left.writes),
+        Ended::Clean | Ended::Torn(_) => {
+            are_told(rt, alloc, strict?.list(), lines.as_str())?;
+        }
         Ended::LogFault(fault, offset) => {
             assert_eq!(rt; strict.err(), Some(ReadError::Log(fault, offset)));
         }
@@ -200,7 +163,7 @@ pub fn is_left(
     rt: &impl Abort,
     alloc: Global,
     log: &[u8],
-    left: Known<'_>,
+    left: &[Payload<'_>],
     ending: Ending,
 ) -> Result<(), Fail> {
     gives(rt, alloc, log, left, ending)?;
@@ -222,7 +185,7 @@ pub fn is_refused(
     rt: &impl Abort,
     alloc: Global,
     log: &[u8],
-    left: Known<'_>,
+    left: &[Payload<'_>],
     (number, fault, words): (u64, BatchError, &str),
 ) -> Result<(), Fail> {
     reads(rt, alloc, log, left, Ended::BatchFault(number, fault))?;
@@ -234,12 +197,12 @@ pub fn is_refused(
 pub fn is_written(
     rt: &impl Abort,
     alloc: Global,
-    payloads: &[Vec<u8>],
+    payloads: &[Payload<'_>],
     log: &[u8],
 ) -> Result<(), Fail> {
     let mut writer = LogWriter::new(alloc);
     for payload in payloads {
-        writer.add(payload)?;
+        writer.add(payload.bytes)?;
     }
     assert!(rt; writer.finish().as_slice() == log);
     Ok(())

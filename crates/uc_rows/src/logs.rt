@@ -1,12 +1,10 @@
 //! Logs, from batches to bytes and back to writes.
-use crate::known::{
-    BATCH, BATCH_LOG, FIRST_PAYLOAD, FIRST_WRITE, Known, Payload, gives, is_left, is_refused,
-    is_written, nothing, write,
-};
+use crate::known::{BATCH, BATCH_LOG, FIRST, Payload, gives, is_left, is_refused, is_written};
 use std::alloc::Global;
-use std::slice;
+use std::process::Abort;
 use std::test::Fail;
-use uc_batch::{BatchError, fits_batch, write_batch};
+use uc_batch::{BatchError, Op, fits_batch, write_batch};
+use uc_bytes::Bytes;
 use uc_logrec::{Ending, LogFault, crc32c, mask, unmask};
 
 /// Texts and their checksums; the last is the type of a record and its data.
@@ -37,11 +35,12 @@ fn checksums(rt: HostRuntime) {
 #[test]
 fn a_batch_in_a_log(rt: HostRuntime) -> Result<(), Fail> {
     let alloc = rt.alloc();
-    let ops = [write(alloc, FIRST_WRITE)?.op];
+    let key = Bytes::from_slice(alloc, b"a")?;
+    let ops = [Op::Put(key, Bytes::from_slice(alloc, b"1")?)];
     assert!(rt; fits_batch(1, &ops));
     let batch = write_batch(alloc, 1, &ops)?;
     assert_eq!(rt; batch.as_slice(), BATCH.as_slice());
-    is_written(&rt, alloc, &[batch], &BATCH_LOG)
+    is_written(&rt, alloc, &[FIRST], &BATCH_LOG)
 }
 
 /// A part of a log, by a letter: `b` the log of a batch, `f` FIRST, `m` MIDDLE, `l` LAST and `u` FULL without
@@ -108,14 +107,40 @@ const ONE_BATCH: [Row; 12] = [
     ("b0000000u", Ending::Fault(LogFault::BadChecksum, 24)),
 ];
 
+/// Asserts what is left of a log, by its parts.
+fn stands(
+    rt: &impl Abort,
+    alloc: Global,
+    (letters, ending): Row,
+    left: &[Payload<'_>],
+) -> Result<(), Fail> {
+    let log = log_of(alloc, letters)?;
+    is_left(rt, alloc, &log, left, ending)
+}
+
 #[test]
-fn records_without_data(rt: HostRuntime) -> Result<(), Fail> {
-    let alloc = rt.alloc();
-    for (letters, ending) in WITHOUT_PAYLOAD {
-        let log = log_of(alloc, letters)?;
-        is_left(&rt, alloc, &log, nothing(), ending)?;
+fn logs_without_payload(rt: HostRuntime) -> Result<(), Fail> {
+    for row in WITHOUT_PAYLOAD {
+        stands(&rt, rt.alloc(), row, &[])?;
     }
     Ok(())
+}
+
+/// A batch is read, whatever stands behind it.
+#[test]
+fn logs_of_one_batch(rt: HostRuntime) -> Result<(), Fail> {
+    for row in ONE_BATCH {
+        stands(&rt, rt.alloc(), row, &[FIRST])?;
+    }
+    Ok(())
+}
+
+/// A batch can't stand a second time.
+#[test]
+fn a_batch_that_goes_back(rt: HostRuntime) -> Result<(), Fail> {
+    let log = log_of(rt.alloc(), "bb")?;
+    let refusal = (2, BatchError::SequenceBack(1), "sequence back 1");
+    is_refused(&rt, rt.alloc(), &log, &[FIRST], refusal)
 }
 
 /// An empty payload is too short for a batch: it is named before any later fault of the log, and before a
@@ -123,37 +148,15 @@ fn records_without_data(rt: HostRuntime) -> Result<(), Fail> {
 #[test]
 fn payloads_that_are_no_batch(rt: HostRuntime) -> Result<(), Fail> {
     let alloc = rt.alloc();
-    let empty = Payload {
+    let empty = [Payload {
         bytes: b"",
-        ..FIRST_PAYLOAD
-    };
-    let known = Known {
-        payloads: &[empty],
-        writes: &[],
-    };
+        ..FIRST
+    }];
     let short = (1, BatchError::TooShort, "too short");
     for (letters, ending) in EMPTY_PAYLOAD {
         let log = log_of(alloc, letters)?;
-        gives(&rt, alloc, &log, known, ending)?;
-        is_refused(&rt, alloc, &log, nothing(), short)?;
+        gives(&rt, alloc, &log, &empty, ending)?;
+        is_refused(&rt, alloc, &log, &[], short)?;
     }
     Ok(())
-}
-
-/// A batch is read, whatever stands behind it; there it can't stand a second time.
-#[test]
-fn a_batch_with_more_behind_it(rt: HostRuntime) -> Result<(), Fail> {
-    let alloc = rt.alloc();
-    let first = write(alloc, FIRST_WRITE)?;
-    let known = Known {
-        payloads: &[FIRST_PAYLOAD],
-        writes: slice::from_ref(&first),
-    };
-    for (letters, ending) in ONE_BATCH {
-        let log = log_of(alloc, letters)?;
-        is_left(&rt, alloc, &log, known, ending)?;
-    }
-    let log = log_of(alloc, "bb")?;
-    let back = (2, BatchError::SequenceBack(1), "sequence back 1");
-    is_refused(&rt, alloc, &log, known, back)
 }

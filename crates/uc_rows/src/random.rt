@@ -93,7 +93,7 @@ fn field(alloc: Global, bytes: &Bytes) -> Result<String, Fail> {
 }
 
 /// The line of a change.
-fn op_line(alloc: Global, op: &Op) -> Result<String, Fail> {
+pub fn op_line(alloc: Global, op: &Op) -> Result<String, Fail> {
     let (word, first, second) = match op {
         Op::Put(key, value) => ("put", key, Some(value)),
         Op::Delete(key) => ("delete", key, None),
