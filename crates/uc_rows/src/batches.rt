@@ -6,21 +6,25 @@ use std::test::Fail;
 use uc_batch::{BatchError, read_batch};
 use uc_logrec::{Ending, LogWriter};
 
-/// The greatest sequence.
+/// The greatest sequence that a write may have.
 const MAX: u64 = (1 << 56) - 1;
 
-/// The head of a batch of one record at sequence 1, and of one whose record is counted twice.
+/// The head of a batch: sequence 1, count 1.
 const ONE: &[u8] = b"\x01\x00\x00\x00\x00\x00\x00\x00\x01\x00\x00\x00";
 
+/// Sequence 1, count 2.
 const TWO: &[u8] = b"\x01\x00\x00\x00\x00\x00\x00\x00\x02\x00\x00\x00";
 
-/// The heads of batches of one record at the sequences 0 and 2^56, and at the greatest, also counted twice.
+/// Sequence 0, count 1.
 const LOWEST: &[u8] = b"\x00\x00\x00\x00\x00\x00\x00\x00\x01\x00\x00\x00";
 
+/// Sequence 2^56, count 1.
 const BEYOND: &[u8] = b"\x00\x00\x00\x00\x00\x00\x00\x01\x01\x00\x00\x00";
 
+/// The greatest sequence, 2^56 - 1, count 1.
 const HIGHEST: &[u8] = b"\xff\xff\xff\xff\xff\xff\xff\x00\x01\x00\x00\x00";
 
+/// The greatest sequence, count 2.
 const HIGHEST_TWO: &[u8] = b"\xff\xff\xff\xff\xff\xff\xff\x00\x02\x00\x00\x00";
 
 /// A batch, by its head and its records.

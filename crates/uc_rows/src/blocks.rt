@@ -5,7 +5,7 @@ use std::ops::Range;
 use std::process::Abort;
 use std::test::Fail;
 use uc_batch::BatchError;
-use uc_logrec::Ending;
+use uc_logrec::{Ending, LogFault};
 
 /// A batch of so many bytes: it sets the key `a` to a value of `value_len` bytes `Z`.
 #[derive(Clone, Copy)]
@@ -172,6 +172,36 @@ fn batches_are_cut(rt: &impl Abort, alloc: Global, payloads: &[Payload<'_>]) -> 
     is_written(rt, alloc, payloads, &log)
 }
 
+/// Bytes of that log of which a bit is changed, how many batches are left, and how it ends then. The zero bytes
+/// that fill a block aren't looked at.
+const CHANGES: [(usize, usize, Ending); 8] = [
+    (999, 0, Ending::Fault(LogFault::BadChecksum, 0)),
+    (1011, 1, Ending::Fault(LogFault::BadLength, 1007)),
+    (1012, 1, Ending::Fault(LogFault::BadLength, 1007)),
+    (40_000, 1, Ending::Fault(LogFault::BadChecksum, 32_768)),
+    (65_540, 1, Ending::Fault(LogFault::BadChecksum, 65_536)),
+    (98_300, 3, Ending::Clean),
+    (98_308, 2, Ending::Torn(98_304)),
+    (106_310, 2, Ending::Fault(LogFault::BadChecksum, 98_304)),
+];
+
+/// Asserts what is left of the log of the batches where it is changed.
+fn batches_are_changed(
+    rt: &impl Abort,
+    alloc: Global,
+    payloads: &[Payload<'_>],
+) -> Result<(), Fail> {
+    for (place, count, ending) in CHANGES {
+        let mut log = log_of(alloc, &RECORDS, payloads)?;
+        if let Some(byte) = log.get_mut(place) {
+            *byte ^= 1;
+        }
+        let left = payloads.get(..count).unwrap_or(payloads);
+        is_left(rt, alloc, &log, left, ending)?;
+    }
+    Ok(())
+}
+
 #[test]
 fn batches_over_blocks(rt: HostRuntime) -> Result<(), Fail> {
     let alloc = rt.alloc();
@@ -180,7 +210,8 @@ fn batches_over_blocks(rt: HostRuntime) -> Result<(), Fail> {
         texts.push(text_of(alloc, batch)?)?;
     }
     let payloads = placed(alloc, &texts, &SPANS)?;
-    batches_are_cut(&rt, alloc, &payloads)
+    batches_are_cut(&rt, alloc, &payloads)?;
+    batches_are_changed(&rt, alloc, &payloads)
 }
 
 /// A batch and a payload behind it that is none: where they begin and end, and their records.
