@@ -1,4 +1,4 @@
-use Rattle.std.proofs.Common.{◌≡◌, ◌+◌, ◌≤◌, [], refl, length, Err, arith, rules}
+use Rattle.std.proofs.Common.{◌+◌, ◌≤◌, [], refl, length, Err, arith, rules}
 use Rattle.uc_logrec.specs.Turns.{Complete, Open, Refused, fragments_of, open_in}
 use Rattle.uc_logrec.specs.Format.{header_place}
 use Rattle.uc_logrec.specs.Position.{ahead_at}

@@ -1,4 +1,4 @@
-use Rattle.std.proofs.Common.{◌≡◌, ◌<◌, ◌/◌, ◌%◌, ℕ, [], ◌∷◌, ◌∙◌, refl, ap, length, slice_index, slice_index_or, slice_set, arith}
+use Rattle.std.proofs.Common.{◌≡◌, ◌<◌, ◌/◌, ◌%◌, ℕ, [], ◌∷◌, ◌∙◌, refl, ap, slice_index, slice_index_or, arith}
 use Rattle.std.proofs.lemmas.List.{length-set}
 use Rattle.hex.specs.Hex.{encode_with, encode_lower, lower_digits}
 use Rattle.hex.proofs.Pairs.{encode_step, encode_done}
