@@ -1,6 +1,6 @@
 //! Runs every example as a user does, and compares what it prints with the file beside it.
 //!
-//! The folder that it runs in is `examples` of this repository: `data` leads there. It prints how many
+//! The folder that it runs in is `data`, to which `examples` at the top of the repository leads. It prints how many
 //! examples it ran, and stops at the first that prints something else.
 #![tactic(auto)]
 
