@@ -1,0 +1,53 @@
+-- A fold of parts some of which may have been refused their memory.
+use Rattle.std.proofs.Common.{◌≡◌, List, [], ◌∷◌, ◌++◌, fold, refl, sym, ap, ◌∙◌, IfOk, Ok, Err, Result, rules}
+use Rattle.std.specs.List.{AllZip}
+use Rattle.std.proofs.lemmas.List.Sums.{fold-append}
+use Rattle.uc_fold.specs.Joining.{IsLawful, JoinsTo}
+use Rattle.uc_fold.proofs.Cuts.{fold-cut}
+
+module _ {P E : Type 0} where
+  -- the parts that are there
+  abbrev pub granted : List (Result P E) → List P
+  granted [] = []
+  granted (Ok p ∷ rs) = p ∷ granted rs
+  granted (Err e ∷ rs) = granted rs
+
+  -- those of two lists
+  granted-append : (rs ss : List (Result P E)) → granted (rs ++ ss) ≡ granted rs ++ granted ss
+  granted-append [] ss = refl
+  granted-append (Ok p ∷ rs) ss = ap (λ l. p ∷ l) (granted-append rs ss)
+  granted-append (Err e ∷ rs) ss = granted-append rs ss
+
+  -- of parts that are all there, none is missing
+  pub granted-all : (ps : List P) (rs : List (Result P E)) → AllZip (λ p r. r ≡ Ok p) ps rs → granted rs ≡ ps
+  granted-all [] [] h = refl
+  granted-all [] (r ∷ rs) h = absurd h
+  granted-all (p ∷ ps) [] h = absurd h
+  granted-all (p ∷ ps) (r ∷ rs) h = ap (λ q. granted (q ∷ rs)) h.0 ∙ ap (λ l. p ∷ l) (granted-all ps rs h.1)
+
+module _ {P E : Type 0} {fits : P → Type 0} {unit : P} {join : P → P → P} (laws : IsLawful fits unit join) where
+  -- an `Ok` is the fold of the parts that are there
+  abbrev pub IsFold : List (Result P E) → Result P E → Type 0
+  IsFold rs r = IfOk r (λ whole. whole ≡ fold join unit (granted rs))
+
+  -- of no parts
+  pub fold_none : (r : Result P E) → r ≡ Ok unit → IsFold [] r
+  fold_none (Ok w) h = search rules
+  fold_none (Err e) h = tt
+
+  -- of one part more
+  pub fold_more : (rs : List (Result P E)) (a x r : Result P E) → IsFold rs a → IfOk r (JoinsTo join a x) → IsFold (rs ++ x ∷ []) r
+  fold_more rs a x (Err e) h o = tt
+  fold_more rs (Ok u) (Ok v) (Ok w) h o =
+      o ∙ ap (λ s. join s v) h ∙ sym (ap (fold join unit) (granted-append rs (Ok v ∷ [])) ∙ fold-append join unit (granted rs) (v ∷ []))
+  fold_more rs (Ok u) (Err e) (Ok w) h o = absurd o
+  fold_more rs (Err e) x (Ok w) h o = absurd o
+
+  -- of two pieces side by side
+  pub fold_both : (rs ss : List (Result P E)) (a b r : Result P E) → IsFold rs a → IsFold ss b → IfOk r (JoinsTo join a b) → IsFold (rs ++ ss) r
+  fold_both rs ss a b (Err e) h k o = tt
+  fold_both rs ss (Ok u) (Ok v) (Ok w) h k o =
+      o ∙ ap (λ s. join s v) h ∙ ap (join (fold join unit (granted rs))) k
+      ∙ sym (ap (fold join unit) (granted-append rs ss) ∙ fold-cut laws (granted rs) (granted ss))
+  fold_both rs ss (Ok u) (Err e) (Ok w) h k o = absurd o
+  fold_both rs ss (Err e) b (Ok w) h k o = absurd o

@@ -1,0 +1,16 @@
+use Rattle.std.proofs.Common.{fold, ap, ◌∙◌}
+use Rattle.rayon.proofs.ListFacts.{IfOk-then}
+use Rattle.rayon.proofs.Reducing.{Reduces-elim}
+use Rattle.rayon.specs.Lists.{vec_items}
+use Rattle.uc_fold.proofs.Refusals.{IsFold, fold_none, fold_more, fold_both, granted-all}
+use Rattle.uc_fold.proofs.folding.fold_all.Goals as goal
+
+pub returns : goal.returns
+returns g c =
+    let met = g.met.J.Joins g.world.𝓛 g.world.𝓜 g.world.𝓡 ((λ s x. x), (λ x. x), (λ x. x), λ x. x) in
+    let laws = met.lawful in
+    let done = c.reduce.ensures in
+    let chain = done.1 in
+    let list = granted-all chain.0 done.0 chain.2 ∙ chain.1 ∙ ap vec_items c.map.ensures.base ∙ c.into_par_iter.ensures in
+    let folded = Reduces-elim _ _ (IsFold laws) (fold_none laws) (fold_more laws) (fold_both laws) done.0 c.reduce.result done.2 in
+    IfOk-then c.reduce.result _ _ folded (λ whole e. e ∙ ap (fold g.J.Joins.joined g.J.Joins.empty) list)

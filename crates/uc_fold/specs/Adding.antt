@@ -1,0 +1,38 @@
+-- Totals, added place by place. A sum that 64 bits don't hold stays at the greatest number they do.
+use Rattle.std.specs.Prelude.{◌≡◌, ℕ, ◌+◌, ◌-◌, ◌^◌, ◌<◌, min}
+use Rattle.std.proofs.Common.{arith, ap}
+use Rattle.uc_fold.specs.declared.totals.Totals.{Totals}
+use Rattle.uc_fold.specs.Joining.{IsLawful}
+
+-- a sum, held at 2^64 - 1
+abbrev pub held_sum : ℕ → ℕ → ℕ
+held_sum a b = min (a + b) (2 ^ 64 - 1)
+
+abbrev pub nothing : Totals
+nothing = record { points = 0; fragments = 0; size = 0 }
+
+abbrev pub added : Totals → Totals → Totals
+added a b = record {
+  points = held_sum a.points b.points;
+  fragments = held_sum a.fragments b.fragments;
+  size = held_sum a.size b.size;
+}
+
+-- each number has 64 bits
+abbrev pub IsHeld : Totals → Type 0
+IsHeld t = (t.points < 2 ^ 64) × (t.fragments < 2 ^ 64) × (t.size < 2 ^ 64)
+
+abbrev totals : ℕ → ℕ → ℕ → Totals
+totals p f s = record { points = p; fragments = f; size = s }
+
+same : (p q f g s t : ℕ) → p ≡ q → f ≡ g → s ≡ t → totals p f s ≡ totals q g t
+same p q f g s t a b c = λ i. totals (a i) (b i) (c i)
+
+pub adding_lawful : IsLawful IsHeld nothing added
+adding_lawful = record {
+  unit_fits = (omega arith, omega arith, omega arith);
+  join_fits = λ a b. (omega arith, omega arith, omega arith);
+  left_unit = λ a h. same _ _ _ _ _ _ (omega (arith, h.0)) (omega (arith, h.1)) (omega (arith, h.2));
+  right_unit = λ a h. same _ _ _ _ _ _ (omega (arith, h.0)) (omega (arith, h.1)) (omega (arith, h.2));
+  assoc = λ a b c. same _ _ _ _ _ _ (omega arith) (omega arith) (omega arith);
+}

@@ -1,0 +1,41 @@
+ghost use Rattle.std.specs.Prelude.{◌≡◌, Ok};
+ghost use Rattle.uc_fold.specs.Adding.{IsHeld, nothing, added, adding_lawful};
+
+use crate::joins::Joins;
+use crate::totals::Totals;
+use std::alloc::{AllocError, Global};
+
+/// Adds totals. Each sum is held at 2^64 - 1, and none is refused.
+pub enum Sums {}
+
+impl Joins for Sums {
+    type Part = Totals;
+
+    ghost fits = { IsHeld };
+
+    ghost empty = { nothing };
+
+    ghost joined = { added };
+
+    ghost lawful = { adding_lawful };
+
+    /// Zero of each.
+    fn unit() -> Totals {
+        Totals {
+            points: 0,
+            fragments: 0,
+            size: 0,
+        }
+    }
+
+    /// The sums of both. It takes no memory, so it never fails.
+    fn join(_: Global, older: Totals, newer: Totals) -> Result<Totals, AllocError>
+        ensures { result ≡ Ok (added older newer) }
+    {
+        Ok(Totals {
+            points: older.points.saturating_add(newer.points),
+            fragments: older.fragments.saturating_add(newer.fragments),
+            size: older.size.saturating_add(newer.size),
+        })
+    }
+}
