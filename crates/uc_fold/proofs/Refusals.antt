@@ -2,7 +2,7 @@
 use Rattle.std.proofs.Common.{◌≡◌, List, [], ◌∷◌, ◌++◌, fold, refl, sym, ap, ◌∙◌, IfOk, Ok, Err, Result, rules}
 use Rattle.std.specs.List.{AllZip}
 use Rattle.std.proofs.lemmas.List.Sums.{fold-append}
-use Rattle.uc_fold.specs.Joining.{IsLawful, JoinsTo}
+use Rattle.uc_fold.specs.Joining.{IsLawful}
 use Rattle.uc_fold.proofs.Cuts.{fold-cut}
 
 module _ {P E : Type 0} where
@@ -24,6 +24,12 @@ module _ {P E : Type 0} where
   granted-all [] (r ∷ rs) h = absurd h
   granted-all (p ∷ ps) [] h = absurd h
   granted-all (p ∷ ps) (r ∷ rs) h = ap (λ q. granted (q ∷ rs)) h.0 ∙ ap (λ l. p ∷ l) (granted-all ps rs h.1)
+
+-- what two parts make where neither was refused its memory; where one was, they make no part
+abbrev pub JoinsTo : {P E : Type 0} → (P → P → P) → Result P E → Result P E → P → Type 0
+JoinsTo join (Ok older) (Ok newer) both = both ≡ join older newer
+JoinsTo join (Ok older) (Err e) both = ⊥
+JoinsTo join (Err e) newer both = ⊥
 
 module _ {P E : Type 0} {fits : P → Type 0} {unit : P} {join : P → P → P} (laws : IsLawful fits unit join) where
   -- an `Ok` is the fold of the parts that are there

@@ -1,5 +1,4 @@
-ghost use Rattle.std.specs.Prelude.{◌≡◌, fold, IfOk, Ok};
-ghost use Rattle.uc_fold.specs.Joining.{JoinsTo};
+ghost use Rattle.std.specs.Prelude.{◌≡◌, fold, IfOk};
 
 use crate::joins::Joins;
 use rayon::prelude::*;
@@ -19,23 +18,9 @@ pub fn fold_all<J: Joins + Sync>(
 ) -> Result<J::Part, AllocError>
     ensures { IfOk result (λ whole. whole ≡ fold J.joined J.empty parts.items) }
 {
-    parts
-        .into_par_iter()
-        .map(
-            |part: J::Part| -> Result<J::Part, AllocError>
-                ensures { result ≡ Ok part }
-            { Ok(part) },
-        )
-        .reduce(
-            rt,
-            || -> Result<J::Part, AllocError>
-                ensures { result ≡ Ok J.empty }
-            { Ok(J::unit()) },
-            |older: Result<J::Part, AllocError>, newer: Result<J::Part, AllocError>| -> Result<
-                J::Part,
-                AllocError,
-            >
-                ensures { IfOk result (JoinsTo J.joined older newer) }
-            { J::join(alloc, older?, newer?) },
-        )
+    parts.into_par_iter().map(Ok).reduce(
+        rt,
+        || Ok(J::unit()),
+        |older, newer| J::join(alloc, older?, newer?),
+    )
 }

@@ -1,5 +1,5 @@
-use Rattle.std.proofs.Common.{fold, ap, ◌∙◌}
-use Rattle.rayon.proofs.ListFacts.{IfOk-then}
+use Rattle.std.proofs.Common.{◌≡◌, fold, ap, ◌∙◌, rules, Ok}
+use Rattle.rayon.proofs.ListFacts.{IfOk-then, AllZip-weaken}
 use Rattle.rayon.proofs.Reducing.{Reduces-elim}
 use Rattle.rayon.specs.Lists.{vec_items}
 use Rattle.uc_fold.proofs.Refusals.{IsFold, fold_none, fold_more, fold_both, granted-all}
@@ -11,6 +11,12 @@ returns g c =
     let laws = met.lawful in
     let done = c.reduce.ensures in
     let chain = done.1 in
-    let list = granted-all chain.0 done.0 chain.2 ∙ chain.1 ∙ ap vec_items c.map.ensures.base ∙ c.into_par_iter.ensures in
-    let folded = Reduces-elim _ _ (IsFold laws) (fold_none laws) (fold_more laws) (fold_both laws) done.0 c.reduce.result done.2 in
+    let given = AllZip-weaken _ (λ p r. r ≡ Ok p) (λ p r h. search rules) chain.0 done.0 chain.2 in
+    let list = granted-all chain.0 done.0 given ∙ chain.1 ∙ ap vec_items c.map.ensures.base ∙ c.into_par_iter.ensures in
+    let folded =
+    Reduces-elim _ _ (IsFold laws)
+    (λ r h. fold_none laws r (search rules))
+    (λ rs a x r h o. fold_more laws rs a x r h (search rules))
+    (λ rs ss a b r h k o. fold_both laws rs ss a b r h k (search rules))
+    done.0 c.reduce.result done.2 in
     IfOk-then c.reduce.result _ _ folded (λ whole e. e ∙ ap (fold g.J.Joins.joined g.J.Joins.empty) list)
