@@ -1,2 +1,4 @@
 pub mod Cuts
+pub mod HeldSums
+pub mod InTurn
 pub mod Refusals

@@ -2,6 +2,8 @@
 use Rattle.std.proofs.Common.{◌≡◌, List, [], ◌∷◌, ◌++◌, fold, refl, sym, ap, ◌∙◌, IfOk, Ok, Err, Result, rules}
 use Rattle.std.specs.List.{AllZip}
 use Rattle.std.proofs.lemmas.List.Sums.{fold-append}
+use Rattle.rayon.specs.Lists.{Reduces}
+use Rattle.rayon.proofs.Reducing.{Reduces-elim}
 use Rattle.uc_fold.specs.Joining.{IsLawful}
 use Rattle.uc_fold.proofs.Cuts.{fold-cut}
 
@@ -37,12 +39,12 @@ module _ {P E : Type 0} {fits : P → Type 0} {unit : P} {join : P → P → P} 
   IsFold rs r = IfOk r (λ whole. whole ≡ fold join unit (granted rs))
 
   -- of no parts
-  pub fold_none : (r : Result P E) → r ≡ Ok unit → IsFold [] r
+  fold_none : (r : Result P E) → r ≡ Ok unit → IsFold [] r
   fold_none (Ok w) h = search rules
   fold_none (Err e) h = tt
 
   -- of one part more
-  pub fold_more : (rs : List (Result P E)) (a x r : Result P E) → IsFold rs a → IfOk r (JoinsTo join a x) → IsFold (rs ++ x ∷ []) r
+  fold_more : (rs : List (Result P E)) (a x r : Result P E) → IsFold rs a → IfOk r (JoinsTo join a x) → IsFold (rs ++ x ∷ []) r
   fold_more rs a x (Err e) h o = tt
   fold_more rs (Ok u) (Ok v) (Ok w) h o =
       o ∙ ap (λ s. join s v) h ∙ sym (ap (fold join unit) (granted-append rs (Ok v ∷ [])) ∙ fold-append join unit (granted rs) (v ∷ []))
@@ -50,10 +52,21 @@ module _ {P E : Type 0} {fits : P → Type 0} {unit : P} {join : P → P → P} 
   fold_more rs (Err e) x (Ok w) h o = absurd o
 
   -- of two pieces side by side
-  pub fold_both : (rs ss : List (Result P E)) (a b r : Result P E) → IsFold rs a → IsFold ss b → IfOk r (JoinsTo join a b) → IsFold (rs ++ ss) r
+  fold_both : (rs ss : List (Result P E)) (a b r : Result P E) → IsFold rs a → IsFold ss b → IfOk r (JoinsTo join a b) → IsFold (rs ++ ss) r
   fold_both rs ss a b (Err e) h k o = tt
   fold_both rs ss (Ok u) (Ok v) (Ok w) h k o =
       o ∙ ap (λ s. join s v) h ∙ ap (join (fold join unit (granted rs))) k
       ∙ sym (ap (fold join unit) (granted-append rs ss) ∙ fold-cut laws (granted rs) (granted ss))
   fold_both rs ss (Ok u) (Err e) (Ok w) h k o = absurd o
   fold_both rs ss (Err e) b (Ok w) h k o = absurd o
+
+  -- whatever the cut, what `reduce` makes of parts is their fold
+  pub reduced : (identity : Result P E → Type 0) (op : Result P E → Result P E → Result P E → Type 0)
+      → ((r : Result P E) → identity r → r ≡ Ok unit)
+      → ((a b r : Result P E) → op a b r → IfOk r (JoinsTo join a b))
+      → (rs : List (Result P E)) (r : Result P E) → Reduces identity op rs r → IsFold rs r
+  reduced identity op starts joins =
+      Reduces-elim identity op IsFold
+      (λ r i. fold_none r (starts r i))
+      (λ rs a x r h o. fold_more rs a x r h (joins a x r o))
+      (λ rs ss a b r h k o. fold_both rs ss a b r h k (joins a b r o))

@@ -1,6 +1,6 @@
 -- Totals, added place by place. A sum that 64 bits don't hold stays at the greatest number they do.
 use Rattle.std.specs.Prelude.{◌≡◌, ℕ, ◌+◌, ◌-◌, ◌^◌, ◌<◌, min}
-use Rattle.std.proofs.Common.{arith, ap}
+use Rattle.std.proofs.Common.{arith}
 use Rattle.uc_fold.specs.declared.totals.Totals.{Totals}
 use Rattle.uc_fold.specs.Joining.{IsLawful}
 
@@ -8,9 +8,11 @@ use Rattle.uc_fold.specs.Joining.{IsLawful}
 abbrev pub held_sum : ℕ → ℕ → ℕ
 held_sum a b = min (a + b) (2 ^ 64 - 1)
 
+-- zero of each
 abbrev pub nothing : Totals
 nothing = record { points = 0; fragments = 0; size = 0 }
 
+-- the sums of both
 abbrev pub added : Totals → Totals → Totals
 added a b = record {
   points = held_sum a.points b.points;
@@ -22,12 +24,15 @@ added a b = record {
 abbrev pub IsHeld : Totals → Type 0
 IsHeld t = (t.points < 2 ^ 64) × (t.fragments < 2 ^ 64) × (t.size < 2 ^ 64)
 
+-- totals of three numbers
 abbrev totals : ℕ → ℕ → ℕ → Totals
 totals p f s = record { points = p; fragments = f; size = s }
 
+-- equal place by place
 same : (p q f g s t : ℕ) → p ≡ q → f ≡ g → s ≡ t → totals p f s ≡ totals q g t
 same p q f g s t a b c = λ i. totals (a i) (b i) (c i)
 
+-- the laws of joining
 pub adding_lawful : IsLawful IsHeld nothing added
 adding_lawful = record {
   unit_fits = (omega arith, omega arith, omega arith);

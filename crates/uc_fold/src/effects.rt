@@ -1,7 +1,7 @@
+ghost use Rattle.std.specs.Prelude.{◌≡◌, ⊤, ℕ, List, Option, fold};
 ghost use Rattle.uc_oper.specs.declared.effect.Effect.{Effect as EffectOf};
-ghost use Rattle.uc_oper.specs.Composition.{composed};
-ghost use Rattle.uc_fold.specs.Composing.{composing_lawful};
-ghost use Rattle.std.specs.Prelude.{⊤};
+ghost use Rattle.uc_oper.specs.Composition.{applied, composed};
+ghost use Rattle.uc_fold.specs.Composing.{applied_in_turn, composing_lawful};
 
 use crate::joins::Joins;
 use std::alloc::{AllocError, Global};
@@ -18,9 +18,9 @@ impl<O: Operator> Joins for Effects<O> {
 
     ghost fits = { λ effect. ⊤ };
 
-    ghost empty = { EffectOf.Keep };
+    ghost unit = { EffectOf.Keep };
 
-    ghost joined = { composed O.meaning };
+    ghost join = { composed O.meaning };
 
     ghost lawful = { composing_lawful O.lawful };
 
@@ -34,3 +34,9 @@ impl<O: Operator> Joins for Effects<O> {
         older.then::<O>(alloc, newer)
     }
 }
+
+/// A fold of effects does to a value what the effects do one after the other.
+pub fn effects_act_in_turn<O: Operator>()
+    ensures { (effects : List EffectOf) (value : Option (List ℕ)) →
+        applied O.meaning (fold (composed O.meaning) EffectOf.Keep effects) value ≡ applied_in_turn O.meaning value effects }
+{}

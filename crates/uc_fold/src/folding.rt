@@ -16,7 +16,7 @@ pub fn fold_all<J: Joins + Sync>(
     alloc: Global,
     parts: Vec<J::Part>,
 ) -> Result<J::Part, AllocError>
-    ensures { IfOk result (λ whole. whole ≡ fold J.joined J.empty parts.items) }
+    ensures { IfOk result (λ whole. whole ≡ fold J.join J.unit parts.items) }
 {
     parts.into_par_iter().map(Ok).reduce(
         rt,

@@ -88,7 +88,7 @@ fn no_totals_add_up_to_zero(rt: HostRuntime) -> Result<(), Fail> {
 }
 
 #[test]
-fn sums_are_held(rt: HostRuntime) -> Result<(), Fail> {
+fn sums_stop_at_the_greatest_number(rt: HostRuntime) -> Result<(), Fail> {
     let alloc = rt.alloc();
     let at = totals(u64::MAX, 2, u64::MAX - 1);
     let both = Sums::join(alloc, at, totals(0, 3, 1))?;
@@ -99,7 +99,7 @@ fn sums_are_held(rt: HostRuntime) -> Result<(), Fail> {
 }
 
 #[test]
-fn long_sums_are_held(rt: HostRuntime) -> Result<(), Fail> {
+fn long_sums_stop_there(rt: HostRuntime) -> Result<(), Fail> {
     let alloc = rt.alloc();
     let mut parts = Vec::new(alloc);
     for _ in 0..5_000 {
@@ -127,4 +127,6 @@ fn laws_hold_of_both(rt: HostRuntime) {
     unit_changes_nothing::<Sums>();
     folds_may_be_cut::<Effects<Counter>>();
     folds_may_be_cut::<Sums>();
+    effects_act_in_turn::<Append<0x2C>>();
+    sums_are_held();
 }

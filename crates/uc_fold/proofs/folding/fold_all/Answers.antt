@@ -1,8 +1,7 @@
 use Rattle.std.proofs.Common.{◌≡◌, fold, ap, ◌∙◌, rules, Ok}
 use Rattle.rayon.proofs.ListFacts.{IfOk-then, AllZip-weaken}
-use Rattle.rayon.proofs.Reducing.{Reduces-elim}
 use Rattle.rayon.specs.Lists.{vec_items}
-use Rattle.uc_fold.proofs.Refusals.{IsFold, fold_none, fold_more, fold_both, granted-all}
+use Rattle.uc_fold.proofs.Refusals.{reduced, granted-all}
 use Rattle.uc_fold.proofs.folding.fold_all.Goals as goal
 
 pub returns : goal.returns
@@ -13,10 +12,5 @@ returns g c =
     let chain = done.1 in
     let given = AllZip-weaken _ (λ p r. r ≡ Ok p) (λ p r h. search rules) chain.0 done.0 chain.2 in
     let list = granted-all chain.0 done.0 given ∙ chain.1 ∙ ap vec_items c.map.ensures.base ∙ c.into_par_iter.ensures in
-    let folded =
-    Reduces-elim _ _ (IsFold laws)
-    (λ r h. fold_none laws r (search rules))
-    (λ rs a x r h o. fold_more laws rs a x r h (search rules))
-    (λ rs ss a b r h k o. fold_both laws rs ss a b r h k (search rules))
-    done.0 c.reduce.result done.2 in
-    IfOk-then c.reduce.result _ _ folded (λ whole e. e ∙ ap (fold g.J.Joins.joined g.J.Joins.empty) list)
+    let folded = reduced laws _ _ (λ r i. search rules) (λ a b r o. search rules) done.0 c.reduce.result done.2 in
+    IfOk-then c.reduce.result _ _ folded (λ whole e. e ∙ ap (fold g.J.Joins.join g.J.Joins.unit) list)
