@@ -4,6 +4,8 @@
 //! prints a line for each write, and then how the log ended. The status is 0 where the log ended cleanly or
 //! is torn, 3 after a fault, and 5 where a device failed or the input is too long.
 
+mod crc32c;
+
 use std::fmt;
 use std::io::{self, BufWriter, Read, Write};
 use std::process::ExitCode;
@@ -13,59 +15,9 @@ const BLOCK: usize = 32_768;
 const HEADER: usize = 7;
 const SEQUENCES: u64 = 1 << 56;
 
-/// Slicing by 8: the remainders of a byte with 0 to 7 zero bytes behind it.
-static TABLES: [[u32; 256]; 8] = tables();
-
-const fn tables() -> [[u32; 256]; 8] {
-    let mut tables = [[0; 256]; 8];
-    let mut byte = 0;
-    while byte < 256 {
-        let mut rest = byte as u32;
-        let mut bit = 0;
-        while bit < 8 {
-            rest = (rest >> 1) ^ (0x82f6_3b78 * (rest & 1));
-            bit += 1;
-        }
-        tables[0][byte] = rest;
-        byte += 1;
-    }
-    let mut place = 1;
-    while place < 8 {
-        let mut byte = 0;
-        while byte < 256 {
-            let rest = tables[place - 1][byte];
-            tables[place][byte] = tables[0][(rest & 0xff) as usize] ^ (rest >> 8);
-            byte += 1;
-        }
-        place += 1;
-    }
-    tables
-}
-
-/// CRC-32C, without the inversions at the start and the end.
-fn update(mut rest: u32, bytes: &[u8]) -> u32 {
-    let mut words = bytes.chunks_exact(8);
-    for word in &mut words {
-        let word = u64::from_le_bytes(word.try_into().unwrap()) ^ u64::from(rest);
-        // The look-ups that wait for the word before stand last.
-        rest = TABLES[0][(word >> 56) as usize]
-            ^ TABLES[1][(word >> 48 & 0xff) as usize]
-            ^ TABLES[2][(word >> 40 & 0xff) as usize]
-            ^ TABLES[3][(word >> 32 & 0xff) as usize]
-            ^ TABLES[4][(word >> 24 & 0xff) as usize]
-            ^ TABLES[5][(word >> 16 & 0xff) as usize]
-            ^ TABLES[6][(word >> 8 & 0xff) as usize]
-            ^ TABLES[7][(word & 0xff) as usize];
-    }
-    for byte in words.remainder() {
-        rest = TABLES[0][(rest as u8 ^ byte) as usize] ^ (rest >> 8);
-    }
-    rest
-}
-
 /// The masked checksum of a record's type and data, which lie one after the other.
 fn checksum(bytes: &[u8]) -> u32 {
-    let crc = !update(!0, bytes);
+    let crc = !crc32c::update(!0, bytes);
     crc.rotate_right(15).wrapping_add(0xa282_ead8)
 }
 

@@ -6,6 +6,8 @@
 //! with values of 2,000 bytes, each of which spans three or four blocks. The log has as many whole
 //! batches as fit the given size.
 
+mod crc32c;
+
 use std::io::{self, BufWriter, Write};
 
 const BLOCK: usize = 32_768;
@@ -16,27 +18,9 @@ const FIRST: u8 = 2;
 const MIDDLE: u8 = 3;
 const LAST: u8 = 4;
 
-/// The remainders of all bytes by the reflected polynomial of CRC-32C.
-const TABLE: [u32; 256] = {
-    let mut table = [0; 256];
-    let mut byte = 0;
-    while byte < 256 {
-        let mut rest = byte as u32;
-        let mut bit = 0;
-        while bit < 8 {
-            rest = (rest >> 1) ^ (0x82f6_3b78 * (rest & 1));
-            bit += 1;
-        }
-        table[byte] = rest;
-        byte += 1;
-    }
-    table
-};
-
 /// The masked checksum of a record's type and data.
 fn checksum(kind: u8, data: &[u8]) -> u32 {
-    let step = |rest: u32, byte: &u8| TABLE[(rest as u8 ^ byte) as usize] ^ (rest >> 8);
-    let crc = !data.iter().fold(step(!0, &kind), step);
+    let crc = !crc32c::update(crc32c::update(!0, &[kind]), data);
     crc.rotate_right(15).wrapping_add(0xa282_ead8)
 }
 

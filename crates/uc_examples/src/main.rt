@@ -9,13 +9,20 @@ use std::alloc::Global;
 use std::fs;
 use std::rt::Files;
 use uc_oper::{Append, Counter, Operator};
-use uc_tool::{Options, dump, play};
+use uc_tool::{Done, Options, dump, play};
 
 /// The delimiter of `--operator append`.
 const COMMA: u8 = b',';
 
-/// Compares what was printed with what a file says.
-fn check<R: Files + AllocGlobal>(rt: &R, path: &str, printed: &[u8]) -> Result<()> {
+/// Compares what was printed with what a file says, and how the run ended: a log whose name says that
+/// it has a fault is a bad one.
+fn check<R: Files + AllocGlobal>(rt: &R, path: &str, printed: &[u8], done: Done) -> Result<()> {
+    let wanted = if path.contains("fault") {
+        Done::BadLog
+    } else {
+        Done::Fine
+    };
+    ensure!(done == wanted, "{path}: the run ended as {done:?}");
     let expected = fs::read(rt, path)?;
     ensure!(
         expected.as_slice() == printed,
@@ -36,8 +43,13 @@ fn check_log<R: Files + AllocGlobal>(rt: &R, name: &str) -> Result<()> {
     let alloc = rt.alloc();
     let log = fs::read(rt, path_of(alloc, name, ".log")?)?;
     let mut printed = Vec::new(alloc);
-    let _done = dump(alloc, &mut log.as_slice(), &mut printed);
-    check(rt, path_of(alloc, name, ".expected")?.as_str(), &printed)
+    let done = dump(alloc, &mut log.as_slice(), &mut printed);
+    check(
+        rt,
+        path_of(alloc, name, ".expected")?.as_str(),
+        &printed,
+        done,
+    )
 }
 
 /// Plays an example of a script.
@@ -45,13 +57,18 @@ fn check_script<O: Operator, R: Files + AllocGlobal>(rt: &R, name: &str) -> Resu
     let alloc = rt.alloc();
     let script = fs::read(rt, path_of(alloc, name, ".script")?)?;
     let mut printed = Vec::new(alloc);
-    let _done = play::<O, &[u8], Vec<u8>>(
+    let done = play::<O, &[u8], Vec<u8>>(
         alloc,
         &mut script.as_slice(),
         &mut printed,
         &Options::usual(),
     );
-    check(rt, path_of(alloc, name, ".expected")?.as_str(), &printed)
+    check(
+        rt,
+        path_of(alloc, name, ".expected")?.as_str(),
+        &printed,
+        done,
+    )
 }
 
 fn main(rt: HostRuntime) -> Result<()> {

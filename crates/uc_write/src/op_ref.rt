@@ -83,7 +83,7 @@ impl<'a> OpRef<'a> {
         }
     }
 
-    /// What it does, and its texts in the order of [`Op`]'s. The second is empty where `Op` has one.
+    /// What it does, and its texts in the order of [`Op`]'s. Where `Op` has one, the second is of no account.
     pub fn parts(&self) -> (OpKind, &'a [u8], &'a [u8])
         ensures { op_of result.0 result.1.now result.2.now ≡ self.now }
     {
