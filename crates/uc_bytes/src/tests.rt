@@ -1,3 +1,4 @@
+//! Bytes and lists on their happy path.
 use super::*;
 use std::test::Fail;
 
@@ -30,5 +31,14 @@ fn bytes_are_copied_and_given_back(rt: HostRuntime) -> Result<(), Fail> {
     let again = Bytes::from(bytes.into_vec());
     assert_eq!(rt; again.as_slice(), b"ab".as_slice());
     assert!(rt; Bytes::from_slice(alloc, b"")?.is_empty());
+    Ok(())
+}
+
+#[test]
+fn items_are_taken_over_and_given_back(rt: HostRuntime) -> Result<(), Fail> {
+    let items = Items::from(Vec::from_slice(rt.alloc(), &[3, 1, 2])?);
+    assert_eq!(rt; items.as_slice(), [3, 1, 2].as_slice());
+    assert_eq!(rt; items.iter().max(), Some(&3));
+    assert_eq!(rt; items.into_vec().as_slice(), [3, 1, 2].as_slice());
     Ok(())
 }

@@ -18,7 +18,6 @@ mod field;
 mod hex_pairs;
 mod laws;
 mod lines;
-mod listing;
 mod printing;
 mod reading;
 mod script;
@@ -32,10 +31,9 @@ pub use laws::{
     a_script_is_its_lines, a_script_names_no_more_than_it_has, printed_bytes_are_read,
     printed_numbers_are_read,
 };
-pub use listing::{Calls, Keeps, Listing, Ops};
 pub use printing::push_number;
 pub use reading::read_script;
-pub use script::Script;
+pub use script::{Calls, Keeps, Ops, Script};
 pub use seq::Seq;
 
 #[cfg(test)]

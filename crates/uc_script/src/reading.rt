@@ -9,10 +9,10 @@ use crate::asking::{CallLine, read_call_line};
 use crate::call::Call;
 use crate::error::ScriptError;
 use crate::lines::next_line;
-use crate::listing::Listing;
 use crate::script::Script;
 use crate::setup::{SetupLine, read_setup_line};
 use std::alloc::Global;
+use uc_bytes::Items;
 use uc_write::Op;
 
 /// What was read up to `open`, and where to go on.
@@ -43,9 +43,9 @@ pub fn read_script(alloc: Global, text: &[u8]) -> Result<Script, ScriptError>
     let opened = read_setup(alloc, text)?;
     let calls = read_calls(alloc, opened.number, opened.rest)?;
     Ok(Script {
-        ops: Listing::from(opened.ops),
-        keeps: Listing::from(opened.keeps),
-        calls: Listing::from(calls),
+        ops: Items::from(opened.ops),
+        keeps: Items::from(opened.keeps),
+        calls: Items::from(calls),
     })
 }
 

@@ -1,4 +1,16 @@
-use crate::listing::{Calls, Keeps, Ops};
+//! [`Script`]: what a script asks.
+use crate::call::Call;
+use uc_bytes::Items;
+use uc_write::Op;
+
+/// The changes that a script writes.
+pub type Ops = Items<Op>;
+
+/// The numbers of a script's `keep` lines.
+pub type Keeps = Items<u64>;
+
+/// What a script asks after its `open`.
+pub type Calls = Items<Call>;
 
 /// What a script asks: the lines before its `open`, and those after it.
 #[derive(Debug, Drop)]

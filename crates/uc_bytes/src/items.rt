@@ -1,0 +1,55 @@
+//! [`Items`]: a vector that contracts see as a list.
+ghost use Rattle.std.specs.Prelude.{◌≡◌};
+ghost use Rattle.std.specs.Slice.Iter.{iter_rest};
+
+use std::marker::Model;
+use std::slice;
+
+/// Items in their order. A contract sees them as the list of what each item is seen as.
+///
+/// It is made from a `Vec` and gives it back without taking memory.
+#[derive(Debug, Drop)]
+pub struct Items<T> {
+    items: Vec<T>,
+}
+
+impl<T> Model for Items<T> {
+    ghost use Rattle.std.specs.Prelude.{List};
+
+    ghost Value = { List T };
+
+    ghost view = { λ list. list.items.items };
+}
+
+impl<T> Items<T> {
+    /// The items as the vector that holds them. It takes no memory.
+    pub fn into_vec(self) -> Vec<T>
+        ensures { result.items ≡ self }
+    {
+        let Items { items } = self;
+        items
+    }
+
+    /// The items.
+    pub fn as_slice(&self) -> &[T]
+        ensures { result.now ≡ self.now }
+    {
+        self.items.as_slice()
+    }
+
+    /// Goes over the items, the first one first.
+    pub fn iter(&self) -> slice::Iter<'_, T>
+        ensures { iter_rest result ≡ self.now }
+    {
+        self.items.iter()
+    }
+}
+
+impl<T> From<Vec<T>> for Items<T> {
+    ghost from_gives = { λ items list. list ≡ items.items };
+
+    /// Takes the vector over, without memory.
+    fn from(items: Vec<T>) -> Items<T> {
+        Items { items }
+    }
+}
