@@ -12,7 +12,7 @@ use Rattle.atomic_table.specs.Table.{State, step, keeps, stepped, Allows, Splits
 use Rattle.atomic_table.proofs.Lists.{at_set, at_snoc, set_else}
 use Rattle.uc_claims.specs.declared.rule.Claimant.{Claimant}
 use Rattle.uc_claims.specs.Holding.{without}
-use Rattle.uc_claims.specs.Claims.{claimant, newcomer, times, times_in_all, Claims, Sitting, Exchanged, Gave, Looked, Ended, AreApart}
+use Rattle.uc_claims.specs.Claims.{claimant, newcomer, times, times_in_all, Claims, Sitting, Exchanged, Gave, Looked, ShowsTaken, AreApart}
 use Rattle.uc_claims.proofs.Times.{times-from_Contains, times-append, times_push, times-without_other, times-without_same, one_same, one_other}
 
 -- the total after a change of one seat
@@ -200,7 +200,7 @@ begins count words long zeros = record {
 
 -- What a closed table's words say of the lists at the end, and where the seat is whole, that no slot is taken
 pub ends : (count id : ℕ) (v : Claimant) (whole : Bool) (words : List ℕ) (homes : List (Unit {0})) (flags : List Bool) → Final (Seen (Rule count) id v) words homes → v.whole ≡ whole → v.slots ≡ []
-    → ((slot : ℕ) → get_or flags slot false ≡ ltb 0 (get_or words slot 0)) → Ended count whole flags
+    → ((slot : ℕ) → get_or flags slot false ≡ ltb 0 (get_or words slot 0)) → ShowsTaken count whole flags
 ends count id v whole words homes flags last is empty says = record {
   words = last.0.words;
   seats = last.0.views;
@@ -214,7 +214,7 @@ ends count id v whole words homes flags last is empty says = record {
     word slot = ⊎_elim (λ (l : slot < count). last.1.0.counted slot l)
         (λ (l : count ≤ slot). get_or_past last.0.words slot 0 (let n = last.1.0.a_word_each in omega arith) ∙ sym (last.1.0.within slot l)) (cases_lt slot count)
 
-pub none_left : (count : ℕ) (whole : Bool) (flags : List Bool) → Ended count whole flags → whole ≡ true → All (λ taken. taken ≡ false) flags
+pub none_left : (count : ℕ) (whole : Bool) (flags : List Bool) → ShowsTaken count whole flags → whole ≡ true → All (λ taken. taken ≡ false) flags
 none_left count whole flags e is k d l =
     let all = only_seat e.seats e.id (claimant whole []) k (e.rule.alone e.id (claimant whole []) e.closer is) e.closer in
     get_or_default flags k d false l ∙ e.flagged k ∙ ap (ltb 0) all

@@ -1,4 +1,4 @@
--- The marks that a seat keeps at run time, through the steps, and the flags of a closed table.
+-- The set of slots that a seat keeps at run time, through the steps, and the flags of a closed table.
 use Rattle.std.proofs.Common.{◌≡◌, ℕ, zero, suc, ◌+◌, ◌/◌, ◌%◌, ◌<◌, ◌≤◌, ◌↔◌, Bool, false, not, eqb, ltb, List, [], ◌∷◌, ◌++◌, length, get_or, set, replicate, sym, refl, ap, ◌∙◌, subst, ⊎_elim, arith, eq-eqb, ne_eqb, below_more, get_or-set_same, get_or-set_other}
 use Rattle.std.specs.Prelude.{Contains}
 use mathlib.Core.Option.{some, some-injective, some-ne-none}
@@ -6,7 +6,7 @@ use lib.ListN.{get_elem?}
 use Rattle.std.proofs.lemmas.Bool.{cases_eq, cases_lt, lt-ltb, le-ltb}
 use Rattle.std.proofs.lemmas.Nat.Bits.{bit_at-lt}
 use Rattle.uc_claims.specs.Holding.{without}
-use Rattle.uc_claims.specs.Claims.{times, mark_at, Recorded}
+use Rattle.uc_claims.specs.Claims.{times, slot_bit, Recorded}
 use Rattle.uc_claims.proofs.Times.{times-cons, times_push, times-without_other, times-without_same, times-from_Contains, Contains-from_times, one_same, one_other}
 
 pub no_flag : (n k : ℕ) → get_or (replicate n false) k false ≡ false
@@ -14,14 +14,14 @@ no_flag zero k = refl
 no_flag (suc n) zero = refl
 no_flag (suc n) (suc k) = no_flag n k
 
-pub Recorded-none : (count : ℕ) (groups : List ℕ) → ((slot : ℕ) → mark_at groups slot ≡ 0) → Recorded count groups []
-Recorded-none count groups none = record { marked = none; inside = λ k l. refl }
+pub Recorded-none : (count : ℕ) (groups : List ℕ) → ((slot : ℕ) → slot_bit groups slot ≡ 0) → Recorded count groups []
+Recorded-none count groups none = record { bits = none; inside = λ k l. refl }
 
--- what the mark of a slot says
-pub marked_held : {count : ℕ} {groups : List ℕ} {slots : List ℕ} → Recorded count groups slots → (slot : ℕ) → (mark_at groups slot ≡ 1) ↔ Contains slots slot
-marked_held {groups = groups} {slots = slots} r slot = (
-  (λ one. Contains-from_times slot slots (omega (arith, r.marked slot))),
-  (λ has. omega (arith, times-from_Contains slot slots has, r.marked slot, bit_at-lt (get_or groups (slot / 64) 0) (slot % 64))),
+-- what the bit of a slot says
+pub in_set : {count : ℕ} {groups : List ℕ} {slots : List ℕ} → Recorded count groups slots → (slot : ℕ) → (slot_bit groups slot ≡ 1) ↔ Contains slots slot
+in_set {groups = groups} {slots = slots} r slot = (
+  (λ one. Contains-from_times slot slots (omega (arith, r.bits slot))),
+  (λ has. omega (arith, times-from_Contains slot slots has, r.bits slot, bit_at-lt (get_or groups (slot / 64) 0) (slot % 64))),
 )
 
 -- a slot that is held is one of the table's
@@ -29,17 +29,17 @@ pub held_below : {count : ℕ} {groups : List ℕ} {slots : List ℕ} → Record
 held_below {count = count} {slots = slots} r slot has =
     ⊎_elim (λ (l : slot < count). l) (λ (l : count ≤ slot). let some = times-from_Contains slot slots has in let none = r.inside slot l in absurd (omega arith)) (cases_lt slot count)
 
--- where no slot is marked, nothing is held
-pub holds_nothing : {count : ℕ} {groups : List ℕ} {slots : List ℕ} → Recorded count groups slots → ((slot : ℕ) → mark_at groups slot ≡ 0) → slots ≡ []
+-- where the set is empty, nothing is held
+pub holds_nothing : {count : ℕ} {groups : List ℕ} {slots : List ℕ} → Recorded count groups slots → ((slot : ℕ) → slot_bit groups slot ≡ 0) → slots ≡ []
 holds_nothing {slots = []} r none = refl
-holds_nothing {slots = x ∷ xs} r none = absurd (omega (arith, times-cons x x xs, one_same x x refl, r.marked x, none x))
+holds_nothing {slots = x ∷ xs} r none = absurd (omega (arith, times-cons x x xs, one_same x x refl, r.bits x, none x))
 
-module _ (count slot : ℕ) (groups new : List ℕ) (slots : List ℕ) (r : Recorded count groups slots) (others : (k : ℕ) → (k ≡ slot → ⊥) → mark_at new k ≡ mark_at groups k) where
-  pub Recorded-won : mark_at new slot ≡ 1 → slot < count → times slot slots ≡ 0 → Recorded count new (slots ++ slot ∷ [])
+module _ (count slot : ℕ) (groups new : List ℕ) (slots : List ℕ) (r : Recorded count groups slots) (others : (k : ℕ) → (k ≡ slot → ⊥) → slot_bit new k ≡ slot_bit groups k) where
+  pub Recorded-won : slot_bit new slot ≡ 1 → slot < count → times slot slots ≡ 0 → Recorded count new (slots ++ slot ∷ [])
   Recorded-won same below free = record {
-    marked = λ k. ⊎_elim
-        (λ (e : k ≡ slot). subst (λ j. mark_at new j ≡ times j (slots ++ slot ∷ [])) (sym e) (omega (arith, same, times_push slot slots slot, one_same slot slot refl)))
-        (λ (ne : k ≡ slot → ⊥). others k ne ∙ r.marked k ∙ sym (other k ne))
+    bits = λ k. ⊎_elim
+        (λ (e : k ≡ slot). subst (λ j. slot_bit new j ≡ times j (slots ++ slot ∷ [])) (sym e) (omega (arith, same, times_push slot slots slot, one_same slot slot refl)))
+        (λ (ne : k ≡ slot → ⊥). others k ne ∙ r.bits k ∙ sym (other k ne))
         (cases_eq k slot);
     inside = λ k l. (let ne : k ≡ slot → ⊥ = λ e. omega arith in other k ne ∙ r.inside k l);
   }
@@ -47,11 +47,11 @@ module _ (count slot : ℕ) (groups new : List ℕ) (slots : List ℕ) (r : Reco
       other : (k : ℕ) → (k ≡ slot → ⊥) → times k (slots ++ slot ∷ []) ≡ times k slots
       other k ne = omega (arith, times_push k slots slot, one_other slot k (λ e. ne (sym e)))
 
-  pub Recorded-gave : mark_at new slot ≡ 0 → Recorded count new (without (slot ∷ []) slots)
+  pub Recorded-gave : slot_bit new slot ≡ 0 → Recorded count new (without (slot ∷ []) slots)
   Recorded-gave same = record {
-    marked = λ k. ⊎_elim
-        (λ (e : k ≡ slot). subst (λ j. mark_at new j ≡ times j (without (slot ∷ []) slots)) (sym e) (same ∙ sym (times-without_same slot slots)))
-        (λ (ne : k ≡ slot → ⊥). others k ne ∙ r.marked k ∙ sym (times-without_other k slot slots ne))
+    bits = λ k. ⊎_elim
+        (λ (e : k ≡ slot). subst (λ j. slot_bit new j ≡ times j (without (slot ∷ []) slots)) (sym e) (same ∙ sym (times-without_same slot slots)))
+        (λ (ne : k ≡ slot → ⊥). others k ne ∙ r.bits k ∙ sym (times-without_other k slot slots ne))
         (cases_eq k slot);
     inside = λ k l. ⊎_elim
         (λ (e : k ≡ slot). ap (λ j. times j (without (slot ∷ []) slots)) e ∙ times-without_same slot slots)

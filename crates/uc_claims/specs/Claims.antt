@@ -56,16 +56,16 @@ abbrev pub Looked : Step (Unit {0}) → Sitting → ℕ → Sitting → Type 0
 Looked at before found after = (after.1 ≡ before.1) × (after.0 ≡ before.0) × (before.0.whole ≡ true → found ≡ times at.word before.0.slots)
 
 -- the bit of a slot, of groups that have a bit each for 64 slots
-abbrev pub mark_at : List ℕ → ℕ → ℕ
-mark_at groups slot = bit_at (slice_index groups (slot / 64)) (slot % 64)
+abbrev pub slot_bit : List ℕ → ℕ → ℕ
+slot_bit groups slot = bit_at (slice_index groups (slot / 64)) (slot % 64)
 
 -- What a seat remembers at run time: a bit for each slot, which is how often the slot stands in its list. There none stands that the table has not
 pub record Recorded (count : ℕ) (groups : List ℕ) (slots : List ℕ) : Type 0 where
-  pub marked : (slot : ℕ) → mark_at groups slot ≡ times slot slots
+  pub bits : (slot : ℕ) → slot_bit groups slot ≡ times slot slots
   pub inside : (slot : ℕ) → count ≤ slot → times slot slots ≡ 0
 
--- What a closed table shows: with the seats' lists at the end, by the rule, which slots stand in one of them still. One of the seats is that which closed it
-pub record Ended (count : ℕ) (whole : Bool) (flags : List Bool) : Type 0 where
+-- What the flags of a closed table show: with the seats' lists at the end, by the rule, which slots stand in one of them still. One of the seats is that which closed it
+pub record ShowsTaken (count : ℕ) (whole : Bool) (flags : List Bool) : Type 0 where
   pub words : List ℕ
   pub seats : List Claimant
   pub id : ℕ

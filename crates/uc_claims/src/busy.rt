@@ -1,3 +1,4 @@
+//! [`Busy`]: the slot that was found taken.
 use thiserror::Error;
 
 /// A slot that was asked for is taken. It names the first one that was found so.

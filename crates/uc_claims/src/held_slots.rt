@@ -2,9 +2,9 @@
 ghost use Rattle.std.specs.Prelude.{◌≡◌, ◌↔◌, [], IsTrue, IfSome, IfNone, Contains};
 ghost use Rattle.uc_claims.specs.Holding.{free_seat};
 
-use crate::marks::Marks;
 use crate::rule::Claimant;
 use crate::seat::Seat;
+use crate::slot_set::SlotSet;
 use atomic_table::Seat as Token;
 use std::marker::Model;
 
@@ -16,7 +16,7 @@ use std::marker::Model;
 pub struct HeldSlots {
     pub(crate) token: Token<(), Claimant>,
     // Which slots stand in the list, which itself exists in proofs alone.
-    pub(crate) marks: Marks,
+    pub(crate) set: SlotSet,
 }
 
 impl Model for HeldSlots {
@@ -29,7 +29,7 @@ impl Model for HeldSlots {
 
     ghost view = { λ h. record { table = h.token.table_id; whole = h.token.me.0.whole; slots = h.token.me.0.slots } };
 
-    ghost invariant = { λ h. (h.token.me.1 ≡ []) × Recorded h.token.table_id.words h.marks.groups h.token.me.0.slots };
+    ghost invariant = { λ h. (h.token.me.1 ≡ []) × Recorded h.token.table_id.words h.set.groups h.token.me.0.slots };
 }
 
 impl HeldSlots {
@@ -41,7 +41,7 @@ impl HeldSlots {
         let Seat { token } = seat;
         HeldSlots {
             token,
-            marks: Marks::none(),
+            set: SlotSet::none(),
         }
     }
 
@@ -51,22 +51,22 @@ impl HeldSlots {
         ensures seat { result ≡ free_seat self.table self.whole }
         ensures same { result ≡ self }
     {
-        let HeldSlots { token, marks: _ } = self;
+        let HeldSlots { token, set: _ } = self;
         Seat { token }
     }
 
     /// One of the slots held here, if there is any.
-    pub(crate) fn first(&self) -> Option<usize>
+    pub(crate) fn any(&self) -> Option<usize>
         ensures some { IfSome result (λ slot. Contains self.now.slots slot) }
         ensures none { IfNone result (self.now.slots ≡ []) }
     {
-        self.marks.first()
+        self.set.any()
     }
 
     /// Whether the slot is among those held here. A slot that the table has not is never.
     pub fn has(&self, slot: usize) -> bool
         ensures { IsTrue result ↔ Contains self.now.slots slot }
     {
-        self.marks.has(slot)
+        self.set.has(slot)
     }
 }

@@ -13,9 +13,9 @@
 mod busy;
 mod held_slots;
 pub mod laws;
-mod marks;
 mod rule;
 mod seat;
+mod slot_set;
 mod table;
 #[cfg(test)]
 mod tests;

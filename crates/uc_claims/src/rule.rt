@@ -5,8 +5,8 @@
 //!
 //! | Kind of step | Made by | What it does |
 //! |---|---|---|
-//! | won exchange | `ClaimTable::win` | the word goes from 0 to 1, and the slot goes behind the seat's list |
-//! | lost exchange | `ClaimTable::win` | the word was 1 and stays, and so does the list |
+//! | won exchange | `ClaimTable::try_take` | the word goes from 0 to 1, and the slot goes behind the seat's list |
+//! | lost exchange | `ClaimTable::try_take` | the word was 1 and stays, and so does the list |
 //! | give | `ClaimTable::free` | the word goes from 1 to 0, and the slot leaves the seat's list |
 //! | look | `ClaimTable::busy` | reads the word, and changes nothing |
 //! | split | `ClaimTable::split` | the seat is not whole any more, and there is a new seat with an empty list |

@@ -2,7 +2,7 @@
 ghost use Rattle.std.specs.Prelude.{◌≡◌, ℕ, ◌<◌, ◌≤◌, ◌++◌, true, false, [], ◌∷◌, All, Contains, IfOk, IfErr, IsOk, OnOk, MatchBool, nat_lt, slice_index, slice_index_or};
 ghost use Rattle.std.specs.Slots.{slots_items, slots_len, IsFull};
 ghost use Rattle.std.specs.Bool.{OnTrue, OnFalse};
-ghost use Rattle.uc_claims.specs.Claims.{Ended};
+ghost use Rattle.uc_claims.specs.Claims.{ShowsTaken};
 ghost use Rattle.uc_claims.specs.Holding.{free_seat, AreDistinct, without, NoneHeld, IsFirstHeld};
 
 use crate::busy::Busy;
@@ -16,10 +16,10 @@ use std::marker::Model;
 /// The most slots that a table may have.
 pub const MOST_SLOTS: usize = 64;
 
-// A claim word while nobody has its slot.
+/// A claim word while nobody has its slot.
 const FREE: u64 = 0;
 
-// A claim word while somebody has its slot.
+/// A claim word while somebody has its slot.
 const TAKEN: u64 = 1;
 
 /// A word for each slot, by which threads claim slots. Threads share it by reference.
@@ -81,6 +81,9 @@ impl ClaimTable {
     ///
     /// At the first one that is taken already it gives those before it back, and the answer is that slot
     /// with the seat as it was. A whole seat gets what it asks for.
+    ///
+    /// Of a refusal the contract says that the slot was asked for, and not that it is taken: the other seats'
+    /// lists are known to nobody. That it is, the tests of two seats and of four threads hold.
     pub fn take(&self, seat: Seat, slots: &[usize]) -> Result<HeldSlots, (Seat, Busy)>
         requires table { seat.table ≡ self.now.table }
         requires below { All (λ slot. slot < self.now.count) slots.now }
@@ -91,7 +94,7 @@ impl ClaimTable {
         ensures whole { seat.whole ≡ true → IsOk result }
     {
         let mut held = HeldSlots::none(seat);
-        match self.take_all(&mut held, slots) {
+        match self.take_more_in_place(&mut held, slots) {
             Ok(()) => Ok(held),
             Err(busy) => Err((held.into_seat(), busy)),
         }
@@ -115,10 +118,30 @@ impl ClaimTable {
         ensures busy { IfErr result (λ refused. (refused.0 ≡ held) × Contains slots.now refused.1.0) }
         ensures whole { held.whole ≡ true → IfErr result (λ refused. IsFirstHeld slots.now held.slots refused.1.0) }
     {
-        match self.take_all(&mut held, slots) {
+        match self.take_more_in_place(&mut held, slots) {
             Ok(()) => Ok(held),
             Err(busy) => Err((held, busy)),
         }
+    }
+
+    /// Takes further slots as [`take_more`](ClaimTable::take_more) does, for an owner who can't give the held
+    /// ones out of its hands. A refusal leaves what is held as it was.
+    pub fn take_more_in_place(&self, held: &mut HeldSlots, slots: &[usize]) -> Result<(), Busy>
+        requires table { held.old.table ≡ self.now.table }
+        requires below { All (λ slot. slot < self.now.count) slots.now }
+        requires distinct { AreDistinct slots.now }
+        ensures ok { OnOk result (held.new ≡ record held.old { slots = held.old.slots ++ slots.now }) }
+        ensures apart { OnOk result (NoneHeld slots.now held.old.slots) }
+        ensures busy { IfErr result (λ busy. (held.new ≡ held.old) × Contains slots.now busy.0) }
+        ensures whole { held.old.whole ≡ true → IfErr result (λ busy. IsFirstHeld slots.now held.old.slots busy.0) }
+    {
+        for (taken, &slot) in slots.iter().enumerate() {
+            if !self.try_take(held, slot) {
+                self.give_some_in_place(held, &slots[..taken]);
+                return Err(Busy(slot));
+            }
+        }
+        Ok(())
     }
 
     /// Gives some of the slots back. The others stay held, in their order.
@@ -128,8 +151,21 @@ impl ClaimTable {
         requires held { All (Contains held.slots) slots.now }
         ensures { result ≡ record held { slots = without slots.now held.slots } }
     {
-        self.free_all(&mut held, slots);
+        self.give_some_in_place(&mut held, slots);
         held
+    }
+
+    /// Gives some of the slots back as [`give_some`](ClaimTable::give_some) does, for an owner who can't give
+    /// the held ones out of its hands.
+    pub fn give_some_in_place(&self, held: &mut HeldSlots, slots: &[usize])
+        requires table { held.old.table ≡ self.now.table }
+        requires distinct { AreDistinct slots.now }
+        requires held { All (Contains held.old.slots) slots.now }
+        ensures { held.new ≡ record held.old { slots = without slots.now held.old.slots } }
+    {
+        for &slot in slots {
+            self.free(held, slot);
+        }
     }
 
     /// Gives all slots back.
@@ -137,7 +173,7 @@ impl ClaimTable {
         requires { held.table ≡ self.now.table }
         ensures { result ≡ free_seat held.table held.whole }
     {
-        while let Some(slot) = held.first() {
+        while let Some(slot) = held.any() {
             self.free(&mut held, slot);
         }
         held.into_seat()
@@ -158,9 +194,13 @@ impl ClaimTable {
 
     /// Ends the table, and says which slots stand in the list of some seat still: of one that was dropped with
     /// its slots, or that is left over. Past the last slot of the table the flags are false.
+    ///
+    /// To a whole seat all are false. For another seat any flags of the table's slots meet the contract, since
+    /// nothing is known of the lists of other seats: that a flag is true exactly where the slot's word is 1, the
+    /// test `dropped_slots_stay_taken` holds.
     pub fn close(self, seat: Seat) -> [bool; MOST_SLOTS]
         requires { seat.table ≡ self.table }
-        ensures flags { Ended self.count seat.whole result }
+        ensures flags { ShowsTaken self.count seat.whole result }
         ensures past { (slot : ℕ) → self.count ≤ slot → slice_index_or result slot false ≡ false }
         ensures whole { seat.whole ≡ true → All (λ taken. taken ≡ false) result }
     {
@@ -173,27 +213,8 @@ impl ClaimTable {
         flags
     }
 
-    // Takes these slots, all of them or none.
-    fn take_all(&self, held: &mut HeldSlots, slots: &[usize]) -> Result<(), Busy>
-        requires table { held.old.table ≡ self.now.table }
-        requires below { All (λ slot. slot < self.now.count) slots.now }
-        requires distinct { AreDistinct slots.now }
-        ensures ok { OnOk result (held.new ≡ record held.old { slots = held.old.slots ++ slots.now }) }
-        ensures apart { OnOk result (NoneHeld slots.now held.old.slots) }
-        ensures busy { IfErr result (λ busy. (held.new ≡ held.old) × Contains slots.now busy.0) }
-        ensures whole { held.old.whole ≡ true → IfErr result (λ busy. IsFirstHeld slots.now held.old.slots busy.0) }
-    {
-        for (taken, &slot) in slots.iter().enumerate() {
-            if !self.win(held, slot) {
-                self.free_all(held, &slots[..taken]);
-                return Err(Busy(slot));
-            }
-        }
-        Ok(())
-    }
-
-    // Takes one slot, if it is free: a won or a lost exchange.
-    fn win(&self, held: &mut HeldSlots, slot: usize) -> bool
+    /// Takes one slot, if it is free: a won or a lost exchange.
+    fn try_take(&self, held: &mut HeldSlots, slot: usize) -> bool
         requires table { held.old.table ≡ self.now.table }
         requires below { slot < self.now.count }
         ensures held { MatchBool result (held.new ≡ record held.old { slots = held.old.slots ++ slot ∷ [] }) (held.new ≡ held.old) }
@@ -207,34 +228,22 @@ impl ClaimTable {
         if found != FREE {
             return false;
         }
-        held.marks.add(slot);
+        held.set.add(slot);
         true
     }
 
-    // Gives one slot back.
+    /// Gives one slot back.
     fn free(&self, held: &mut HeldSlots, slot: usize)
         requires table { held.old.table ≡ self.now.table }
         requires held { Contains held.old.slots slot }
         ensures { held.new ≡ record held.old { slots = without (slot ∷ []) held.old.slots } }
     {
         self.table.shared.store::<Give>(&mut held.token, slot, FREE);
-        held.marks.remove(slot);
-    }
-
-    // Gives these slots back.
-    fn free_all(&self, held: &mut HeldSlots, slots: &[usize])
-        requires table { held.old.table ≡ self.now.table }
-        requires distinct { AreDistinct slots.now }
-        requires held { All (Contains held.old.slots) slots.now }
-        ensures { held.new ≡ record held.old { slots = without slots.now held.old.slots } }
-    {
-        for &slot in slots {
-            self.free(held, slot);
-        }
+        held.set.remove(slot);
     }
 }
 
-// Which words of a closed table are not 0.
+/// Which words of a closed table are not 0.
 fn taken_flags(closed: &Closed<(), Global>, count: usize) -> [bool; MOST_SLOTS]
     requires counts { (count ≡ slots_len closed.now.words) × (count ≤ MOST_SLOTS) }
     requires full { IsFull closed.now.words }

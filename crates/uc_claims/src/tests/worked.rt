@@ -1,3 +1,4 @@
+//! Sequences of takes and gives with their answers, worked by hand.
 use crate::{Busy, ClaimTable, MOST_SLOTS};
 use std::test::Fail;
 
@@ -33,6 +34,23 @@ fn two_seats_of_one_table(rt: HostRuntime) -> Result<(), Fail> {
     let a = table.give(a);
     let b = table.give(b);
     let seat = table.join(a, b);
+    assert!(rt; table.close(seat) == [false; MOST_SLOTS]);
+    Ok(())
+}
+
+#[test]
+fn slots_change_in_the_owners_hands(rt: HostRuntime) -> Result<(), Fail> {
+    let (table, seat) = ClaimTable::new(rt.alloc(), 4)?;
+    let Ok(mut held) = table.take(seat, &[]) else {
+        panic!(rt; "nothing is asked for")
+    };
+    assert!(rt; table.take_more_in_place(&mut held, &[2, 1]).is_ok());
+    assert!(rt; held.has(1) && held.has(2));
+    assert_eq!(rt; table.take_more_in_place(&mut held, &[0, 1]), Err(Busy(1)));
+    assert!(rt; !held.has(0) && held.has(1));
+    table.give_some_in_place(&mut held, &[2]);
+    assert!(rt; held.has(1) && !held.has(2));
+    let seat = table.give(held);
     assert!(rt; table.close(seat) == [false; MOST_SLOTS]);
     Ok(())
 }

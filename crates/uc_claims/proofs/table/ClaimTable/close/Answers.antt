@@ -1,5 +1,5 @@
 use Rattle.std.proofs.Common.{ap, ◌∙◌}
-use Rattle.uc_claims.specs.Claims.{Ended}
+use Rattle.uc_claims.specs.Claims.{ShowsTaken}
 use Rattle.uc_claims.proofs.Moves.{ends, none_left}
 use Rattle.uc_claims.proofs.table.ClaimTable.close.Goals as goal
 
@@ -10,6 +10,6 @@ returns-clause-flags c =
 
 pub returns-clause-whole : goal.returns-clause-whole
 returns-clause-whole c =
-    let end : Ended c.self.inside.table.shared.key c.args.seat.whole c.taken_flags-flags.result =
+    let end : ShowsTaken c.self.inside.table.shared.key c.args.seat.whole c.taken_flags-flags.result =
     ends _ _ _ _ _ _ _ c.close_with-closed.ensures.values.2 (ap (λ s. s.whole) c.seat.view_is) c.seat.invariant.1 c.taken_flags-flags.ensures in
     none_left _ _ _ end

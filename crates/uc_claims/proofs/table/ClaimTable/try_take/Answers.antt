@@ -5,7 +5,7 @@ use Rattle.uc_claims.specs.Claims.{Recorded}
 use Rattle.uc_claims.proofs.Times.{Contains-from_times}
 use Rattle.uc_claims.proofs.Records.{Recorded-won}
 use Rattle.uc_claims.proofs.Moves.{exchanges}
-use Rattle.uc_claims.proofs.table.ClaimTable.win.Goals as goal
+use Rattle.uc_claims.proofs.table.ClaimTable.try_take.Goals as goal
 
 pub compare_exchange-found-requires : goal.compare_exchange-found-requires
 compare_exchange-found-requires c =
@@ -19,8 +19,8 @@ invariant_of-held c =
     let e = c.compare_exchange-found.ensures in
     let lost = MatchBool-at_false _ _ (ne_eqb _ 0 c.if-found-ne-FREE.true) e.2.1 in (
       e.2.0 ∙ c.held.invariant.0,
-      subst (λ (n : ℕ). Recorded n c.held.inside.marks.groups c.compare_exchange-found.new.seat.me.0.slots) (sym (ap (λ t. t.words) e.0))
-          (subst (λ (slots : List ℕ). Recorded c.held.inside.token.table_id.words c.held.inside.marks.groups slots) (sym (ap (λ v. v.slots) lost.0)) c.held.invariant.1),
+      subst (λ (n : ℕ). Recorded n c.held.inside.set.groups c.compare_exchange-found.new.seat.me.0.slots) (sym (ap (λ t. t.words) e.0))
+          (subst (λ (slots : List ℕ). Recorded c.held.inside.token.table_id.words c.held.inside.set.groups slots) (sym (ap (λ v. v.slots) lost.0)) c.held.invariant.1),
     )
 
 pub invariant_of-held-2 : goal.invariant_of-held-2

@@ -1,6 +1,6 @@
 use Rattle.std.proofs.Common.{◌≡◌, ◌++◌, take}
 use Rattle.uc_claims.specs.Holding.{NoneHeld}
-use Rattle.uc_claims.proofs.table.ClaimTable.take_all.Given as goal
+use Rattle.uc_claims.proofs.table.ClaimTable.take_more_in_place.Given as goal
 
 abbrev pub invariant-loop-taken : goal.invariant-loop-taken
 invariant-loop-taken l = record {

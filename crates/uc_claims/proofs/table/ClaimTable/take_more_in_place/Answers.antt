@@ -5,36 +5,36 @@ use Rattle.std.proofs.lemmas.List.{append_assoc, take_more, take_all}
 use Rattle.std.proofs.lemmas.List.Elements.{All-contains_itself, All-more, All-weaker, Contains-append_left, Contains-append_right, Contains-get_or}
 use Rattle.uc_claims.specs.Holding.{Holding, without, NoneHeld}
 use Rattle.uc_claims.proofs.Times.{AreDistinct-take, taken_back, first_held}
-use Rattle.uc_claims.proofs.table.ClaimTable.take_all.Goals as goal
+use Rattle.uc_claims.proofs.table.ClaimTable.take_more_in_place.Goals as goal
 
-pub free_all-requires-clause-distinct : goal.free_all-requires-clause-distinct
-free_all-requires-clause-distinct c = AreDistinct-take c.loop-taken.taken c.args.slots.now c.requires.distinct
+pub give_some_in_place-requires-clause-distinct : goal.give_some_in_place-requires-clause-distinct
+give_some_in_place-requires-clause-distinct c = AreDistinct-take c.loop-taken.taken c.args.slots.now c.requires.distinct
 
-pub free_all-requires-clause-held : goal.free_all-requires-clause-held
-free_all-requires-clause-held c =
+pub give_some_in_place-requires-clause-held : goal.give_some_in_place-requires-clause-held
+give_some_in_place-requires-clause-held c =
     let own = c.args.held.now.slots in
     let taken = take c.loop-taken.taken c.args.slots.now in
-    let same = MatchBool-at_false _ _ c.if-not-win.true c.win.ensures.held ∙ c.loop-taken.invariant.held in
+    let same = MatchBool-at_false _ _ c.if-not-try_take.true c.try_take.ensures.held ∙ c.loop-taken.invariant.held in
     subst (λ (slots : List ℕ). All (Contains slots) taken) (sym (ap (λ h. h.slots) same))
     (All-weaker (Contains taken) (Contains (own ++ taken)) (λ x has. Contains-append_right own taken x has) taken (All-contains_itself taken))
 
-pub returns-then-not-win-clause-busy : goal.returns-then-not-win-clause-busy
-returns-then-not-win-clause-busy c =
+pub returns-then-not-try_take-clause-busy : goal.returns-then-not-try_take-clause-busy
+returns-then-not-try_take-clause-busy c =
     let own = c.args.held.now.slots in
     let taken = take c.loop-taken.taken c.args.slots.now in
-    let same = MatchBool-at_false _ _ c.if-not-win.true c.win.ensures.held ∙ c.loop-taken.invariant.held in (
-      c.free_all.ensures
+    let same = MatchBool-at_false _ _ c.if-not-try_take.true c.try_take.ensures.held ∙ c.loop-taken.invariant.held in (
+      c.give_some_in_place.ensures
           ∙ ap {A = Holding} {B = Holding} (λ h. record h { slots = without taken h.slots }) same
           ∙ ap {A = List ℕ} {B = Holding} (λ slots. record c.args.held.now { slots = slots }) (taken_back own taken c.loop-taken.invariant.apart),
       Contains-get_or c.args.slots.now c.loop-taken.taken 0 c.loop-taken-test.true,
     )
 
-pub returns-then-not-win-clause-whole : goal.returns-then-not-win-clause-whole
-returns-then-not-win-clause-whole c whole =
+pub returns-then-not-try_take-clause-whole : goal.returns-then-not-try_take-clause-whole
+returns-then-not-try_take-clause-whole c whole =
     let i = c.loop-taken.taken in
     let slot = get_or c.args.slots.now i 0 in
     let before = c.loop-taken.invariant.held in
-    let has = OnFalse_at c.if-not-win.true c.win.ensures.lost (ap (λ h. h.whole) before ∙ whole) in
+    let has = OnFalse_at c.if-not-try_take.true c.try_take.ensures.lost (ap (λ h. h.whole) before ∙ whole) in
     first_held c.args.slots.now c.args.held.now.slots i c.loop-taken-test.true c.requires.distinct c.loop-taken.invariant.apart (subst (λ slots. Contains slots slot) (ap (λ h. h.slots) before) has)
 
 pub loop-taken-preserved : goal.loop-taken-preserved
@@ -44,8 +44,8 @@ loop-taken-preserved c =
     let own = c.args.held.now.slots in
     let slot = get_or slots i 0 in
     let before = c.loop-taken.invariant.held in
-    let won = MatchBool-at_true _ _ c.if-not-win.false c.win.ensures.held in
-    let new = OnTrue_at c.if-not-win.false c.win.ensures.won in
+    let won = MatchBool-at_true _ _ c.if-not-try_take.false c.try_take.ensures.held in
+    let new = OnTrue_at c.if-not-try_take.false c.try_take.ensures.won in
     record {
       held = won
           ∙ ap {A = Holding} {B = Holding} (λ h. record h { slots = h.slots ++ slot ∷ [] }) before

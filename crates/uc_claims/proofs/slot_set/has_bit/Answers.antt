@@ -1,7 +1,7 @@
 use Rattle.std.proofs.Common.{arith, tests}
 use Rattle.std.proofs.lemmas.Nat.{one_shl, pow_pos}
 use Rattle.std.proofs.lemmas.Nat.Bits.{and_pow}
-use Rattle.uc_claims.proofs.marks.has_bit.Goals as goal
+use Rattle.uc_claims.proofs.slot_set.has_bit.Goals as goal
 
 pub returns : goal.returns
 returns c = grind (arith, tests, one_shl c.args.place 64 c.requires, and_pow c.args.bits c.args.place, pow_pos c.args.place)

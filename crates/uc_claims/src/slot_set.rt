@@ -1,34 +1,35 @@
-//! A bit for each slot that a table may have.
+//! [`SlotSet`]: a set of slots, one bit each.
 ghost use Rattle.std.specs.Prelude.{◌≡◌, ◌≢◌, ℕ, ◌<◌, ◌↔◌, IsTrue, IfSome, IfNone};
 ghost use Rattle.std.specs.Int.{bit_at};
-ghost use Rattle.uc_claims.specs.Claims.{mark_at};
+ghost use Rattle.uc_claims.specs.Claims.{slot_bit};
 
 use crate::table::MOST_SLOTS;
 
-// How many slots share a group.
+/// How many slots share a group.
 const BITS: usize = 64;
 
+/// How many groups there are.
 const GROUPS: usize = MOST_SLOTS / BITS;
 
-/// Which slots are marked. It is moved with each take and give, so it is to be a few numbers at the most.
+/// A set of slots. It is moved with each take and give, so it is a few numbers at the most.
 #[derive(Drop)]
-pub(crate) struct Marks {
+pub(crate) struct SlotSet {
     groups: [u64; GROUPS],
 }
 
-impl Marks {
-    /// No slot is marked.
-    pub(crate) fn none() -> Marks
-        ensures { (slot : ℕ) → mark_at result.groups slot ≡ 0 }
+impl SlotSet {
+    /// The set without slots.
+    pub(crate) fn none() -> SlotSet
+        ensures { (slot : ℕ) → slot_bit result.groups slot ≡ 0 }
     {
-        Marks {
+        SlotSet {
             groups: [0; GROUPS],
         }
     }
 
-    /// Whether the slot is marked. A slot that no table has is never.
+    /// Whether the slot is in the set. A slot that no table has is never.
     pub(crate) fn has(&self, slot: usize) -> bool
-        ensures { IsTrue result ↔ (mark_at self.now.groups slot ≡ 1) }
+        ensures { IsTrue result ↔ (slot_bit self.now.groups slot ≡ 1) }
     {
         match self.groups.get(slot / BITS) {
             Some(bits) => has_bit(*bits, slot % BITS),
@@ -36,28 +37,28 @@ impl Marks {
         }
     }
 
-    /// Marks the slot.
+    /// Puts the slot into the set.
     pub(crate) fn add(&mut self, slot: usize)
         requires { slot < MOST_SLOTS }
-        ensures same { mark_at self.new.groups slot ≡ 1 }
-        ensures others { (k : ℕ) → k ≢ slot → mark_at self.new.groups k ≡ mark_at self.old.groups k }
+        ensures same { slot_bit self.new.groups slot ≡ 1 }
+        ensures others { (k : ℕ) → k ≢ slot → slot_bit self.new.groups k ≡ slot_bit self.old.groups k }
     {
         self.groups[slot / BITS] = with_bit(self.groups[slot / BITS], slot % BITS);
     }
 
-    /// Takes the slot's mark away.
+    /// Takes the slot out of the set.
     pub(crate) fn remove(&mut self, slot: usize)
         requires { slot < MOST_SLOTS }
-        ensures same { mark_at self.new.groups slot ≡ 0 }
-        ensures others { (k : ℕ) → k ≢ slot → mark_at self.new.groups k ≡ mark_at self.old.groups k }
+        ensures same { slot_bit self.new.groups slot ≡ 0 }
+        ensures others { (k : ℕ) → k ≢ slot → slot_bit self.new.groups k ≡ slot_bit self.old.groups k }
     {
         self.groups[slot / BITS] = without_bit(self.groups[slot / BITS], slot % BITS);
     }
 
-    /// One of the slots marked, if there is any.
-    pub(crate) fn first(&self) -> Option<usize>
-        ensures some { IfSome result (λ slot. mark_at self.now.groups slot ≡ 1) }
-        ensures none { IfNone result ((slot : ℕ) → mark_at self.now.groups slot ≡ 0) }
+    /// One of the slots in the set, if there is any.
+    pub(crate) fn any(&self) -> Option<usize>
+        ensures some { IfSome result (λ slot. slot_bit self.now.groups slot ≡ 1) }
+        ensures none { IfNone result ((slot : ℕ) → slot_bit self.now.groups slot ≡ 0) }
     {
         for (group, bits) in self.groups.iter().enumerate() {
             if *bits != 0 {

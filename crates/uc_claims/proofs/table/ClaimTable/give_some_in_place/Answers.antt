@@ -3,7 +3,7 @@ use Rattle.std.specs.Prelude.{Contains}
 use Rattle.std.proofs.lemmas.List.{take_more}
 use Rattle.uc_claims.specs.Holding.{Holding, without}
 use Rattle.uc_claims.proofs.Times.{without-nil, without_push, still_held}
-use Rattle.uc_claims.proofs.table.ClaimTable.free_all.Goals as goal
+use Rattle.uc_claims.proofs.table.ClaimTable.give_some_in_place.Goals as goal
 
 pub loop-slot-init : goal.loop-slot-init
 loop-slot-init c = ap (λ slots. record c.args.held.now { slots = slots }) (sym (without-nil c.args.held.now.slots))
