@@ -1,34 +1,35 @@
 #!/bin/bash
 # Measures `ucstore dump` against the same work in plain Rust.
 #
-#     bench/dump.sh PATH_OF_UCSTORE
+#     bench/dump/run.sh
 #
-# Give it the built program itself (crates/ucstore/out/ucstore), since a wrapper's time counts too. It
-# builds dump_baseline.rs and make_log.rs by `rustc -O` in a temporary folder, makes logs of 1, 16 and
+# It measures the built program itself (crates/ucstore/out/ucstore, or OURS), since a wrapper's time counts too. It
+# builds baseline.rs and ../make_log.rs by `rustc -O` in a temporary folder, makes logs of 1, 16 and
 # 64 MiB, checks that both programs print the same bytes with the same status, for damaged logs too, and
 # prints for each the least seconds of three runs into /dev/null, MiB of log a second, and the most memory
 # that a run held.
 set -u -o pipefail
 
 here=$(cd "$(dirname "${BASH_SOURCE[0]}")" && pwd) || exit 1
-[ $# -eq 1 ] || { echo "usage: $0 PATH_OF_UCSTORE" >&2; exit 2; }
-ucstore=$(realpath -e "$1") || exit 2
+ucstore=$(realpath -e "${OURS:-$here/../../crates/ucstore/out/ucstore}") || exit 2
 folder=$(mktemp -d) || exit 1
 trap 'rm -rf "$folder"' EXIT
 
 fail() {
-    echo "dump.sh: $*" >&2
+    echo "run.sh: $*" >&2
     exit 1
 }
 
-build() {
-    rustc --edition 2021 -O -o "$folder/$1" "$here/$1.rs" || fail "$1.rs doesn't build"
+build() { # SOURCE
+    local program
+    program=$folder/$(basename "$1" .rs)
+    rustc --edition 2021 -O -o "$program" "$1" || fail "$1 doesn't build"
 }
 
 run() { # PROGRAM: runs it over standard input
     case $1 in
         ucstore) "$ucstore" dump ;;
-        baseline) "$folder/dump_baseline" ;;
+        baseline) "$folder/baseline" ;;
     esac
 }
 
@@ -93,7 +94,7 @@ seconds() { # PROGRAM LOG: the least of three runs
 kibibytes() { # PROGRAM LOG: the most memory
     case $1 in
         ucstore) /usr/bin/time -f %M -o "$folder/memory" "$ucstore" dump ;;
-        baseline) /usr/bin/time -f %M -o "$folder/memory" "$folder/dump_baseline" ;;
+        baseline) /usr/bin/time -f %M -o "$folder/memory" "$folder/baseline" ;;
     esac < "$2" > /dev/null
     tail -n 1 "$folder/memory"
 }
@@ -121,8 +122,8 @@ table() {
     }'
 }
 
-build make_log
-build dump_baseline
+build "$here/../make_log.rs"
+build "$here/baseline.rs"
 check_vectors
 for kind in small large; do
     for size in 1 16 64; do

@@ -7,6 +7,7 @@ use uc_batch::{Op, Write, Writes};
 use uc_bytes::Bytes;
 use uc_oper::{Append, Counter, Maximum, Operator};
 use uc_query::{Answer, Query, answer_writes};
+use uc_tests_formats::lines::{field, op_line};
 use uc_tool::Done;
 
 /// A linear congruential generator, with the constants of Knuth's MMIX.
@@ -82,32 +83,6 @@ impl Dice {
             },
         })
     }
-}
-
-/// A field of bytes.
-fn field(alloc: Global, bytes: &Bytes) -> Result<String, Fail> {
-    if bytes.is_empty() {
-        return Ok(String::from_str(alloc, ".")?);
-    }
-    Ok(hex::encode(alloc, bytes.as_slice())?)
-}
-
-/// The line of a change.
-pub fn op_line(alloc: Global, op: &Op) -> Result<String, Fail> {
-    let (word, first, second) = match op {
-        Op::Put(key, value) => ("put", key, Some(value)),
-        Op::Delete(key) => ("delete", key, None),
-        Op::Merge(key, operand) => ("merge", key, Some(operand)),
-        Op::DeleteRange(begin, end) => ("range", begin, Some(end)),
-    };
-    let first = field(alloc, first)?;
-    Ok(match second {
-        None => format!(in alloc; "{word} {first}\n")?,
-        Some(second) => {
-            let second = field(alloc, second)?;
-            format!(in alloc; "{word} {first} {second}\n")?
-        }
-    })
 }
 
 /// The line of a query.

@@ -4,6 +4,7 @@
 //! prints a line for each write, and then how the log ended. The status is 0 where the log ended cleanly or
 //! is torn, 3 after a fault, and 5 where a device failed or the input is too long.
 
+#[path = "../crc32c.rs"]
 mod crc32c;
 
 use std::fmt;

@@ -1,5 +1,5 @@
 //! Logs that are known by their payloads, and what is asserted of what damage leaves of them.
-use crate::random::op_line;
+use crate::lines::op_line;
 use std::alloc::Global;
 use std::process::Abort;
 use std::test::Fail;
