@@ -3,9 +3,9 @@ use Rattle.std.proofs.Common.{◌≡◌, ℕ, suc, ◌+◌, true, false, List, [
 use Rattle.std.specs.Prelude.{position, IsSome, ◌⊎◌, filter_map}
 use Rattle.std.specs.List.{cons_option}
 use Rattle.std.specs.Option.{option_map}
-use Rattle.uc_script.specs.declared.asking.CallLine.{CallLine}
-use Rattle.uc_script.specs.declared.setup.SetupLine.{SetupLine}
-use Rattle.uc_script.specs.declared.setup.SetupLine.TheVariants as setup
+use Rattle.uc_script.specs.declared.call_line.CallLine.{CallLine}
+use Rattle.uc_script.specs.declared.setup_line.SetupLine.{SetupLine}
+use Rattle.uc_script.specs.declared.setup_line.SetupLine.TheVariants as setup
 use Rattle.uc_script.specs.declared.script.Script.{Script}
 use Rattle.uc_script.specs.Cases.{AreSetup, AreCalls, ComesTo, asks, no_setup, no_open, no_call}
 use Rattle.uc_script.specs.Lines.{lines_of}

@@ -1,6 +1,7 @@
 pub mod Cuts
 pub mod Faults
 pub mod First
+pub mod HexPairs
 pub mod Judged
 pub mod Numbers
 pub mod Printed

@@ -15,8 +15,8 @@ use Rattle.uc_script.specs.Lines.{lines_of, fields_of, is_skipped, says}
 use Rattle.uc_script.specs.Texts.{◌>>=◌, text_of, number_of}
 use Rattle.uc_script.specs.Script.{with_one, with_two, setup_of, setup_line, changed, change_in, script_of}
 use Rattle.uc_script.specs.Cases.{ComesTo, asks, no_setup, no_open, no_call}
-use Rattle.uc_script.specs.declared.setup.SetupLine.{SetupLine}
-use Rattle.uc_script.specs.declared.setup.SetupLine.TheVariants as setup
+use Rattle.uc_script.specs.declared.setup_line.SetupLine.{SetupLine}
+use Rattle.uc_script.specs.declared.setup_line.SetupLine.TheVariants as setup
 use Rattle.uc_script.specs.declared.script.Script.{Script}
 use Rattle.uc_script.specs.Short.{IsShort, AreNoLonger}
 

@@ -5,10 +5,10 @@ use Rattle.std.specs.List.{filter_map}
 use Rattle.std.specs.Option.{option_map}
 use Rattle.std.proofs.lemmas.List.{append-nil}
 use Rattle.uc_script.specs.declared.call.Call.{Call}
-use Rattle.uc_script.specs.declared.setup.SetupLine.{SetupLine}
-use Rattle.uc_script.specs.declared.setup.SetupLine.TheVariants as setup
-use Rattle.uc_script.specs.declared.asking.CallLine.{CallLine}
-use Rattle.uc_script.specs.declared.asking.CallLine.TheVariants as asking
+use Rattle.uc_script.specs.declared.setup_line.SetupLine.{SetupLine}
+use Rattle.uc_script.specs.declared.setup_line.SetupLine.TheVariants as setup
+use Rattle.uc_script.specs.declared.call_line.CallLine.{CallLine}
+use Rattle.uc_script.specs.declared.call_line.CallLine.TheVariants as asking
 use Rattle.uc_script.specs.declared.script.Script.{Script}
 use Rattle.uc_write.specs.declared.op.Op.{Op}
 use Rattle.uc_script.specs.Lines.{lines_of}

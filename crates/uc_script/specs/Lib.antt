@@ -5,4 +5,3 @@ pub mod Script
 pub mod Reading
 pub mod Cases
 pub mod Short
-pub mod HexPairs

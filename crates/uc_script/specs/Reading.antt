@@ -4,8 +4,8 @@ use Rattle.uc_script.specs.Script.{setup_line, call_line}
 use Rattle.uc_script.specs.declared.error.ScriptError.{ScriptError}
 use Rattle.uc_script.specs.declared.error.ScriptError.TheVariants as errors
 use Rattle.uc_script.specs.declared.call.Call.{Call}
-use Rattle.uc_script.specs.declared.setup.SetupLine.TheVariants as setup
-use Rattle.uc_script.specs.declared.asking.CallLine.TheVariants as asking
+use Rattle.uc_script.specs.declared.setup_line.SetupLine.TheVariants as setup
+use Rattle.uc_script.specs.declared.call_line.CallLine.TheVariants as asking
 use Rattle.uc_script.specs.declared.reading.Opened.{Opened}
 use Rattle.uc_script.specs.Lines.{lines_of}
 use Rattle.uc_write.specs.declared.op.Op.{Op}

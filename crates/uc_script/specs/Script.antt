@@ -6,10 +6,10 @@ use Rattle.uc_script.specs.Lines.{lines_of, fields_of, is_skipped, says}
 use Rattle.uc_script.specs.Texts.{◌>>=◌, number_of, text_of, seq_of, high_of}
 use Rattle.uc_script.specs.declared.call.Call.{Call}
 use Rattle.uc_script.specs.declared.call.Call.TheVariants.{Get, Scan}
-use Rattle.uc_script.specs.declared.setup.SetupLine.{SetupLine}
-use Rattle.uc_script.specs.declared.setup.SetupLine.TheVariants as setup
-use Rattle.uc_script.specs.declared.asking.CallLine.{CallLine}
-use Rattle.uc_script.specs.declared.asking.CallLine.TheVariants as asking
+use Rattle.uc_script.specs.declared.setup_line.SetupLine.{SetupLine}
+use Rattle.uc_script.specs.declared.setup_line.SetupLine.TheVariants as setup
+use Rattle.uc_script.specs.declared.call_line.CallLine.{CallLine}
+use Rattle.uc_script.specs.declared.call_line.CallLine.TheVariants as asking
 use Rattle.uc_script.specs.declared.script.Script.{Script}
 use Rattle.uc_write.specs.declared.op.Op.{Op}
 use Rattle.uc_write.specs.declared.op.Op.TheVariants.{Put, Delete, Merge, DeleteRange}

@@ -1,3 +1,5 @@
+//! [`Call`]: what a script asks of the store.
+
 use crate::seq::Seq;
 use uc_bytes::Bytes;
 

@@ -1,3 +1,5 @@
+//! [`ScriptError`]: why a script could not be read.
+
 ghost use Rattle.std.specs.Prelude.{◌≡◌};
 ghost use Rattle.uc_script.specs.declared.error.ScriptError.TheVariants.{Memory};
 

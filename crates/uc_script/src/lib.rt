@@ -6,32 +6,29 @@
 //! comment may hold any byte but LF.
 //!
 //! Read `reading.rt` first: it is the whole way from bytes to a [`Script`]. `lines.rt` cuts the
-//! text, `field.rt` reads a field, `setup.rt` and `asking.rt` a line of either part, and
-//! `hex_pairs.rt` and `printing.rt` are the way back for bytes and numbers. `laws.rt` says what the definitions in
-//! `specs/` mean.
+//! text, `field.rt` reads a field, `setup_line.rt` and `call_line.rt` a line of either part, and
+//! `digits.rt` is the way back for bytes and numbers. `laws.rt` says what the definitions in `specs/` mean.
 #![tactic(auto)]
 
-mod asking;
 mod call;
+mod call_line;
+mod digits;
 mod error;
 mod field;
-mod hex_pairs;
 mod laws;
 mod lines;
-mod printing;
 mod reading;
 mod script;
 mod seq;
-mod setup;
+mod setup_line;
 
 pub use call::Call;
+pub use digits::{push_hex, push_number};
 pub use error::ScriptError;
-pub use hex_pairs::HexPairs;
 pub use laws::{
     a_script_is_its_lines, a_script_names_no_more_than_it_has, printed_bytes_are_read,
     printed_numbers_are_read,
 };
-pub use printing::push_number;
 pub use reading::read_script;
 pub use script::{Calls, Keeps, Ops, Script};
 pub use seq::Seq;

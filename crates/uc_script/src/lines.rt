@@ -1,7 +1,8 @@
 //! How a text falls into lines and a line into fields.
 
 ghost use Rattle.std.specs.Prelude.{◌≡◌, ◌<◌, [], ◌∷◌, ◌==◌, length, position, MatchOption};
-ghost use Rattle.uc_script.specs.Lines.{lines_of, fields_of, is_skipped};
+ghost use Rattle.uc_script.specs.Lines as lines;
+ghost use Rattle.uc_script.specs.Lines.{lines_of, fields_of};
 ghost use Rattle.uc_script.specs.Fields.{Holds};
 
 /// Where a byte first stands, if it does.
@@ -24,8 +25,8 @@ pub(crate) fn next_line(text: &[u8]) -> (&[u8], &[u8])
 }
 
 /// Whether a line is empty or a comment.
-pub(crate) fn skips(line: &[u8]) -> bool
-    ensures { result ≡ is_skipped line.now }
+pub(crate) fn is_skipped(line: &[u8]) -> bool
+    ensures { result ≡ lines.is_skipped line.now }
 {
     matches!(line, [] | [b'#', ..])
 }

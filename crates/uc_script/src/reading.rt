@@ -5,12 +5,12 @@ ghost use Rattle.uc_script.specs.Lines.{lines_of};
 ghost use Rattle.uc_script.specs.Script.{script_of};
 ghost use Rattle.uc_script.specs.Reading.{Gives, seen, setup_after, calls_after};
 
-use crate::asking::{CallLine, read_call_line};
 use crate::call::Call;
+use crate::call_line::{CallLine, read_call_line};
 use crate::error::ScriptError;
 use crate::lines::next_line;
 use crate::script::Script;
-use crate::setup::{SetupLine, read_setup_line};
+use crate::setup_line::{SetupLine, read_setup_line};
 use std::alloc::Global;
 use uc_bytes::Items;
 use uc_write::Op;

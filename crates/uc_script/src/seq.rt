@@ -1,3 +1,5 @@
+//! [`Seq`]: a sequence number as a script names it.
+
 /// A sequence number as a script names it.
 #[derive(Clone, Copy, PartialEq, Eq, Debug)]
 pub enum Seq {

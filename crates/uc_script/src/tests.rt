@@ -1,3 +1,5 @@
+//! Scripts that are read, scripts at fault, and texts that are printed.
+
 use super::*;
 use std::alloc::Global;
 use std::process::Abort;
@@ -209,9 +211,8 @@ fn the_calls_in_order(rt: HostRuntime) -> Result<(), Fail> {
 #[test]
 fn printed_texts(rt: HostRuntime) -> Result<(), Fail> {
     let mut out = b"= ".to_vec(rt.alloc())?;
-    let digits = HexPairs::new();
-    digits.push(&mut out, b"\x00\x9f\xFF")?;
-    digits.push(&mut out, b"")?;
+    push_hex(&mut out, b"\x00\x9f\xFF")?;
+    push_hex(&mut out, b"")?;
     push_number(&mut out, 0)?;
     out.push(b' ')?;
     push_number(&mut out, 18446744073709551615)?;

@@ -12,21 +12,19 @@ use std::io;
 use std::io::Read;
 use uc_batch::{BatchError, Ended, last_used, read_batch_in_place};
 use uc_logrec::{LogReader, Next};
-use uc_script::HexPairs;
 use uc_write::WriteRef;
 
 /// Tells the writes of a batch, a line each. The lines are put together in a buffer first, whose bytes
 /// are of no use before or after.
 fn tell_writes<W: io::Write>(
     lines: &mut Vec<u8>,
-    digits: &HexPairs,
     writes: &[WriteRef<'_>],
     writer: &mut W,
 ) -> Result<(), Halt>
     ensures { Tells (map write_line writes.now) (W.contents writer.old) (W.contents writer.new) result }
 {
     lines.clear();
-    push_writes(lines, digits, writes)?;
+    push_writes(lines, writes)?;
     write_bytes(writer, lines)
 }
 
@@ -39,7 +37,6 @@ fn tell_log<W: io::Write>(alloc: Global, input: &[u8], writer: &mut W) -> Result
     let mut log = LogReader::new(input);
     let mut joined = Vec::new(alloc);
     let mut lines = Vec::new(alloc);
-    let digits = HexPairs::new();
     let mut last = 0;
     loop {
         let payload = match log.next(&mut joined)? {
@@ -49,7 +46,7 @@ fn tell_log<W: io::Write>(alloc: Global, input: &[u8], writer: &mut W) -> Result
         };
         match read_batch_in_place(alloc, payload, last) {
             Ok(batch) => {
-                tell_writes(&mut lines, &digits, &batch, writer)?;
+                tell_writes(&mut lines, &batch, writer)?;
                 last = last_used(&batch, last);
             }
             Err(BatchError::Memory) => return Err(Halt::Memory),

@@ -7,7 +7,7 @@ use crate::texts::numbered_line;
 use std::alloc::{AllocError, Global};
 use uc_batch::{BatchError, Ended};
 use uc_logrec::LogFault;
-use uc_script::{HexPairs, push_number};
+use uc_script::{push_hex, push_number};
 use uc_write::{OpKind, OpRef, WriteRef};
 
 /// What a kind of change is called, with a space before and after it.
@@ -23,39 +23,35 @@ fn op_words(kind: OpKind) -> &'static [u8]
 }
 
 /// Prints what a change does, and to which texts.
-fn push_op(out: &mut Vec<u8>, digits: &HexPairs, op: &OpRef<'_>) -> Result<(), AllocError>
+fn push_op(out: &mut Vec<u8>, op: &OpRef<'_>) -> Result<(), AllocError>
     ensures { OnOk result (out.new.items ≡ out.old.items ++ op_text op.now) }
 {
     let (kind, first, second) = op.parts();
     out.extend_from_slice(op_words(kind))?;
-    digits.push(out, first)?;
+    push_hex(out, first)?;
     if kind != OpKind::Delete {
         out.push(b' ')?;
-        digits.push(out, second)?;
+        push_hex(out, second)?;
     }
     Ok(())
 }
 
 /// Prints the line of a write.
-fn push_write(out: &mut Vec<u8>, digits: &HexPairs, write: &WriteRef<'_>) -> Result<(), AllocError>
+fn push_write(out: &mut Vec<u8>, write: &WriteRef<'_>) -> Result<(), AllocError>
     ensures { OnOk result (out.new.items ≡ out.old.items ++ write_line write.now) }
 {
     push_number(out, write.seq())?;
-    push_op(out, digits, write.op())?;
+    push_op(out, write.op())?;
     out.push(b'\n')?;
     Ok(())
 }
 
 /// Prints a line for each write.
-pub fn push_writes(
-    out: &mut Vec<u8>,
-    digits: &HexPairs,
-    writes: &[WriteRef<'_>],
-) -> Result<(), AllocError>
+pub fn push_writes(out: &mut Vec<u8>, writes: &[WriteRef<'_>]) -> Result<(), AllocError>
     ensures { OnOk result (out.new.items ≡ out.old.items ++ flat_map write_line writes.now) }
 {
     for write in writes {
-        push_write(out, digits, write)?;
+        push_write(out, write)?;
     }
     Ok(())
 }

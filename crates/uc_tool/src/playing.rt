@@ -18,9 +18,7 @@ use std::io::{Read, Write};
 use uc_batch::Writes;
 use uc_oper::Operator;
 use uc_query::{Query, answer_writes};
-use uc_script::{
-    Call, HexPairs, Script, ScriptError, Seq, a_script_names_no_more_than_it_has, read_script,
-};
+use uc_script::{Call, Script, ScriptError, Seq, a_script_names_no_more_than_it_has, read_script};
 
 /// A store that was opened, and what is asked of it.
 #[derive(Debug, Drop)]
@@ -137,16 +135,11 @@ fn prepare(alloc: Global, input: &[u8], options: &Options) -> Result<Prepared, A
 }
 
 /// The reply to a query.
-fn reply<O: Operator>(
-    alloc: Global,
-    digits: &HexPairs,
-    store: &Opened,
-    query: &Query,
-) -> Result<Vec<u8>, AllocError>
+fn reply<O: Operator>(alloc: Global, store: &Opened, query: &Query) -> Result<Vec<u8>, AllocError>
     ensures { IfOk result (λ text. text.items ≡ reply_to O.meaning store.now.writes.list store.now.keeps.items query.now) }
 {
     let answer = answer_writes::<O>(alloc, &store.writes, &store.keeps, query)?;
-    answer_lines(alloc, digits, &answer)
+    answer_lines(alloc, &answer)
 }
 
 /// Answers the queries in order.
@@ -157,9 +150,8 @@ fn answer_queries<O: Operator, W: Write>(
 ) -> Result<(), Halt>
     ensures { Tells (replies_of O.meaning store.now) (W.contents writer.old) (W.contents writer.new) result }
 {
-    let digits = HexPairs::new();
     for query in &store.queries {
-        let text = reply::<O>(alloc, &digits, store, query)?;
+        let text = reply::<O>(alloc, store, query)?;
         write_bytes(writer, &text)?;
     }
     Ok(())

@@ -5,7 +5,7 @@ ghost use Rattle.uc_tool.specs.Texts.{numbered_line as line_of, row_line, answer
 use std::alloc::{AllocError, Global};
 use uc_bytes::Bytes;
 use uc_query::Answer;
-use uc_script::{HexPairs, push_number};
+use uc_script::{push_hex, push_number};
 
 /// A line of words and a number.
 pub fn numbered_line(alloc: Global, words: &[u8], number: u64) -> Result<Vec<u8>, AllocError>
@@ -18,53 +18,45 @@ pub fn numbered_line(alloc: Global, words: &[u8], number: u64) -> Result<Vec<u8>
 }
 
 /// The line of a value.
-fn value_line(alloc: Global, digits: &HexPairs, value: &[u8]) -> Result<Vec<u8>, AllocError>
+fn value_line(alloc: Global, value: &[u8]) -> Result<Vec<u8>, AllocError>
     ensures { IfOk result (λ line. line.items ≡ value_text value.now) }
 {
     let mut line = Vec::from_slice(alloc, b"value ")?;
-    digits.push(&mut line, value)?;
+    push_hex(&mut line, value)?;
     line.push(b'\n')?;
     Ok(line)
 }
 
 /// Prints a key and its value behind what is there.
-fn push_row(out: &mut Vec<u8>, digits: &HexPairs, row: &(Bytes, Bytes)) -> Result<(), AllocError>
+fn push_row(out: &mut Vec<u8>, row: &(Bytes, Bytes)) -> Result<(), AllocError>
     ensures { OnOk result (out.new.items ≡ out.old.items ++ row_line row.now) }
 {
-    digits.push(out, row.0.as_slice())?;
+    push_hex(out, row.0.as_slice())?;
     out.push(b' ')?;
-    digits.push(out, row.1.as_slice())?;
+    push_hex(out, row.1.as_slice())?;
     out.push(b'\n')?;
     Ok(())
 }
 
 /// How many rows there are, and a line for each.
-fn rows_lines(
-    alloc: Global,
-    digits: &HexPairs,
-    rows: &[(Bytes, Bytes)],
-) -> Result<Vec<u8>, AllocError>
+fn rows_lines(alloc: Global, rows: &[(Bytes, Bytes)]) -> Result<Vec<u8>, AllocError>
     ensures { IfOk result (λ lines. lines.items ≡ rows_text rows.now) }
 {
     let mut lines = numbered_line(alloc, b"rows ", rows.len() as u64)?;
     for row in rows {
-        push_row(&mut lines, digits, row)?;
+        push_row(&mut lines, row)?;
     }
     Ok(lines)
 }
 
 /// The lines of an answer.
-pub fn answer_lines(
-    alloc: Global,
-    digits: &HexPairs,
-    answer: &Answer,
-) -> Result<Vec<u8>, AllocError>
+pub fn answer_lines(alloc: Global, answer: &Answer) -> Result<Vec<u8>, AllocError>
     ensures { IfOk result (λ lines. lines.items ≡ answer_text answer.now) }
 {
     match answer {
         Answer::Value(None) => Vec::from_slice(alloc, b"none\n"),
-        Answer::Value(Some(value)) => value_line(alloc, digits, value.as_slice()),
-        Answer::Rows(rows) => rows_lines(alloc, digits, rows.as_slice()),
+        Answer::Value(Some(value)) => value_line(alloc, value.as_slice()),
+        Answer::Rows(rows) => rows_lines(alloc, rows.as_slice()),
         Answer::NotProtected(at) => numbered_line(alloc, b"not protected ", *at),
     }
 }

@@ -5,7 +5,7 @@ ghost use Rattle.uc_script.specs.Script.{get_of, scan_of, call_line};
 
 use crate::call::Call;
 use crate::field::{high, number, seq, text};
-use crate::lines::{Fields, skips, split_line};
+use crate::lines::{Fields, is_skipped, split_line};
 use std::alloc::{AllocError, Global};
 
 /// What a line after `open` says.
@@ -22,7 +22,7 @@ pub(crate) enum CallLine {
 pub(crate) fn read_call_line(alloc: Global, line: &[u8]) -> Result<Option<CallLine>, AllocError>
     ensures { IfOk result (λ said. said ≡ call_line line.now) }
 {
-    if skips(line) {
+    if is_skipped(line) {
         return Ok(Some(CallLine::Skipped));
     }
     let call = match split_line(line) {

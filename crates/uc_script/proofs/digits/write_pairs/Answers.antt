@@ -1,8 +1,8 @@
-use Rattle.std.proofs.Common.{◌≡◌, ◌<◌, ◌/◌, ◌%◌, ℕ, [], ◌∷◌, ◌∙◌, refl, ap, slice_index, slice_index_or, arith}
+use Rattle.std.proofs.Common.{◌≡◌, ◌/◌, ◌%◌, ℕ, [], ◌∷◌, ◌∙◌, refl, ap, slice_index, slice_index_or, arith}
 use Rattle.std.proofs.lemmas.List.{length-set}
 use Rattle.hex.specs.Hex.{encode_with, encode_lower, lower_digits}
 use Rattle.hex.proofs.Pairs.{encode_step, encode_done}
-use Rattle.uc_script.proofs.hex_pairs.write_digits.Goals as goal
+use Rattle.uc_script.proofs.digits.write_pairs.Goals as goal
 
 -- the first digit of a byte, and the second
 first_digit : (byte : ℕ) → slice_index_or (encode_lower (byte ∷ [])) 0 0 ≡ slice_index lower_digits (byte / 16)
@@ -17,12 +17,11 @@ pub loop-place-preserved : goal.loop-place-preserved
 loop-place-preserved c =
     let l = c.loop-place in
     let bytes = c.args.bytes.now in
-    let small : c.from.result < 256 = omega (arith, c.from.ensures, c.type_inv.bytes l.place) in
-    let pair = c.requires.pairs c.from.result small in
-    let first = ap (λ digits. slice_index_or digits 0 0) pair ∙ first_digit c.from.result in
-    let second = ap (λ digits. slice_index_or digits 1 0) pair ∙ second_digit c.from.result in (
+    let byte = slice_index bytes l.place in
+    let first = ap (λ digits. slice_index_or digits 0 0) c.pair_of-pair.ensures ∙ first_digit byte in
+    let second = ap (λ digits. slice_index_or digits 1 0) c.pair_of-pair.ensures ∙ second_digit byte in (
       length-set _ _ _ ∙ length-set _ _ _ ∙ l.invariant.0,
-      encode_step lower_digits bytes l.out l.place _ _ c.loop-place-test.true (omega (arith, l.invariant.0, c.loop-place-test.true)) (first ∙ ap (λ byte. slice_index lower_digits (byte / 16)) c.from.ensures) (second ∙ ap (λ byte. slice_index lower_digits (byte % 16)) c.from.ensures) l.invariant.1,
+      encode_step lower_digits bytes l.out l.place _ _ c.loop-place-test.true (omega (arith, l.invariant.0, c.loop-place-test.true)) first second l.invariant.1,
     )
 
 pub returns : goal.returns

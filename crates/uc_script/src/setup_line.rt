@@ -1,10 +1,10 @@
 //! Lines before `open`, that line too.
 
 ghost use Rattle.std.specs.Prelude.{◌≡◌, IfOk};
-ghost use Rattle.uc_script.specs.Script.{with_one, with_two, setup_line};
+ghost use Rattle.uc_script.specs.Script as script;
 
 use crate::field::{number, text};
-use crate::lines::{Fields, skips, split_line};
+use crate::lines::{Fields, is_skipped, split_line};
 use std::alloc::{AllocError, Global};
 use uc_write::Op;
 
@@ -24,9 +24,9 @@ pub(crate) enum SetupLine {
 /// What a line says, or `None` where it is not as it should be.
 #[tactic(auto, unfolding(crate::specs::Script::setup_line, crate::specs::Script::setup_of))]
 pub(crate) fn read_setup_line(alloc: Global, line: &[u8]) -> Result<Option<SetupLine>, AllocError>
-    ensures { IfOk result (λ said. said ≡ setup_line line.now) }
+    ensures { IfOk result (λ said. said ≡ script.setup_line line.now) }
 {
-    if skips(line) {
+    if is_skipped(line) {
         return Ok(Some(SetupLine::Skipped));
     }
     match split_line(line) {
@@ -40,7 +40,7 @@ pub(crate) fn read_setup_line(alloc: Global, line: &[u8]) -> Result<Option<Setup
 /// `delete K` or `keep S`.
 #[tactic(auto, unfolding(crate::specs::Script::with_one))]
 fn with_one(alloc: Global, word: &[u8], argument: &[u8]) -> Result<Option<SetupLine>, AllocError>
-    ensures { IfOk result (λ said. said ≡ with_one word.now argument.now) }
+    ensures { IfOk result (λ said. said ≡ script.with_one word.now argument.now) }
 {
     if word == b"delete".as_slice() {
         let Some(key) = text(alloc, argument)? else {
@@ -65,7 +65,7 @@ fn with_two(
     first: &[u8],
     second: &[u8],
 ) -> Result<Option<SetupLine>, AllocError>
-    ensures { IfOk result (λ said. said ≡ with_two word.now first.now second.now) }
+    ensures { IfOk result (λ said. said ≡ script.with_two word.now first.now second.now) }
 {
     let Some(key) = text(alloc, first)? else {
         return Ok(None);
