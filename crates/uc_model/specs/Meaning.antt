@@ -3,7 +3,7 @@ use Rattle.std.specs.Prelude.{ℕ, Bool, ◌&&◌, List, Option, Some, None, nat
 use Rattle.std.specs.Ordering.{is_lt, is_le}
 use Rattle.uc_bytes.specs.Bytes.{bytes_cmp, same_bytes}
 use Rattle.uc_oper.specs.Operation.{Operation}
-use Rattle.uc_oper.specs.Merging.{merged_with}
+use Rattle.uc_oper.specs.Merging.{merged}
 use Rattle.uc_oper.specs.Composition.{composed}
 use Rattle.uc_oper.specs.declared.effect.Effect.{Effect}
 use Rattle.uc_oper.specs.declared.effect.Effect.TheVariants.{Keep, Fold, Set}
@@ -22,7 +22,7 @@ touches_key key (DeleteRange begin end) = is_le (bytes_cmp begin key) && is_lt (
 abbrev pub changed : Operation → Option (List ℕ) → Op → Option (List ℕ)
 changed m value (Put named new) = Some new
 changed m value (Delete named) = None
-changed m value (Merge named operand) = Some (merged_with m value operand)
+changed m value (Merge named operand) = Some (merged m value operand)
 changed m value (DeleteRange begin end) = None
 
 -- the writes that touch a key, at or below a sequence

@@ -3,7 +3,7 @@ ghost use Rattle.uc_model.specs.Meaning.{touches_key, changed, value_of, effect_
 
 use std::alloc::{AllocError, Global};
 use uc_bytes::Bytes;
-use uc_oper::{Effect, Operator};
+use uc_oper::{Effect, Operator, merged};
 use uc_write::{Op, Write};
 
 /// Whether an operation touches a key: it names the key, or it deletes a range from `begin` to below
@@ -40,13 +40,7 @@ fn change<O: Operator>(
     match op {
         Op::Put(_, new) => Ok(Some(new.clone()?)),
         Op::Delete(_) | Op::DeleteRange(_, _) => Ok(None),
-        Op::Merge(_, operand) => {
-            let merged = match value {
-                None => O::first(alloc, operand.as_slice())?,
-                Some(base) => O::join(alloc, base.as_slice(), operand.as_slice())?,
-            };
-            Ok(Some(Bytes::from(merged)))
-        }
+        Op::Merge(_, operand) => Ok(Some(merged::<O>(alloc, value, operand.as_slice())?)),
     }
 }
 

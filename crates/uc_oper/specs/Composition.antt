@@ -4,19 +4,19 @@ use Rattle.std.proofs.Common.{ap, sym}
 use Rattle.uc_oper.specs.declared.effect.Effect.{Effect}
 use Rattle.uc_oper.specs.declared.effect.Effect.TheVariants.{Keep, Fold, Set}
 use Rattle.uc_oper.specs.Operation.{Operation, IsLawful}
-use Rattle.uc_oper.specs.Merging.{merged_with}
+use Rattle.uc_oper.specs.Merging.{merged}
 
 -- the value that an effect makes of a value, or of none
 abbrev pub applied : Operation → Effect → Option (List ℕ) → Option (List ℕ)
 applied m Keep value = value
-applied m (Fold y) value = Some (merged_with m value y)
+applied m (Fold y) value = Some (merged m value y)
 applied m (Set v) value = v
 
 -- an effect, and then an operand
 abbrev pub folded : Operation → Effect → List ℕ → Effect
 folded m Keep y = Fold y
 folded m (Fold x) y = Fold (m.pair x y)
-folded m (Set v) y = Set (Some (merged_with m v y))
+folded m (Set v) y = Set (Some (merged m v y))
 
 -- an older effect, and then a newer one
 abbrev pub composed : Operation → Effect → Effect → Effect

@@ -2,6 +2,6 @@
 use Rattle.std.specs.Prelude.{ℕ, List, Option, Some, None}
 use Rattle.uc_oper.specs.Operation.{Operation}
 
-abbrev pub merged_with : Operation → Option (List ℕ) → List ℕ → List ℕ
-merged_with m None y = m.first y
-merged_with m (Some b) y = m.join b y
+abbrev pub merged : Operation → Option (List ℕ) → List ℕ → List ℕ
+merged m None y = m.first y
+merged m (Some b) y = m.join b y

@@ -1,5 +1,6 @@
-ghost use Rattle.uc_oper.specs.Appending.{appending, appending_lawful, appended};
-ghost use Rattle.std.specs.Prelude.{◌≡◌, IfOk};
+//! Texts that are appended with a delimiter.
+ghost use Rattle.uc_oper.specs.Appending as appending;
+ghost use Rattle.std.specs.Prelude.{◌≡◌, IfOk, OnOk};
 
 use crate::operator::Operator;
 use std::alloc::{AllocError, Global};
@@ -7,30 +8,39 @@ use std::alloc::{AllocError, Global};
 /// Joins texts with the byte `D` between them, as RocksDB's `StringAppendOperator` does.
 pub enum Append<const D: u8> {}
 
-/// Two texts with a byte between them.
-fn joined(alloc: Global, delimiter: u8, older: &[u8], newer: &[u8]) -> Result<Vec<u8>, AllocError>
-    ensures { IfOk result (λ text. text.items ≡ appended delimiter older.now newer.now) }
+/// The older text with the delimiter and the newer one behind it.
+fn appended(mut older: Vec<u8>, delimiter: u8, newer: &[u8]) -> Result<Vec<u8>, AllocError>
+    ensures { IfOk result (λ text. text.items ≡ appending.appended delimiter older.items newer.now) }
 {
-    let mut text = Vec::from_slice(alloc, older)?;
-    text.push(delimiter)?;
-    text.extend_from_slice(newer)?;
-    Ok(text)
+    older.push(delimiter)?;
+    older.extend_from_slice(newer)?;
+    Ok(older)
 }
 
 impl<const D: u8> Operator for Append<D> {
-    ghost meaning = { appending D };
+    ghost meaning = { appending.appending D };
 
-    ghost lawful = { appending_lawful D };
+    ghost lawful = { appending.appending_lawful D };
 
     fn first(alloc: Global, operand: &[u8]) -> Result<Vec<u8>, AllocError> {
         Vec::from_slice(alloc, operand)
     }
 
     fn join(alloc: Global, base: &[u8], operand: &[u8]) -> Result<Vec<u8>, AllocError> {
-        joined(alloc, D, base, operand)
+        appended(Vec::from_slice(alloc, base)?, D, operand)
     }
 
     fn pair(alloc: Global, older: &[u8], newer: &[u8]) -> Result<Vec<u8>, AllocError> {
-        joined(alloc, D, older, newer)
+        appended(Vec::from_slice(alloc, older)?, D, newer)
+    }
+
+    /// Extends the value. It takes memory only where the value has no room left.
+    fn join_onto(_: Global, base: Vec<u8>, operand: &[u8]) -> Result<Vec<u8>, AllocError> {
+        appended(base, D, operand)
+    }
+
+    /// Extends the older operand. It takes memory only where that has no room left.
+    fn pair_onto(_: Global, older: Vec<u8>, newer: &[u8]) -> Result<Vec<u8>, AllocError> {
+        appended(older, D, newer)
     }
 }

@@ -1,4 +1,5 @@
-ghost use Rattle.uc_oper.specs.Counting.{counting, counting_lawful, counted, number};
+//! Numbers that are added.
+ghost use Rattle.uc_oper.specs.Counting as counting;
 ghost use Rattle.std.specs.Prelude.{◌≡◌, ◌+◌, ◌%◌, ◌^◌, IfOk};
 
 use crate::operator::Operator;
@@ -11,8 +12,8 @@ use std::alloc::{AllocError, Global};
 pub enum Counter {}
 
 /// The number that the bytes stand for.
-fn number_in(bytes: &[u8]) -> u64
-    ensures { result ≡ number bytes.now }
+fn number(bytes: &[u8]) -> u64
+    ensures { result ≡ counting.number bytes.now }
 {
     match bytes {
         [a, b, c, d, e, f, g, h] => u64::from_le_bytes([*a, *b, *c, *d, *e, *f, *g, *h]),
@@ -20,28 +21,54 @@ fn number_in(bytes: &[u8]) -> u64
     }
 }
 
-/// The sum of two numbers as 8 bytes.
-fn sum(alloc: Global, older: &[u8], newer: &[u8]) -> Result<Vec<u8>, AllocError>
-    ensures { IfOk result (λ value. value.items ≡ counted (number older.now + number newer.now)) }
+/// The sum of two numbers, modulo 2^64.
+fn wrapped_sum(older: &[u8], newer: &[u8]) -> u64
+    ensures { result ≡ (counting.number older.now + counting.number newer.now) % 2 ^ 64 }
 {
-    let total = number_in(older).wrapping_add(number_in(newer));
-    Vec::from_slice(alloc, &total.to_le_bytes())
+    number(older).wrapping_add(number(newer))
+}
+
+/// The sum of two numbers as 8 bytes.
+fn sum_of(alloc: Global, older: &[u8], newer: &[u8]) -> Result<Vec<u8>, AllocError>
+    ensures { IfOk result (λ value. value.items ≡ counting.sum_of older.now newer.now) }
+{
+    Vec::from_slice(alloc, &wrapped_sum(older, newer).to_le_bytes())
+}
+
+/// That sum in the memory of the older number.
+fn add_onto(mut older: Vec<u8>, newer: &[u8]) -> Result<Vec<u8>, AllocError>
+    ensures { IfOk result (λ value. value.items ≡ counting.sum_of older.items newer.now) }
+{
+    let sum = wrapped_sum(older.as_slice(), newer).to_le_bytes();
+    older.clear();
+    older.extend_from_slice(&sum)?;
+    Ok(older)
 }
 
 impl Operator for Counter {
-    ghost meaning = { counting };
+    ghost meaning = { counting.counting };
 
-    ghost lawful = { counting_lawful };
+    ghost lawful = { counting.counting_lawful };
 
     fn first(alloc: Global, operand: &[u8]) -> Result<Vec<u8>, AllocError> {
-        Vec::from_slice(alloc, &number_in(operand).to_le_bytes())
+        Vec::from_slice(alloc, &number(operand).to_le_bytes())
     }
 
     fn join(alloc: Global, base: &[u8], operand: &[u8]) -> Result<Vec<u8>, AllocError> {
-        sum(alloc, base, operand)
+        sum_of(alloc, base, operand)
     }
 
     fn pair(alloc: Global, older: &[u8], newer: &[u8]) -> Result<Vec<u8>, AllocError> {
-        sum(alloc, older, newer)
+        sum_of(alloc, older, newer)
+    }
+
+    /// Writes the sum in place. It takes memory only where the value has no room for 8 bytes.
+    fn join_onto(_: Global, base: Vec<u8>, operand: &[u8]) -> Result<Vec<u8>, AllocError> {
+        add_onto(base, operand)
+    }
+
+    /// Writes the sum in place. It takes memory only where the older operand has no room for 8 bytes.
+    fn pair_onto(_: Global, older: Vec<u8>, newer: &[u8]) -> Result<Vec<u8>, AllocError> {
+        add_onto(older, newer)
     }
 }

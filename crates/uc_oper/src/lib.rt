@@ -8,13 +8,17 @@
 mod append;
 mod counter;
 mod effect;
+mod laws;
 mod maximum;
+mod merging;
 mod operator;
 
 pub use append::Append;
 pub use counter::Counter;
-pub use effect::{Effect, apply_twice, then_is_associative, then_keeps_units};
+pub use effect::Effect;
+pub use laws::{apply_composes, keep_is_unit, then_is_associative};
 pub use maximum::Maximum;
+pub use merging::merged;
 pub use operator::Operator;
 
 #[cfg(test)]

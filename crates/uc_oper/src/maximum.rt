@@ -1,4 +1,5 @@
-ghost use Rattle.uc_oper.specs.Greatest.{greatest, greatest_lawful, greater_of};
+//! Texts of which the greatest stays.
+ghost use Rattle.uc_oper.specs.Greatest as greatest;
 ghost use Rattle.std.specs.Prelude.{◌≡◌, IfOk};
 
 use crate::operator::Operator;
@@ -8,31 +9,53 @@ use std::cmp::Ordering;
 /// Keeps the greater text in byte order, as RocksDB's `MaxOperator` does.
 pub enum Maximum {}
 
-/// A copy of the greater text.
-fn greater(alloc: Global, older: &[u8], newer: &[u8]) -> Result<Vec<u8>, AllocError>
-    ensures { IfOk result (λ text. text.items ≡ greater_of older.now newer.now) }
+/// The greater of two texts.
+fn greater_of<'a>(older: &'a [u8], newer: &'a [u8]) -> &'a [u8]
+    ensures { result.now ≡ greatest.greater_of older.now newer.now }
 {
-    let greater = match older.cmp(&newer) {
+    match older.cmp(&newer) {
         Ordering::Less => newer,
         Ordering::Equal | Ordering::Greater => older,
-    };
-    Vec::from_slice(alloc, greater)
+    }
+}
+
+/// The greater text in the memory of the older one.
+fn keep_greater(mut older: Vec<u8>, newer: &[u8]) -> Result<Vec<u8>, AllocError>
+    ensures { IfOk result (λ text. text.items ≡ greatest.greater_of older.items newer.now) }
+{
+    if older.as_slice().cmp(&newer).is_lt() {
+        older.clear();
+        older.extend_from_slice(newer)?;
+    }
+    Ok(older)
 }
 
 impl Operator for Maximum {
-    ghost meaning = { greatest };
+    ghost meaning = { greatest.greatest };
 
-    ghost lawful = { greatest_lawful };
+    ghost lawful = { greatest.greatest_lawful };
 
     fn first(alloc: Global, operand: &[u8]) -> Result<Vec<u8>, AllocError> {
         Vec::from_slice(alloc, operand)
     }
 
     fn join(alloc: Global, base: &[u8], operand: &[u8]) -> Result<Vec<u8>, AllocError> {
-        greater(alloc, base, operand)
+        Vec::from_slice(alloc, greater_of(base, operand))
     }
 
     fn pair(alloc: Global, older: &[u8], newer: &[u8]) -> Result<Vec<u8>, AllocError> {
-        greater(alloc, older, newer)
+        Vec::from_slice(alloc, greater_of(older, newer))
+    }
+
+    /// Keeps the value where it is the greater. It takes memory only where the value has no room for the
+    /// operand.
+    fn join_onto(_: Global, base: Vec<u8>, operand: &[u8]) -> Result<Vec<u8>, AllocError> {
+        keep_greater(base, operand)
+    }
+
+    /// Keeps the older operand where it is the greater. It takes memory only where that has no room for the
+    /// newer one.
+    fn pair_onto(_: Global, older: Vec<u8>, newer: &[u8]) -> Result<Vec<u8>, AllocError> {
+        keep_greater(older, newer)
     }
 }

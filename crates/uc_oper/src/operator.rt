@@ -1,3 +1,4 @@
+//! What a merge operator has to give.
 ghost use Rattle.std.specs.Prelude.{◌≡◌, IfOk};
 ghost use Rattle.uc_oper.specs.Operation.{Operation, IsLawful};
 
@@ -7,7 +8,8 @@ use std::alloc::{AllocError, Global};
 /// partial merge that may always be made).
 ///
 /// An operator is a type without values, so values of two operators are never mixed. Each function
-/// fails only for want of memory.
+/// fails only for want of memory. An implementation gives the first three; the two that take the older
+/// text by value mean the same, and those that write into its memory cost no copy of it.
 pub trait Operator {
     /// The three functions, on lists of bytes.
     ghost meaning: { Operation };
@@ -23,6 +25,20 @@ pub trait Operator {
     /// The one operand that does what an older and a newer one do in turn.
     fn pair(alloc: Global, older: &[u8], newer: &[u8]) -> Result<Vec<u8>, AllocError>
         ensures { IfOk result (λ operand. operand.items ≡ meaning.pair older.now newer.now) };
+
+    /// [`Operator::join`] into the memory of the value before it, which want of memory loses.
+    fn join_onto(alloc: Global, base: Vec<u8>, operand: &[u8]) -> Result<Vec<u8>, AllocError>
+        ensures { IfOk result (λ value. value.items ≡ meaning.join base.items operand.now) }
+    {
+        Self::join(alloc, base.as_slice(), operand)
+    }
+
+    /// [`Operator::pair`] into the memory of the older operand, which want of memory loses.
+    fn pair_onto(alloc: Global, older: Vec<u8>, newer: &[u8]) -> Result<Vec<u8>, AllocError>
+        ensures { IfOk result (λ operand. operand.items ≡ meaning.pair older.items newer.now) }
+    {
+        Self::pair(alloc, older.as_slice(), newer)
+    }
 
     /// Operands may be combined before they meet a value, in any grouping.
     ghost lawful: { IsLawful meaning };

@@ -75,6 +75,80 @@ fn the_greater_text_stays(rt: HostRuntime) -> Result<(), Fail> {
     Ok(())
 }
 
+/// An older text, a newer one, and both joined with a comma.
+const JOINED: [(&[u8], &[u8], &[u8]); 3] = [
+    (b"", b"b", b",b"),
+    (b"b", b"c", b"b,c"),
+    (b"b,c", b"", b"b,c,"),
+];
+
+#[test]
+fn texts_are_extended(rt: HostRuntime) -> Result<(), Fail> {
+    let alloc = rt.alloc();
+    for (older, newer, want) in JOINED {
+        let base = Vec::from_slice(alloc, older)?;
+        let joined = Append::<44>::join_onto(alloc, base, newer)?;
+        assert_eq!(rt; joined.as_slice(), want);
+        let operand = Vec::from_slice(alloc, older)?;
+        let paired = Append::<44>::pair_onto(alloc, operand, newer)?;
+        assert_eq!(rt; paired.as_slice(), want);
+    }
+    Ok(())
+}
+
+/// An older number, a newer one, and their sum. What doesn't have eight bytes counts as zero.
+const SUMS: [(&[u8], &[u8], &[u8]); 4] = [
+    (&FIVE, &SEVEN, &TWELVE),
+    (&MOST, &ONE, &ZERO),
+    (b"abc", &SEVEN, &SEVEN),
+    (b"nine byte", b"", &ZERO),
+];
+
+#[test]
+fn counters_add_in_place(rt: HostRuntime) -> Result<(), Fail> {
+    let alloc = rt.alloc();
+    for (older, newer, want) in SUMS {
+        let base = Vec::from_slice(alloc, older)?;
+        let joined = Counter::join_onto(alloc, base, newer)?;
+        assert_eq!(rt; joined.as_slice(), want);
+        let operand = Vec::from_slice(alloc, older)?;
+        let paired = Counter::pair_onto(alloc, operand, newer)?;
+        assert_eq!(rt; paired.as_slice(), want);
+    }
+    Ok(())
+}
+
+/// An older text, a newer one, and the greater.
+const GREATER: [(&[u8], &[u8], &[u8]); 3] = [
+    (b"a", b"ab", b"ab"),
+    (b"ab", b"`", b"ab"),
+    (b"b", b"b", b"b"),
+];
+
+#[test]
+fn the_greater_text_stays_in_place(rt: HostRuntime) -> Result<(), Fail> {
+    let alloc = rt.alloc();
+    for (older, newer, want) in GREATER {
+        let base = Vec::from_slice(alloc, older)?;
+        let joined = Maximum::join_onto(alloc, base, newer)?;
+        assert_eq!(rt; joined.as_slice(), want);
+        let operand = Vec::from_slice(alloc, older)?;
+        let paired = Maximum::pair_onto(alloc, operand, newer)?;
+        assert_eq!(rt; paired.as_slice(), want);
+    }
+    Ok(())
+}
+
+#[test]
+fn operands_merge_into_values(rt: HostRuntime) -> Result<(), Fail> {
+    let alloc = rt.alloc();
+    let first = merged::<Append<44>>(alloc, None, b"a")?;
+    assert_eq!(rt; first.as_slice(), b"a".as_slice());
+    let second = merged::<Append<44>>(alloc, Some(first), b"b")?;
+    assert_eq!(rt; second.as_slice(), b"a,b".as_slice());
+    Ok(())
+}
+
 fn bytes(alloc: Global, text: &[u8]) -> Result<Bytes, Fail> {
     Ok(Bytes::from_slice(alloc, text)?)
 }
@@ -91,8 +165,12 @@ fn effects_compose_and_apply(rt: HostRuntime) -> Result<(), Fail> {
     assert_eq!(rt; cleared, Effect::Set(Some(bytes(alloc, b"d")?)));
     let kept = Effect::Keep.then::<Append<44>>(alloc, Effect::Keep)?;
     assert_eq!(rt; kept, Effect::Keep);
+    let folded = kept.folded::<Append<44>>(alloc, b"e")?;
+    assert_eq!(rt; folded, Effect::Fold(bytes(alloc, b"e")?));
+    let folded = folded.folded::<Append<44>>(alloc, b"f")?;
+    assert_eq!(rt; folded, Effect::Fold(bytes(alloc, b"e,f")?));
     then_is_associative::<Counter>();
-    then_keeps_units::<Maximum>();
-    apply_twice::<Append<44>>();
+    keep_is_unit::<Maximum>();
+    apply_composes::<Append<44>>();
     Ok(())
 }
