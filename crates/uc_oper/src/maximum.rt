@@ -20,6 +20,7 @@ fn greater_of<'a>(older: &'a [u8], newer: &'a [u8]) -> &'a [u8]
 }
 
 /// The greater text in the memory of the older one.
+#[inline]
 fn keep_greater(mut older: Vec<u8>, newer: &[u8]) -> Result<Vec<u8>, AllocError>
     ensures { IfOk result (λ text. text.items ≡ greatest.greater_of older.items newer.now) }
 {
