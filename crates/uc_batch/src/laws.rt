@@ -5,7 +5,7 @@ ghost use Rattle.uc_batch.specs.Spelling.{batch_text, FitsBatch};
 
 /// What the writer writes is read again as the same operations, after every sequence that is below the
 /// batch's own.
-pub fn written_is_read()
+pub fn written_batch_is_read()
     ensures { (last seq : ℕ) (ops : List Operation) → FitsBatch seq ops → (0 < length ops → last < seq) →
         batch_of last (batch_text seq ops) ≡ Ok (numbered seq ops) }
 {}

@@ -20,7 +20,7 @@ mod writing;
 
 pub use ended::Ended;
 pub use error::BatchError;
-pub use laws::written_is_read;
+pub use laws::written_batch_is_read;
 pub use log::read_writes;
 pub use mode::Mode;
 pub use read_error::ReadError;

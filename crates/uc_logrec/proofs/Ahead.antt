@@ -1,15 +1,15 @@
 -- What is ahead of a reader, however many places are left to it.
 use Rattle.std.proofs.Common.{◌≡◌, ℕ, zero, suc, ◌+◌, ◌≤◌, ◌<◌, List, [], ◌∷◌, length, take, drop, Option, Some, None, Result, Ok, Err, refl, ap, ◌∙◌, arith}
 use Rattle.uc_logrec.specs.declared.kind.Kind.{Kind}
-use Rattle.uc_logrec.specs.declared.header.Stop.{Stop}
-use Rattle.uc_logrec.specs.Turns.{Fragments, Turn, Complete, Open, Refused}
+use Rattle.uc_logrec.specs.declared.log_record.Stop.{Stop}
+use Rattle.uc_logrec.specs.Steps.{Fragments, StepWithData, Complete, Open, Refused}
 use Rattle.uc_logrec.specs.Format.{room, header_place, record_of}
-use Rattle.uc_logrec.specs.Log.{turn_of, Reading, with_payload, after_turn, after_record, reading_from}
+use Rattle.uc_logrec.specs.Log.{step_at, Reading, with_payload, after_step, after_record, reading_from}
 use Rattle.uc_logrec.specs.Position.{ahead_at}
 use Rattle.uc_logrec.proofs.Reading.{Completes, here, behind, behind_shorter}
 use Rattle.uc_logrec.proofs.Standing.{record_found}
 
-same_turns : (f g : Option Fragments → Reading) → ((unfinished : Option Fragments) → f unfinished ≡ g unfinished) → (place : ℕ) (turn : Turn) → after_turn f place turn ≡ after_turn g place turn
+same_turns : (f g : Option Fragments → Reading) → ((unfinished : Option Fragments) → f unfinished ≡ g unfinished) → (place : ℕ) (turn : StepWithData) → after_step f place turn ≡ after_step g place turn
 same_turns f g same place (Complete payload) = ap (with_payload payload) (same None)
 same_turns f g same place (Open fragments) = same (Some fragments)
 same_turns f g same place (Refused fault) = refl
@@ -18,7 +18,7 @@ same_records : (f g : Option Fragments → ℕ → List ℕ → Reading) (unfini
     → ((kind : Kind) (len : ℕ) → found ≡ Ok (kind, len) → (still : Option Fragments) → f still (place + 7 + len) (drop len (drop 7 rest)) ≡ g still (place + 7 + len) (drop len (drop 7 rest)))
     → after_record f unfinished place rest found ≡ after_record g unfinished place rest found
 same_records f g unfinished place rest (Ok found) same =
-    same_turns (λ still. f still (place + 7 + found.1) (drop found.1 (drop 7 rest))) (λ still. g still (place + 7 + found.1) (drop found.1 (drop 7 rest))) (same found.0 found.1 refl) place (turn_of unfinished place found.0 (take found.1 (drop 7 rest)))
+    same_turns (λ still. f still (place + 7 + found.1) (drop found.1 (drop 7 rest))) (λ still. g still (place + 7 + found.1) (drop found.1 (drop 7 rest))) (same found.0 found.1 refl) place (step_at unfinished place found.0 (take found.1 (drop 7 rest)))
 same_records f g unfinished place rest (Err stop) same = refl
 
 -- a record that was found there fits the bytes there

@@ -1,10 +1,10 @@
 -- Reading along records that stand in a log.
 use Rattle.std.proofs.Common.{◌≡◌, ℕ, ◌+◌, ◌≤◌, List, [], ◌∷◌, ◌++◌, length, take, drop, Some, None, Ok, Err, refl, sym, ap, subst, ◌∙◌, length-append, arith}
 use Rattle.uc_logrec.specs.declared.ending.Ending.TheVariants.{Fault}
-use Rattle.uc_logrec.specs.declared.header.Stop.{Stop}
-use Rattle.uc_logrec.specs.Turns.{Turn, Complete, Open, Refused}
+use Rattle.uc_logrec.specs.declared.log_record.Stop.{Stop}
+use Rattle.uc_logrec.specs.Steps.{StepWithData, Complete, Open, Refused}
 use Rattle.uc_logrec.specs.Format.{room, header_place, record_text, record_of}
-use Rattle.uc_logrec.specs.Log.{turn_of, ending_at, reading_of}
+use Rattle.uc_logrec.specs.Log.{step_at, ending_at, reading_of}
 use Rattle.uc_logrec.specs.Grammar.{LogRecord, next_place, past_trailer, Stand}
 use Rattle.uc_logrec.proofs.Reading.{Completes, Completes-start, Goes, goes, stops, stopped, here, behind}
 use Rattle.uc_logrec.proofs.Records.{length-record_text}
@@ -23,7 +23,7 @@ CompletesAt-start : (bytes : List ℕ) → CompletesAt bytes (record { front = [
 CompletesAt-start bytes = record { offset = 0; left = bytes; completes = Completes-start bytes; place_is = refl; rest_is = refl }
 
 -- behind a record that may stand there
-abbrev Moved : List ℕ → State → LogRecord → List ℕ → Turn → Type 0
+abbrev Moved : List ℕ → State → LogRecord → List ℕ → StepWithData → Type 0
 Moved bytes s found left (Complete payload) = CompletesAt bytes (record { front = s.front ++ payload ∷ []; fragments = None; place = next_place s.place found }) (past_trailer s.place found left)
 Moved bytes s found left (Open fragments) = CompletesAt bytes (record { front = s.front; fragments = Some fragments; place = next_place s.place found }) (past_trailer s.place found left)
 Moved bytes s found left (Refused fault) = reading_of bytes ≡ stopped s.front (Fault fault s.place)
@@ -35,7 +35,7 @@ next_is place offset found e = ap (λ (p : ℕ). header_place (p + 7 + length fo
 past_is : (place offset : ℕ) (found : LogRecord) (behind_it left : List ℕ) → header_place offset ≡ place → behind_it ≡ left → here (header_place offset + 7 + length found.1) behind_it ≡ past_trailer place found left
 past_is place offset found behind_it left e f = ap (λ (p : ℕ). here (p + 7 + length found.1) behind_it) e ∙ ap (λ (bs : List ℕ). here (place + 7 + length found.1) bs) f
 
-moved : (bytes : List ℕ) (s : State) (found : LogRecord) (left : List ℕ) (offset : ℕ) (before : List ℕ) (turn : Turn) → header_place offset ≡ s.place → behind offset before (length found.1) ≡ left
+moved : (bytes : List ℕ) (s : State) (found : LogRecord) (left : List ℕ) (offset : ℕ) (before : List ℕ) (turn : StepWithData) → header_place offset ≡ s.place → behind offset before (length found.1) ≡ left
     → Goes (reading_of bytes) s.front offset before (length found.1) turn → Moved bytes s found left turn
 moved bytes s found left offset before (Complete payload) e f g = record { offset = header_place offset + 7 + length found.1; left = behind offset before (length found.1); completes = g; place_is = next_is s.place offset found e; rest_is = past_is s.place offset found (behind offset before (length found.1)) left e f }
 moved bytes s found left offset before (Open fragments) e f g = record { offset = header_place offset + 7 + length found.1; left = behind offset before (length found.1); completes = g; place_is = next_is s.place offset found e; rest_is = past_is s.place offset found (behind offset before (length found.1)) left e f }
@@ -45,8 +45,8 @@ fits_there : (rest : List ℕ) (found : LogRecord) (left : List ℕ) → rest �
 fits_there rest found left text = omega (arith, ap length text, length-append (record_text found.0 found.1) left, length-record_text found.0 found.1)
 
 -- one record
-pub moves : (bytes : List ℕ) (s : State) (rest : List ℕ) (found : LogRecord) (left : List ℕ) (turn : Turn) → CompletesAt bytes s rest → 7 + length found.1 ≤ room s.place → rest ≡ record_text found.0 found.1 ++ left
-    → turn ≡ turn_of s.fragments s.place found.0 found.1 → Moved bytes s found left turn
+pub moves : (bytes : List ℕ) (s : State) (rest : List ℕ) (found : LogRecord) (left : List ℕ) (turn : StepWithData) → CompletesAt bytes s rest → 7 + length found.1 ≤ room s.place → rest ≡ record_text found.0 found.1 ++ left
+    → turn ≡ step_at s.fragments s.place found.0 found.1 → Moved bytes s found left turn
 moves bytes s rest found left turn c fits text turns =
     let len = length found.1 in
     let there : record_of (room (header_place c.offset)) (here c.offset c.left) ≡ Ok (found.0, len) =
@@ -54,8 +54,8 @@ moves bytes s rest found left turn c fits text turns =
     let within : 7 + len ≤ length (here c.offset c.left) = subst (λ (bs : List ℕ). 7 + len ≤ length bs) (sym c.rest_is) (fits_there rest found left text) in
     let fragment : take len (drop 7 (here c.offset c.left)) ≡ found.1 = ap (λ (bs : List ℕ). take len (drop 7 bs)) c.rest_is ∙ fragment_there rest found left text in
     let after : behind c.offset c.left len ≡ left = ap (λ (bs : List ℕ). drop len (drop 7 bs)) c.rest_is ∙ left_there rest found left text in
-    let turned_is : turn ≡ turn_of s.fragments (header_place c.offset) found.0 (take len (drop 7 (here c.offset c.left))) =
-    turns ∙ (ap (λ (p : ℕ). turn_of s.fragments p found.0 found.1) (sym c.place_is) ∙ ap (turn_of s.fragments (header_place c.offset) found.0) (sym fragment)) in
+    let turned_is : turn ≡ step_at s.fragments (header_place c.offset) found.0 (take len (drop 7 (here c.offset c.left))) =
+    turns ∙ (ap (λ (p : ℕ). step_at s.fragments p found.0 found.1) (sym c.place_is) ∙ ap (step_at s.fragments (header_place c.offset) found.0) (sym fragment)) in
     moved bytes s found left c.offset c.left turn c.place_is after (goes (reading_of bytes) s.front s.fragments c.offset c.left found.0 len turn c.completes there within turned_is)
 
 -- no record
@@ -66,7 +66,7 @@ stops_there bytes s rest stop c none =
     stops (reading_of bytes) s.front s.fragments c.offset c.left stop c.completes there ∙ ap (λ (p : ℕ). stopped s.front (ending_at stop s.fragments p)) c.place_is
 
 -- a row of records
-along_turn : (bytes : List ℕ) (s : State) (found : LogRecord) (records : List LogRecord) (left rest : List ℕ) (end : State) (turn : Turn)
+along_turn : (bytes : List ℕ) (s : State) (found : LogRecord) (records : List LogRecord) (left rest : List ℕ) (end : State) (turn : StepWithData)
     → ((next : State) → CompletesAt bytes next (past_trailer s.place found left) → next.place ≡ next_place s.place found → run (Some next) records ≡ Some end → CompletesAt bytes end rest)
     → Moved bytes s found left turn → run (turned s.front (next_place s.place found) turn) records ≡ Some end → CompletesAt bytes end rest
 along_turn bytes s found records left rest end (Complete payload) go m e = go (record { front = s.front ++ payload ∷ []; fragments = None; place = next_place s.place found }) m refl e
@@ -78,7 +78,7 @@ along [] bytes s from rest end c stand e =
     let same : s ≡ end = cc in
     subst (λ (t : State). CompletesAt bytes t rest) same (subst (λ (bs : List ℕ). CompletesAt bytes s bs) stand c)
 along (found ∷ records) bytes s from rest end c (left, fits, text, stands) e =
-    let turn = turn_of s.fragments s.place found.0 found.1 in
+    let turn = step_at s.fragments s.place found.0 found.1 in
     along_turn bytes s found records left rest end turn
     (λ next there place ran. along records bytes next (past_trailer s.place found left) rest end there (subst (λ (p : ℕ). Stand p (past_trailer s.place found left) records rest) (sym place) stands) ran)
     (moves bytes s from found left turn c fits text refl)

@@ -8,11 +8,11 @@ use Rattle.uc_logrec.specs.declared.ending.Ending.{Ending}
 use Rattle.uc_logrec.specs.declared.ending.Ending.TheVariants.{Fault}
 use Rattle.uc_logrec.specs.declared.kind.Kind.{Kind}
 use Rattle.uc_logrec.specs.declared.kind.Kind.TheVariants.{Full, First, Middle, Last}
-use Rattle.uc_logrec.specs.declared.header.Stop.{Stop}
-use Rattle.uc_logrec.specs.declared.header.Stop.TheVariants.{End, Cut, Bad}
-use Rattle.uc_logrec.specs.Turns.{Fragments, Complete, Open, Refused}
+use Rattle.uc_logrec.specs.declared.log_record.Stop.{Stop}
+use Rattle.uc_logrec.specs.declared.log_record.Stop.TheVariants.{End, Cut, Bad}
+use Rattle.uc_logrec.specs.Steps.{Fragments, Complete, Open, Refused}
 use Rattle.uc_logrec.specs.Format.{room, kind_of, checksum_of, typed, stored_checksum, stored_length, stored_code, record_of}
-use Rattle.uc_logrec.specs.Log.{turn_of, ending_at}
+use Rattle.uc_logrec.specs.Log.{step_at, ending_at}
 use Rattle.uc_logrec.specs.Grammar.{over_at, cut_at, endings, first_row}
 
 -- the place of an open payload's FIRST
@@ -95,7 +95,7 @@ row_is fragments place rest =
     by_tests (list_all (λ byte. eqb byte 0) rest) (ltb (length rest) 7) (ltb (room place - 7) len) (ltb (length rest - 7) len) (eqb (stored_checksum rest) (checksum_of code (take len (drop 7 rest)))) fragments place code len
 
 -- where a record is refused
-refused_none : (place : ℕ) (kind : Kind) (fragment : List ℕ) (fault : LogFault) → turn_of None place kind fragment ≡ Refused fault → kind_row None place kind ≡ Some (Fault fault place)
+refused_none : (place : ℕ) (kind : Kind) (fragment : List ℕ) (fault : LogFault) → step_at None place kind fragment ≡ Refused fault → kind_row None place kind ≡ Some (Fault fault place)
 refused_none place Full fragment fault e = absurd cc
 refused_none place First fragment fault e = absurd cc
 refused_none place Middle fragment fault e = let same : MiddleAlone ≡ fault = cc in ap (λ (f : LogFault). Some (Fault f place)) same
@@ -109,12 +109,12 @@ refused_by_first : (lone : Bool) (f : Fragments) (fault : LogFault) → cond lon
 refused_by_first true f fault e = absurd cc
 refused_by_first false f fault e = cc
 
-refused_some : (f : Fragments) (place : ℕ) (kind : Kind) (fragment : List ℕ) (fault : LogFault) → turn_of (Some f) place kind fragment ≡ Refused fault → kind_row (Some f) place kind ≡ Some (Fault fault place)
-refused_some f place Full fragment fault e = ap (λ (x : LogFault). Some (Fault x place)) (refused_by_full f.is_lone place fragment fault e)
-refused_some f place First fragment fault e = ap (λ (x : LogFault). Some (Fault x place)) (refused_by_first f.is_lone _ fault e)
+refused_some : (f : Fragments) (place : ℕ) (kind : Kind) (fragment : List ℕ) (fault : LogFault) → step_at (Some f) place kind fragment ≡ Refused fault → kind_row (Some f) place kind ≡ Some (Fault fault place)
+refused_some f place Full fragment fault e = ap (λ (x : LogFault). Some (Fault x place)) (refused_by_full f.is_empty_first place fragment fault e)
+refused_some f place First fragment fault e = ap (λ (x : LogFault). Some (Fault x place)) (refused_by_first f.is_empty_first _ fault e)
 refused_some f place Middle fragment fault e = absurd cc
 refused_some f place Last fragment fault e = absurd cc
 
-pub refused_row : (fragments : Option Fragments) (place : ℕ) (kind : Kind) (fragment : List ℕ) (len : ℕ) (fault : LogFault) → turn_of fragments place kind fragment ≡ Refused fault → row_of fragments place (Ok (kind, len)) ≡ Some (Fault fault place)
+pub refused_row : (fragments : Option Fragments) (place : ℕ) (kind : Kind) (fragment : List ℕ) (len : ℕ) (fault : LogFault) → step_at fragments place kind fragment ≡ Refused fault → row_of fragments place (Ok (kind, len)) ≡ Some (Fault fault place)
 refused_row None place kind fragment len fault e = refused_none place kind fragment fault e
 refused_row (Some f) place kind fragment len fault e = refused_some f place kind fragment fault e

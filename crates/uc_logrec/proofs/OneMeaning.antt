@@ -4,7 +4,7 @@ use Rattle.std.proofs.lemmas.List.{get_or-append-add}
 use Rattle.uc_logrec.specs.declared.ending.Ending.{Ending}
 use Rattle.uc_logrec.specs.declared.ending.Ending.TheVariants.{Fault}
 use Rattle.uc_logrec.specs.declared.kind.Kind.{Kind}
-use Rattle.uc_logrec.specs.declared.header.Stop.{Stop}
+use Rattle.uc_logrec.specs.declared.log_record.Stop.{Stop}
 use Rattle.uc_logrec.specs.Format.{room, record_text, record_of}
 use Rattle.uc_logrec.specs.Log.{ending_at, Reading, reading_of, payloads_of, ending_of}
 use Rattle.uc_logrec.specs.Grammar.{LogRecord, next_place, past_trailer, Stand, place_behind, Group, payload_of, sentence, empty_firsts, BeginSentence, Unfinished, records_of, open_place, endings, first_row, Reads, AreBytes, IsMeaning}

@@ -8,8 +8,8 @@ use Rattle.uc_logrec.specs.declared.fault.LogFault.{LogFault}
 use Rattle.uc_logrec.specs.declared.fault.LogFault.TheVariants.{MiddleAlone, LastAlone, FullInside, FirstInside}
 use Rattle.uc_logrec.specs.declared.kind.Kind.{Kind}
 use Rattle.uc_logrec.specs.declared.kind.Kind.TheVariants.{Full, First, Middle, Last}
-use Rattle.uc_logrec.specs.Turns.{Fragments, Turn, Complete, Open, Refused}
-use Rattle.uc_logrec.specs.Log.{turn_of}
+use Rattle.uc_logrec.specs.Steps.{Fragments, StepWithData, Complete, Open, Refused}
+use Rattle.uc_logrec.specs.Log.{step_at}
 use Rattle.uc_logrec.specs.Grammar.{LogRecord, next_place, place_behind, Group, Whole, Pieces, empty_firsts, begun_records, group_records, payload_of, sentence, BeginSentence, Unfinished, records_of}
 
 -- ---- a run of the reader over records
@@ -23,14 +23,14 @@ pub record State : Type 0 where
 abbrev pub at : List (List ℕ) → Option Fragments → ℕ → Option State
 at front fragments place = Some (record { front = front; fragments = fragments; place = place })
 
-abbrev pub turned : List (List ℕ) → ℕ → Turn → Option State
+abbrev pub turned : List (List ℕ) → ℕ → StepWithData → Option State
 turned front next (Complete payload) = at (front ++ payload ∷ []) None next
 turned front next (Open fragments) = at front (Some fragments) next
 turned front next (Refused fault) = None
 
 abbrev pub stepped : Option State → LogRecord → Option State
 stepped None found = None
-stepped (Some s) found = turned s.front (next_place s.place found) (turn_of s.fragments s.place found.0 found.1)
+stepped (Some s) found = turned s.front (next_place s.place found) (step_at s.fragments s.place found.0 found.1)
 
 abbrev pub run : Option State → List LogRecord → Option State
 run state [] = state
@@ -56,10 +56,10 @@ joined state next end a b p q = run-append state a b ∙ (ap (λ (s : Option Sta
 
 data IsFree : Option Fragments → Type 0 where
   nothing_open : IsFree None
-  empty_open : (start : ℕ) → IsFree (Some (record { start = start; payload = []; is_lone = true }))
+  empty_open : (start : ℕ) → IsFree (Some (record { start = start; payload = []; is_empty_first = true }))
 
 abbrev pub begun : ℕ → List ℕ → Fragments
-begun place first = record { start = place; payload = first; is_lone = eqb (length first) 0 }
+begun place first = record { start = place; payload = first; is_empty_first = eqb (length first) 0 }
 
 step_full : (front : List (List ℕ)) (fragments : Option Fragments) (place : ℕ) (payload : List ℕ) → IsFree fragments → stepped (at front fragments place) (Full, payload) ≡ at (front ++ payload ∷ []) None (next_place place (Full, payload))
 step_full front fragments place payload nothing_open = refl
@@ -82,26 +82,26 @@ run_empty (suc count) front fragments place free =
 
 abbrev pub with_middles : Fragments → List (List ℕ) → Fragments
 with_middles f [] = f
-with_middles f (middle ∷ middles) = with_middles (record { start = f.start; payload = f.payload ++ middle; is_lone = false }) middles
+with_middles f (middle ∷ middles) = with_middles (record { start = f.start; payload = f.payload ++ middle; is_empty_first = false }) middles
 
 pub with_middles-start : (f : Fragments) (middles : List (List ℕ)) → (with_middles f middles).start ≡ f.start
 with_middles-start f [] = refl
-with_middles-start f (middle ∷ middles) = with_middles-start (record { start = f.start; payload = f.payload ++ middle; is_lone = false }) middles
+with_middles-start f (middle ∷ middles) = with_middles-start (record { start = f.start; payload = f.payload ++ middle; is_empty_first = false }) middles
 
 with_middles-payload : (f : Fragments) (middles : List (List ℕ)) → (with_middles f middles).payload ≡ f.payload ++ concat middles
 with_middles-payload f [] = sym (append-nil f.payload)
-with_middles-payload f (middle ∷ middles) = with_middles-payload (record { start = f.start; payload = f.payload ++ middle; is_lone = false }) middles ∙ append_assoc f.payload middle (concat middles)
+with_middles-payload f (middle ∷ middles) = with_middles-payload (record { start = f.start; payload = f.payload ++ middle; is_empty_first = false }) middles ∙ append_assoc f.payload middle (concat middles)
 
-with_middles-lone : (f : Fragments) (middles : List (List ℕ)) → f.is_lone ≡ false → (with_middles f middles).is_lone ≡ false
-with_middles-lone f [] e = e
-with_middles-lone f (middle ∷ middles) e = with_middles-lone (record { start = f.start; payload = f.payload ++ middle; is_lone = false }) middles refl
+with_middles-empty_first : (f : Fragments) (middles : List (List ℕ)) → f.is_empty_first ≡ false → (with_middles f middles).is_empty_first ≡ false
+with_middles-empty_first f [] e = e
+with_middles-empty_first f (middle ∷ middles) e = with_middles-empty_first (record { start = f.start; payload = f.payload ++ middle; is_empty_first = false }) middles refl
 
 abbrev middle_records : List (List ℕ) → List LogRecord
 middle_records middles = map (λ fragment. (Middle, fragment)) middles
 
 run_middles : (middles : List (List ℕ)) (front : List (List ℕ)) (f : Fragments) (place : ℕ) → run (at front (Some f) place) (middle_records middles) ≡ at front (Some (with_middles f middles)) (place_behind place (middle_records middles))
 run_middles [] front f place = refl
-run_middles (middle ∷ middles) front f place = run_middles middles front (record { start = f.start; payload = f.payload ++ middle; is_lone = false }) (next_place place (Middle, middle))
+run_middles (middle ∷ middles) front f place = run_middles middles front (record { start = f.start; payload = f.payload ++ middle; is_empty_first = false }) (next_place place (Middle, middle))
 
 -- a FIRST and MIDDLEs
 run_begun : (front : List (List ℕ)) (fragments : Option Fragments) (place : ℕ) (first : List ℕ) (middles : List (List ℕ)) → IsFree fragments
@@ -229,20 +229,20 @@ pub record Longer (groups : List Group) (unfinished : Option Unfinished) (found 
 
 pub record IsRefused (fragments : Option Fragments) (found : LogRecord) : Type 0 where
   pub fault : LogFault
-  pub refused : (place : ℕ) → turn_of fragments place found.0 found.1 ≡ Refused fault
+  pub refused : (place : ℕ) → step_at fragments place found.0 found.1 ≡ Refused fault
 
 -- a FULL or a FIRST where more is open than an E
-kept_full : (f : Fragments) (fragment : List ℕ) → f.is_lone ≡ false → IsRefused (Some f) (Full, fragment)
+kept_full : (f : Fragments) (fragment : List ℕ) → f.is_empty_first ≡ false → IsRefused (Some f) (Full, fragment)
 kept_full f fragment e = record { fault = FullInside; refused = λ place. rw e refl }
 
-kept_first : (f : Fragments) (fragment : List ℕ) → f.is_lone ≡ false → IsRefused (Some f) (First, fragment)
+kept_first : (f : Fragments) (fragment : List ℕ) → f.is_empty_first ≡ false → IsRefused (Some f) (First, fragment)
 kept_first f fragment e = record { fault = FirstInside; refused = λ place. rw e refl }
 
 -- an E is open, or more than that
-lone_cases : (place : ℕ) (first : List ℕ) (middles : List (List ℕ)) → ((first ≡ []) × (middles ≡ [])) ⊎ ((with_middles (begun place first) middles).is_lone ≡ false)
+lone_cases : (place : ℕ) (first : List ℕ) (middles : List (List ℕ)) → ((first ≡ []) × (middles ≡ [])) ⊎ ((with_middles (begun place first) middles).is_empty_first ≡ false)
 lone_cases place [] [] = inl (refl, refl)
 lone_cases place (byte ∷ bytes) [] = inr (ne_eqb (suc (length bytes)) 0 (λ e. absurd (omega arith)))
-lone_cases place first (middle ∷ middles) = inr (with_middles-lone (record { start = place; payload = first ++ middle; is_lone = false }) middles refl)
+lone_cases place first (middle ∷ middles) = inr (with_middles-empty_first (record { start = place; payload = first ++ middle; is_empty_first = false }) middles refl)
 
 abbrev Judged : List Group → Option Unfinished → LogRecord → Type 0
 Judged groups unfinished found = Longer groups unfinished found ⊎ IsRefused (fragments_of groups unfinished) found

@@ -4,11 +4,11 @@ use Rattle.std.proofs.lemmas.List.{append-nil}
 use Rattle.uc_logrec.specs.declared.ending.Ending.{Ending}
 use Rattle.uc_logrec.specs.declared.ending.Ending.TheVariants.{Fault}
 use Rattle.uc_logrec.specs.declared.kind.Kind.{Kind}
-use Rattle.uc_logrec.specs.declared.header.Stop.{Stop}
-use Rattle.uc_logrec.specs.Turns.{Fragments, Turn, Complete, Open, Refused}
+use Rattle.uc_logrec.specs.declared.log_record.Stop.{Stop}
+use Rattle.uc_logrec.specs.Steps.{Fragments, StepWithData, Complete, Open, Refused}
 use Rattle.uc_logrec.specs.Format.{room, header_place, record_of}
 use Rattle.uc_logrec.specs.Position.{ahead_at}
-use Rattle.uc_logrec.specs.Log.{turn_of, ending_at, Reading, ended, after_turn, after_record, reading_from, reading_of}
+use Rattle.uc_logrec.specs.Log.{step_at, ending_at, Reading, ended, after_step, after_record, reading_from, reading_of}
 
 -- what was read before, and what is read behind it
 abbrev pub with_front : List (List ℕ) → Reading → Reading
@@ -65,7 +65,7 @@ abbrev pub behind : ℕ → List ℕ → ℕ → List ℕ
 behind offset left len = drop len (drop 7 (here offset left))
 
 -- a record that may stand there
-abbrev pub Goes : Reading → List (List ℕ) → ℕ → List ℕ → ℕ → Turn → Type 0
+abbrev pub Goes : Reading → List (List ℕ) → ℕ → List ℕ → ℕ → StepWithData → Type 0
 Goes all front offset left len (Complete payload) = Completes all (front ++ payload ∷ []) None (header_place offset + 7 + len) (behind offset left len)
 Goes all front offset left len (Open fragments) = Completes all front (Some fragments) (header_place offset + 7 + len) (behind offset left len)
 Goes all front offset left len (Refused fault) = all ≡ stopped front (Fault fault (header_place offset))
@@ -73,8 +73,8 @@ Goes all front offset left len (Refused fault) = all ≡ stopped front (Fault fa
 pub behind_shorter : (offset : ℕ) (left : List ℕ) (len : ℕ) → 7 + len ≤ length (here offset left) → length (behind offset left len) < length left
 behind_shorter offset left len h = omega (arith, length-drop len (drop 7 (here offset left)), length-drop 7 (here offset left), length-drop (header_place offset - offset) left)
 
-goes_on : (all : Reading) (front : List (List ℕ)) (unfinished : Option Fragments) (offset : ℕ) (left : List ℕ) (kind : Kind) (len : ℕ) (turn : Turn) (fewer : ℕ) → length left ≤ fewer → 7 + len ≤ length (here offset left)
-    → all ≡ with_front front (after_turn (λ still. reading_from fewer still (header_place offset + 7 + len) (behind offset left len)) (header_place offset) turn)
+goes_on : (all : Reading) (front : List (List ℕ)) (unfinished : Option Fragments) (offset : ℕ) (left : List ℕ) (kind : Kind) (len : ℕ) (turn : StepWithData) (fewer : ℕ) → length left ≤ fewer → 7 + len ≤ length (here offset left)
+    → all ≡ with_front front (after_step (λ still. reading_from fewer still (header_place offset + 7 + len) (behind offset left len)) (header_place offset) turn)
     → Goes all front offset left len turn
 goes_on all front unfinished offset left kind len (Complete payload) fewer le within e =
     record { places = fewer; enough = omega (arith, behind_shorter offset left len within); whole = e ∙ ap (λ (ps : List (List ℕ)). stopped ps (reading_from fewer None (header_place offset + 7 + len) (behind offset left len)).ending) (sym (append_assoc front (payload ∷ []) (reading_from fewer None (header_place offset + 7 + len) (behind offset left len)).payloads)) }
@@ -83,24 +83,24 @@ goes_on all front unfinished offset left kind len (Open fragments) fewer le with
 goes_on all front unfinished offset left kind len (Refused fault) fewer le within e = e ∙ stopped_front front (Fault fault (header_place offset))
 
 -- where a record stands
-pub goes : (all : Reading) (front : List (List ℕ)) (unfinished : Option Fragments) (offset : ℕ) (left : List ℕ) (kind : Kind) (len : ℕ) (turn : Turn) → Completes all front unfinished offset left
+pub goes : (all : Reading) (front : List (List ℕ)) (unfinished : Option Fragments) (offset : ℕ) (left : List ℕ) (kind : Kind) (len : ℕ) (turn : StepWithData) → Completes all front unfinished offset left
     → record_of (room (header_place offset)) (here offset left) ≡ Ok (kind, len) → 7 + len ≤ length (here offset left)
-    → turn ≡ turn_of unfinished (header_place offset) kind (take len (drop 7 (here offset left))) → Goes all front offset left len turn
+    → turn ≡ step_at unfinished (header_place offset) kind (take len (drop 7 (here offset left))) → Goes all front offset left len turn
 goes all front unfinished offset left kind len turn c found within turns =
     let p = one_place all front unfinished offset left c in
-    let turned : from_place p.0 unfinished offset left ≡ after_turn (λ still. reading_from p.0 still (header_place offset + 7 + len) (behind offset left len)) (header_place offset) turn = rw (found, turns) refl in
+    let turned : from_place p.0 unfinished offset left ≡ after_step (λ still. reading_from p.0 still (header_place offset + 7 + len) (behind offset left len)) (header_place offset) turn = rw (found, turns) refl in
     goes_on all front unfinished offset left kind len turn p.0 p.1 within (p.2 ∙ ap (with_front front) turned)
 
 -- what was found behind a trailer is what stands at the header place
-pub found_there : (offset : ℕ) (left : List ℕ) (place space : ℕ) (rest : List ℕ) (found : Result (Kind × ℕ) Stop) → place ≡ header_place offset → rest ≡ here offset left → space ≡ room place → found ≡ record_of space rest
+pub found_there : (offset : ℕ) (left : List ℕ) (place : ℕ) (rest : List ℕ) (found : Result (Kind × ℕ) Stop) → place ≡ header_place offset → rest ≡ here offset left → record_of (room place) rest ≡ found
     → record_of (room (header_place offset)) (here offset left) ≡ found
-found_there offset left place space rest found e f g h = sym (h ∙ rw (g, e, f) refl)
+found_there offset left place rest found e f h = sym (sym h ∙ rw (e, f) refl)
 
 -- and so it is with what it does
-pub turned_there : (unfinished : Option Fragments) (offset : ℕ) (left : List ℕ) (place : ℕ) (rest fragment : List ℕ) (kind : Kind) (len : ℕ) (turn : Turn) → place ≡ header_place offset → rest ≡ here offset left → fragment ≡ take len (drop 7 rest)
-    → turn ≡ turn_of unfinished place kind fragment → turn ≡ turn_of unfinished (header_place offset) kind (take len (drop 7 (here offset left)))
+pub turned_there : (unfinished : Option Fragments) (offset : ℕ) (left : List ℕ) (place : ℕ) (rest fragment : List ℕ) (kind : Kind) (len : ℕ) (turn : StepWithData) → place ≡ header_place offset → rest ≡ here offset left → fragment ≡ take len (drop 7 rest)
+    → turn ≡ step_at unfinished place kind fragment → turn ≡ step_at unfinished (header_place offset) kind (take len (drop 7 (here offset left)))
 turned_there unfinished offset left place rest fragment kind len turn e f g h =
-    h ∙ (ap (λ (p : ℕ). turn_of unfinished p kind fragment) e ∙ ap (turn_of unfinished (header_place offset) kind) (g ∙ ap (λ (r : List ℕ). take len (drop 7 r)) f))
+    h ∙ (ap (λ (p : ℕ). step_at unfinished p kind fragment) e ∙ ap (step_at unfinished (header_place offset) kind) (g ∙ ap (λ (r : List ℕ). take len (drop 7 r)) f))
 
 -- the bytes behind it, and how many they are
 pub behind_there : (offset : ℕ) (left rest after : List ℕ) (len : ℕ) → rest ≡ here offset left → after ≡ drop len (drop 7 rest) → after ≡ behind offset left len
@@ -115,9 +115,9 @@ still_within offset left len whole h e =
     omega (arith, a, b, d)
 
 -- a record that was found behind a trailer, and what it does
-pub goes_there : (all : Reading) (front : List (List ℕ)) (unfinished : Option Fragments) (offset : ℕ) (left : List ℕ) (place space : ℕ) (rest fragment : List ℕ) (kind : Kind) (len : ℕ) (turn : Turn)
-    → Completes all front unfinished offset left → place ≡ header_place offset → rest ≡ here offset left → space ≡ room place → Ok (kind, len) ≡ record_of space rest → 7 + len ≤ length rest
-    → fragment ≡ take len (drop 7 rest) → turn ≡ turn_of unfinished place kind fragment → Goes all front offset left len turn
-goes_there all front unfinished offset left place space rest fragment kind len turn c e f g found within cut turns =
-    goes all front unfinished offset left kind len turn c (found_there offset left place space rest (Ok (kind, len)) e f g found) (subst (λ (r : List ℕ). 7 + len ≤ length r) f within)
+pub goes_there : (all : Reading) (front : List (List ℕ)) (unfinished : Option Fragments) (offset : ℕ) (left : List ℕ) (place : ℕ) (rest fragment : List ℕ) (kind : Kind) (len : ℕ) (turn : StepWithData)
+    → Completes all front unfinished offset left → place ≡ header_place offset → rest ≡ here offset left → record_of (room place) rest ≡ Ok (kind, len) → 7 + len ≤ length rest
+    → fragment ≡ take len (drop 7 rest) → turn ≡ step_at unfinished place kind fragment → Goes all front offset left len turn
+goes_there all front unfinished offset left place rest fragment kind len turn c e f found within cut turns =
+    goes all front unfinished offset left kind len turn c (found_there offset left place rest (Ok (kind, len)) e f found) (subst (λ (r : List ℕ). 7 + len ≤ length r) f within)
     (turned_there unfinished offset left place rest fragment kind len turn e f cut turns)

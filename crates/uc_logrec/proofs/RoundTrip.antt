@@ -6,9 +6,9 @@ use Rattle.std.proofs.Math.Seq.{drop-nil}
 use Rattle.uc_logrec.specs.declared.ending.Ending.TheVariants.{Clean}
 use Rattle.uc_logrec.specs.declared.kind.Kind.{Kind}
 use Rattle.uc_logrec.specs.declared.kind.Kind.TheVariants.{Full, First, Middle, Last}
-use Rattle.uc_logrec.specs.Turns.{Fragments}
+use Rattle.uc_logrec.specs.Steps.{Fragments}
 use Rattle.uc_logrec.specs.Format.{room, header_place, record_text, record_of}
-use Rattle.uc_logrec.specs.Log.{turn_of, Reading, with_payload, after_turn, reading_from, reading_of, payloads_of, trailer, blocks_text, rest_text, payload_text, text_from, log_text, IsReadAgain}
+use Rattle.uc_logrec.specs.Log.{step_at, Reading, with_payload, after_step, reading_from, reading_of, payloads_of, trailer, blocks_text, rest_text, payload_text, text_from, log_text, IsReadAgain}
 use Rattle.uc_logrec.proofs.Reading.{here}
 use Rattle.uc_logrec.proofs.Writing.{blocks_text-last, blocks_text-middle, records_text-full, records_text-pieces}
 use Rattle.uc_logrec.proofs.Records.{record_again, length-record_text, fragment_again, behind_again}
@@ -55,7 +55,7 @@ length-trailer offset = omega (arith, length-replicate {A = ℕ} (header_place o
 -- ---- one record
 
 read_record : (places : ℕ) (unfinished : Option Fragments) (offset : ℕ) (left : List ℕ) (kind : Kind) (fragment after : List ℕ) → here offset left ≡ record_text kind fragment ++ after → 7 + length fragment ≤ room (header_place offset)
-    → reading_from (suc places) unfinished offset left ≡ after_turn (λ still. reading_from places still (header_place offset + 7 + length fragment) after) (header_place offset) (turn_of unfinished (header_place offset) kind fragment)
+    → reading_from (suc places) unfinished offset left ≡ after_step (λ still. reading_from places still (header_place offset + 7 + length fragment) after) (header_place offset) (step_at unfinished (header_place offset) kind fragment)
 unfolding reading_from
 read_record places unfinished offset left kind fragment after e fits =
     let place = header_place offset in
@@ -93,7 +93,7 @@ read_last (suc places) open_one offset fragment after start le enough =
 
 -- a payload with a MIDDLE at its end
 abbrev longer : Fragments → List ℕ → Fragments
-longer begun fragment = record { start = begun.start; payload = begun.payload ++ fragment; is_lone = false }
+longer begun fragment = record { start = begun.start; payload = begun.payload ++ fragment; is_empty_first = false }
 
 -- a MIDDLE that fills its block, and what stands behind it
 read_middle : (places : ℕ) (begun : Fragments) (offset : ℕ) (fragment rest text behind after : List ℕ) → offset % 32768 ≡ 0 → length fragment ≡ 32761 → text ≡ record_text Middle fragment ++ behind
@@ -168,7 +168,7 @@ read_pieces (suc places) offset fragment rest after full enough =
     let place = header_place offset in
     let left : here offset ((trailer offset ++ pieces) ++ after) ≡ record_text First fragment ++ (rest_text rest ++ after) = ap (here offset) (append_assoc (trailer offset) pieces after) ∙ (past_trailer offset (pieces ++ after) ∙ append_assoc (record_text First fragment) (rest_text rest) after) in
     let one = read_record places None offset ((trailer offset ++ pieces) ++ after) First fragment (rest_text rest ++ after) left (omega arith) in
-    let begun : Fragments = record { start = place; payload = fragment; is_lone = eqb (length fragment) 0 } in
+    let begun : Fragments = record { start = place; payload = fragment; is_empty_first = eqb (length fragment) 0 } in
     let behind = read_rest (suc (length rest)) places begun (place + 7 + length fragment) rest after (omega arith) (omega arith) (omega arith) in
     let there : place + 7 + length fragment + length (rest_text rest) ≡ offset + length (trailer offset ++ pieces) = omega arith in
     completed_there (fragment ++ rest) None offset (place + 7 + length fragment + length (rest_text rest)) (trailer offset ++ pieces) after (suc places) behind.fewer behind.enough one behind.reads there

@@ -6,7 +6,7 @@ use Rattle.std.proofs.lemmas.List.{take-append-drop}
 use Rattle.std.proofs.lemmas.Nat.{le_bytes_2, le_bytes_4}
 use Rattle.uc_logrec.specs.declared.kind.Kind.{Kind}
 use Rattle.uc_logrec.specs.declared.kind.Kind.TheVariants.{Full, First, Middle, Last}
-use Rattle.uc_logrec.specs.declared.header.Stop.{Stop}
+use Rattle.uc_logrec.specs.declared.log_record.Stop.{Stop}
 use Rattle.uc_logrec.specs.Format.{room, code_of, kind_of, checksum_of, typed, record_text, stored_checksum, stored_code, record_of}
 use Rattle.uc_logrec.specs.Grammar.{LogRecord, next_place, past_trailer, Stand, place_behind, BeginSentence, AreBytes}
 use Rattle.uc_logrec.proofs.Records.{IsRecord, record_again, fragment_again, behind_again}

@@ -7,8 +7,8 @@ use Rattle.uc_crc.specs.Mask.{masked}
 use Rattle.uc_logrec.specs.declared.fault.LogFault.TheVariants.{BadLength, BadChecksum, UnsupportedType}
 use Rattle.uc_logrec.specs.declared.kind.Kind.{Kind}
 use Rattle.uc_logrec.specs.declared.kind.Kind.TheVariants.{Full, First, Middle, Last}
-use Rattle.uc_logrec.specs.declared.header.Stop.{Stop}
-use Rattle.uc_logrec.specs.declared.header.Stop.TheVariants.{End, Cut, Bad}
+use Rattle.uc_logrec.specs.declared.log_record.Stop.{Stop}
+use Rattle.uc_logrec.specs.declared.log_record.Stop.TheVariants.{End, Cut, Bad}
 
 -- the bytes from an offset to the end of its block of 32768
 abbrev pub room : ℕ → ℕ

@@ -1,5 +1,5 @@
 pub mod Format
-pub mod Turns
+pub mod Steps
 pub mod Log
 pub mod Grammar
 pub mod Position

@@ -5,29 +5,29 @@ use Rattle.uc_logrec.specs.declared.ending.Ending.{Ending}
 use Rattle.uc_logrec.specs.declared.ending.Ending.TheVariants.{Clean, Torn, Fault}
 use Rattle.uc_logrec.specs.declared.kind.Kind.{Kind}
 use Rattle.uc_logrec.specs.declared.kind.Kind.TheVariants.{Full, First, Middle, Last}
-use Rattle.uc_logrec.specs.declared.header.Stop.{Stop}
-use Rattle.uc_logrec.specs.declared.header.Stop.TheVariants.{End, Cut, Bad}
-use Rattle.uc_logrec.specs.Turns.{Fragments, Turn, Complete, Open, Refused}
+use Rattle.uc_logrec.specs.declared.log_record.Stop.{Stop}
+use Rattle.uc_logrec.specs.declared.log_record.Stop.TheVariants.{End, Cut, Bad}
+use Rattle.uc_logrec.specs.Steps.{Fragments, StepWithData, Complete, Open, Refused}
 use Rattle.uc_logrec.specs.Format.{room, header_place, record_text, record_of}
 
 -- where no payload is open, a FULL is one and a FIRST begins one
-abbrev pub outside : ℕ → Kind → List ℕ → Turn
-outside offset Full fragment = Complete fragment
-outside offset First fragment = Open (record { start = offset; payload = fragment; is_lone = length fragment == 0 })
-outside offset Middle fragment = Refused MiddleAlone
-outside offset Last fragment = Refused LastAlone
+abbrev pub step_outside : ℕ → Kind → List ℕ → StepWithData
+step_outside offset Full fragment = Complete fragment
+step_outside offset First fragment = Open (record { start = offset; payload = fragment; is_empty_first = length fragment == 0 })
+step_outside offset Middle fragment = Refused MiddleAlone
+step_outside offset Last fragment = Refused LastAlone
 
 -- where a payload is open, a MIDDLE goes on and a LAST completes it. Another one may begin only where the
 -- open one is nothing but a FIRST without data, which is dropped
-abbrev pub inside : Fragments → ℕ → Kind → List ℕ → Turn
-inside unfinished offset Full fragment = if unfinished.is_lone then outside offset Full fragment else Refused FullInside
-inside unfinished offset First fragment = if unfinished.is_lone then outside offset First fragment else Refused FirstInside
-inside unfinished offset Middle fragment = Open (record { start = unfinished.start; payload = unfinished.payload ++ fragment; is_lone = false })
-inside unfinished offset Last fragment = Complete (unfinished.payload ++ fragment)
+abbrev pub step_inside : Fragments → ℕ → Kind → List ℕ → StepWithData
+step_inside unfinished offset Full fragment = if unfinished.is_empty_first then step_outside offset Full fragment else Refused FullInside
+step_inside unfinished offset First fragment = if unfinished.is_empty_first then step_outside offset First fragment else Refused FirstInside
+step_inside unfinished offset Middle fragment = Open (record { start = unfinished.start; payload = unfinished.payload ++ fragment; is_empty_first = false })
+step_inside unfinished offset Last fragment = Complete (unfinished.payload ++ fragment)
 
-abbrev pub turn_of : Option Fragments → ℕ → Kind → List ℕ → Turn
-turn_of None offset kind fragment = outside offset kind fragment
-turn_of (Some unfinished) offset kind fragment = inside unfinished offset kind fragment
+abbrev pub step_at : Option Fragments → ℕ → Kind → List ℕ → StepWithData
+step_at None offset kind fragment = step_outside offset kind fragment
+step_at (Some unfinished) offset kind fragment = step_inside unfinished offset kind fragment
 
 -- how a log ends where no record stands: a payload that is open is torn at its first fragment
 abbrev pub ending_at : Stop → Option Fragments → ℕ → Ending
@@ -49,14 +49,14 @@ abbrev pub with_payload : List ℕ → Reading → Reading
 with_payload payload reading = record { payloads = payload ∷ reading.payloads; ending = reading.ending }
 
 -- what is read from a record on, where go reads what stands behind it
-abbrev pub after_turn : (Option Fragments → Reading) → ℕ → Turn → Reading
-after_turn go offset (Complete payload) = with_payload payload (go None)
-after_turn go offset (Open fragments) = go (Some fragments)
-after_turn go offset (Refused fault) = ended (Fault fault offset)
+abbrev pub after_step : (Option Fragments → Reading) → ℕ → StepWithData → Reading
+after_step go offset (Complete payload) = with_payload payload (go None)
+after_step go offset (Open fragments) = go (Some fragments)
+after_step go offset (Refused fault) = ended (Fault fault offset)
 
 abbrev pub after_record : (Option Fragments → ℕ → List ℕ → Reading) → Option Fragments → ℕ → List ℕ → Result (Kind × ℕ) Stop → Reading
 after_record go unfinished offset rest (Ok found) =
-    after_turn (λ still_open. go still_open (offset + 7 + found.1) (drop found.1 (drop 7 rest))) offset (turn_of unfinished offset found.0 (take found.1 (drop 7 rest)))
+    after_step (λ still_open. go still_open (offset + 7 + found.1) (drop found.1 (drop 7 rest))) offset (step_at unfinished offset found.0 (take found.1 (drop 7 rest)))
 after_record go unfinished offset rest (Err stop) = ended (ending_at stop unfinished offset)
 
 -- what is read from an offset on, with no more than so many places

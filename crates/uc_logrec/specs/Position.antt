@@ -4,9 +4,9 @@ use Rattle.uc_logrec.specs.declared.log_reader.Next.{Next}
 use Rattle.uc_logrec.specs.declared.log_reader.Next.TheVariants.{Whole, Joined, Ended}
 use Rattle.uc_logrec.specs.Log.{Reading, ended, with_payload, reading_from}
 
--- how many payloads were given, and what is ahead: the payloads to come, and the ending
+-- how many payloads were read, and what is ahead: the payloads to come, and the ending
 pub record Position : Type 0 where
-  pub given : ℕ
+  pub payloads_read : ℕ
   pub ahead : Reading
 
 -- what is read from an offset on, where no payload is open
@@ -15,7 +15,7 @@ ahead_at offset left = reading_from (suc (length left)) None offset left
 
 -- This payload is the first of those ahead, and the others are ahead behind it.
 abbrev pub ComesFirst : List ℕ → Position → Position → Type 0
-ComesFirst payload old new = (old.ahead ≡ with_payload payload new.ahead) × (new.given ≡ old.given + 1)
+ComesFirst payload old new = (old.ahead ≡ with_payload payload new.ahead) × (new.payloads_read ≡ old.payloads_read + 1)
 
 -- What comes next at a position, where this was joined in the buffer, and the position behind it: the first payload
 -- of those ahead, or the ending where none is ahead.

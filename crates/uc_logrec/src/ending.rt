@@ -1,3 +1,4 @@
+//! How a log ends.
 use crate::fault::LogFault;
 
 /// How a log ends. Offsets are in bytes from the log's start.

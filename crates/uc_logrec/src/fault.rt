@@ -1,3 +1,4 @@
+//! What may be wrong with a log's records.
 use thiserror::Error;
 
 /// What is wrong with a record of a log.

@@ -1,3 +1,4 @@
+//! The types of records.
 ghost use Rattle.std.specs.Prelude.{◌≡◌};
 ghost use Rattle.uc_logrec.specs.Format.{code_of, kind_of};
 

@@ -5,31 +5,29 @@
 //! a LAST. [`LogReader`] gives the payloads of a log one at a time and says how it ends, [`read_log`] all of
 //! them at once; [`LogWriter`] writes a log.
 //!
-//! Read `kind.rt` and `header.rt` first: what a record is. `fragments.rt` has the payload that is not
-//! complete yet, and `log_reader.rt` and `writer.rt` the two directions. What a log means is said in
-//! `specs/Grammar.antt`, by the grammar of its records; [`meaning`] is the law that the reader keeps to it,
-//! and [`round_trip`] the law that what is written is read again.
+//! Read `kind.rt` and `log_record.rt` first: what a record is. `step.rt` has the payload that is not
+//! complete yet, and `log_reader.rt` and `log_writer.rt` the two directions. What a log means is said in
+//! `specs/Grammar.antt`, by the grammar of its records; [`log_is_read_by_grammar`] is the law that the reader
+//! keeps to it, and [`written_log_is_read`] the law that what is written is read again.
 #![tactic(auto)]
 
 mod ending;
 mod fault;
-mod fragments;
-mod header;
 mod kind;
 mod laws;
+mod log_read;
 mod log_reader;
-mod payloads;
-mod reader;
-mod writer;
+mod log_record;
+mod log_writer;
+mod step;
 
 pub use ending::Ending;
 pub use fault::LogFault;
-pub use laws::{meaning, round_trip};
+pub use laws::{log_is_read_by_grammar, written_log_is_read};
+pub use log_read::{LogRead, Payloads, read_log};
 pub use log_reader::{LogReader, Next};
-pub use payloads::Payloads;
-pub use reader::{LogRead, read_log};
+pub use log_writer::LogWriter;
 pub use uc_crc::{crc32c, mask, unmask};
-pub use writer::LogWriter;
 
 #[cfg(test)]
 mod tests;

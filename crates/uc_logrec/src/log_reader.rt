@@ -1,12 +1,13 @@
 //! A log's payloads, one at a time.
 ghost use Rattle.std.specs.Prelude.{◌≡◌, ℕ, ◌+◌, ◌<◌, ◌^◌, List, length, IfOk, OnErr};
-ghost use Rattle.uc_logrec.specs.Log.{reading_of, ending_at};
+ghost use Rattle.uc_logrec.specs.Log as definitions;
+ghost use Rattle.uc_logrec.specs.Log.{reading_of};
 ghost use Rattle.uc_logrec.specs.Position.{Comes, Leads};
-ghost use Rattle.uc_logrec.specs.Turns.{open_in};
+ghost use Rattle.uc_logrec.specs.Steps.{open_in};
 
 use crate::ending::Ending;
-use crate::fragments::{Step, Unfinished, step_at};
-use crate::header::{HEADER, Stop, parts, past_trailer, record_at, room_at};
+use crate::log_record::{HEADER_SIZE, Stop, read_record, skip_trailer};
+use crate::step::{Step, Unfinished, step_at};
 use std::alloc::AllocError;
 use std::marker::Model;
 
@@ -29,7 +30,7 @@ pub struct LogReader<'a> {
     // Where the last payload ended, and the bytes from there.
     place: usize,
     left: &'a [u8],
-    given: u64,
+    payloads_read: u64,
 }
 
 impl<'a> Model for LogReader<'a> {
@@ -38,28 +39,28 @@ impl<'a> Model for LogReader<'a> {
 
     ghost Value = { Position };
 
-    ghost view = { λ r. record { given = r.given; ahead = ahead_at r.place r.left.now } };
+    ghost view = { λ r. record { payloads_read = r.payloads_read; ahead = ahead_at r.place r.left.now } };
 
-    ghost invariant = { λ r. (r.given ≤ r.place) × (r.place + length r.left.now < 2 ^ 63) };
+    ghost invariant = { λ r. (r.payloads_read ≤ r.place) × (r.place + length r.left.now < 2 ^ 63) };
 }
 
 impl<'a> LogReader<'a> {
     /// A reader at the start of a log.
     pub fn new(log: &'a [u8]) -> LogReader<'a>
-        ensures { result ≡ record { given = 0; ahead = reading_of log.now } }
+        ensures { result ≡ record { payloads_read = 0; ahead = reading_of log.now } }
     {
         LogReader {
             place: 0,
             left: log,
-            given: 0,
+            payloads_read: 0,
         }
     }
 
     /// How many payloads it has given.
-    pub fn given(&self) -> u64
-        ensures { result ≡ self.now.given }
+    pub fn payloads_read(&self) -> u64
+        ensures { result ≡ self.now.payloads_read }
     {
-        self.given
+        self.payloads_read
     }
 
     /// The next payload or, behind the last one, the ending, which is given again if it is asked for again.
@@ -75,7 +76,7 @@ impl<'a> LogReader<'a> {
         if let Next::Whole(_) | Next::Joined = next {
             self.place = place;
             self.left = left;
-            self.given += 1;
+            self.payloads_read += 1;
         }
         Ok(next)
     }
@@ -92,19 +93,18 @@ fn next_at<'a>(
 {
     let mut unfinished = None;
     loop {
-        let (offset, rest) = past_trailer(place, left);
-        let (kind, len) = match record_at(room_at(offset), rest) {
-            Ok(record) => record,
+        let (offset, rest) = skip_trailer(place, left);
+        let (record, behind) = match read_record(offset, rest) {
+            Ok(found) => found,
             Err(stop) => {
-                let ending = stopped(stop, &unfinished, offset as u64);
+                let ending = ending_at(stop, &unfinished, offset as u64);
                 return Ok((Next::Ended(ending), place, left));
             }
         };
-        let (fragment, behind) = parts(rest, len);
-        place = offset + HEADER + len;
+        place = offset + HEADER_SIZE + record.fragment.len();
         left = behind;
-        match step_at(unfinished, joined, offset as u64, kind, fragment)? {
-            Step::Whole => return Ok((Next::Whole(fragment), place, left)),
+        match step_at(unfinished, joined, offset as u64, record)? {
+            Step::Whole => return Ok((Next::Whole(record.fragment), place, left)),
             Step::Joined => return Ok((Next::Joined, place, left)),
             Step::Open(open) => unfinished = Some(open),
             Step::Refused(fault) => {
@@ -116,8 +116,8 @@ fn next_at<'a>(
 }
 
 /// How the log ends at an offset where no record stands. The open payload's data is of no account.
-fn stopped(stop: Stop, unfinished: &Option<Unfinished>, offset: u64) -> Ending
-    ensures { (joined : List ℕ) → result ≡ ending_at stop (open_in unfinished.now joined) offset }
+fn ending_at(stop: Stop, unfinished: &Option<Unfinished>, offset: u64) -> Ending
+    ensures { (joined : List ℕ) → result ≡ definitions.ending_at stop (open_in unfinished.now joined) offset }
 {
     match (stop, unfinished) {
         (Stop::End, None) => Ending::Clean,

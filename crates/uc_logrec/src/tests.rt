@@ -233,7 +233,7 @@ fn payloads_come_one_at_a_time(rt: HostRuntime) -> Result<(), Fail> {
     let mut reader = LogReader::new(&log);
     let mut joined = Vec::new(alloc);
     for (place, payload) in [BATCH.as_slice(), &[]].into_iter().enumerate() {
-        assert_eq!(rt; reader.given(), place as u64);
+        assert_eq!(rt; reader.payloads_read(), place as u64);
         match reader.next(&mut joined)? {
             Next::Whole(found) => assert_eq!(rt; found, payload),
             other => panic!(rt; "{other:?} in place of a whole payload"),
@@ -245,7 +245,7 @@ fn payloads_come_one_at_a_time(rt: HostRuntime) -> Result<(), Fail> {
             other => panic!(rt; "{other:?} behind the fault"),
         }
     }
-    assert_eq!(rt; reader.given(), 2);
+    assert_eq!(rt; reader.payloads_read(), 2);
     Ok(())
 }
 

@@ -89,10 +89,10 @@ kept_from last number ahead = kept (batches_of last number ahead.payloads) ahead
 
 -- What is still told of a log, and how far it is read, when the payloads before this position are told.
 pub record DumpsOn (all : WriteLog) (last : ℕ) (position : Position) (old here : Option (List ℕ)) : Type 0 where
-  pub lines : GoesOn (map write_line all.list) (map write_line (kept_from last (position.given + 1) position.ahead).list) old here
-  pub ended : (kept_from last (position.given + 1) position.ahead).ended ≡ all.ended
+  pub lines : GoesOn (map write_line all.list) (map write_line (kept_from last (position.payloads_read + 1) position.ahead).list) old here
+  pub ended : (kept_from last (position.payloads_read + 1) position.ahead).ended ≡ all.ended
 
-pub begins : (input : List ℕ) (position : Position) (old : Option (List ℕ)) → position ≡ record { given = 0; ahead = reading_of input } → DumpsOn (log_of input) 0 position old old
+pub begins : (input : List ℕ) (position : Position) (old : Option (List ℕ)) → position ≡ record { payloads_read = 0; ahead = reading_of input } → DumpsOn (log_of input) 0 position old old
 begins input position old e = subst (λ (p : Position). DumpsOn (log_of input) 0 p old old) (sym e) (record { lines = λ new r q. q; ended = refl })
 
 module _ (all : WriteLog) (last : ℕ) (position : Position) (old here : Option (List ℕ)) (so_far : DumpsOn all last position old here) where
@@ -101,12 +101,12 @@ module _ (all : WriteLog) (last : ℕ) (position : Position) (old here : Option 
   no_memory = so_far.lines here (Err halt.Memory) (0, appends_none here)
 
   -- nothing more is told
-  nothing_more : (rest : WriteLog) → kept_from last (position.given + 1) position.ahead ≡ rest → rest.list ≡ [] → Appends old here (joined (map write_line all.list))
+  nothing_more : (rest : WriteLog) → kept_from last (position.payloads_read + 1) position.ahead ≡ rest → rest.list ≡ [] → Appends old here (joined (map write_line all.list))
   nothing_more rest e none = so_far.lines here (Ok tt) (subst (λ (ws : List Write). Appends here here (joined (map write_line ws))) (sym (ap (λ (l : WriteLog). l.list) e ∙ none)) (appends_none here))
 
   module _ (ending : Ending) (is_end : position.ahead ≡ ended ending) where
-    ends : kept_from last (position.given + 1) position.ahead ≡ record { list = []; ended = ended_by ending }
-    ends = ap (kept_from last (position.given + 1)) is_end
+    ends : kept_from last (position.payloads_read + 1) position.ahead ≡ record { list = []; ended = ended_by ending }
+    ends = ap (kept_from last (position.payloads_read + 1)) is_end
 
     pub ends_lines : Appends old here (joined (map write_line all.list))
     ends_lines = nothing_more (record { list = []; ended = ended_by ending }) ends refl
@@ -114,26 +114,26 @@ module _ (all : WriteLog) (last : ℕ) (position : Position) (old here : Option 
     pub ends_ended : ended_by ending ≡ all.ended
     ends_ended = sym (ap (λ (l : WriteLog). l.ended) ends) ∙ so_far.ended
 
-  module _ (payload : List ℕ) (next : Position) (comes : (position.ahead ≡ with_payload payload next.ahead) × (next.given ≡ position.given + 1)) where
-    at_payload : batches_of last (position.given + 1) position.ahead.payloads ≡ after_batch (λ used. batches_of used (next.given + 1) next.ahead.payloads) last next.given (batch_of last payload)
+  module _ (payload : List ℕ) (next : Position) (comes : (position.ahead ≡ with_payload payload next.ahead) × (next.payloads_read ≡ position.payloads_read + 1)) where
+    at_payload : batches_of last (position.payloads_read + 1) position.ahead.payloads ≡ after_batch (λ used. batches_of used (next.payloads_read + 1) next.ahead.payloads) last next.payloads_read (batch_of last payload)
     at_payload =
-        ap (λ (r : Reading). batches_of last (position.given + 1) r.payloads) comes.0
+        ap (λ (r : Reading). batches_of last (position.payloads_read + 1) r.payloads) comes.0
         ∙ ap (λ (n : ℕ). after_batch (λ used. batches_of used (n + 1) next.ahead.payloads) last n (batch_of last payload)) (sym comes.1)
 
     same_ending : position.ahead.ending ≡ next.ahead.ending
     same_ending = ap (λ (r : Reading). r.ending) comes.0
 
-    kept_is : (rest : Batches) → after_batch (λ used. batches_of used (next.given + 1) next.ahead.payloads) last next.given (batch_of last payload) ≡ rest → kept_from last (position.given + 1) position.ahead ≡ kept rest next.ahead.ending
+    kept_is : (rest : Batches) → after_batch (λ used. batches_of used (next.payloads_read + 1) next.ahead.payloads) last next.payloads_read (batch_of last payload) ≡ rest → kept_from last (position.payloads_read + 1) position.ahead ≡ kept rest next.ahead.ending
     kept_is rest e = ap (λ (b : Batches). kept b position.ahead.ending) (at_payload ∙ e) ∙ ap (kept rest) same_ending
 
     module _ (batch : List Write) (read : batch_of last payload ≡ Ok batch) where
       abbrev others : Batches
-      others = batches_of (last_of last batch) (next.given + 1) next.ahead.payloads
+      others = batches_of (last_of last batch) (next.payloads_read + 1) next.ahead.payloads
 
-      behind : kept_from last (position.given + 1) position.ahead ≡ kept (record { writes = batch ++ others.writes; refused = others.refused }) next.ahead.ending
-      behind = kept_is (record { writes = batch ++ others.writes; refused = others.refused }) (ap (after_batch (λ used. batches_of used (next.given + 1) next.ahead.payloads) last next.given) read)
+      behind : kept_from last (position.payloads_read + 1) position.ahead ≡ kept (record { writes = batch ++ others.writes; refused = others.refused }) next.ahead.ending
+      behind = kept_is (record { writes = batch ++ others.writes; refused = others.refused }) (ap (after_batch (λ used. batches_of used (next.payloads_read + 1) next.ahead.payloads) last next.payloads_read) read)
 
-      lines_are : map write_line (kept_from last (position.given + 1) position.ahead).list ≡ map write_line batch ++ map write_line others.writes
+      lines_are : map write_line (kept_from last (position.payloads_read + 1) position.ahead).list ≡ map write_line batch ++ map write_line others.writes
       lines_are = ap (λ (l : WriteLog). map write_line l.list) behind ∙ map-append write_line batch others.writes
 
       -- the batch was told
@@ -148,13 +148,13 @@ module _ (all : WriteLog) (last : ℕ) (position : Position) (old here : Option 
       stops after e p = so_far.lines after (Err e) (subst (λ (ls : List (List ℕ)). Stops ls here after e) (sym lines_are) (stops_within (map write_line batch) (map write_line others.writes) here after e p))
 
     module _ (e : BatchError) (other : e ≢ faults.Memory) (f : Fails e (batch_of last payload)) where
-      refuses : kept_from last (position.given + 1) position.ahead ≡ record { list = []; ended = ends_at.BatchFault next.given e }
-      refuses = kept_is (record { writes = []; refused = Some (next.given, e) }) (ap (after_batch (λ used. batches_of used (next.given + 1) next.ahead.payloads) last next.given) (fault_is e (batch_of last payload) other f))
+      refuses : kept_from last (position.payloads_read + 1) position.ahead ≡ record { list = []; ended = ends_at.BatchFault next.payloads_read e }
+      refuses = kept_is (record { writes = []; refused = Some (next.payloads_read, e) }) (ap (after_batch (λ used. batches_of used (next.payloads_read + 1) next.ahead.payloads) last next.payloads_read) (fault_is e (batch_of last payload) other f))
 
       pub refused_lines : Appends old here (joined (map write_line all.list))
-      refused_lines = nothing_more (record { list = []; ended = ends_at.BatchFault next.given e }) refuses refl
+      refused_lines = nothing_more (record { list = []; ended = ends_at.BatchFault next.payloads_read e }) refuses refl
 
-      pub refused_ended : ends_at.BatchFault next.given e ≡ all.ended
+      pub refused_ended : ends_at.BatchFault next.payloads_read e ≡ all.ended
       refused_ended = sym (ap (λ (l : WriteLog). l.ended) refuses) ∙ so_far.ended
 
 -- a dump that is told whole ends as one

@@ -50,7 +50,7 @@ fn tell_log<W: io::Write>(alloc: Global, input: &[u8], writer: &mut W) -> Result
                 last = last_used(&batch, last);
             }
             Err(BatchError::Memory) => return Err(Halt::Memory),
-            Err(fault) => return Ok(Ended::BatchFault(log.given(), fault)),
+            Err(fault) => return Ok(Ended::BatchFault(log.payloads_read(), fault)),
         }
     }
 }

@@ -5,8 +5,8 @@ ghost use Rattle.uc_tool.specs.Opening.{batch_texts, FitsLog};
 
 use std::alloc::{AllocError, Global};
 use std::slice;
-use uc_batch::{Mode, Op, ReadError, Writes, read_writes, write_batch, written_is_read};
-use uc_logrec::{LogWriter, round_trip};
+use uc_batch::{Mode, Op, ReadError, Writes, read_writes, write_batch, written_batch_is_read};
+use uc_logrec::{LogWriter, written_log_is_read};
 
 /// Writes the operations as a log, a batch for each, numbered from 1.
 fn write_log(alloc: Global, ops: &[Op]) -> Result<Vec<u8>, AllocError>
@@ -30,8 +30,8 @@ fn read_back(alloc: Global, log: &[u8], ops: &[Op]) -> Result<Writes, AllocError
     ensures { IfOk result (λ writes. writes.list ≡ numbered 1 ops.now) }
 {
     // What is written is read again: the laws of the layers below, which do nothing when they run.
-    round_trip();
-    written_is_read();
+    written_log_is_read();
+    written_batch_is_read();
     match read_writes(alloc, log, Mode::TornTail) {
         Ok(writes) => Ok(writes),
         Err(ReadError::Memory) => Err(AllocError),

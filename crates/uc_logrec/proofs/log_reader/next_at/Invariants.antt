@@ -1,15 +1,15 @@
 use Rattle.std.proofs.Common.{◌≡◌, ◌+◌, ◌≤◌, [], length}
 use Rattle.uc_logrec.specs.Position.{ahead_at}
-use Rattle.uc_logrec.specs.Turns.{open_in}
+use Rattle.uc_logrec.specs.Steps.{open_in}
 use Rattle.uc_logrec.proofs.Reading.{Completes}
 use Rattle.uc_logrec.proofs.log_reader.next_at.Given as goal
 
-abbrev pub invariant-loop-record : goal.invariant-loop-record
-invariant-loop-record l = record {
+abbrev pub invariant-loop-found : goal.invariant-loop-found
+invariant-loop-found l = record {
   completes : Completes (ahead_at l.fn.place l.fn.left) [] (open_in l.unfinished l.joined.items) l.place l.left;
   within : l.place + length l.left ≡ l.fn.place + length l.fn.left;
   later : l.fn.place ≤ l.place;
 }
 
-abbrev pub decreases-loop-record : goal.decreases-loop-record
-decreases-loop-record l = length l.left
+abbrev pub decreases-loop-found : goal.decreases-loop-found
+decreases-loop-found l = length l.left

@@ -52,7 +52,7 @@ returns-in-Err g c =
     let comes : ComesFirst c.match-branch-2.payload.now l.log c.next.new.self = search rules in
     record {
       told = refused_lines (log_of c.args.input.now) l.last l.log (contents c.args.writer.now) (contents l.writer) l.invariant c.match-branch-2.payload.now c.next.new.self comes c.in-Err.fault other c.in-Err.ensures;
-      ended = rw c.given.ensures (refused_ended (log_of c.args.input.now) l.last l.log (contents c.args.writer.now) (contents l.writer) l.invariant c.match-branch-2.payload.now c.next.new.self comes c.in-Err.fault other c.in-Err.ensures);
+      ended = rw c.payloads_read.ensures (refused_ended (log_of c.args.input.now) l.last l.log (contents c.args.writer.now) (contents l.writer) l.invariant c.match-branch-2.payload.now c.next.new.self comes c.in-Err.fault other c.in-Err.ensures);
     }
 
 pub loop-lines-preserved : goal.loop-lines-preserved

@@ -8,16 +8,16 @@ use Rattle.uc_tool.proofs.opening.read_back.Goals as goal
 pub returns-in-Ok : goal.returns-in-Ok
 returns-in-Ok c =
     let ops = c.args.ops.now in
-    same_list (writes_of TornTail c.args.log.now) c.in-Ok.writes (numbered 1 ops) c.in-Ok.ensures.ok (ap (writes_of TornTail) c.requires.written ∙ log_again c.written_is_read.ensures c.round_trip.ensures ops c.requires.fits)
+    same_list (writes_of TornTail c.args.log.now) c.in-Ok.writes (numbered 1 ops) c.in-Ok.ensures.ok (ap (writes_of TornTail) c.requires.written ∙ log_again c.written_batch_is_read.ensures c.written_log_is_read.ensures ops c.requires.fits)
 
 pub unreachable-requires : goal.unreachable-requires
 unreachable-requires c =
     let ops = c.args.ops.now in
     let e = c.in-Err-Batch in
-    never_batch (writes_of TornTail c.args.log.now) (clean_log ops) e.field-0 e.field-0-0 e.field-0-1 e.field-0-is e.ensures.err (ap (writes_of TornTail) c.requires.written ∙ log_again c.written_is_read.ensures c.round_trip.ensures ops c.requires.fits)
+    never_batch (writes_of TornTail c.args.log.now) (clean_log ops) e.field-0 e.field-0-0 e.field-0-1 e.field-0-is e.ensures.err (ap (writes_of TornTail) c.requires.written ∙ log_again c.written_batch_is_read.ensures c.written_log_is_read.ensures ops c.requires.fits)
 
 pub unreachable-requires-in-Err-Log : goal.unreachable-requires-in-Err-Log
 unreachable-requires-in-Err-Log c =
     let ops = c.args.ops.now in
     let e = c.in-Err-Log in
-    never_log (writes_of TornTail c.args.log.now) (clean_log ops) e.field-0 e.field-0-0 e.field-0-1 e.field-0-is e.ensures.err (ap (writes_of TornTail) c.requires.written ∙ log_again c.written_is_read.ensures c.round_trip.ensures ops c.requires.fits)
+    never_log (writes_of TornTail c.args.log.now) (clean_log ops) e.field-0 e.field-0-0 e.field-0-1 e.field-0-is e.ensures.err (ap (writes_of TornTail) c.requires.written ∙ log_again c.written_batch_is_read.ensures c.written_log_is_read.ensures ops c.requires.fits)

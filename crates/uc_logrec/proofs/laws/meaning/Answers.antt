@@ -1,5 +1,0 @@
-use Rattle.uc_logrec.proofs.OneMeaning.{is_meaning}
-use Rattle.uc_logrec.proofs.laws.meaning.Goals as goal
-
-pub returns : goal.returns
-returns c = is_meaning

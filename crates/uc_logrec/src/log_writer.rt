@@ -1,0 +1,131 @@
+//! [`LogWriter`]: from payloads to the bytes of a log.
+ghost use Rattle.std.specs.Prelude.{◌≡◌, ℕ, ◌+◌, ◌-◌, ◌<◌, ◌≤◌, ◌^◌, List, [], ◌∷◌, ◌++◌, length, OnOk, OnErr, IfOk, vec_len};
+ghost use Rattle.uc_logrec.specs.Format as format;
+ghost use Rattle.uc_logrec.specs.Format.{record_text};
+ghost use Rattle.uc_logrec.specs.Log.{payload_text, records_text, rest_text, trailer, log_text, Extends};
+
+use crate::kind::Kind;
+use crate::log_record::{HEADER_SIZE, MAX_FRAGMENT, Record, checksum_of, fragment_room, room};
+use std::alloc::{AllocError, Global};
+use std::marker::Model;
+
+/// Writes a log into memory, payload by payload.
+///
+/// A contract sees it as the list of the payloads that were added.
+#[derive(Debug, Drop)]
+pub struct LogWriter {
+    text: Vec<u8>,
+}
+
+impl Model for LogWriter {
+    ghost use Rattle.std.specs.Prelude.{◌≡◌, List, ℕ};
+    ghost use Rattle.uc_logrec.specs.Log.{payloads_of, log_text};
+
+    ghost Value = { List (List ℕ) };
+
+    ghost view = { λ w. payloads_of w.text.items };
+
+    ghost invariant = { λ w. w.text.items ≡ log_text (payloads_of w.text.items) };
+}
+
+impl LogWriter {
+    /// A writer of a log without payloads. It takes no memory.
+    pub fn new(alloc: Global) -> LogWriter
+        ensures { result ≡ [] }
+    {
+        LogWriter {
+            text: Vec::new(alloc),
+        }
+    }
+
+    /// Adds a payload: one record where it fits the rest of the block, else a FIRST, MIDDLEs and a LAST.
+    ///
+    /// It fails only for want of memory, and then adds nothing.
+    pub fn add(&mut self, payload: &[u8]) -> Result<(), AllocError>
+        ensures ok { OnOk result (self.new ≡ self.old ++ payload.now ∷ []) }
+        ensures err { OnErr result (self.new ≡ self.old) }
+    {
+        let before = self.text.len();
+        if let Err(error) = push_payload(&mut self.text, payload) {
+            self.text.truncate(before);
+            return Err(error);
+        }
+        Ok(())
+    }
+
+    /// The bytes of the log. It takes no memory.
+    pub fn finish(self) -> Vec<u8>
+        ensures { result.items ≡ log_text self }
+    {
+        self.text
+    }
+}
+
+/// Writes a record at the end.
+#[tactic(auto, using(std::proofs::lemmas::List::append_assoc), unfolding(crate::specs::Format::record_text))]
+fn push_record(text: &mut Vec<u8>, record: Record<'_>) -> Result<(), AllocError>
+    requires { length record.fragment.now < 2 ^ 16 }
+    ensures ok { OnOk result (text.new.items ≡ text.old.items ++ record_text record.entry.kind record.entry.fragment.now) }
+    ensures kept { Extends text.old.items text.new.items }
+{
+    let Record { kind, fragment } = record;
+    text.extend_from_slice(&checksum_of(kind.code(), fragment).to_le_bytes())?;
+    text.extend_from_slice(&(fragment.len() as u16).to_le_bytes())?;
+    text.push(kind.code())?;
+    text.extend_from_slice(fragment)?;
+    Ok(())
+}
+
+/// Writes the trailer that stands before the next header place.
+fn push_trailer(text: &mut Vec<u8>) -> Result<(), AllocError>
+    ensures ok { OnOk result (text.new.items ≡ text.old.items ++ trailer (length text.old.items)) }
+    ensures kept { Extends text.old.items text.new.items }
+{
+    let space = room(text.len());
+    if space < HEADER_SIZE {
+        text.extend_from_slice(&[0; HEADER_SIZE][..space])?;
+    }
+    Ok(())
+}
+
+/// Writes what is left of a payload behind its FIRST, from a block's start on.
+fn push_rest(text: &mut Vec<u8>, payload: &[u8]) -> Result<(), AllocError>
+    ensures ok { OnOk result (text.new.items ≡ text.old.items ++ rest_text payload.now) }
+    ensures kept { Extends text.old.items text.new.items }
+{
+    let mut left = payload;
+    while left.len() > MAX_FRAGMENT {
+        let (fragment, behind) = left.split_at(MAX_FRAGMENT);
+        let kind = Kind::Middle;
+        push_record(text, Record { kind, fragment })?;
+        left = behind;
+    }
+    let (kind, fragment) = (Kind::Last, left);
+    push_record(text, Record { kind, fragment })
+}
+
+/// Writes the records of a payload at a header place.
+fn push_records(text: &mut Vec<u8>, payload: &[u8]) -> Result<(), AllocError>
+    requires { 7 ≤ format.room (length text.old.items) }
+    ensures ok { OnOk result (text.new.items ≡ text.old.items ++ records_text (length text.old.items) payload.now) }
+    ensures kept { Extends text.old.items text.new.items }
+{
+    let fits = fragment_room(text.len());
+    if payload.len() <= fits {
+        let (kind, fragment) = (Kind::Full, payload);
+        return push_record(text, Record { kind, fragment });
+    }
+    let (fragment, rest) = payload.split_at(fits);
+    let kind = Kind::First;
+    push_record(text, Record { kind, fragment })?;
+    push_rest(text, rest)
+}
+
+/// Writes a payload at the end.
+fn push_payload(text: &mut Vec<u8>, payload: &[u8]) -> Result<(), AllocError>
+    ensures ok { OnOk result (text.new.items ≡ text.old.items ++ payload_text (length text.old.items) payload.now) }
+    ensures kept { Extends text.old.items text.new.items }
+{
+    push_trailer(text)?;
+    push_records(text, payload)
+}

@@ -1,0 +1,98 @@
+//! What a record does to the payload that is not complete yet.
+ghost use Rattle.std.specs.Prelude.{◌≡◌, IfOk};
+ghost use Rattle.uc_logrec.specs.Log as log;
+ghost use Rattle.uc_logrec.specs.Steps.{fragments_of, open_in, step_with_data};
+
+use crate::fault::LogFault;
+use crate::kind::Kind;
+use crate::log_record::Record;
+use std::alloc::AllocError;
+
+/// A payload whose LAST has not come yet. The data of its fragments, joined, stands in a buffer beside it.
+#[derive(Clone, Copy)]
+pub(crate) struct Unfinished {
+    /// The offset of its FIRST in the log.
+    pub(crate) start: u64,
+    /// Whether there is nothing but a FIRST without data. Old writers left such a one at the end of a block,
+    /// so it is dropped where another payload begins behind it.
+    pub(crate) is_empty_first: bool,
+}
+
+/// What a record does to the payload that is open.
+#[derive(Clone, Copy)]
+pub(crate) enum Step {
+    /// Its data is a complete payload as it stands, and none is open now.
+    Whole,
+    /// The payload in the buffer is complete, and none is open now.
+    Joined,
+    /// This payload is open now, with the buffer's data.
+    Open(Unfinished),
+    /// The record can't stand there.
+    Refused(LogFault),
+}
+
+/// What a record at an offset does.
+pub(crate) fn step_at(
+    unfinished: Option<Unfinished>,
+    joined: &mut Vec<u8>,
+    offset: u64,
+    record: Record<'_>,
+) -> Result<Step, AllocError>
+    ensures { IfOk result (λ step. step_with_data step joined.new.items record.entry.fragment.now ≡
+        log.step_at (open_in unfinished joined.old.items) offset record.entry.kind record.entry.fragment.now) }
+{
+    match unfinished {
+        None => step_outside(joined, offset, record),
+        Some(unfinished) => step_inside(unfinished, joined, offset, record),
+    }
+}
+
+/// What a record does where no payload is open.
+fn step_outside(joined: &mut Vec<u8>, offset: u64, record: Record<'_>) -> Result<Step, AllocError>
+    ensures { IfOk result (λ step. step_with_data step joined.new.items record.entry.fragment.now ≡
+        log.step_outside offset record.entry.kind record.entry.fragment.now) }
+{
+    match record.kind {
+        Kind::Full => Ok(Step::Whole),
+        Kind::First => {
+            joined.clear();
+            joined.extend_from_slice(record.fragment)?;
+            Ok(Step::Open(Unfinished {
+                start: offset,
+                is_empty_first: record.fragment.is_empty(),
+            }))
+        }
+        Kind::Middle => Ok(Step::Refused(LogFault::MiddleAlone)),
+        Kind::Last => Ok(Step::Refused(LogFault::LastAlone)),
+    }
+}
+
+/// What a record does to an open payload.
+fn step_inside(
+    unfinished: Unfinished,
+    joined: &mut Vec<u8>,
+    offset: u64,
+    record: Record<'_>,
+) -> Result<Step, AllocError>
+    ensures { IfOk result (λ step. step_with_data step joined.new.items record.entry.fragment.now ≡
+        log.step_inside (fragments_of unfinished joined.old.items) offset record.entry.kind record.entry.fragment.now) }
+{
+    match record.kind {
+        Kind::Full | Kind::First if unfinished.is_empty_first => {
+            step_outside(joined, offset, record)
+        }
+        Kind::Full => Ok(Step::Refused(LogFault::FullInside)),
+        Kind::First => Ok(Step::Refused(LogFault::FirstInside)),
+        Kind::Middle => {
+            joined.extend_from_slice(record.fragment)?;
+            Ok(Step::Open(Unfinished {
+                start: unfinished.start,
+                is_empty_first: false,
+            }))
+        }
+        Kind::Last => {
+            joined.extend_from_slice(record.fragment)?;
+            Ok(Step::Joined)
+        }
+    }
+}
