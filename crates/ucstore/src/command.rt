@@ -1,5 +1,9 @@
-use clap::{Arg, ArgAction, Command, value_parser};
+//! The command line: its subcommands, their options, and what `--help` says.
+
+use crate::operator_name::OperatorName;
+use clap::{Arg, ArgMatches, Command, value_parser};
 use std::alloc::{AllocError, Global};
+use uc_tool::Options;
 
 const ABOUT: &str = "A log-structured merge store in memory, proved.";
 
@@ -18,8 +22,39 @@ lines that begin with # are skipped. Keys and values are hexadecimal, . for the 
 Change number i has the sequence i. SEQUENCE is a number, or `last` after open; it has to be kept or
 the last one. HIGH is a key or - for none.
 
+Options without effect yet are checked as they will be: numbers that no store opens with are refused.
+
 Status: 0 done, 2 a refused command line, script or opening, 4 out of memory, 5 a read or write fault
 or too long an input.";
+
+/// Texts that the command line shows and that are made as the program runs, so that what they say stands
+/// in one place.
+#[derive(Debug, Drop)]
+pub struct Shown {
+    operators: [&'static str; 3],
+    memtable: String,
+    trigger: String,
+    ratio: String,
+    percent: String,
+    least: String,
+    greatest: String,
+}
+
+impl Shown {
+    /// The names of the operators, and the usual options as numbers.
+    pub fn new(alloc: Global) -> Result<Shown, AllocError> {
+        let usual = Options::usual();
+        Ok(Shown {
+            operators: OperatorName::words(),
+            memtable: usual.memtable.to_string(alloc)?,
+            trigger: usual.trigger.to_string(alloc)?,
+            ratio: usual.ratio.to_string(alloc)?,
+            percent: usual.percent.to_string(alloc)?,
+            least: usual.least.to_string(alloc)?,
+            greatest: usual.greatest.to_string(alloc)?,
+        })
+    }
+}
 
 /// A number that the words may set.
 fn number<'a>(alloc: Global, name: &'a str, usual: &'a str, help: &'a str) -> Arg<'a> {
@@ -30,55 +65,61 @@ fn number<'a>(alloc: Global, name: &'a str, usual: &'a str, help: &'a str) -> Ar
         .help(help)
 }
 
-/// `ucstore play`.
-fn play<'a>(alloc: Global) -> Result<Command<'a>, AllocError> {
-    let operator = Arg::new(alloc, "operator")
+/// `--operator`.
+fn operator<'a>(alloc: Global, shown: &'a Shown) -> Arg<'a> {
+    Arg::new(alloc, "operator")
         .long("operator")
         .required(true)
-        .value_parser(["counter", "append", "maximum"].as_slice())
+        .value_parser(shown.operators.as_slice())
         .help(
             "How merges combine: sums of 64-bit numbers, texts joined by commas, or the greater text",
-        );
+        )
+}
+
+/// `ucstore play`.
+fn play<'a>(alloc: Global, shown: &'a Shown) -> Result<Command<'a>, AllocError> {
     let memtable = number(
         alloc,
         "memtable",
-        "4194304",
-        "At how many bytes a memtable is flushed",
+        shown.memtable.as_str(),
+        "Flush a memtable once it holds this many bytes (write_buffer_size); no effect yet",
     );
     let trigger = number(
         alloc,
         "trigger",
-        "4",
-        "From how many runs on something is compacted",
+        shown.trigger.as_str(),
+        "Compact once there are this many runs (level0_file_num_compaction_trigger); no effect yet",
     );
     let ratio = number(
         alloc,
         "ratio",
-        "1",
-        "By how many percent the next run may be larger",
+        shown.ratio.as_str(),
+        "Take the next run too while it is at most this many percent larger than the newer ones \
+         together (size_ratio); no effect yet",
     );
     let percent = number(
         alloc,
         "percent",
-        "200",
-        "At how many percent of the oldest run the others are merged into it",
+        shown.percent.as_str(),
+        "Compact everything once the newer runs together exceed this percentage of the oldest run's \
+         size (max_size_amplification_percent); no effect yet",
     );
     let least = number(
         alloc,
         "least",
-        "2",
-        "How many runs a compaction takes at the least",
+        shown.least.as_str(),
+        "Compact at least this many runs at once (min_merge_width); no effect yet",
     );
     let greatest = number(
         alloc,
         "greatest",
-        "4294967295",
-        "How many runs a compaction takes at the most",
+        shown.greatest.as_str(),
+        "Compact at most this many runs at once (max_merge_width); no effect yet",
     );
     Command::new(alloc, "play")
         .about(PLAY_ABOUT)
         .after_help(PLAY_HELP)
-        .arg(operator)?
+        .arg(operator(alloc, shown))?
         .arg(memtable.value_parser(value_parser!(u64)))?
         .arg(trigger.value_parser(value_parser!(u32)))?
         .arg(ratio.value_parser(value_parser!(u32)))?
@@ -112,11 +153,30 @@ fn dump<'a>(alloc: Global) -> Command<'a> {
 }
 
 /// The whole command line.
-pub fn ucstore<'a>(alloc: Global) -> Result<Command<'a>, AllocError> {
+pub fn ucstore<'a>(alloc: Global, shown: &'a Shown) -> Result<Command<'a>, AllocError> {
     Command::new(alloc, "ucstore")
         .about(ABOUT)
         .version("0.1.0")
         .subcommand_required(true)
-        .subcommand(play(alloc)?)?
+        .subcommand(play(alloc, shown)?)?
         .subcommand(dump(alloc))
+}
+
+/// The options of `ucstore play` that the words set.
+pub fn options(play: &ArgMatches<'_>) -> Options {
+    let usual = Options::usual();
+    Options {
+        memtable: play.get_one::<u64>("memtable").unwrap_or(usual.memtable),
+        trigger: play.get_one::<u32>("trigger").unwrap_or(usual.trigger),
+        ratio: play.get_one::<u32>("ratio").unwrap_or(usual.ratio),
+        percent: play.get_one::<u32>("percent").unwrap_or(usual.percent),
+        least: play.get_one::<u32>("least").unwrap_or(usual.least),
+        greatest: play.get_one::<u32>("greatest").unwrap_or(usual.greatest),
+        first_id: usual.first_id,
+    }
+}
+
+/// The operator of `ucstore play`. The parser requires one of the names that there are.
+pub fn operator_name(play: &ArgMatches<'_>) -> Option<OperatorName> {
+    play.get_str("operator").and_then(OperatorName::named)
 }

@@ -1,39 +1,29 @@
 //! `ucstore`: words, streams and an exit status. All else is in `uc_tool`.
+//!
+//! `command.rt` has the command line and what its words set, `operator_name.rt` the operators that it can
+//! name, and `refusal.rt` why there may be no command line to read.
 #![tactic(auto)]
 
 mod command;
+mod operator_name;
+mod refusal;
 
+use crate::command::Shown;
+use crate::operator_name::OperatorName;
+use crate::refusal::Refusal;
 use clap::error::ErrorKind;
 use clap::{ArgMatches, Error};
 use std::alloc::Global;
+use std::convert::AsStr;
 use std::env;
 use std::io::{self, BufWriter, Read, Write};
 use std::process::ExitCode;
+use std::rt::Env;
 use uc_oper::{Append, Counter, Maximum};
-use uc_tool::{Done, Options, dump, play};
-
-/// The status of a refused command line.
-const REFUSED_WORDS: u8 = 2;
-
-/// The status where memory ran out.
-const NO_MEMORY: u8 = 4;
+use uc_tool::{Done, dump, play};
 
 /// The delimiter of `--operator append`.
 const COMMA: u8 = b',';
-
-/// The options that the words set.
-fn options(matches: &ArgMatches<'_>) -> Options {
-    let usual = Options::usual();
-    Options {
-        memtable: matches.get_one::<u64>("memtable").unwrap_or(usual.memtable),
-        trigger: matches.get_one::<u32>("trigger").unwrap_or(usual.trigger),
-        ratio: matches.get_one::<u32>("ratio").unwrap_or(usual.ratio),
-        percent: matches.get_one::<u32>("percent").unwrap_or(usual.percent),
-        least: matches.get_one::<u32>("least").unwrap_or(usual.least),
-        greatest: matches.get_one::<u32>("greatest").unwrap_or(usual.greatest),
-        first_id: usual.first_id,
-    }
-}
 
 /// Plays a script under the operator that the words name.
 fn play_script<R: Read, W: Write>(
@@ -42,53 +32,65 @@ fn play_script<R: Read, W: Write>(
     reader: &mut R,
     writer: &mut W,
 ) -> Done {
-    let options = options(matches);
-    match matches.get_str("operator") {
-        Some("append") => play::<Append<COMMA>, R, W>(alloc, reader, writer, &options),
-        Some("maximum") => play::<Maximum, R, W>(alloc, reader, writer, &options),
-        _ => play::<Counter, R, W>(alloc, reader, writer, &options),
+    let options = command::options(matches);
+    match command::operator_name(matches) {
+        Some(OperatorName::Counter) => play::<Counter, R, W>(alloc, reader, writer, &options),
+        Some(OperatorName::Append) => play::<Append<COMMA>, R, W>(alloc, reader, writer, &options),
+        Some(OperatorName::Maximum) => play::<Maximum, R, W>(alloc, reader, writer, &options),
+        // The parser lets no other name through.
+        None => Done::Refused,
     }
 }
 
-/// Tells why the words don't name a run, or the help that they ask for.
-fn explain(rt: &(impl Print + Eprint), error: &Error) -> u8 {
+/// Prints why the words don't name a run, or the help that they ask for.
+fn explain(rt: &(impl Print + Eprint), error: &Error) -> Done {
     let _ = error.print(rt);
     match error.kind() {
-        ErrorKind::OutOfMemory => NO_MEMORY,
-        ErrorKind::DisplayHelp | ErrorKind::DisplayVersion => 0,
-        _ => REFUSED_WORDS,
+        ErrorKind::OutOfMemory => Done::NoMemory,
+        ErrorKind::DisplayHelp | ErrorKind::DisplayVersion => Done::Fine,
+        _ => Done::Refused,
     }
 }
 
 /// Runs what the words name, from standard input to standard output.
-fn run<R: Print + Eprint + Input + AllocGlobal>(rt: &R, words: &[String]) -> io::Result<u8> {
+fn run<R: Print + Eprint + Input + AllocGlobal, S: AsStr>(
+    rt: &R,
+    words: &[S],
+) -> Result<Done, Refusal> {
     let alloc = rt.alloc();
-    let command = command::ucstore(alloc)?;
-    let matches = match command.try_get_matches_from(words) {
+    let shown = Shown::new(alloc)?;
+    let matches = match command::ucstore(alloc, &shown)?.try_get_matches_from(words) {
         Ok(matches) => matches,
         Err(error) => return Ok(explain(rt, &error)),
     };
-    let mut writer = BufWriter::new(alloc, io::writer(rt))?;
-    let done = match matches.subcommand_matches("play") {
-        Some(play) => play_script(alloc, play, &mut rt.reader(), &mut writer),
-        // The parser requires a subcommand, and `dump` is the only other one.
-        None => dump(alloc, &mut rt.reader(), &mut writer),
+    let Ok(mut writer) = BufWriter::new(alloc, io::writer(rt)) else {
+        return Err(Refusal::Memory);
     };
-    Ok(done.status())
+    Ok(match matches.subcommand() {
+        Some(("play", play)) => play_script(alloc, play, &mut rt.reader(), &mut writer),
+        Some(("dump", _)) => dump(alloc, &mut rt.reader(), &mut writer),
+        // The parser requires a subcommand, and lets no other name through.
+        _ => Done::Refused,
+    })
+}
+
+/// The words of the command line, the program's own name first.
+fn words<R: Env + AllocGlobal>(rt: &R) -> Result<Vec<String>, Refusal> {
+    match env::args(rt) {
+        Ok(words) => Ok(words.collect(rt.alloc())?),
+        Err(error) if error.kind() == io::ErrorKind::InvalidData => Err(Refusal::NotText),
+        Err(_) => Err(Refusal::Memory),
+    }
 }
 
 fn main(rt: HostRuntime) -> ExitCode {
-    let alloc = rt.alloc();
-    let words: io::Result<Vec<String>> = match env::args(&rt) {
-        Ok(words) => words.collect(alloc).map_err(io::Error::from),
-        Err(error) => Err(error),
-    };
-    let status = words.and_then(|words| run(&rt, words.as_slice()));
-    match status {
-        Ok(status) => ExitCode::from(status),
-        Err(_) => {
-            let _ = rt.eprintln("out of memory");
-            ExitCode::from(NO_MEMORY)
-        }
-    }
+    let outcome = words(&rt).and_then(|words| run(&rt, words.as_slice()));
+    let done = outcome.unwrap_or_else(|refusal| {
+        let _ = rt.eprintln(refusal);
+        refusal.done()
+    });
+    ExitCode::from(done.status())
 }
+
+#[cfg(test)]
+mod tests;

@@ -1,0 +1,37 @@
+//! [`Refusal`]: why the program runs nothing.
+
+ghost use Rattle.std.specs.Prelude.{◌≡◌};
+ghost use Rattle.ucstore.specs.declared.refusal.Refusal.TheVariants.{Memory};
+
+use std::alloc::AllocError;
+use thiserror::Error;
+use uc_tool::Done;
+
+/// Why the program runs nothing.
+#[derive(Clone, Copy, Debug, PartialEq, Eq, Error)]
+pub enum Refusal {
+    /// A word of the command line isn't UTF-8.
+    #[error("error: a word of the command line is not UTF-8")]
+    NotText,
+    /// Memory ran out.
+    #[error("out of memory")]
+    Memory,
+}
+
+impl From<AllocError> for Refusal {
+    ghost from_gives = { λ _ e. e ≡ Memory };
+
+    fn from(_e: AllocError) -> Refusal {
+        Refusal::Memory
+    }
+}
+
+impl Refusal {
+    /// How the program ends for it.
+    pub fn done(self) -> Done {
+        match self {
+            Refusal::NotText => Done::Refused,
+            Refusal::Memory => Done::NoMemory,
+        }
+    }
+}

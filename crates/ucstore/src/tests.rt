@@ -1,0 +1,158 @@
+//! Command lines: what their words set, and which are refused.
+
+use super::*;
+use std::alloc::AllocError;
+use std::env::FillError;
+use std::test::Fail;
+use uc_tool::Options;
+
+/// The words of a line.
+fn words_of<'a>(alloc: Global, line: &'a str) -> Result<Vec<&'a str>, AllocError> {
+    line.split(' ').collect(alloc)
+}
+
+/// What the words of a line that plays set.
+fn options_of(alloc: Global, line: &str) -> Result<(Option<OperatorName>, Options), Fail> {
+    let shown = Shown::new(alloc)?;
+    let words = words_of(alloc, line)?;
+    let matches = command::ucstore(alloc, &shown)?.try_get_matches_from(words.as_slice())?;
+    match matches.subcommand_matches("play") {
+        Some(play) => Ok((command::operator_name(play), command::options(play))),
+        None => Err(Fail::from(AllocError)),
+    }
+}
+
+/// Each option sets its own field.
+#[test]
+fn each_option_sets_its_field(rt: HostRuntime) -> Result<(), Fail> {
+    let line = "ucstore play --operator append --memtable 11 --trigger 12 --ratio 13 --percent 14 \
+        --least 15 --greatest 16";
+    let (operator, options) = options_of(rt.alloc(), line)?;
+    let wanted = Options {
+        memtable: 11,
+        trigger: 12,
+        ratio: 13,
+        percent: 14,
+        least: 15,
+        greatest: 16,
+        first_id: 1,
+    };
+    assert_eq!(rt; operator, Some(OperatorName::Append));
+    assert_eq!(rt; options, wanted);
+    Ok(())
+}
+
+/// The operators by their names.
+const OPERATORS: [(&str, OperatorName); 3] = [
+    ("ucstore play --operator counter", OperatorName::Counter),
+    ("ucstore play --operator=append", OperatorName::Append),
+    ("ucstore play --operator maximum", OperatorName::Maximum),
+];
+
+/// Without words for them the options are the usual ones.
+#[test]
+fn operators_and_usual_options(rt: HostRuntime) -> Result<(), Fail> {
+    for (line, wanted) in OPERATORS {
+        let (operator, options) = options_of(rt.alloc(), line)?;
+        assert_eq!(rt; operator, Some(wanted), "{line}");
+        assert_eq!(rt; options, Options::usual(), "{line}");
+    }
+    Ok(())
+}
+
+/// Command lines, and why they are refused.
+const REFUSED: [(&str, ErrorKind); 13] = [
+    ("ucstore", ErrorKind::MissingSubcommand),
+    ("ucstore pley", ErrorKind::InvalidSubcommand),
+    ("ucstore dump log", ErrorKind::UnknownArgument),
+    (
+        "ucstore dump --operator counter",
+        ErrorKind::UnknownArgument,
+    ),
+    ("ucstore play", ErrorKind::MissingRequiredArgument),
+    ("ucstore play --operator", ErrorKind::InvalidValue),
+    ("ucstore play --operator minimum", ErrorKind::InvalidValue),
+    (
+        "ucstore play --operator counter --operator append",
+        ErrorKind::ArgumentConflict,
+    ),
+    (
+        "ucstore play --operator counter --trigger 4294967296",
+        ErrorKind::ValueValidation,
+    ),
+    (
+        "ucstore play --operator counter --memtable=-1",
+        ErrorKind::ValueValidation,
+    ),
+    (
+        "ucstore play --operator counter --least two",
+        ErrorKind::ValueValidation,
+    ),
+    (
+        "ucstore play --operator counter --memtable -1",
+        ErrorKind::UnknownArgument,
+    ),
+    (
+        "ucstore play --operator counter --size 1",
+        ErrorKind::UnknownArgument,
+    ),
+];
+
+/// A refused command line ends with status 2.
+#[test]
+fn refused_command_lines(rt: HostRuntime) -> Result<(), Fail> {
+    let alloc = rt.alloc();
+    for (line, wanted) in REFUSED {
+        let shown = Shown::new(alloc)?;
+        let words = words_of(alloc, line)?;
+        let kind = match command::ucstore(alloc, &shown)?.try_get_matches_from(words.as_slice()) {
+            Ok(_) => None,
+            Err(error) => Some(error.kind()),
+        };
+        assert_eq!(rt; kind, Some(wanted), "{line}");
+        assert_eq!(rt; run(&rt, words.as_slice()), Ok(Done::Refused), "{line}");
+    }
+    assert_eq!(rt; Done::Refused.status(), 2);
+    Ok(())
+}
+
+/// A command line of these words.
+#[derive(Drop)]
+struct Words(&'static [&'static [u8]]);
+
+impl Env for Words {
+    fn arg(&self, i: usize, buf: &mut [u8]) -> Result<usize, FillError> {
+        let Some(word) = self.0.get(i) else {
+            return Err(FillError::NotPresent);
+        };
+        if buf.len() < word.len() {
+            return Err(FillError::TooLong);
+        }
+        buf[..word.len()].copy_from_slice(word);
+        Ok(word.len())
+    }
+
+    fn var(&self, _name: &str, _buf: &mut [u8]) -> Result<usize, FillError> {
+        Err(FillError::NotPresent)
+    }
+
+    fn var_at(&self, _i: usize, _buf: &mut [u8]) -> Result<usize, FillError> {
+        Err(FillError::NotPresent)
+    }
+}
+
+/// A word that isn't UTF-8 is a refused command line, and no want of memory.
+#[test]
+fn a_word_that_is_not_text(rt: HostRuntime) -> Result<(), Fail> {
+    let read = words(&(Words(&[b"ucstore", b"d\xfcmp"]), rt.alloc()));
+    let refusal = read.err();
+    assert_eq!(rt; refusal, Some(Refusal::NotText));
+    assert_eq!(rt; refusal.map(|refusal| refusal.done().status()), Some(2));
+    assert_eq!(rt;
+        Refusal::NotText.to_string(rt.alloc())?.as_str(),
+        "error: a word of the command line is not UTF-8"
+    );
+    let read = words(&(Words(&[b"ucstore", b"dump"]), rt.alloc()))?;
+    assert_eq!(rt; read.len(), 2);
+    Ok(())
+}
