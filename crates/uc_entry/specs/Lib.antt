@@ -1,0 +1,5 @@
+pub mod Order
+pub mod Run
+pub mod PlainList
+pub mod Size
+pub mod Seek

@@ -1,0 +1,12 @@
+//! What a run is made of, and what it means.
+//!
+//! A run has points in order of key, of one key the newest first; fragments, which are pieces of the key space
+//! with the range deletions over them; and a range of sequences. [`is_run`] says which of these make a run.
+//! Read `specs/Run.antt` first, then `specs/PlainList.antt`: a run means a plain list of writes.
+#![tactic(auto)]
+
+mod entry;
+mod fragment;
+
+pub use entry::{Entry, What};
+pub use fragment::Fragment;
