@@ -1,1 +1,5 @@
+pub mod Members
 pub mod MeaningLaws
+pub mod Stripes
+pub mod Givers
+pub mod Ranges

@@ -1,5 +1,7 @@
 -- What a read means (RocksDB wiki: "Merge Operator", "DeleteRange", "Snapshot").
-use Rattle.std.specs.Prelude.{ℕ, Bool, ◌&&◌, List, Option, Some, None, nat_le, filter, fold}
+--
+-- Lists of writes stand oldest first: each of these folds goes in the order of the list.
+use Rattle.std.specs.Prelude.{◌≡◌, ℕ, Bool, ◌&&◌, List, Option, Some, None, nat_le, nat_lt, filter, fold}
 use Rattle.std.specs.Ordering.{is_lt, is_le}
 use Rattle.uc_bytes.specs.Bytes.{bytes_cmp, same_bytes}
 use Rattle.uc_oper.specs.Operation.{Operation}
@@ -18,6 +20,21 @@ touches_key key (Delete named) = same_bytes named key
 touches_key key (Merge named operand) = same_bytes named key
 touches_key key (DeleteRange begin end) = is_le (bytes_cmp begin key) && is_lt (bytes_cmp key end)
 
+-- an operation gives a key something to show: it puts the key, or merges into it
+abbrev pub Gives : List ℕ → Op → Type 0
+Gives key (Put named value) = named ≡ key
+Gives key (Delete named) = ⊥
+Gives key (Merge named operand) = named ≡ key
+Gives key (DeleteRange begin end) = ⊥
+
+-- a read of a key at a sequence sees a write that stands at or below the sequence and touches the key
+abbrev pub is_seen : List ℕ → ℕ → Write → Bool
+is_seen key at w = nat_le w.seq at && touches_key key w.op
+
+-- the writes that such a read sees, oldest first
+abbrev pub touching : List Write → List ℕ → ℕ → List Write
+touching writes key at = filter (is_seen key at) writes
+
 -- the value that an operation leaves of a key that it touches
 abbrev pub changed : Operation → Option (List ℕ) → Op → Option (List ℕ)
 changed m value (Put named new) = Some new
@@ -25,13 +42,13 @@ changed m value (Delete named) = None
 changed m value (Merge named operand) = Some (merged m value operand)
 changed m value (DeleteRange begin end) = None
 
--- the writes that touch a key, at or below a sequence
-abbrev pub touching : List Write → List ℕ → ℕ → List Write
-touching writes key at = filter (λ w. nat_le w.seq at && touches_key key w.op) writes
+-- what a key's value before the writes, oldest first, has become at a sequence
+abbrev pub value_from : Operation → Option (List ℕ) → List Write → List ℕ → ℕ → Option (List ℕ)
+value_from m value writes key at = fold (λ v w. changed m v w.op) value (touching writes key at)
 
--- a key's value at a sequence: the writes that touch it, folded in order from no value
+-- a key's value at a sequence: what no value has become by the writes, oldest first
 abbrev pub value_of : Operation → List Write → List ℕ → ℕ → Option (List ℕ)
-value_of m writes key at = fold (λ value w. changed m value w.op) None (touching writes key at)
+value_of m writes key at = value_from m None writes key at
 
 -- what a single operation does to a key that it touches
 abbrev pub effect_of : Op → Effect
@@ -40,6 +57,18 @@ effect_of (Delete named) = Set None
 effect_of (Merge named operand) = Fold operand
 effect_of (DeleteRange begin end) = Set None
 
--- what the writes at or below a sequence together do to a key
+-- what some writes, oldest first, do in turn to a key that each of them touches
+abbrev pub effect_in_turn : Operation → List Write → Effect
+effect_in_turn m writes = fold (λ effect w. composed m effect (effect_of w.op)) Keep writes
+
+-- what the writes, oldest first, at or below a sequence together do to a key
 abbrev pub effect_on : Operation → List Write → List ℕ → ℕ → Effect
-effect_on m writes key at = fold (λ effect w. composed m effect (effect_of w.op)) Keep (touching writes key at)
+effect_on m writes key at = effect_in_turn m (touching writes key at)
+
+-- the writes that touch a key, above `low` and at or below `high`, oldest first
+abbrev pub touching_within : List Write → List ℕ → ℕ → ℕ → List Write
+touching_within writes key low high = filter (λ w. nat_lt low w.seq && is_seen key high w) writes
+
+-- what the writes of a stripe, oldest first, together do to a key: those above `low`, at or below `high`
+abbrev pub effect_within : Operation → List Write → List ℕ → ℕ → ℕ → Effect
+effect_within m writes key low high = effect_in_turn m (touching_within writes key low high)

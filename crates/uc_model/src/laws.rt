@@ -1,26 +1,55 @@
-ghost use Rattle.std.specs.Prelude.{◌≡◌, ◌<◌, ◌&&◌, ◌++◌, [], ◌∷◌, ℕ, List, None, false, nat_le, if◌then◌else◌};
+//! What holds of the meaning of reads, under every operator.
+ghost use Rattle.std.specs.Prelude.{◌≡◌, ◌<◌, ◌≤◌, ◌&&◌, ◌++◌, ◌↔◌, [], ◌∷◌, ℕ, List, Option, Some, None, false, nat_le, IsTrue, Any, if◌then◌else◌};
 ghost use Rattle.std.specs.List.{AllByRecursion};
+ghost use Rattle.std.specs.List.Sorted.{IsNonDecreasingBy};
+ghost use Rattle.std.specs.Ordering.{is_lt, is_le};
+ghost use Rattle.uc_bytes.specs.Bytes.{bytes_cmp};
 ghost use Rattle.uc_oper.specs.Composition.{applied, composed};
+ghost use Rattle.uc_oper.specs.declared.effect.Effect.TheVariants.{Keep};
+ghost use Rattle.uc_write.specs.declared.op.Op.TheVariants.{Put, Delete, Merge, DeleteRange};
 ghost use Rattle.uc_write.specs.declared.write.Write.{Write};
-ghost use Rattle.uc_model.specs.Meaning.{touches_key, changed, value_of, effect_on};
+ghost use Rattle.uc_model.specs.Meaning.{touches_key, Gives, changed, value_from, value_of, effect_on, effect_within};
 
 use uc_oper::Operator;
 
-/// The effect of the writes on a key, applied to no value, is the key's value.
+/// A put, a delete and a merge touch the key that they name and no other. A range deletion touches the keys
+/// that are not below its begin and are below its end, so none where its begin is not below its end.
+pub fn keys_are_touched_by_name_or_range()
+    ensures put { (key named value : List ℕ) → IsTrue (touches_key key (Put named value)) ↔ (named ≡ key) }
+    ensures delete { (key named : List ℕ) → IsTrue (touches_key key (Delete named)) ↔ (named ≡ key) }
+    ensures merge { (key named operand : List ℕ) → IsTrue (touches_key key (Merge named operand)) ↔ (named ≡ key) }
+    ensures range { (key begin end : List ℕ) → IsTrue (touches_key key (DeleteRange begin end))
+        ↔ (IsTrue (is_le (bytes_cmp begin key)) × IsTrue (is_lt (bytes_cmp key end))) }
+    ensures empty { (key begin end : List ℕ) → is_lt (bytes_cmp begin end) ≡ false →
+        touches_key key (DeleteRange begin end) ≡ false }
+{}
+
+/// The effect of the writes on a key, applied to any value before them, is what they make of it.
 pub fn effect_gives_value<O: Operator>()
-    ensures { (writes : List Write) (key : List ℕ) (at : ℕ) →
+    ensures from { (value : Option (List ℕ)) (writes : List Write) (key : List ℕ) (at : ℕ) →
+        applied O.meaning (effect_on O.meaning writes key at) value ≡ value_from O.meaning value writes key at }
+    ensures none { (writes : List Write) (key : List ℕ) (at : ℕ) →
         applied O.meaning (effect_on O.meaning writes key at) None ≡ value_of O.meaning writes key at }
 {}
 
-/// Writes above a sequence change nothing of what is read there.
+/// Writes above a sequence do nothing to what is read there, so they change nothing of it.
 pub fn later_writes_change_nothing<O: Operator>()
-    ensures { (writes later : List Write) (key : List ℕ) (at : ℕ) → AllByRecursion (λ w. at < w.seq) later →
+    ensures alone { (later : List Write) (key : List ℕ) (at : ℕ) → AllByRecursion (λ w. at < w.seq) later →
+        effect_on O.meaning later key at ≡ Keep }
+    ensures effect { (writes later : List Write) (key : List ℕ) (at : ℕ) → AllByRecursion (λ w. at < w.seq) later →
+        effect_on O.meaning (writes ++ later) key at ≡ effect_on O.meaning writes key at }
+    ensures value { (writes later : List Write) (key : List ℕ) (at : ℕ) → AllByRecursion (λ w. at < w.seq) later →
         value_of O.meaning (writes ++ later) key at ≡ value_of O.meaning writes key at }
 {}
 
-/// Writes that don't touch a key change nothing of its value.
+/// Writes that don't touch a key do nothing to it, so they change nothing of what others do.
 pub fn untouched_key_keeps_its_value<O: Operator>()
-    ensures { (writes others : List Write) (key : List ℕ) (at : ℕ) →
+    ensures alone { (others : List Write) (key : List ℕ) (at : ℕ) →
+        AllByRecursion (λ w. touches_key key w.op ≡ false) others → effect_on O.meaning others key at ≡ Keep }
+    ensures effect { (writes others : List Write) (key : List ℕ) (at : ℕ) →
+        AllByRecursion (λ w. touches_key key w.op ≡ false) others →
+        effect_on O.meaning (writes ++ others) key at ≡ effect_on O.meaning writes key at }
+    ensures value { (writes others : List Write) (key : List ℕ) (at : ℕ) →
         AllByRecursion (λ w. touches_key key w.op ≡ false) others →
         value_of O.meaning (writes ++ others) key at ≡ value_of O.meaning writes key at }
 {}
@@ -42,4 +71,39 @@ pub fn effects_of_parts_compose<O: Operator>()
     ensures { (older newer : List Write) (key : List ℕ) (at : ℕ) →
         effect_on O.meaning (older ++ newer) key at ≡
         composed O.meaning (effect_on O.meaning older key at) (effect_on O.meaning newer key at) }
+{}
+
+/// What the first part of the writes makes of a value, changed by the effect of the others, is what all make
+/// of it, wherever they are parted and whatever the value before them.
+pub fn effect_continues_value<O: Operator>()
+    ensures from { (value : Option (List ℕ)) (older newer : List Write) (key : List ℕ) (at : ℕ) →
+        value_from O.meaning value (older ++ newer) key at ≡
+        applied O.meaning (effect_on O.meaning newer key at) (value_from O.meaning value older key at) }
+    ensures none { (older newer : List Write) (key : List ℕ) (at : ℕ) →
+        value_of O.meaning (older ++ newer) key at ≡
+        applied O.meaning (effect_on O.meaning newer key at) (value_of O.meaning older key at) }
+{}
+
+/// Of writes whose sequences don't fall, the effect at a sequence is the effect at a lower one and then that of
+/// the stripe between them; so the value there is what the stripe makes of the value at the lower one. Stripes
+/// that meet compose.
+pub fn effects_of_stripes_compose<O: Operator>()
+    ensures below { (writes : List Write) (key : List ℕ) (low high : ℕ) →
+        IsNonDecreasingBy (λ w. w.seq) writes → low ≤ high →
+        effect_on O.meaning writes key high ≡
+        composed O.meaning (effect_on O.meaning writes key low) (effect_within O.meaning writes key low high) }
+    ensures value { (writes : List Write) (key : List ℕ) (low high : ℕ) →
+        IsNonDecreasingBy (λ w. w.seq) writes → low ≤ high →
+        value_of O.meaning writes key high ≡
+        applied O.meaning (effect_within O.meaning writes key low high) (value_of O.meaning writes key low) }
+    ensures between { (writes : List Write) (key : List ℕ) (low middle high : ℕ) →
+        IsNonDecreasingBy (λ w. w.seq) writes → low ≤ middle → middle ≤ high →
+        effect_within O.meaning writes key low high ≡ composed O.meaning
+        (effect_within O.meaning writes key low middle) (effect_within O.meaning writes key middle high) }
+{}
+
+/// A key that has a value at a sequence is named by a put or a merge at or below it.
+pub fn value_is_given<O: Operator>()
+    ensures { (writes : List Write) (key value : List ℕ) (at : ℕ) →
+        value_of O.meaning writes key at ≡ Some value → Any (λ w. (w.seq ≤ at) × Gives key w.op) writes }
 {}

@@ -1,6 +1,6 @@
 //! What a read means, and the plain slow program that computes it.
 //!
-//! The model is one flat list of writes and one left fold for each key. It knows no run, memtable or
+//! The model is one flat list of writes, oldest first, and one left fold for each key. It knows no run, memtable or
 //! compaction: whatever keeps the writes in another way has to answer as this crate does. Read
 //! `specs/Meaning.antt` first.
 #![tactic(auto)]
@@ -9,10 +9,11 @@ mod laws;
 mod value;
 
 pub use laws::{
-    each_write_changes_what_it_touches, effect_gives_value, effects_of_parts_compose,
-    later_writes_change_nothing, untouched_key_keeps_its_value,
+    each_write_changes_what_it_touches, effect_continues_value, effect_gives_value,
+    effects_of_parts_compose, effects_of_stripes_compose, keys_are_touched_by_name_or_range,
+    later_writes_change_nothing, untouched_key_keeps_its_value, value_is_given,
 };
-pub use value::{effect_at, touches, value_at};
+pub use value::{effect_at, touches_key, value_at};
 
 #[cfg(test)]
 mod tests;

@@ -156,11 +156,15 @@ fn ranges_leave_out_their_end(rt: HostRuntime) -> Result<(), Fail> {
     let alloc = rt.alloc();
     for (begin, end, key, want) in RANGES {
         let op = Op::DeleteRange(bytes(alloc, begin)?, bytes(alloc, end)?);
-        assert_eq!(rt; touches(&op, key), want, "{key:?} in {begin:?} to {end:?}");
+        assert_eq!(rt;
+            touches_key(&op, key),
+            want,
+            "{key:?} in {begin:?} to {end:?}"
+        );
     }
     let named = Op::Delete(bytes(alloc, b"k")?);
-    assert!(rt; touches(&named, b"k"));
-    assert!(rt; !touches(&named, b"kk"));
+    assert!(rt; touches_key(&named, b"k"));
+    assert!(rt; !touches_key(&named, b"kk"));
     Ok(())
 }
 
@@ -168,7 +172,11 @@ fn ranges_leave_out_their_end(rt: HostRuntime) -> Result<(), Fail> {
 fn laws_hold_under_an_operator() {
     each_write_changes_what_it_touches::<Counter>();
     effect_gives_value::<Counter>();
+    effect_continues_value::<Counter>();
     effects_of_parts_compose::<Counter>();
+    effects_of_stripes_compose::<Counter>();
+    keys_are_touched_by_name_or_range();
     later_writes_change_nothing::<Counter>();
     untouched_key_keeps_its_value::<Counter>();
+    value_is_given::<Counter>();
 }

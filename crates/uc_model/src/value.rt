@@ -1,5 +1,6 @@
-ghost use Rattle.std.specs.Prelude.{◌≡◌, ◌&&◌, nat_le, IfOk};
-ghost use Rattle.uc_model.specs.Meaning.{touches_key, changed, value_of, effect_of, effect_on};
+//! A key's value, and what writes do to it.
+ghost use Rattle.std.specs.Prelude.{◌≡◌, IfOk};
+ghost use Rattle.uc_model.specs.Meaning as meaning;
 
 use std::alloc::{AllocError, Global};
 use uc_bytes::Bytes;
@@ -8,8 +9,8 @@ use uc_write::{Op, Write};
 
 /// Whether an operation touches a key: it names the key, or it deletes a range from `begin` to below
 /// `end` that holds it (RocksDB wiki, "DeleteRange").
-pub fn touches(op: &Op, key: &[u8]) -> bool
-    ensures { result ≡ touches_key key.now op.now }
+pub fn touches_key(op: &Op, key: &[u8]) -> bool
+    ensures { result ≡ meaning.touches_key key.now op.now }
 {
     match op {
         Op::Put(named, _) => named.as_slice() == key,
@@ -24,18 +25,18 @@ pub fn touches(op: &Op, key: &[u8]) -> bool
 /// Whether a read of a key at a sequence sees a write: it stands at or below the sequence, and touches
 /// the key.
 fn is_seen(write: &Write, key: &[u8], at: u64) -> bool
-    ensures { result ≡ (nat_le write.now.seq at && touches_key key.now write.now.op) }
+    ensures { result ≡ meaning.is_seen key.now at write.now }
 {
-    write.seq <= at && touches(&write.op, key)
+    write.seq <= at && touches_key(&write.op, key)
 }
 
 /// The value that an operation leaves of a key that it touches.
-fn change<O: Operator>(
+fn changed<O: Operator>(
     alloc: Global,
     value: Option<Bytes>,
     op: &Op,
 ) -> Result<Option<Bytes>, AllocError>
-    ensures { IfOk result (λ after. after ≡ changed O.meaning value op.now) }
+    ensures { IfOk result (λ after. after ≡ meaning.changed O.meaning value op.now) }
 {
     match op {
         Op::Put(_, new) => Ok(Some(new.clone()?)),
@@ -44,47 +45,47 @@ fn change<O: Operator>(
     }
 }
 
-/// A key's value at a sequence: the writes at or below it that touch the key, folded in order from no
-/// value. It looks at every write, and fails only for want of memory.
+/// A key's value at a sequence: the writes at or below it that touch the key, folded from no value. The list
+/// stands oldest first. It looks at every write, and fails only for want of memory.
 pub fn value_at<O: Operator>(
     alloc: Global,
     writes: &[Write],
     key: &[u8],
     at: u64,
 ) -> Result<Option<Bytes>, AllocError>
-    ensures { IfOk result (λ value. value ≡ value_of O.meaning writes.now key.now at) }
+    ensures { IfOk result (λ value. value ≡ meaning.value_of O.meaning writes.now key.now at) }
 {
     let mut value = None;
     for write in writes {
         if is_seen(write, key, at) {
-            value = change::<O>(alloc, value, &write.op)?;
+            value = changed::<O>(alloc, value, &write.op)?;
         }
     }
     Ok(value)
 }
 
-/// What the writes at or below a sequence together do to a key: their single effects, composed in order.
-/// It looks at every write, and fails only for want of memory.
+/// What the writes at or below a sequence together do to a key: their single effects, composed. The list
+/// stands oldest first. It looks at every write, and fails only for want of memory.
 pub fn effect_at<O: Operator>(
     alloc: Global,
     writes: &[Write],
     key: &[u8],
     at: u64,
 ) -> Result<Effect, AllocError>
-    ensures { IfOk result (λ effect. effect ≡ effect_on O.meaning writes.now key.now at) }
+    ensures { IfOk result (λ effect. effect ≡ meaning.effect_on O.meaning writes.now key.now at) }
 {
     let mut effect = Effect::Keep;
     for write in writes {
         if is_seen(write, key, at) {
-            effect = effect.then::<O>(alloc, single(&write.op)?)?;
+            effect = effect.then::<O>(alloc, effect_of(&write.op)?)?;
         }
     }
     Ok(effect)
 }
 
 /// What one operation does to a key that it touches.
-fn single(op: &Op) -> Result<Effect, AllocError>
-    ensures { IfOk result (λ effect. effect ≡ effect_of op.now) }
+fn effect_of(op: &Op) -> Result<Effect, AllocError>
+    ensures { IfOk result (λ effect. effect ≡ meaning.effect_of op.now) }
 {
     match op {
         Op::Put(_, new) => Ok(Effect::Set(Some(new.clone()?))),

@@ -10,7 +10,7 @@ use Rattle.uc_query.specs.declared.answer.Answer.TheVariants.{Rows, NotProtected
 use Rattle.uc_query.specs.Query.{at_of}
 use Rattle.uc_query.specs.Answers.{is_protected, named_keys, rows_of, read_of, answer_of}
 use Rattle.uc_query.specs.Scans.{IsScan}
-use Rattle.uc_query.proofs.Members.{contains_first, contains_later, contains_cases, contains_nothing}
+use Rattle.uc_model.proofs.Members.{contains_first, contains_later, contains_cases, contains_nothing}
 use Rattle.uc_query.proofs.FirstRows.{rows_first, rows_once}
 
 abbrev Row : Type 0

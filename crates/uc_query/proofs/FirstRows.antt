@@ -14,7 +14,7 @@ use Rattle.uc_write.specs.declared.write.Write.{Write}
 use Rattle.uc_model.specs.Meaning.{value_of}
 use Rattle.uc_query.specs.Answers.{named_keys, rows_of}
 use Rattle.uc_query.specs.Scans.{IsRow, AreFirst, IsScan}
-use Rattle.uc_query.proofs.Members.{contains_first, contains_later, contains_cases, contains_nothing}
+use Rattle.uc_model.proofs.Members.{contains_first, contains_later, contains_cases, contains_nothing}
 use Rattle.uc_query.proofs.NamedKeys.{keys_rise, keys_named}
 
 abbrev Row : Type 0

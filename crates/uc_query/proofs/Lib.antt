@@ -1,4 +1,3 @@
-pub mod Members
 pub mod NamedKeys
 pub mod FirstRows
 pub mod AnswerLaws

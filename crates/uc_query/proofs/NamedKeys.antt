@@ -13,9 +13,10 @@ use Rattle.uc_bytes.specs.Bytes.{bytes_cmp}
 use Rattle.uc_write.specs.declared.op.Op.{Op}
 use Rattle.uc_write.specs.declared.op.Op.TheVariants.{Put, Delete, Merge, DeleteRange}
 use Rattle.uc_write.specs.declared.write.Write.{Write}
+use Rattle.uc_model.specs.Meaning.{Gives}
 use Rattle.uc_query.specs.Answers.{is_in_range, with_key, named_keys}
-use Rattle.uc_query.specs.Scans.{Gives, IsNamed}
-use Rattle.uc_query.proofs.Members.{contains_first, contains_later, contains_cases, contains_nothing, any_first, any_later, any_cases, any_of_none}
+use Rattle.uc_query.specs.Scans.{IsNamed}
+use Rattle.uc_model.proofs.Members.{contains_first, contains_later, contains_cases, contains_nothing, any_first, any_later, any_cases, any_of_none}
 
 -- a key is below each of these
 abbrev IsBelow : List ℕ → List (List ℕ) → Type 0

@@ -4,18 +4,9 @@ use Rattle.std.specs.declared.cmp.Ordering.TheVariants.{Less}
 use Rattle.std.specs.List.Sorted.{IsStrictlySortedBy}
 use Rattle.uc_bytes.specs.Bytes.{bytes_cmp}
 use Rattle.uc_oper.specs.Operation.{Operation}
-use Rattle.uc_write.specs.declared.op.Op.{Op}
-use Rattle.uc_write.specs.declared.op.Op.TheVariants.{Put, Delete, Merge, DeleteRange}
 use Rattle.uc_write.specs.declared.write.Write.{Write}
-use Rattle.uc_model.specs.Meaning.{value_of}
+use Rattle.uc_model.specs.Meaning.{Gives, value_of}
 use Rattle.uc_query.specs.Answers.{is_in_range}
-
--- an operation gives a key something to show: it puts the key, or merges into it
-abbrev pub Gives : List ℕ → Op → Type 0
-Gives key (Put named value) = named ≡ key
-Gives key (Delete named) = ⊥
-Gives key (Merge named operand) = named ≡ key
-Gives key (DeleteRange begin end) = ⊥
 
 -- a key that a scan looks at: it is in the range, and some put or merge names it
 abbrev pub IsNamed : List Write → List ℕ → Option (List ℕ) → List ℕ → Type 0

@@ -1,5 +1,7 @@
-use Rattle.uc_model.proofs.MeaningLaws.{later_change_nothing}
+use Rattle.uc_model.proofs.MeaningLaws.{later_keep, later_no_effect, later_change_nothing}
 use Rattle.uc_model.proofs.laws.later_writes_change_nothing.Goals as goal
 
 pub returns : goal.returns
-returns g c = later_change_nothing g.O.Operator.meaning
+returns g c =
+    let m = g.O.Operator.meaning in
+    record { alone = later_keep m; effect = later_no_effect m; value = later_change_nothing m }
