@@ -1,11 +1,11 @@
 -- Writes in order of sequence: `by_seq` only moves them, and what it gives depends on no order among those of different sequences.
-use Rattle.std.proofs.Common.{◌≡◌, ◌==◌, ℕ, All, ◌⊎◌, inl, inr, ◌+◌, ◌<◌, ◌≤◌, Bool, true, false, cond, ltb, List, [], ◌∷◌, ◌++◌, fold, filter, refl, sym, ap, ◌∙◌, subst, arith}
+use Rattle.std.proofs.Common.{◌≡◌, ◌==◌, ℕ, zero, suc, length, get_or, All, ◌⊎◌, inl, inr, ◌+◌, ◌<◌, ◌≤◌, Bool, true, false, cond, ltb, List, [], ◌∷◌, ◌++◌, fold, filter, refl, sym, ap, ◌∙◌, subst, arith}
 use Rattle.std.specs.List.{AllByRecursion}
-use Rattle.std.specs.List.Sorted.{IsPermutation}
+use Rattle.std.specs.List.Sorted.{IsPermutation, IsNonDecreasingBy}
 use Rattle.std.proofs.lemmas.Bool.Decides.{nat_tests}
 use Rattle.std.proofs.lemmas.List.Sorted.{IsPermutation-refl, IsPermutation-cons, IsPermutation-trans, IsPermutation-sym, IsPermutation-swap, IsPermutation-middle, IsPermutation-append_left, All-permutation, sum_by-IsPermutation}
 use Rattle.std.proofs.lemmas.List.{append-nil}
-use Rattle.std.proofs.lemmas.List.Elements.{All-nil, All-cons, All-head, All-tail}
+use Rattle.std.proofs.lemmas.List.Elements.{All-nil, All-cons, All-head, All-tail, All-get_or}
 use Rattle.std.proofs.lemmas.List.Sums.{sum_by-cons}
 use Rattle.std.specs.List.{sum_by}
 use Rattle.uc_write.specs.declared.write.Write.{Write}
@@ -66,8 +66,8 @@ module _ (w : Write) where
   moved_first x xs true put = IsPermutation-refl (w ∷ x ∷ xs)
   moved_first x xs false put =
       IsPermutation-trans (w ∷ x ∷ xs) (x ∷ w ∷ xs) (x ∷ insert_by_seq xs w)
-          (IsPermutation-sym (x ∷ w ∷ xs) (w ∷ x ∷ xs) (IsPermutation-middle (x ∷ []) w xs))
-          (IsPermutation-cons x (w ∷ xs) (insert_by_seq xs w) put)
+      (IsPermutation-sym (x ∷ w ∷ xs) (w ∷ x ∷ xs) (IsPermutation-middle (x ∷ []) w xs))
+      (IsPermutation-cons x (w ∷ xs) (insert_by_seq xs w) put)
 
   pub moved-insert_by_seq : (xs : List Write) → IsPermutation (w ∷ xs) (insert_by_seq xs w)
   moved-insert_by_seq [] = IsPermutation-refl (w ∷ [])
@@ -77,10 +77,10 @@ moved-fold : (ws acc : List Write) → IsPermutation (acc ++ ws) (fold insert_by
 moved-fold [] acc = subst (λ (ws : List Write). IsPermutation ws acc) (sym (append-nil acc)) (IsPermutation-refl acc)
 moved-fold (w ∷ ws) acc =
     IsPermutation-trans (acc ++ w ∷ ws) (insert_by_seq acc w ++ ws) (fold insert_by_seq (insert_by_seq acc w) ws)
-        (IsPermutation-trans (acc ++ w ∷ ws) (w ∷ (acc ++ ws)) (insert_by_seq acc w ++ ws)
-            (IsPermutation-middle acc w ws)
-            (IsPermutation-append_left ws (w ∷ acc) (insert_by_seq acc w) (moved-insert_by_seq w acc)))
-        (moved-fold ws (insert_by_seq acc w))
+    (IsPermutation-trans (acc ++ w ∷ ws) (w ∷ (acc ++ ws)) (insert_by_seq acc w ++ ws)
+    (IsPermutation-middle acc w ws)
+    (IsPermutation-append_left ws (w ∷ acc) (insert_by_seq acc w) (moved-insert_by_seq w acc)))
+    (moved-fold ws (insert_by_seq acc w))
 
 pub moved-by_seq : (ws : List Write) → IsPermutation ws (by_seq ws)
 moved-by_seq ws = moved-fold ws []
@@ -246,8 +246,8 @@ rising_same (x ∷ xs) [] rx ry to back = absurd (All-head (λ _. ⊥) x xs (bac
 rising_same (x ∷ xs) (y ∷ ys) rx ry to back =
     let one : x ≡ y = same_first x y xs ys rx ry (to (λ w. x.seq ≤ w.seq) (least_first x xs rx)) (back (λ w. y.seq ≤ w.seq) (least_first y ys ry)) (back (λ w. w.seq ≡ y.seq → w ≡ y) (sole_first y ys ry)) in
     let others : xs ≡ ys = rising_same xs ys rx.1 ry.1
-        (λ P h. behind P y ys ry (subst (λ (v : Write). All (λ w. (w.seq ≡ v.seq) ⊎ P w) (y ∷ ys)) one (to (λ w. (w.seq ≡ x.seq) ⊎ P w) (in_front_too P x xs h))))
-        (λ P h. behind P x xs rx (subst (λ (v : Write). All (λ w. (w.seq ≡ v.seq) ⊎ P w) (x ∷ xs)) (sym one) (back (λ w. (w.seq ≡ y.seq) ⊎ P w) (in_front_too P y ys h)))) in
+    (λ P h. behind P y ys ry (subst (λ (v : Write). All (λ w. (w.seq ≡ v.seq) ⊎ P w) (y ∷ ys)) one (to (λ w. (w.seq ≡ x.seq) ⊎ P w) (in_front_too P x xs h))))
+    (λ P h. behind P x xs rx (subst (λ (v : Write). All (λ w. (w.seq ≡ v.seq) ⊎ P w) (x ∷ xs)) (sym one) (back (λ w. (w.seq ≡ y.seq) ⊎ P w) (in_front_too P y ys h)))) in
     ap (λ v. v ∷ xs) one ∙ ap (λ (vs : List Write). y ∷ vs) others
 
 -- writes whose sequences ascend, which are a permutation of some that rise, are these
@@ -260,3 +260,14 @@ ascending_is xs ys ax ry moved =
 -- so the order of writes with different sequences is theirs, however they came
 pub by_seq_is : (xs ys : List Write) → Rises ys → IsPermutation xs ys → by_seq xs ≡ ys
 by_seq_is xs ys ry moved = ascending_is (by_seq xs) ys (ascends-by_seq xs) ry (IsPermutation-trans (by_seq xs) xs ys (IsPermutation-sym xs (by_seq xs) (moved-by_seq xs)) moved)
+
+-- the order by the places of the list
+ascends_by_place : (ws : List Write) → Ascends ws → (i j : ℕ) (d : Write) → i ≤ j → j < length ws → (get_or ws i d).seq ≤ (get_or ws j d).seq
+ascends_by_place [] h i j d le lt = absurd (omega (arith, lt))
+ascends_by_place (w ∷ ws) h zero zero d le lt = omega arith
+ascends_by_place (w ∷ ws) h zero (suc j) d le lt = All-get_or (λ (v : Write). w.seq ≤ v.seq) ws j d (omega (arith, lt)) (all_is (λ (v : Write). w.seq ≤ v.seq) ws h.0)
+ascends_by_place (w ∷ ws) h (suc i) zero d le lt = absurd (omega (arith, le))
+ascends_by_place (w ∷ ws) h (suc i) (suc j) d le lt = ascends_by_place ws h.1 i j d (omega (arith, le)) (omega (arith, lt))
+
+pub non_decreasing : (ws : List Write) → IsNonDecreasingBy (λ (w : Write). w.seq) (by_seq ws)
+non_decreasing ws = ascends_by_place (by_seq ws) (ascends-by_seq ws)

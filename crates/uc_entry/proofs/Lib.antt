@@ -1,1 +1,4 @@
 pub mod BySeq
+pub mod Points
+pub mod Covers
+pub mod Lookup

@@ -3,3 +3,4 @@ pub mod Run
 pub mod PlainList
 pub mod Size
 pub mod Seek
+pub mod Lookup

@@ -7,6 +7,8 @@
 
 mod entry;
 mod fragment;
+mod laws;
 
 pub use entry::{Entry, What};
 pub use fragment::Fragment;
+pub use laws::{plain_list_does_what_is_found, plain_list_is_in_order};

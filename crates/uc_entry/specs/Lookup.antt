@@ -1,0 +1,44 @@
+-- What a lookup in a run finds, in the words of its points and fragments.
+use Rattle.std.specs.Prelude.{ℕ, Bool, ◌&&◌, List, [], ◌∷◌, Some, None, nat_le, nat_lt, filter}
+use Rattle.std.specs.List.{flat_map}
+use Rattle.uc_bytes.specs.Bytes.{same_bytes}
+use Rattle.uc_oper.specs.Operation.{Operation}
+use Rattle.uc_oper.specs.Composition.{composed}
+use Rattle.uc_oper.specs.declared.effect.Effect.{Effect}
+use Rattle.uc_oper.specs.declared.effect.Effect.TheVariants.{Keep, Fold, Set}
+use Rattle.uc_entry.specs.declared.entry.Entry.{Entry}
+use Rattle.uc_entry.specs.declared.entry.What.{What}
+use Rattle.uc_entry.specs.declared.entry.What.TheVariants.{Put, Delete, Merge}
+use Rattle.uc_entry.specs.Run.{Contents, covers}
+
+-- what a point does to its key
+abbrev pub what_effect : What → Effect
+what_effect (Put value) = Set (Some value)
+what_effect Delete = Set None
+what_effect (Merge operand) = Fold operand
+
+-- what points of one key, the newest first, do in turn to what an effect before them leaves
+abbrev pub points_effect : Operation → Effect → List Entry → Effect
+points_effect m before [] = before
+points_effect m before (newest ∷ older) = composed m (points_effect m before older) (what_effect newest.what)
+
+-- a point of the key, at or below the sequence
+abbrev pub is_visible : List ℕ → ℕ → Entry → Bool
+is_visible key at p = nat_le p.seq at && same_bytes p.key key
+
+-- the points of the key at or below the sequence, the newest first
+abbrev pub points_on : Contents → List ℕ → ℕ → List Entry
+points_on run key at = filter (is_visible key at) run.points
+
+-- the sequences at or below the sequence of the range deletions over the key, the newest first
+abbrev pub seqs_over : Contents → List ℕ → ℕ → List ℕ
+seqs_over run key at = filter (λ seq. nat_le seq at) (flat_map (λ f. f.seqs) (filter (λ f. covers f key) run.fragments))
+
+-- the points above the newest range deletion, on no value where there is one
+abbrev pub above_newest : Operation → List Entry → List ℕ → Effect
+above_newest m points [] = points_effect m Keep points
+above_newest m points (newest ∷ older) = points_effect m (Set None) (filter (λ p. nat_lt newest p.seq) points)
+
+-- what a lookup of the key at the sequence finds
+abbrev pub effect_found : Operation → Contents → List ℕ → ℕ → Effect
+effect_found m run key at = above_newest m (points_on run key at) (seqs_over run key at)
