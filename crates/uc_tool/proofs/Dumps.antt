@@ -1,4 +1,4 @@
--- Telling the writes of payloads one batch after the other, as a loop does.
+-- Printing the writes of payloads one batch after the other, as a loop does.
 use Rattle.std.proofs.Common.{◌≡◌, ◌≢◌, ℕ, zero, suc, ◌+◌, List, [], ◌∷◌, ◌++◌, length, take, map, Option, Some, Result, Ok, Err, refl, ap, sym, ◌∙◌, subst, arith}
 use Rattle.std.specs.Prelude.{OnOk, OnErr, IfErr}
 use Rattle.std.specs.List.{flat_map}
@@ -19,14 +19,14 @@ use Rattle.uc_batch.specs.declared.ended.Ended.TheVariants as ends_at
 use Rattle.uc_batch.specs.Log.{Batches, after_batch, batches_of, ended_by, kept}
 use Rattle.uc_batch.specs.WriteLog.{WriteLog}
 use Rattle.uc_batch.proofs.Joined.{fault_is}
-use Rattle.uc_tool.specs.Output.{AppendsFront}
-use Rattle.uc_tool.specs.Told.{joined, Stops, Tells}
+use Rattle.uc_tool.specs.Writing.{AppendsFront}
+use Rattle.uc_tool.specs.Output.{joined, Stops, Prints}
 use Rattle.uc_tool.specs.Ending.{IsWhole}
 use Rattle.uc_tool.specs.Dump.{write_line, log_of, done_of, dump_of}
-use Rattle.uc_tool.specs.declared.output.Halt.{Halt}
-use Rattle.uc_tool.specs.declared.output.Halt.TheVariants as halt
+use Rattle.uc_tool.specs.declared.run_error.RunError.{RunError}
+use Rattle.uc_tool.specs.declared.run_error.RunError.TheVariants as run_error
 use Rattle.uc_tool.proofs.Known.{appends_none, appends_more}
-use Rattle.uc_tool.proofs.Telling.{front_of_first, front_behind, GoesOn}
+use Rattle.uc_tool.proofs.Printing.{front_of_first, front_behind, GoesOn}
 
 joined_append : (xs ys : List (List ℕ)) → joined (xs ++ ys) ≡ joined xs ++ joined ys
 joined_append xs ys = flat_map-append (λ (x : List ℕ). x) xs ys
@@ -37,9 +37,9 @@ joined_map f [] = refl
 joined_map f (x ∷ xs) = ap (λ (l : List ℕ). f x ++ l) (joined_map f xs)
 
 -- replies that are written at once
-pub tells_at_once : (xs : List (List ℕ)) (a b : Option (List ℕ)) (r : Result (Unit {0}) Halt) → OnOk r (Appends a b (joined xs)) → OnErr r (AppendsFront a b (joined xs)) → IfErr r (λ e. e ≡ halt.Device) → Tells xs a b r
-tells_at_once xs a b (Ok x) p q e = p
-tells_at_once xs a b (Err f) p q e = subst (Stops xs a b) (sym e) q
+pub prints_at_once : (xs : List (List ℕ)) (a b : Option (List ℕ)) (r : Result (Unit {0}) RunError) → OnOk r (Appends a b (joined xs)) → OnErr r (AppendsFront a b (joined xs)) → IfErr r (λ e. e ≡ run_error.Device) → Prints xs a b r
+prints_at_once xs a b (Ok x) p q e = p
+prints_at_once xs a b (Err f) p q e = subst (Stops xs a b) (sym e) q
 
 -- some first replies of the first part are some first replies of all
 take_of_first : (xs ys : List (List ℕ)) (n : ℕ) → (m : ℕ) × (joined (take n xs) ≡ joined (take m (xs ++ ys)))
@@ -57,37 +57,37 @@ take_behind (x ∷ xs) ys n =
     let one : length (x ∷ xs) + n ≡ suc (length xs + n) = omega arith in
     ap (λ (k : ℕ). take k (x ∷ xs ++ ys)) one ∙ ap (λ (l : List (List ℕ)). x ∷ l) (take_behind xs ys n)
 
--- a halt within the first part
-pub stops_within : (xs ys : List (List ℕ)) (a b : Option (List ℕ)) (e : Halt) → Stops xs a b e → Stops (xs ++ ys) a b e
-stops_within xs ys a b halt.Memory p = let q = take_of_first xs ys p.0 in (q.0, subst (Appends a b) q.1 p.1)
-stops_within xs ys a b halt.Device p = subst (AppendsFront a b) (sym (joined_append xs ys)) (front_of_first a b (joined xs) (joined ys) p)
+-- an error within the first part
+pub stops_within : (xs ys : List (List ℕ)) (a b : Option (List ℕ)) (e : RunError) → Stops xs a b e → Stops (xs ++ ys) a b e
+stops_within xs ys a b run_error.Memory p = let q = take_of_first xs ys p.0 in (q.0, subst (Appends a b) q.1 p.1)
+stops_within xs ys a b run_error.Device p = subst (AppendsFront a b) (sym (joined_append xs ys)) (front_of_first a b (joined xs) (joined ys) p)
 
--- a halt behind the first part
-stops_behind : (xs ys : List (List ℕ)) (a b c : Option (List ℕ)) (e : Halt) → Appends a b (joined xs) → Stops ys b c e → Stops (xs ++ ys) a c e
-stops_behind xs ys a b c halt.Memory p q =
+-- an error behind the first part
+stops_behind : (xs ys : List (List ℕ)) (a b c : Option (List ℕ)) (e : RunError) → Appends a b (joined xs) → Stops ys b c e → Stops (xs ++ ys) a c e
+stops_behind xs ys a b c run_error.Memory p q =
     (length xs + q.0, subst (Appends a c) (sym (ap joined (take_behind xs ys q.0) ∙ joined_append xs (take q.0 ys))) (appends_more a b c (joined xs) (joined (take q.0 ys)) p q.1))
-stops_behind xs ys a b c halt.Device p q = subst (AppendsFront a c) (sym (joined_append xs ys)) (front_behind a b c (joined xs) (joined ys) p q)
+stops_behind xs ys a b c run_error.Device p q = subst (AppendsFront a c) (sym (joined_append xs ys)) (front_behind a b c (joined xs) (joined ys) p q)
 
 -- the first part went out, and then the others
-pub tells_behind : {X : Type 0} (xs ys : List (List ℕ)) (a b c : Option (List ℕ)) (r : Result X Halt) → Appends a b (joined xs) → Tells ys b c r → Tells (xs ++ ys) a c r
-tells_behind xs ys a b c (Ok x) p q = subst (Appends a c) (sym (joined_append xs ys)) (appends_more a b c (joined xs) (joined ys) p q)
-tells_behind xs ys a b c (Err e) p q = stops_behind xs ys a b c e p q
+pub prints_behind : {X : Type 0} (xs ys : List (List ℕ)) (a b c : Option (List ℕ)) (r : Result X RunError) → Appends a b (joined xs) → Prints ys b c r → Prints (xs ++ ys) a c r
+prints_behind xs ys a b c (Ok x) p q = subst (Appends a c) (sym (joined_append xs ys)) (appends_more a b c (joined xs) (joined ys) p q)
+prints_behind xs ys a b c (Err e) p q = stops_behind xs ys a b c e p q
 
-module _ (xs : List (List ℕ)) (line : List ℕ) (a b : Option (List ℕ)) (told : Appends a b (joined xs)) where
+module _ (xs : List (List ℕ)) (line : List ℕ) (a b : Option (List ℕ)) (printed : Appends a b (joined xs)) where
   -- memory ran out before the last line
-  pub no_last : Stops (xs ++ line ∷ []) a b halt.Memory
-  no_last = stops_behind xs (line ∷ []) a b b halt.Memory told (0, appends_none b)
+  pub no_last : Stops (xs ++ line ∷ []) a b run_error.Memory
+  no_last = stops_behind xs (line ∷ []) a b b run_error.Memory printed (0, appends_none b)
 
   -- the last line went out in part
-  pub halts_at_last : (c : Option (List ℕ)) → AppendsFront b c line → Stops (xs ++ line ∷ []) a c halt.Device
-  halts_at_last c p = stops_behind xs (line ∷ []) a b c halt.Device told (front_of_first b c line [] p)
+  pub stops_at_last : (c : Option (List ℕ)) → AppendsFront b c line → Stops (xs ++ line ∷ []) a c run_error.Device
+  stops_at_last c p = stops_behind xs (line ∷ []) a b c run_error.Device printed (front_of_first b c line [] p)
 
 -- what still stands in a log before its first fault, where this is ahead, the next payload has this number and this
 -- is the last sequence used
 abbrev pub kept_from : ℕ → ℕ → Reading → WriteLog
 kept_from last number ahead = kept (batches_of last number ahead.payloads) ahead.ending
 
--- What is still told of a log, and how far it is read, when the payloads before this position are told.
+-- What is still printed of a log, and how far it is read, when the writes before this position are printed.
 pub record DumpsOn (all : WriteLog) (last : ℕ) (position : Position) (old here : Option (List ℕ)) : Type 0 where
   pub lines : GoesOn (map write_line all.list) (map write_line (kept_from last (position.payloads_read + 1) position.ahead).list) old here
   pub ended : (kept_from last (position.payloads_read + 1) position.ahead).ended ≡ all.ended
@@ -97,10 +97,10 @@ begins input position old e = subst (λ (p : Position). DumpsOn (log_of input) 0
 
 module _ (all : WriteLog) (last : ℕ) (position : Position) (old here : Option (List ℕ)) (so_far : DumpsOn all last position old here) where
   -- memory ran out before the next batch
-  pub no_memory : Stops (map write_line all.list) old here halt.Memory
-  no_memory = so_far.lines here (Err halt.Memory) (0, appends_none here)
+  pub no_memory : Stops (map write_line all.list) old here run_error.Memory
+  no_memory = so_far.lines here (Err run_error.Memory) (0, appends_none here)
 
-  -- nothing more is told
+  -- nothing more is printed
   nothing_more : (rest : WriteLog) → kept_from last (position.payloads_read + 1) position.ahead ≡ rest → rest.list ≡ [] → Appends old here (joined (map write_line all.list))
   nothing_more rest e none = so_far.lines here (Ok tt) (subst (λ (ws : List Write). Appends here here (joined (map write_line ws))) (sym (ap (λ (l : WriteLog). l.list) e ∙ none)) (appends_none here))
 
@@ -136,15 +136,15 @@ module _ (all : WriteLog) (last : ℕ) (position : Position) (old here : Option 
       lines_are : map write_line (kept_from last (position.payloads_read + 1) position.ahead).list ≡ map write_line batch ++ map write_line others.writes
       lines_are = ap (λ (l : WriteLog). map write_line l.list) behind ∙ map-append write_line batch others.writes
 
-      -- the batch was told
+      -- the batch was printed
       pub goes_on : (after : Option (List ℕ)) → Appends here after (joined (map write_line batch)) → DumpsOn all (last_of last batch) next old after
       goes_on after p = record {
-        lines = λ new r q. so_far.lines new r (subst (λ (ls : List (List ℕ)). Tells ls here new r) (sym lines_are) (tells_behind (map write_line batch) (map write_line others.writes) here after new r p q));
+        lines = λ new r q. so_far.lines new r (subst (λ (ls : List (List ℕ)). Prints ls here new r) (sym lines_are) (prints_behind (map write_line batch) (map write_line others.writes) here after new r p q));
         ended = sym (ap (λ (l : WriteLog). l.ended) behind) ∙ so_far.ended;
       }
 
-      -- there was a halt within it
-      pub stops : (after : Option (List ℕ)) (e : Halt) → Stops (map write_line batch) here after e → Stops (map write_line all.list) old after e
+      -- there was an error within it
+      pub stops : (after : Option (List ℕ)) (e : RunError) → Stops (map write_line batch) here after e → Stops (map write_line all.list) old after e
       stops after e p = so_far.lines after (Err e) (subst (λ (ls : List (List ℕ)). Stops ls here after e) (sym lines_are) (stops_within (map write_line batch) (map write_line others.writes) here after e p))
 
     module _ (e : BatchError) (other : e ≢ faults.Memory) (f : Fails e (batch_of last payload)) where
@@ -157,7 +157,7 @@ module _ (all : WriteLog) (last : ℕ) (position : Position) (old here : Option 
       pub refused_ended : ends_at.BatchFault next.payloads_read e ≡ all.ended
       refused_ended = sym (ap (λ (l : WriteLog). l.ended) refuses) ∙ so_far.ended
 
--- a dump that is told whole ends as one
+-- a dump that prints all ends as one
 ended_whole : (ended : Ended) → IsWhole (done_of ended)
 ended_whole ends_at.Clean = tt
 ended_whole (ends_at.Torn offset) = tt

@@ -1,6 +1,6 @@
 pub mod Known
 pub mod LogAgain
-pub mod Telling
+pub mod Printing
 pub mod Written
 pub mod Plays
 pub mod Dumps

@@ -1,4 +1,4 @@
--- What a log's dump tells.
+-- What a log's dump prints.
 use Rattle.std.specs.Prelude.{ℕ, List, [], ◌∷◌, ◌++◌, map, codes}
 use Rattle.std.specs.Fmt.{decimal}
 use Rattle.uc_write.specs.declared.op.Op.{Op}
@@ -17,7 +17,7 @@ use Rattle.uc_batch.specs.Log.{batches_of, kept}
 use Rattle.uc_batch.specs.WriteLog.{WriteLog}
 use Rattle.uc_script.specs.Texts.{hex_text}
 use Rattle.uc_tool.specs.Texts.{numbered_line}
-use Rattle.uc_tool.specs.Told.{Told}
+use Rattle.uc_tool.specs.Output.{Output}
 use Rattle.uc_tool.specs.declared.done.Done.{Done}
 use Rattle.uc_tool.specs.declared.done.Done.TheVariants.{Fine, BadLog}
 
@@ -30,10 +30,10 @@ op_words kind.DeleteRange = codes " range "
 
 -- what a change does, and to which texts
 abbrev pub op_text : Op → List ℕ
-op_text (Put key value) = codes " put " ++ hex_text key ++ 32 ∷ hex_text value
-op_text (Delete key) = codes " delete " ++ hex_text key
-op_text (Merge key operand) = codes " merge " ++ hex_text key ++ 32 ∷ hex_text operand
-op_text (DeleteRange begin end) = codes " range " ++ hex_text begin ++ 32 ∷ hex_text end
+op_text (Put key value) = op_words kind.Put ++ hex_text key ++ 32 ∷ hex_text value
+op_text (Delete key) = op_words kind.Delete ++ hex_text key
+op_text (Merge key operand) = op_words kind.Merge ++ hex_text key ++ 32 ∷ hex_text operand
+op_text (DeleteRange begin end) = op_words kind.DeleteRange ++ hex_text begin ++ 32 ∷ hex_text end
 
 -- a write's sequence and what it does
 abbrev pub write_line : Write → List ℕ
@@ -74,13 +74,13 @@ done_of (ended.LogFault fault offset) = BadLog
 done_of (ended.BatchFault number fault) = BadLog
 
 -- a line for each write, and one for the ending
-abbrev pub shown : WriteLog → Told
+abbrev pub shown : WriteLog → Output
 shown log = record { replies = map write_line log.list ++ ended_line log.ended ∷ []; done = done_of log.ended }
 
 -- what stands in a log's bytes before its first fault, as point-in-time recovery keeps it
 abbrev pub log_of : List ℕ → WriteLog
 log_of input = kept (batches_of 0 1 (payloads_of input)) (ending_of input)
 
--- what the dump of a log's bytes tells
-abbrev pub dump_of : List ℕ → Told
+-- what the dump of a log's bytes prints
+abbrev pub dump_of : List ℕ → Output
 dump_of input = shown (log_of input)

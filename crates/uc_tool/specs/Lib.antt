@@ -1,7 +1,7 @@
 pub mod Input
 pub mod Output
 pub mod Opening
-pub mod Told
+pub mod Writing
 pub mod Texts
 pub mod Options
 pub mod Play

@@ -1,4 +1,4 @@
--- What a script's run tells.
+-- What a script's run prints.
 use Rattle.std.specs.Prelude.{ℕ, List, [], ◌∷◌, ◌++◌, map, find, codes, nat_lt, Option, Some, None, Result, Ok, Err, if◌then◌else◌}
 use Rattle.uc_oper.specs.Operation.{Operation}
 use Rattle.uc_write.specs.declared.write.Write.{Write}
@@ -14,8 +14,8 @@ use Rattle.uc_script.specs.declared.script.Script.{Script}
 use Rattle.uc_script.specs.declared.seq.Seq.{Seq}
 use Rattle.uc_script.specs.declared.seq.Seq.TheVariants.{Number, Last}
 use Rattle.uc_tool.specs.Options.{are_good}
-use Rattle.uc_tool.specs.Texts.{numbered_line, answer_text}
-use Rattle.uc_tool.specs.Told.{Told}
+use Rattle.uc_tool.specs.Texts.{numbered_line, answer_lines}
+use Rattle.uc_tool.specs.Output.{Output}
 use Rattle.uc_tool.specs.declared.done.Done.TheVariants.{Fine, Refused}
 use Rattle.uc_tool.specs.declared.options.Options.{Options}
 
@@ -30,32 +30,36 @@ query_of last (Scan low high limit at) = query.Scan low high (seq_at last at) li
 
 -- the reply to a query, over the writes and the protected sequences of an opening
 abbrev pub reply_to : Operation → List Write → List ℕ → Query → List ℕ
-reply_to m writes keeps query = answer_text (answer_of m writes keeps query)
+reply_to m writes keeps query = answer_lines (answer_of m writes keeps query)
 
 -- a run that was refused with one line
-abbrev pub refused : List ℕ → Told
+abbrev pub refused : List ℕ → Output
 refused line = record { replies = line ∷ []; done = Refused }
 
 -- a run that opened these writes, whose last sequence is `last`, and answered these queries
-abbrev pub opened : Operation → List Write → List ℕ → ℕ → List Query → Told
+abbrev pub opened : Operation → List Write → List ℕ → ℕ → List Query → Output
 opened m writes keeps last queries = record { replies = numbered_line (codes "opened ") last ∷ map (reply_to m writes keeps) queries; done = Fine }
 
 -- an opening is refused for a snapshot above the last write; else the last sequence is protected too
-abbrev pub unless_ahead : Operation → List Write → List ℕ → ℕ → List Call → Option ℕ → Told
+abbrev pub unless_ahead : Operation → List Write → List ℕ → ℕ → List Call → Option ℕ → Output
 unless_ahead m writes keeps last calls (Some keep) = refused (numbered_line (codes "refused snapshot ahead ") keep)
 unless_ahead m writes keeps last calls None = opened m writes (keeps ++ last ∷ []) last (map (query_of last) calls)
 
+-- an opening is refused for an option out of its range
+abbrev pub bad_option : Output
+bad_option = refused (codes "refused bad option\n")
+
 -- the first kept sequence above the last one
-abbrev pub ahead_of : ℕ → List ℕ → Option ℕ
-ahead_of last keeps = find (λ keep. nat_lt last keep) keeps
+abbrev pub first_ahead : ℕ → List ℕ → Option ℕ
+first_ahead last keeps = find (λ keep. nat_lt last keep) keeps
 
-abbrev pub over_writes : Operation → List Write → Script → Told
-over_writes m writes script = unless_ahead m writes script.keeps (last_of 0 writes) script.calls (ahead_of (last_of 0 writes) script.keeps)
+abbrev pub over_writes : Operation → List Write → Script → Output
+over_writes m writes script = unless_ahead m writes script.keeps (last_of 0 writes) script.calls (first_ahead (last_of 0 writes) script.keeps)
 
-abbrev pub played : Operation → Options → Result Script ℕ → Told
+abbrev pub played : Operation → Options → Result Script ℕ → Output
 played m options (Err line) = refused (numbered_line (codes "fault line ") line)
-played m options (Ok script) = if are_good options then over_writes m (numbered 1 script.ops) script else refused (codes "refused bad option\n")
+played m options (Ok script) = if are_good options then over_writes m (numbered 1 script.ops) script else bad_option
 
--- what a run of a script's bytes tells, under an operator and options
-abbrev pub play_of : Operation → Options → List ℕ → Told
+-- what a run of a script's bytes prints, under an operator and options
+abbrev pub play_of : Operation → Options → List ℕ → Output
 play_of m options input = played m options (script_of input)

@@ -1,10 +1,10 @@
--- What a script comes to before anything is answered, and what its run tells then.
+-- What a script comes to before anything is answered, and what its run prints then.
 use Rattle.std.specs.Prelude.{◌≡◌, ℕ, List, map}
 use Rattle.uc_oper.specs.Operation.{Operation}
 use Rattle.uc_batch.specs.Batch.{numbered}
 use Rattle.uc_script.specs.declared.script.Script.{Script}
 use Rattle.uc_tool.specs.Play.{reply_to, refused, opened, over_writes, play_of}
-use Rattle.uc_tool.specs.Told.{Told}
+use Rattle.uc_tool.specs.Output.{Output}
 use Rattle.uc_tool.specs.declared.options.Options.{Options}
 use Rattle.uc_tool.specs.declared.playing.Opened.{Opened}
 use Rattle.uc_tool.specs.declared.playing.Prepared.{Prepared}
@@ -14,15 +14,15 @@ use Rattle.uc_tool.specs.declared.playing.Prepared.TheVariants as prepared
 abbrev pub replies_of : Operation → Opened → List (List ℕ)
 replies_of m store = map (reply_to m store.writes.list store.keeps.items) store.queries.items
 
--- what a run tells from here on
-abbrev pub told_by : Operation → Prepared → Told
-told_by m (prepared.Refused line) = refused line.items
-told_by m (prepared.Opened store) = opened m store.writes.list store.keeps.items store.last store.queries.items
+-- what a run prints from here on
+abbrev pub output_of : Operation → Prepared → Output
+output_of m (prepared.Refused line) = refused line.items
+output_of m (prepared.Opened store) = opened m store.writes.list store.keeps.items store.last store.queries.items
 
--- the run tells, under every operator, what one over the script's writes tells
+-- the run prints, under every operator, what one over the script's writes prints
 abbrev pub PreparesWrites : Prepared → Script → Type 0
-PreparesWrites prepared script = (m : Operation) → told_by m prepared ≡ over_writes m (numbered 1 script.ops) script
+PreparesWrites prepared script = (m : Operation) → output_of m prepared ≡ over_writes m (numbered 1 script.ops) script
 
--- the run tells, under every operator, what the play of the input tells
+-- the run prints, under every operator, what the play of the input prints
 abbrev pub Prepares : Prepared → Options → List ℕ → Type 0
-Prepares prepared options input = (m : Operation) → told_by m prepared ≡ play_of m options input
+Prepares prepared options input = (m : Operation) → output_of m prepared ≡ play_of m options input

@@ -1,3 +1,5 @@
+//! [`Done`]: how a run of the program ended.
+
 /// How a run of the program ended.
 #[derive(Clone, Copy, Debug, PartialEq, Eq)]
 pub enum Done {

@@ -1,12 +1,16 @@
+//! `dump`: what stands in a write-ahead log, as lines.
+
 ghost use Rattle.std.specs.Prelude.{◌≡◌, ◌≤◌, length, map, IfOk, IfSome};
-ghost use Rattle.uc_tool.specs.Dump.{write_line, log_of, done_of, dump_of};
-ghost use Rattle.uc_tool.specs.Told.{Tells, HasWritten};
+ghost use Rattle.uc_tool.specs.Dump as dumps;
+ghost use Rattle.uc_tool.specs.Dump.{write_line, log_of, dump_of};
+ghost use Rattle.uc_tool.specs.Output.{Prints, HasWritten};
 
 use crate::done::Done;
-use crate::ending::{end_unread, finish};
+use crate::ending::{finish, finish_without_input};
 use crate::input::read_input;
 use crate::log_texts::{ended_line, push_writes};
-use crate::output::{Halt, write_bytes};
+use crate::run_error::RunError;
+use crate::writing::write_bytes;
 use std::alloc::Global;
 use std::io;
 use std::io::Read;
@@ -14,24 +18,24 @@ use uc_batch::{BatchError, Ended, last_used, read_batch_in_place};
 use uc_logrec::{LogReader, Next};
 use uc_write::WriteRef;
 
-/// Tells the writes of a batch, a line each. The lines are put together in a buffer first, whose bytes
+/// Prints the writes of a batch, a line each. The lines are put together in a buffer first, whose bytes
 /// are of no use before or after.
-fn tell_writes<W: io::Write>(
+fn print_writes<W: io::Write>(
     lines: &mut Vec<u8>,
     writes: &[WriteRef<'_>],
     writer: &mut W,
-) -> Result<(), Halt>
-    ensures { Tells (map write_line writes.now) (W.contents writer.old) (W.contents writer.new) result }
+) -> Result<(), RunError>
+    ensures { Prints (map write_line writes.now) (W.contents writer.old) (W.contents writer.new) result }
 {
     lines.clear();
     push_writes(lines, writes)?;
     write_bytes(writer, lines)
 }
 
-/// Tells the writes of a log, up to its first fault, and gives how far it was read. A batch is read where it
+/// Prints the writes of a log, up to its first fault, and gives how far it was read. A batch is read where it
 /// stands: a copy is made of a payload in several pieces alone, and there is one such copy at a time.
-fn tell_log<W: io::Write>(alloc: Global, input: &[u8], writer: &mut W) -> Result<Ended, Halt>
-    ensures told { Tells (map write_line (log_of input.now).list) (W.contents writer.old) (W.contents writer.new) result }
+fn print_log<W: io::Write>(alloc: Global, input: &[u8], writer: &mut W) -> Result<Ended, RunError>
+    ensures printed { Prints (map write_line (log_of input.now).list) (W.contents writer.old) (W.contents writer.new) result }
     ensures ended { IfOk result (λ ended. ended ≡ (log_of input.now).ended) }
 {
     let mut log = LogReader::new(input);
@@ -46,18 +50,18 @@ fn tell_log<W: io::Write>(alloc: Global, input: &[u8], writer: &mut W) -> Result
         };
         match read_batch_in_place(alloc, payload, last) {
             Ok(batch) => {
-                tell_writes(&mut lines, &batch, writer)?;
+                print_writes(&mut lines, &batch, writer)?;
                 last = last_used(&batch, last);
             }
-            Err(BatchError::Memory) => return Err(Halt::Memory),
+            Err(BatchError::Memory) => return Err(RunError::Memory),
             Err(fault) => return Ok(Ended::BatchFault(log.payloads_read(), fault)),
         }
     }
 }
 
 /// How a run ends that read its log so far.
-fn done_from(ended: Ended) -> Done
-    ensures { result ≡ done_of ended }
+fn done_of(ended: Ended) -> Done
+    ensures { result ≡ dumps.done_of ended }
 {
     match ended {
         Ended::Clean | Ended::Torn(_) => Done::Fine,
@@ -65,15 +69,15 @@ fn done_from(ended: Ended) -> Done
     }
 }
 
-/// Tells what a log holds, and how far it can be read.
-fn run<W: io::Write>(alloc: Global, input: &[u8], writer: &mut W) -> Result<Done, Halt>
-    ensures told { Tells (dump_of input.now).replies (W.contents writer.old) (W.contents writer.new) result }
+/// Prints what a log holds, and how far it can be read.
+fn run<W: io::Write>(alloc: Global, input: &[u8], writer: &mut W) -> Result<Done, RunError>
+    ensures printed { Prints (dump_of input.now).replies (W.contents writer.old) (W.contents writer.new) result }
     ensures done { IfOk result (λ done. done ≡ (dump_of input.now).done) }
 {
-    let ended = tell_log(alloc, input, writer)?;
+    let ended = print_log(alloc, input, writer)?;
     let line = ended_line(alloc, ended)?;
     write_bytes(writer, &line)?;
-    Ok(done_from(ended))
+    Ok(done_of(ended))
 }
 
 /// Prints what stands in a write-ahead log: a line for each write before its first fault, and one that
@@ -90,6 +94,6 @@ pub fn dump<R: Read, W: io::Write>(alloc: Global, reader: &mut R, writer: &mut W
             let outcome = run(alloc, &input, writer);
             finish(writer, outcome)
         }
-        Err(error) => end_unread(writer, error),
+        Err(error) => finish_without_input(writer, error),
     }
 }

@@ -1,15 +1,18 @@
+//! How a run ends, once all is printed or where it stops.
+
 ghost use Rattle.std.specs.Prelude.{◌≡◌};
-ghost use Rattle.uc_tool.specs.Output.{AppendsFront};
-ghost use Rattle.uc_tool.specs.Ending.{Finishes, IsUnread, Settles};
+ghost use Rattle.uc_tool.specs.Writing.{AppendsFront};
+ghost use Rattle.uc_tool.specs.Ending.{Finishes, FinishesWithoutInput, FlushesAndEnds};
 
 use crate::done::Done;
 use crate::input::InputError;
-use crate::output::{Halt, write_bytes};
+use crate::run_error::RunError;
+use crate::writing::write_bytes;
 use std::io::Write;
 
 /// Flushes what was written before a run ends so.
-fn settle<W: Write>(writer: &mut W, done: Done) -> Done
-    ensures { Settles done (W.contents writer.old) (W.contents writer.new) result }
+fn flush_and_end<W: Write>(writer: &mut W, done: Done) -> Done
+    ensures { FlushesAndEnds done (W.contents writer.old) (W.contents writer.new) result }
 {
     match writer.flush() {
         Ok(()) => done,
@@ -19,14 +22,14 @@ fn settle<W: Write>(writer: &mut W, done: Done) -> Done
 
 /// Ends a run: says where memory ran out, and flushes what was written. After a write fault nothing more
 /// is written.
-pub fn finish<W: Write>(writer: &mut W, outcome: Result<Done, Halt>) -> Done
+pub fn finish<W: Write>(writer: &mut W, outcome: Result<Done, RunError>) -> Done
     ensures { Finishes outcome (W.contents writer.old) (W.contents writer.new) result }
 {
     match outcome {
-        Ok(done) => settle(writer, done),
-        Err(Halt::Device) => Done::Device,
-        Err(Halt::Memory) => match write_bytes(writer, b"out of memory\n") {
-            Ok(()) => settle(writer, Done::NoMemory),
+        Ok(done) => flush_and_end(writer, done),
+        Err(RunError::Device) => Done::Device,
+        Err(RunError::Memory) => match write_bytes(writer, b"out of memory\n") {
+            Ok(()) => flush_and_end(writer, Done::NoMemory),
             Err(_) => Done::Device,
         },
     }
@@ -44,11 +47,11 @@ fn fail<W: Write>(writer: &mut W, text: &[u8]) -> Done
 }
 
 /// Ends a run whose input couldn't be read whole.
-pub fn end_unread<W: Write>(writer: &mut W, error: InputError) -> Done
-    ensures { IsUnread error (W.contents writer.old) (W.contents writer.new) result }
+pub fn finish_without_input<W: Write>(writer: &mut W, error: InputError) -> Done
+    ensures { FinishesWithoutInput error (W.contents writer.old) (W.contents writer.new) result }
 {
     match error {
-        InputError::Memory => finish(writer, Err(Halt::Memory)),
+        InputError::Memory => finish(writer, Err(RunError::Memory)),
         InputError::Fault => fail(writer, b"read fault\n"),
         InputError::TooLong => fail(writer, b"input too long\n"),
     }

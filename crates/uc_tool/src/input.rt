@@ -1,3 +1,5 @@
+//! Reading the whole input, up to its limit.
+
 ghost use Rattle.std.specs.Prelude.{◌≡◌, ◌<◌, ◌≤◌, length, vec_len, Ok, IfOk, OnOk, IfSome, IsErrOf};
 ghost use Rattle.std.specs.Io.KnownBytes.{IsAtEnd};
 ghost use Rattle.uc_tool.specs.Input.{Adds, Exceeds};

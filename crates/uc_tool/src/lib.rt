@@ -1,8 +1,8 @@
 //! The program's work over any reader and writer.
 //!
 //! `play` opens a store over a script's writes and answers its reads; `dump` prints what a log holds.
-//! What each writes is a stated function of the bytes that it reads. Read `specs/Told.antt` and
-//! `specs/Play.antt` first, then `playing.rt`; `input.rt` and `output.rt` are the two ends.
+//! What each prints is a stated function of the bytes that it reads. Read `specs/Output.antt` and
+//! `specs/Play.antt` first, then `playing.rt`; `input.rt` and `writing.rt` are the two ends.
 #![tactic(auto)]
 
 mod done;
@@ -12,9 +12,10 @@ mod input;
 mod log_texts;
 mod opening;
 mod options;
-mod output;
 mod playing;
+mod run_error;
 mod texts;
+mod writing;
 
 pub use done::Done;
 pub use dumping::dump;

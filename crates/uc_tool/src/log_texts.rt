@@ -1,7 +1,10 @@
+//! The lines that `dump` prints.
+
 ghost use Rattle.std.specs.Prelude.{◌≡◌, ◌++◌, ◌∷◌, [], codes, IfOk, OnOk};
 ghost use Rattle.std.specs.List.{flat_map};
 ghost use Rattle.std.specs.Fmt.{decimal};
-ghost use Rattle.uc_tool.specs.Dump.{op_words as words_of_op, op_text, write_line, log_words as words_of, batch_words, ended_line as ending_of};
+ghost use Rattle.uc_tool.specs.Dump as dumps;
+ghost use Rattle.uc_tool.specs.Dump.{op_text, write_line, batch_words};
 
 use crate::texts::numbered_line;
 use std::alloc::{AllocError, Global};
@@ -12,7 +15,7 @@ use uc_write::{OpKind, OpRef, WriteRef};
 
 /// What a kind of change is called, with a space before and after it.
 fn op_words(kind: OpKind) -> &'static [u8]
-    ensures { result.now ≡ words_of_op kind }
+    ensures { result.now ≡ dumps.op_words kind }
 {
     match kind {
         OpKind::Put => b" put ",
@@ -22,7 +25,7 @@ fn op_words(kind: OpKind) -> &'static [u8]
     }
 }
 
-/// Prints what a change does, and to which texts.
+/// Appends what a change does, and to which texts.
 fn push_op(out: &mut Vec<u8>, op: &OpRef<'_>) -> Result<(), AllocError>
     ensures { OnOk result (out.new.items ≡ out.old.items ++ op_text op.now) }
 {
@@ -36,7 +39,7 @@ fn push_op(out: &mut Vec<u8>, op: &OpRef<'_>) -> Result<(), AllocError>
     Ok(())
 }
 
-/// Prints the line of a write.
+/// Appends the line of a write.
 fn push_write(out: &mut Vec<u8>, write: &WriteRef<'_>) -> Result<(), AllocError>
     ensures { OnOk result (out.new.items ≡ out.old.items ++ write_line write.now) }
 {
@@ -46,7 +49,7 @@ fn push_write(out: &mut Vec<u8>, write: &WriteRef<'_>) -> Result<(), AllocError>
     Ok(())
 }
 
-/// Prints a line for each write.
+/// Appends a line for each write.
 pub fn push_writes(out: &mut Vec<u8>, writes: &[WriteRef<'_>]) -> Result<(), AllocError>
     ensures { OnOk result (out.new.items ≡ out.old.items ++ flat_map write_line writes.now) }
 {
@@ -58,7 +61,7 @@ pub fn push_writes(out: &mut Vec<u8>, writes: &[WriteRef<'_>]) -> Result<(), All
 
 /// What a fault of a log is called.
 fn log_words(fault: LogFault) -> &'static [u8]
-    ensures { result.now ≡ words_of fault }
+    ensures { result.now ≡ dumps.log_words fault }
 {
     match fault {
         LogFault::BadLength => b"log fault bad length ",
@@ -71,7 +74,7 @@ fn log_words(fault: LogFault) -> &'static [u8]
     }
 }
 
-/// Prints words and a number.
+/// Appends words and a number.
 fn push_counted(out: &mut Vec<u8>, words: &[u8], number: u64) -> Result<(), AllocError>
     ensures { OnOk result (out.new.items ≡ out.old.items ++ words.now ++ decimal number) }
 {
@@ -79,8 +82,8 @@ fn push_counted(out: &mut Vec<u8>, words: &[u8], number: u64) -> Result<(), Allo
     push_number(out, number)
 }
 
-/// Prints why a batch was refused.
-fn push_fault(out: &mut Vec<u8>, fault: BatchError) -> Result<(), AllocError>
+/// Appends why a batch was refused.
+fn push_batch_words(out: &mut Vec<u8>, fault: BatchError) -> Result<(), AllocError>
     ensures { OnOk result (out.new.items ≡ out.old.items ++ batch_words fault) }
 {
     match fault {
@@ -106,14 +109,14 @@ fn batch_line(alloc: Global, number: u64, fault: BatchError) -> Result<Vec<u8>, 
 {
     let mut line = Vec::from_slice(alloc, b"batch fault ")?;
     push_number(&mut line, number)?;
-    push_fault(&mut line, fault)?;
+    push_batch_words(&mut line, fault)?;
     line.push(b'\n')?;
     Ok(line)
 }
 
 /// The line that says how far a log was read.
 pub fn ended_line(alloc: Global, ended: Ended) -> Result<Vec<u8>, AllocError>
-    ensures { IfOk result (λ line. line.items ≡ ending_of ended) }
+    ensures { IfOk result (λ line. line.items ≡ dumps.ended_line ended) }
 {
     match ended {
         Ended::Clean => Vec::from_slice(alloc, b"clean\n"),

@@ -1,3 +1,5 @@
+//! A script's writes, by way of a log.
+
 ghost use Rattle.std.specs.Prelude.{◌≡◌, IfOk};
 ghost use Rattle.uc_logrec.specs.Log.{log_text};
 ghost use Rattle.uc_batch.specs.Batch.{numbered};

@@ -1,3 +1,5 @@
+//! [`Options`]: how a store is opened and compacted.
+
 /// How a store is opened and compacted (RocksDB wiki, "Universal Compaction").
 #[derive(Clone, Copy, Debug, PartialEq, Eq)]
 pub struct Options {
@@ -19,7 +21,7 @@ pub struct Options {
 
 impl Options {
     ghost use Rattle.std.specs.Prelude.{◌≡◌};
-    ghost use Rattle.uc_tool.specs.Options.{are_good as good};
+    ghost use Rattle.uc_tool.specs.Options as options;
 
     /// The options where none are given: memtables of 4 MiB, 4 runs, 1 percent, 200 percent, at
     /// least 2 runs and no limit to them, numbers from 1.
@@ -39,7 +41,7 @@ impl Options {
 
     /// Whether a store opens with them: each is in its range, and `least` isn't above `greatest`.
     pub fn are_good(&self) -> bool
-        ensures { result ≡ good self.now }
+        ensures { result ≡ options.are_good self.now }
     {
         let sizes = 1 <= self.memtable && 1 <= self.trigger;
         let widths = 2 <= self.least && self.least <= self.greatest;

@@ -1,18 +1,22 @@
+//! `play`: a store over the writes of a script, and the answers to its calls.
+
 ghost use Rattle.std.specs.Prelude.{◌≡◌, ◌≤◌, ◌++◌, ◌∷◌, [], length, map, take, IfOk, OnOk, OnErr, IfSome};
 ghost use Rattle.std.specs.Io.KnownBytes.{Appends};
 ghost use Rattle.uc_tool.specs.declared.input.TheConstants.{INPUT_LIMIT};
 ghost use Rattle.uc_tool.specs.Opening.{FitsLog};
-ghost use Rattle.uc_tool.specs.Play.{query_of, reply_to, play_of, seq_at, ahead_of};
-ghost use Rattle.uc_tool.specs.Prepared.{PreparesWrites, Prepares, told_by, replies_of};
-ghost use Rattle.uc_tool.specs.Told.{Tells, HasWritten};
+ghost use Rattle.uc_tool.specs.Play as plays;
+ghost use Rattle.uc_tool.specs.Play.{play_of};
+ghost use Rattle.uc_tool.specs.Prepared.{PreparesWrites, Prepares, output_of, replies_of};
+ghost use Rattle.uc_tool.specs.Output.{Prints, HasWritten};
 
 use crate::done::Done;
-use crate::ending::{end_unread, finish};
+use crate::ending::{finish, finish_without_input};
 use crate::input::read_input;
 use crate::opening::open;
 use crate::options::Options;
-use crate::output::{Halt, write_bytes};
+use crate::run_error::RunError;
 use crate::texts::{answer_lines, numbered_line};
+use crate::writing::write_bytes;
 use std::alloc::{AllocError, Global};
 use std::io::{Read, Write};
 use uc_batch::Writes;
@@ -43,8 +47,8 @@ enum Prepared {
 }
 
 /// The sequence that a script names.
-fn sequence(last: u64, at: Seq) -> u64
-    ensures { result ≡ seq_at last at }
+fn seq_at(last: u64, at: Seq) -> u64
+    ensures { result ≡ plays.seq_at last at }
 {
     match at {
         Seq::Number(number) => number,
@@ -53,13 +57,13 @@ fn sequence(last: u64, at: Seq) -> u64
 }
 
 /// The query that a call asks.
-fn query_from(last: u64, call: Call) -> Query
-    ensures { result ≡ query_of last call }
+fn query_of(last: u64, call: Call) -> Query
+    ensures { result ≡ plays.query_of last call }
 {
     match call {
         Call::Get { key, at } => Query::Get {
             key,
-            at: sequence(last, at),
+            at: seq_at(last, at),
         },
         Call::Scan {
             low,
@@ -69,25 +73,25 @@ fn query_from(last: u64, call: Call) -> Query
         } => Query::Scan {
             low,
             high,
-            at: sequence(last, at),
+            at: seq_at(last, at),
             limit,
         },
     }
 }
 
 /// The queries that calls ask.
-fn queries_from(alloc: Global, last: u64, calls: Vec<Call>) -> Result<Vec<Query>, AllocError>
-    ensures { IfOk result (λ queries. queries.items ≡ map (query_of last) calls.items) }
+fn queries_of(alloc: Global, last: u64, calls: Vec<Call>) -> Result<Vec<Query>, AllocError>
+    ensures { IfOk result (λ queries. queries.items ≡ map (plays.query_of last) calls.items) }
 {
     calls
         .into_iter()
-        .map(|call| query_from(last, call))
+        .map(|call| query_of(last, call))
         .collect(alloc)
 }
 
 /// The first kept sequence above the last one, which no snapshot can protect.
 fn first_ahead(keeps: &[u64], last: u64) -> Option<u64>
-    ensures { result ≡ ahead_of last keeps.now }
+    ensures { result ≡ plays.first_ahead last keeps.now }
 {
     keeps.iter().copied().find(|keep| last < *keep)
 }
@@ -109,7 +113,7 @@ fn open_script(alloc: Global, script: Script) -> Result<Prepared, AllocError>
         writes,
         keeps,
         last,
-        queries: queries_from(alloc, last, script.calls.into_vec())?,
+        queries: queries_of(alloc, last, script.calls.into_vec())?,
     }))
 }
 
@@ -135,8 +139,12 @@ fn prepare(alloc: Global, input: &[u8], options: &Options) -> Result<Prepared, A
 }
 
 /// The reply to a query.
-fn reply<O: Operator>(alloc: Global, store: &Opened, query: &Query) -> Result<Vec<u8>, AllocError>
-    ensures { IfOk result (λ text. text.items ≡ reply_to O.meaning store.now.writes.list store.now.keeps.items query.now) }
+fn reply_to<O: Operator>(
+    alloc: Global,
+    store: &Opened,
+    query: &Query,
+) -> Result<Vec<u8>, AllocError>
+    ensures { IfOk result (λ text. text.items ≡ plays.reply_to O.meaning store.now.writes.list store.now.keeps.items query.now) }
 {
     let answer = answer_writes::<O>(alloc, &store.writes, &store.keeps, query)?;
     answer_lines(alloc, &answer)
@@ -147,24 +155,24 @@ fn answer_queries<O: Operator, W: Write>(
     alloc: Global,
     store: &Opened,
     writer: &mut W,
-) -> Result<(), Halt>
-    ensures { Tells (replies_of O.meaning store.now) (W.contents writer.old) (W.contents writer.new) result }
+) -> Result<(), RunError>
+    ensures { Prints (replies_of O.meaning store.now) (W.contents writer.old) (W.contents writer.new) result }
 {
     for query in &store.queries {
-        let text = reply::<O>(alloc, store, query)?;
+        let text = reply_to::<O>(alloc, store, query)?;
         write_bytes(writer, &text)?;
     }
     Ok(())
 }
 
-/// Tells what a script comes to: why it is refused, or that it opened and the answers.
-fn tell<O: Operator, W: Write>(
+/// Prints what a script comes to: why it is refused, or that it opened and the answers.
+fn print_prepared<O: Operator, W: Write>(
     alloc: Global,
     prepared: &Prepared,
     writer: &mut W,
-) -> Result<Done, Halt>
-    ensures told { Tells (told_by O.meaning prepared.now).replies (W.contents writer.old) (W.contents writer.new) result }
-    ensures done { IfOk result (λ done. done ≡ (told_by O.meaning prepared.now).done) }
+) -> Result<Done, RunError>
+    ensures printed { Prints (output_of O.meaning prepared.now).replies (W.contents writer.old) (W.contents writer.new) result }
+    ensures done { IfOk result (λ done. done ≡ (output_of O.meaning prepared.now).done) }
 {
     match prepared {
         Prepared::Refused(line) => {
@@ -186,13 +194,13 @@ fn run<O: Operator, W: Write>(
     input: &[u8],
     options: &Options,
     writer: &mut W,
-) -> Result<Done, Halt>
+) -> Result<Done, RunError>
     requires { length input.now ≤ INPUT_LIMIT }
-    ensures told { Tells (play_of O.meaning options.now input.now).replies (W.contents writer.old) (W.contents writer.new) result }
+    ensures printed { Prints (play_of O.meaning options.now input.now).replies (W.contents writer.old) (W.contents writer.new) result }
     ensures done { IfOk result (λ done. done ≡ (play_of O.meaning options.now input.now).done) }
 {
     let prepared = prepare(alloc, input, options)?;
-    tell::<O, W>(alloc, &prepared, writer)
+    print_prepared::<O, W>(alloc, &prepared, writer)
 }
 
 /// Runs a script: reads it whole, checks all of it, writes its changes as a log and reads them back, and
@@ -216,6 +224,6 @@ pub fn play<O: Operator, R: Read, W: Write>(
             let outcome = run::<O, W>(alloc, &input, options, writer);
             finish(writer, outcome)
         }
-        Err(error) => end_unread(writer, error),
+        Err(error) => finish_without_input(writer, error),
     }
 }

@@ -1,3 +1,5 @@
+//! One run of each program.
+
 use super::*;
 use std::test::Fail;
 use uc_oper::Counter;

@@ -1,6 +1,9 @@
+//! The lines that answers are printed as.
+
 ghost use Rattle.std.specs.Prelude.{◌≡◌, ◌++◌, IfOk, OnOk};
 ghost use Rattle.std.specs.List.{flat_map};
-ghost use Rattle.uc_tool.specs.Texts.{numbered_line as line_of, row_line, answer_text, rows_text, value_text};
+ghost use Rattle.uc_tool.specs.Texts as texts;
+ghost use Rattle.uc_tool.specs.Texts.{row_line};
 
 use std::alloc::{AllocError, Global};
 use uc_bytes::Bytes;
@@ -9,7 +12,7 @@ use uc_script::{push_hex, push_number};
 
 /// A line of words and a number.
 pub fn numbered_line(alloc: Global, words: &[u8], number: u64) -> Result<Vec<u8>, AllocError>
-    ensures { IfOk result (λ line. line.items ≡ line_of words.now number) }
+    ensures { IfOk result (λ line. line.items ≡ texts.numbered_line words.now number) }
 {
     let mut line = Vec::from_slice(alloc, words)?;
     push_number(&mut line, number)?;
@@ -19,7 +22,7 @@ pub fn numbered_line(alloc: Global, words: &[u8], number: u64) -> Result<Vec<u8>
 
 /// The line of a value.
 fn value_line(alloc: Global, value: &[u8]) -> Result<Vec<u8>, AllocError>
-    ensures { IfOk result (λ line. line.items ≡ value_text value.now) }
+    ensures { IfOk result (λ line. line.items ≡ texts.value_line value.now) }
 {
     let mut line = Vec::from_slice(alloc, b"value ")?;
     push_hex(&mut line, value)?;
@@ -27,7 +30,7 @@ fn value_line(alloc: Global, value: &[u8]) -> Result<Vec<u8>, AllocError>
     Ok(line)
 }
 
-/// Prints a key and its value behind what is there.
+/// Appends a key and its value, as a line.
 fn push_row(out: &mut Vec<u8>, row: &(Bytes, Bytes)) -> Result<(), AllocError>
     ensures { OnOk result (out.new.items ≡ out.old.items ++ row_line row.now) }
 {
@@ -40,7 +43,7 @@ fn push_row(out: &mut Vec<u8>, row: &(Bytes, Bytes)) -> Result<(), AllocError>
 
 /// How many rows there are, and a line for each.
 fn rows_lines(alloc: Global, rows: &[(Bytes, Bytes)]) -> Result<Vec<u8>, AllocError>
-    ensures { IfOk result (λ lines. lines.items ≡ rows_text rows.now) }
+    ensures { IfOk result (λ lines. lines.items ≡ texts.rows_lines rows.now) }
 {
     let mut lines = numbered_line(alloc, b"rows ", rows.len() as u64)?;
     for row in rows {
@@ -51,7 +54,7 @@ fn rows_lines(alloc: Global, rows: &[(Bytes, Bytes)]) -> Result<Vec<u8>, AllocEr
 
 /// The lines of an answer.
 pub fn answer_lines(alloc: Global, answer: &Answer) -> Result<Vec<u8>, AllocError>
-    ensures { IfOk result (λ lines. lines.items ≡ answer_text answer.now) }
+    ensures { IfOk result (λ lines. lines.items ≡ texts.answer_lines answer.now) }
 {
     match answer {
         Answer::Value(None) => Vec::from_slice(alloc, b"none\n"),

@@ -10,11 +10,11 @@ returns-in-Ok g c =
     let contents = g.W.Write.contents in
     let input = c.in-Ok.input in
     let short : length input.items ≤ INPUT_LIMIT = omega (arith, input.ok.0, c.in-Ok.ensures.short) in
-    let told = rw c.deref.ensures.value at c.run-outcome.ensures.told in
+    let printed = rw c.deref.ensures.value at c.run-outcome.ensures.printed in
     let done = rw c.deref.ensures.value at c.run-outcome.ensures.done in
-    of_input dump_of dump_whole (g.R.Read.remaining c.args.reader.now) input.items (contents c.args.writer.now) (contents c.run-outcome.new.writer) (contents c.finish.new.writer) c.run-outcome.result c.finish.result c.in-Ok.ensures.whole short told done c.finish.ensures
+    of_input dump_of dump_whole (g.R.Read.remaining c.args.reader.now) input.items (contents c.args.writer.now) (contents c.run-outcome.new.writer) (contents c.finish.new.writer) c.run-outcome.result c.finish.result c.in-Ok.ensures.whole short printed done c.finish.ensures
 
 pub returns-in-Err : goal.returns-in-Err
 returns-in-Err g c =
     let contents = g.W.Write.contents in
-    of_unread dump_of (g.R.Read.remaining c.args.reader.now) (contents c.args.writer.now) (contents c.end_unread.new.writer) c.in-Err.error c.end_unread.result (λ is. c.in-Err.ensures.long (ap (λ e. Err e) is)) c.end_unread.ensures
+    of_unread dump_of (g.R.Read.remaining c.args.reader.now) (contents c.args.writer.now) (contents c.finish_without_input.new.writer) c.in-Err.error c.finish_without_input.result (λ is. c.in-Err.ensures.long (ap (λ e. Err e) is)) c.finish_without_input.ensures

@@ -1,6 +1,6 @@
 use Rattle.std.proofs.lemmas.Result.{err_from_is_err_and}
 use Rattle.uc_tool.specs.Play.{reply_to}
-use Rattle.uc_tool.proofs.Telling.{goes_next, stops_next, all_told}
+use Rattle.uc_tool.proofs.Printing.{goes_next, stops_next, all_printed}
 use Rattle.uc_tool.proofs.playing.answer_queries.Goals as goal
 
 pub returns-in_err-write_bytes : goal.returns-in_err-write_bytes
@@ -33,4 +33,4 @@ returns g c =
     let contents = g.W.Write.contents in
     let l = c.loop-query in
     let past = rw c.deref-query-items.ensures.value at c.loop-query-test.false in
-    all_told f store.queries.items l.query-index (contents c.args.writer.now) (contents l.writer) past l.invariant
+    all_printed f store.queries.items l.query-index (contents c.args.writer.now) (contents l.writer) past l.invariant

@@ -1,6 +1,6 @@
 use Rattle.std.proofs.Common.{map, drop}
 use Rattle.uc_tool.specs.Play.{reply_to}
-use Rattle.uc_tool.proofs.Telling.{GoesOn}
+use Rattle.uc_tool.proofs.Printing.{GoesOn}
 use Rattle.uc_tool.proofs.playing.answer_queries.Given as goal
 
 abbrev pub invariant-loop-query : goal.invariant-loop-query

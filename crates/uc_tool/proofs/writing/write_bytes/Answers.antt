@@ -1,5 +1,5 @@
 use Rattle.uc_tool.proofs.Known.{front_more}
-use Rattle.uc_tool.proofs.output.write_bytes.Goals as goal
+use Rattle.uc_tool.proofs.writing.write_bytes.Goals as goal
 
 pub loop-rest-preserved : goal.loop-rest-preserved
 loop-rest-preserved g c =

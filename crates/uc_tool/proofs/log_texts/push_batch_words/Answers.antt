@@ -4,7 +4,7 @@ use Rattle.std.specs.Fmt.{decimal}
 use Rattle.std.proofs.Common.{sym, ◌∙◌, subst, append_assoc}
 use Rattle.uc_batch.specs.declared.error.BatchError.{BatchError}
 use Rattle.uc_tool.specs.Dump.{batch_words}
-use Rattle.uc_tool.proofs.log_texts.push_fault.Goals as goal
+use Rattle.uc_tool.proofs.log_texts.push_batch_words.Goals as goal
 
 pub returns-in_ok-push_counted-in-SequenceBack : goal.returns-in_ok-push_counted-in-SequenceBack
 returns-in_ok-push_counted-in-SequenceBack c = subst (λ (f : BatchError). c.push_counted.new.out.items ≡ c.args.out.now.items ++ batch_words f) (sym c.in-SequenceBack.is) (c.in_ok-push_counted-in-SequenceBack.ensures ∙ append_assoc c.args.out.now.items (codes " sequence back ") (decimal c.in-SequenceBack.last))
