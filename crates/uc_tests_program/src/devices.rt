@@ -71,14 +71,17 @@ impl Read for Source {
     }
 }
 
-/// Gives so many bytes, which nobody keeps: each is what stood in the buffer.
+/// Gives so many bytes, at most `step` at a time, which nobody keeps: each is what stood in the buffer.
 #[derive(Drop)]
-struct Untouched(usize);
+struct Untouched {
+    left: usize,
+    step: usize,
+}
 
 impl Read for Untouched {
     fn read(&mut self, buf: &mut [u8]) -> io::Result<usize> {
-        let count = buf.len().min(self.0);
-        self.0 -= count;
+        let count = buf.len().min(self.left).min(self.step);
+        self.left -= count;
         Ok(count)
     }
 }
@@ -184,9 +187,23 @@ const LONGEST: [(Program, &[u8], Done); 2] = [
 #[test]
 fn inputs_at_the_limit(rt: HostRuntime) {
     for (program, printed, ended) in LONGEST {
-        let mut reader = Untouched(67_108_864);
+        let mut reader = Untouched {
+            left: 67_108_864,
+            step: 65_536,
+        };
         reads(&rt, rt.alloc(), program, &mut reader, (printed, ended));
     }
+}
+
+/// An input that comes byte by byte is read whole too. Two MiB take forty seconds of `rt try`, and 0.02 as built.
+#[test]
+fn input_byte_by_byte(rt: HostRuntime) {
+    let mut reader = Untouched {
+        left: 2_097_152,
+        step: 1,
+    };
+    let told = (b"clean\n".as_slice(), Done::Fine);
+    reads(&rt, rt.alloc(), Program::Dump, &mut reader, told);
 }
 
 /// An input of a byte more isn't judged.
@@ -194,7 +211,10 @@ fn inputs_at_the_limit(rt: HostRuntime) {
 fn inputs_above_the_limit(rt: HostRuntime) {
     for program in [Program::Play, Program::Dump] {
         let told = (b"input too long\n".as_slice(), Done::Device);
-        let mut reader = Untouched(67_108_865);
+        let mut reader = Untouched {
+            left: 67_108_865,
+            step: 65_536,
+        };
         reads(&rt, rt.alloc(), program, &mut reader, told);
     }
 }
