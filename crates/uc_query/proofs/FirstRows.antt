@@ -111,7 +111,7 @@ module _ (f : List ℕ → Option (List ℕ)) where
   shows_first (key ∷ keys) rise limit = shows_by_value key keys limit (f key) refl rise.0 (shows_first keys rise.1)
 
 -- to be the first of what has P or of what has Q is the same where P and Q are
-first_alike : (P Q : Row → Type 0) (limit : ℕ) (rows : List Row) → ((row : Row) → P row → Q row) → ((row : Row) → Q row → P row) → AreFirst P limit rows → AreFirst Q limit rows
+pub first_alike : (P Q : Row → Type 0) (limit : ℕ) (rows : List Row) → ((row : Row) → P row → Q row) → ((row : Row) → Q row → P row) → AreFirst P limit rows → AreFirst Q limit rows
 first_alike P Q limit rows to from s = record { rise = s.rise; only = All-weaker P Q to rows s.only; few = s.few; first = λ row q. s.first row (from row q) }
 
 -- the rows of a scan are the first that it may show

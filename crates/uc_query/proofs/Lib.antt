@@ -1,3 +1,4 @@
+pub mod RowOrder
 pub mod NamedKeys
 pub mod FirstRows
 pub mod AnswerLaws

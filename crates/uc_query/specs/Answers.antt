@@ -1,5 +1,5 @@
--- The answers to queries, over a plain list of writes.
-use Rattle.std.specs.Prelude.{ℕ, Bool, true, ◌&&◌, ◌==◌, List, [], Option, Some, None, option_map, take, fold, if◌then◌else◌}
+-- The answers to queries, over a plain list of writes, oldest first.
+use Rattle.std.specs.Prelude.{◌≡◌, ℕ, IsTrue, Bool, true, ◌&&◌, ◌==◌, List, [], Option, Some, None, option_map, take, fold, if◌then◌else◌}
 use Rattle.std.specs.List.{filter_map, list_any}
 use Rattle.std.specs.Ordering.{is_lt, is_le}
 use Rattle.std.specs.BTreeSet.{insert_key}
@@ -23,6 +23,11 @@ is_below key (Some high) = is_lt (bytes_cmp key high)
 abbrev pub is_in_range : List ℕ → Option (List ℕ) → List ℕ → Bool
 is_in_range low high key = is_le (bytes_cmp low key) && is_below key high
 
+-- a key that a query reads
+abbrev pub Reads : Query → List ℕ → Type 0
+Reads (Get named at) key = named ≡ key
+Reads (Scan low high at limit) key = IsTrue (is_in_range low high key)
+
 -- the keys so far, and the one that an operation names, if it is a put or a merge of a key in the range
 abbrev pub with_key : List ℕ → Option (List ℕ) → List (List ℕ) → Op → List (List ℕ)
 with_key low high keys (Put key value) = if is_in_range low high key then insert_key bytes_cmp keys key else keys
@@ -42,11 +47,15 @@ rows_of m writes at keys = filter_map (λ key. option_map (λ value. (key, value
 abbrev pub is_protected : List ℕ → ℕ → Bool
 is_protected keeps at = list_any (λ keep. keep == at) keeps
 
+-- the first of them
+abbrev pub first_rows : Operation → List Write → ℕ → ℕ → List (List ℕ) → List (List ℕ × List ℕ)
+first_rows m writes at limit keys = take limit (rows_of m writes at keys)
+
 -- what is read, at a sequence that is protected
-abbrev pub read_of : Operation → List Write → Query → Answer
-read_of m writes (Get key at) = Value (value_of m writes key at)
-read_of m writes (Scan low high at limit) = Rows (take limit (rows_of m writes at (named_keys writes low high)))
+abbrev pub reading : Operation → List Write → Query → Answer
+reading m writes (Get key at) = Value (value_of m writes key at)
+reading m writes (Scan low high at limit) = Rows (first_rows m writes at limit (named_keys writes low high))
 
 -- the answer to a query
 abbrev pub answer_of : Operation → List Write → List ℕ → Query → Answer
-answer_of m writes keeps query = if is_protected keeps (at_of query) then read_of m writes query else NotProtected (at_of query)
+answer_of m writes keeps query = if is_protected keeps (at_of query) then reading m writes query else NotProtected (at_of query)

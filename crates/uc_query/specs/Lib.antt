@@ -1,3 +1,4 @@
 pub mod Query
+pub mod Rising
 pub mod Answers
 pub mod Scans

@@ -1,12 +1,12 @@
 -- What a scan shows: the first rows, in byte order, of the keys that are there to be shown.
 use Rattle.std.specs.Prelude.{◌≡◌, ℕ, ◌≤◌, List, Option, Some, All, Any, Contains, IsTrue, length, ◌⊎◌}
 use Rattle.std.specs.declared.cmp.Ordering.TheVariants.{Less}
-use Rattle.std.specs.List.Sorted.{IsStrictlySortedBy}
 use Rattle.uc_bytes.specs.Bytes.{bytes_cmp}
 use Rattle.uc_oper.specs.Operation.{Operation}
 use Rattle.uc_write.specs.declared.write.Write.{Write}
 use Rattle.uc_model.specs.Meaning.{Gives, value_of}
 use Rattle.uc_query.specs.Answers.{is_in_range}
+use Rattle.uc_query.specs.Rising.{KeysRise}
 
 -- a key that a scan looks at: it is in the range, and some put or merge names it
 abbrev pub IsNamed : List Write → List ℕ → Option (List ℕ) → List ℕ → Type 0
@@ -18,8 +18,7 @@ IsRow m writes low high at row = IsNamed writes low high row.0 × (value_of m wr
 
 -- the first `limit` pairs with P, in byte order of their keys
 pub record AreFirst (P : List ℕ × List ℕ → Type 0) (limit : ℕ) (rows : List (List ℕ × List ℕ)) : Type 0 where
-  -- their keys rise, so each stands once
-  pub rise : IsStrictlySortedBy (λ row other. bytes_cmp row.0 other.0) rows
+  pub rise : KeysRise rows
   pub only : All P rows
   pub few : length rows ≤ limit
   -- a pair with P is left out only behind `limit` others

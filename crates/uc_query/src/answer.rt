@@ -1,8 +1,9 @@
+//! What is answered to a query.
 use crate::rows::Rows;
 use uc_bytes::Bytes;
 
 /// What is answered to a query.
-#[derive(Debug, Drop)]
+#[derive(Debug, PartialEq, Eq, Drop)]
 pub enum Answer {
     /// The key's value, where it has one.
     Value(Option<Bytes>),

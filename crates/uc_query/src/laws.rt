@@ -1,4 +1,5 @@
-ghost use Rattle.std.specs.Prelude.{◌≡◌, ◌↔◌, ℕ, List, Option, Contains, take};
+//! What holds of answers.
+ghost use Rattle.std.specs.Prelude.{◌≡◌, ◌↔◌, ℕ, List, Option, Contains};
 ghost use Rattle.std.specs.List.Sorted.{IsStrictlySortedBy};
 ghost use Rattle.uc_bytes.specs.Bytes.{bytes_cmp};
 ghost use Rattle.uc_write.specs.declared.write.Write.{Write};
@@ -6,7 +7,8 @@ ghost use Rattle.uc_query.specs.declared.query.Query.{Query};
 ghost use Rattle.uc_query.specs.declared.query.Query.TheVariants.{Scan};
 ghost use Rattle.uc_query.specs.declared.answer.Answer.TheVariants.{Rows, NotProtected};
 ghost use Rattle.uc_query.specs.Query.{at_of};
-ghost use Rattle.uc_query.specs.Answers.{named_keys, rows_of, answer_of};
+ghost use Rattle.uc_model.specs.Meaning.{value_of};
+ghost use Rattle.uc_query.specs.Answers.{Reads, named_keys, first_rows, answer_of};
 ghost use Rattle.uc_query.specs.Scans.{IsNamed, IsScan};
 
 use uc_oper::Operator;
@@ -29,7 +31,7 @@ pub fn scan_keys_are_named()
 pub fn scan_rows_are_first<O: Operator>()
     ensures { (writes : List Write) (low : List ℕ) (high : Option (List ℕ)) (at limit : ℕ) →
         IsScan O.meaning writes low high at limit
-        (take limit (rows_of O.meaning writes at (named_keys writes low high))) }
+        (first_rows O.meaning writes at limit (named_keys writes low high)) }
 {}
 
 /// No other list is the rows of that scan.
@@ -53,4 +55,13 @@ pub fn unprotected_is_refused<O: Operator>()
     ensures { (writes : List Write) (keeps : List ℕ) (query : Query) (seq : ℕ) →
         (answer_of O.meaning writes keeps query ≡ NotProtected seq)
         ↔ ((at_of query ≡ seq) × (¬ Contains keeps seq)) }
+{}
+
+/// Writes that give each key that a query reads the same value give it the same answer, whatever else they say:
+/// a scan shows no other keys either. So writes that no protected read needs may be dropped.
+pub fn equal_values_give_equal_answers<O: Operator>()
+    ensures { (writes others : List Write) (keeps : List ℕ) (query : Query) →
+        (Contains keeps (at_of query) → (key : List ℕ) → Reads query key →
+        value_of O.meaning writes key (at_of query) ≡ value_of O.meaning others key (at_of query)) →
+        answer_of O.meaning writes keeps query ≡ answer_of O.meaning others keeps query }
 {}

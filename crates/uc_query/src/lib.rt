@@ -13,8 +13,8 @@ mod rows;
 
 pub use answer::Answer;
 pub use laws::{
-    scan_is_answered_by_first_rows, scan_keys_are_named, scan_keys_rise, scan_rows_are_determined,
-    scan_rows_are_first, unprotected_is_refused,
+    equal_values_give_equal_answers, scan_is_answered_by_first_rows, scan_keys_are_named,
+    scan_keys_rise, scan_rows_are_determined, scan_rows_are_first, unprotected_is_refused,
 };
 pub use plain::answer_writes;
 pub use query::Query;

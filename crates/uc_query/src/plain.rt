@@ -1,5 +1,6 @@
-ghost use Rattle.std.specs.Prelude.{◌≡◌, ◌≤◌, IfOk, OnOk, take, option_map};
-ghost use Rattle.uc_query.specs.Answers.{is_in_range as in_range, with_key, named_keys, rows_of, is_protected as protects, read_of, answer_of};
+//! The answers of one thread that looks at every write.
+ghost use Rattle.std.specs.Prelude.{◌≡◌, IfOk, OnOk};
+ghost use Rattle.uc_query.specs.Answers as answers;
 
 use crate::answer::Answer;
 use crate::query::Query;
@@ -14,7 +15,7 @@ use uc_write::{Op, Write};
 
 /// Whether a key is in the range from `low` to below `high`, where there is one.
 fn is_in_range(key: &Bytes, low: &Bytes, high: &Option<Bytes>) -> bool
-    ensures { result ≡ in_range low.now high.now key.now }
+    ensures { result ≡ answers.is_in_range low.now high.now key.now }
 {
     let above = low.cmp(key).is_le();
     match high {
@@ -30,7 +31,7 @@ fn add_key(
     low: &Bytes,
     high: &Option<Bytes>,
 ) -> Result<(), AllocError>
-    ensures { OnOk result (keys.new.keys ≡ with_key low.now high.now keys.old.keys op.now) }
+    ensures { OnOk result (keys.new.keys ≡ answers.with_key low.now high.now keys.old.keys op.now) }
 {
     match op {
         Op::Put(key, _) | Op::Merge(key, _) => {
@@ -44,13 +45,13 @@ fn add_key(
 }
 
 /// The keys of the range that puts and merges name, in byte order, each once.
-fn keys_in(
+fn named_keys(
     alloc: Global,
     writes: &[Write],
     low: &Bytes,
     high: &Option<Bytes>,
 ) -> Result<Vec<Bytes>, AllocError>
-    ensures { IfOk result (λ keys. keys.items ≡ named_keys writes.now low.now high.now) }
+    ensures { IfOk result (λ keys. keys.items ≡ answers.named_keys writes.now low.now high.now) }
 {
     let mut keys = BTreeSet::new(alloc);
     for write in writes {
@@ -60,14 +61,14 @@ fn keys_in(
 }
 
 /// The first of these keys that have a value at the sequence, with it.
-fn rows_at<O: Operator>(
+fn first_rows<O: Operator>(
     alloc: Global,
     writes: &[Write],
     keys: &[Bytes],
     at: u64,
     limit: u64,
 ) -> Result<Vec<(Bytes, Bytes)>, AllocError>
-    ensures { IfOk result (λ rows. rows.items ≡ take limit (rows_of O.meaning writes.now at keys.now)) }
+    ensures { IfOk result (λ rows. rows.items ≡ answers.first_rows O.meaning writes.now at limit keys.now) }
 {
     let mut rows = Vec::new(alloc);
     for key in keys {
@@ -83,14 +84,18 @@ fn rows_at<O: Operator>(
 
 /// Whether a snapshot protects the sequence.
 fn is_protected(keeps: &[u64], at: u64) -> bool
-    ensures { result ≡ protects keeps.now at }
+    ensures { result ≡ answers.is_protected keeps.now at }
 {
     keeps.iter().any(|keep| *keep == at)
 }
 
 /// What is read, at a sequence that is protected.
-fn read<O: Operator>(alloc: Global, writes: &[Write], query: &Query) -> Result<Answer, AllocError>
-    ensures { IfOk result (λ answer. answer ≡ read_of O.meaning writes.now query.now) }
+fn reading<O: Operator>(
+    alloc: Global,
+    writes: &[Write],
+    query: &Query,
+) -> Result<Answer, AllocError>
+    ensures { IfOk result (λ answer. answer ≡ answers.reading O.meaning writes.now query.now) }
 {
     match query {
         Query::Get { key, at } => {
@@ -103,9 +108,9 @@ fn read<O: Operator>(alloc: Global, writes: &[Write], query: &Query) -> Result<A
             at,
             limit,
         } => {
-            let keys = keys_in(alloc, writes, low, high)?;
-            let rows = rows_at::<O>(alloc, writes, &keys, *at, *limit)?;
-            Ok(Answer::Rows(Rows::from(rows)))
+            let keys = named_keys(alloc, writes, low, high)?;
+            let rows = first_rows::<O>(alloc, writes, &keys, *at, *limit)?;
+            Ok(Answer::Rows(Rows::known(rows)))
         }
     }
 }
@@ -121,11 +126,11 @@ pub fn answer_writes<O: Operator>(
     keeps: &[u64],
     query: &Query,
 ) -> Result<Answer, AllocError>
-    ensures { IfOk result (λ answer. answer ≡ answer_of O.meaning writes.now.list keeps.now query.now) }
+    ensures { IfOk result (λ answer. answer ≡ answers.answer_of O.meaning writes.now.list keeps.now query.now) }
 {
     let at = query.at();
     if is_protected(keeps, at) {
-        read::<O>(alloc, writes.list(), query)
+        reading::<O>(alloc, writes.list(), query)
     } else {
         Ok(Answer::NotProtected(at))
     }

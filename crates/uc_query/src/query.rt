@@ -1,3 +1,4 @@
+//! What is asked of a store.
 ghost use Rattle.std.specs.Prelude.{◌≡◌};
 
 use uc_bytes::Bytes;

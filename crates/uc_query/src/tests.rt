@@ -82,37 +82,42 @@ fn scan(
     })
 }
 
-/// Each row as `key=value;`.
-fn listed(alloc: Global, rows: &Rows) -> Result<Vec<u8>, Fail> {
-    let mut text = Vec::new(alloc);
-    for (key, value) in rows.as_slice() {
-        text.extend_from_slice(key.as_slice())?;
-        text.push(b'=')?;
-        text.extend_from_slice(value.as_slice())?;
-        text.push(b';')?;
-    }
-    Ok(text)
+/// An answer that is wanted.
+enum Want {
+    Value(Option<&'static [u8]>),
+    Rows(&'static [(&'static [u8], &'static [u8])]),
+    NotProtected(u64),
 }
 
-/// An answer in one line.
-fn shown(alloc: Global, answer: &Answer) -> Result<Vec<u8>, Fail> {
-    match answer {
-        Answer::Value(None) => Ok(Vec::from_slice(alloc, b"none")?),
-        Answer::Value(Some(value)) => Ok(Vec::from_slice(alloc, value.as_slice())?),
-        Answer::Rows(rows) => listed(alloc, rows),
-        Answer::NotProtected(seq) => { Ok(format!(in alloc; "not protected {seq}")?.into_bytes()) }
+fn pairs(alloc: Global, pairs: &[(&[u8], &[u8])]) -> Result<Vec<(Bytes, Bytes)>, Fail> {
+    let mut list = Vec::new(alloc);
+    for (key, value) in pairs {
+        list.push((bytes(alloc, key)?, bytes(alloc, value)?))?;
     }
+    Ok(list)
+}
+
+fn wanted(alloc: Global, want: &Want) -> Result<Answer, Fail> {
+    Ok(match want {
+        Want::Value(None) => Answer::Value(None),
+        Want::Value(Some(value)) => Answer::Value(Some(bytes(alloc, value)?)),
+        Want::Rows(rows) => {
+            Answer::Rows(Rows::of(pairs(alloc, rows)?).ok_or("the keys don't rise")?)
+        }
+        Want::NotProtected(seq) => Answer::NotProtected(*seq),
+    })
 }
 
 /// The sequences 2 and 5, in any order and repeated.
 const KEEPS: [&[u64]; 4] = [&[2, 5], &[5, 2], &[2, 5, 2], &[5, 5, 2]];
 
 /// A key, the sequence at which it is read, and the answer.
-const GETS: [(&[u8], u64, &[u8]); 4] = [
-    (b"k", 5, b"c"),
-    (b"k", 2, b"a,b"),
-    (b"l", 5, b"x"),
-    (b"k", 3, b"not protected 3"),
+const GETS: [(&[u8], u64, Want); 5] = [
+    (b"k", 5, Want::Value(Some(b"c"))),
+    (b"k", 2, Want::Value(Some(b"a,b"))),
+    (b"l", 5, Want::Value(Some(b"x"))),
+    (b"l", 2, Want::Value(None)),
+    (b"k", 3, Want::NotProtected(3)),
 ];
 
 #[test]
@@ -120,13 +125,13 @@ fn lookups_are_answered(rt: HostRuntime) -> Result<(), Fail> {
     let alloc = rt.alloc();
     let writes = written(alloc, &MERGES)?;
     for keeps in KEEPS {
-        for (key, at, want) in GETS {
-            let query = get(alloc, key, at)?;
-            assert_eq!(rt; query.at(), at);
+        for (key, at, want) in &GETS {
+            let query = get(alloc, key, *at)?;
+            assert_eq!(rt; query.at(), *at);
             let answer = answer_writes::<Append<44>>(alloc, &writes, keeps, &query)?;
             assert_eq!(rt;
-                shown(alloc, &answer)?.as_slice(),
-                want,
+                answer,
+                wanted(alloc, want)?,
                 "{key:?} at {at} under {keeps:?}"
             );
         }
@@ -135,11 +140,11 @@ fn lookups_are_answered(rt: HostRuntime) -> Result<(), Fail> {
 }
 
 /// The range of a scan, its sequence and limit, and the rows.
-const SCANS: [(&[u8], Option<&[u8]>, u64, u64, &[u8]); 4] = [
-    (b"", None, 5, 10, b"k=c;l=x;"),
-    (b"", None, 5, 0, b""),
-    (b"k", Some(b"l"), 2, 10, b"k=a,b;"),
-    (b"", None, 4, 10, b"not protected 4"),
+const SCANS: [(&[u8], Option<&[u8]>, u64, u64, Want); 4] = [
+    (b"", None, 5, 10, Want::Rows(&[(b"k", b"c"), (b"l", b"x")])),
+    (b"", None, 5, 0, Want::Rows(&[])),
+    (b"k", Some(b"l"), 2, 10, Want::Rows(&[(b"k", b"a,b")])),
+    (b"", None, 4, 10, Want::NotProtected(4)),
 ];
 
 #[test]
@@ -147,13 +152,13 @@ fn scans_are_answered(rt: HostRuntime) -> Result<(), Fail> {
     let alloc = rt.alloc();
     let writes = written(alloc, &MERGES)?;
     for keeps in KEEPS {
-        for (low, high, at, limit, want) in SCANS {
-            let query = scan(alloc, low, high, at, limit)?;
-            assert_eq!(rt; query.at(), at);
+        for (low, high, at, limit, want) in &SCANS {
+            let query = scan(alloc, low, *high, *at, *limit)?;
+            assert_eq!(rt; query.at(), *at);
             let answer = answer_writes::<Append<44>>(alloc, &writes, keeps, &query)?;
             assert_eq!(rt;
-                shown(alloc, &answer)?.as_slice(),
-                want,
+                answer,
+                wanted(alloc, want)?,
                 "{low:?} to {high:?}, {limit} at {at} under {keeps:?}"
             );
         }
@@ -162,29 +167,53 @@ fn scans_are_answered(rt: HostRuntime) -> Result<(), Fail> {
 }
 
 /// As `SCANS`, of the writes with deletions.
-const AFTER_DELETIONS: [(&[u8], Option<&[u8]>, u64, u64, &[u8]); 8] = [
-    (b"", None, 8, 9, b"a=1;c=4;ca=5;"),
-    (b"", None, 8, 2, b"a=1;c=4;"),
-    (b"", None, 2, 9, b"b=2;c=3;"),
-    (b"b", None, 8, 1, b"c=4;"),
-    (b"c", Some(b"ca"), 8, 9, b"c=4;"),
-    (b"c", Some(b"b"), 8, 9, b""),
-    (b"c", Some(b"c"), 8, 9, b""),
-    (b"d", None, 8, 9, b""),
+const AFTER_DELETIONS: [(&[u8], Option<&[u8]>, u64, u64, Want); 8] = [
+    (
+        b"",
+        None,
+        8,
+        9,
+        Want::Rows(&[(b"a", b"1"), (b"c", b"4"), (b"ca", b"5")]),
+    ),
+    (b"", None, 8, 2, Want::Rows(&[(b"a", b"1"), (b"c", b"4")])),
+    (b"", None, 2, 9, Want::Rows(&[(b"b", b"2"), (b"c", b"3")])),
+    (b"b", None, 8, 1, Want::Rows(&[(b"c", b"4")])),
+    (b"c", Some(b"ca"), 8, 9, Want::Rows(&[(b"c", b"4")])),
+    (b"c", Some(b"b"), 8, 9, Want::Rows(&[])),
+    (b"c", Some(b"c"), 8, 9, Want::Rows(&[])),
+    (b"d", None, 8, 9, Want::Rows(&[])),
 ];
 
 #[test]
 fn keys_without_value_have_no_row(rt: HostRuntime) -> Result<(), Fail> {
     let alloc = rt.alloc();
     let writes = written(alloc, &DELETIONS)?;
-    for (low, high, at, limit, want) in AFTER_DELETIONS {
-        let query = scan(alloc, low, high, at, limit)?;
+    for (low, high, at, limit, want) in &AFTER_DELETIONS {
+        let query = scan(alloc, low, *high, *at, *limit)?;
         let answer = answer_writes::<Counter>(alloc, &writes, &[2, 8], &query)?;
         assert_eq!(rt;
-            shown(alloc, &answer)?.as_slice(),
-            want,
+            answer,
+            wanted(alloc, want)?,
             "{low:?} to {high:?}, {limit} at {at}"
         );
+    }
+    Ok(())
+}
+
+/// Pairs, and whether their keys rise.
+const ORDERS: [(&[(&[u8], &[u8])], bool); 5] = [
+    (&[], true),
+    (&[(b"k", b"v")], true),
+    (&[(b"", b"v"), (b"k", b"v"), (b"ka", b"")], true),
+    (&[(b"k", b"v"), (b"k", b"w")], false),
+    (&[(b"a", b"v"), (b"c", b"v"), (b"b", b"v")], false),
+];
+
+#[test]
+fn rows_rise(rt: HostRuntime) -> Result<(), Fail> {
+    let alloc = rt.alloc();
+    for (list, rise) in ORDERS {
+        assert_eq!(rt; Rows::of(pairs(alloc, list)?).is_some(), rise, "{list:?}");
     }
     Ok(())
 }
@@ -192,16 +221,17 @@ fn keys_without_value_have_no_row(rt: HostRuntime) -> Result<(), Fail> {
 #[test]
 fn rows_keep_their_pairs(rt: HostRuntime) -> Result<(), Fail> {
     let alloc = rt.alloc();
-    let pairs = vec![in alloc; (bytes(alloc, b"k")?, bytes(alloc, b"v")?)]?;
-    let rows = Rows::from(pairs);
-    assert_eq!(rt; rows.as_slice().len(), 1);
-    assert_eq!(rt; listed(alloc, &rows)?.as_slice(), b"k=v;".as_slice());
-    assert_eq!(rt; rows.into_vec().len(), 1);
+    let rows = Rows::of(pairs(alloc, &[(b"k", b"v")])?).ok_or("one key rises")?;
+    assert_eq!(rt; rows.as_slice(), pairs(alloc, &[(b"k", b"v")])?.as_slice());
+    let others = Rows::of(pairs(alloc, &[(b"k", b"w")])?).ok_or("one key rises")?;
+    assert!(rt; rows != others);
+    assert_eq!(rt; rows.into_vec(), pairs(alloc, &[(b"k", b"v")])?);
     Ok(())
 }
 
 #[test]
 fn laws_hold_under_an_operator() {
+    equal_values_give_equal_answers::<Counter>();
     scan_keys_rise();
     scan_keys_are_named();
     scan_rows_are_first::<Counter>();

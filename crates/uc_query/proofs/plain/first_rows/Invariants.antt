@@ -1,6 +1,6 @@
 use Rattle.std.proofs.Common.{◌≡◌, ◌≤◌, take, drop, length, ◌++◌}
 use Rattle.uc_query.specs.Answers.{rows_of}
-use Rattle.uc_query.proofs.plain.rows_at.Given as goal
+use Rattle.uc_query.proofs.plain.first_rows.Given as goal
 
 abbrev pub invariant-loop-key : goal.invariant-loop-key
 invariant-loop-key g l =
