@@ -7,9 +7,9 @@ use Rattle.std.proofs.lemmas.List.{take_at, drop_at, length-append}
 use Rattle.std.proofs.lemmas.Nat.{from_le_bytes-to_le_bytes_4, from_le_bytes-to_le_bytes_8}
 use Rattle.uc_write.specs.declared.op.Op.{Op}
 use Rattle.uc_write.specs.declared.write.Write.{Write}
-use Rattle.uc_batch.specs.declared.form.Form.{Form}
-use Rattle.uc_batch.specs.declared.form.Form.TheVariants as form
-use Rattle.uc_batch.specs.declared.form.Layout.{Layout}
+use Rattle.uc_batch.specs.declared.tag.Form.{Form}
+use Rattle.uc_batch.specs.declared.tag.Form.TheVariants as form
+use Rattle.uc_batch.specs.declared.tag.Layout.{Layout}
 use Rattle.uc_batch.specs.Varint.{varint_from}
 use Rattle.uc_batch.specs.Records.{string_at, strings_at, family_at, body_at, after_family, laid_out, record_at, records_from, operations}
 use Rattle.uc_batch.specs.Batch.{numbered, counted_of, judged, batch_of}
@@ -47,7 +47,7 @@ body_accepted form.Deletion total start bytes rest o b = rw (string_accepted tot
 body_accepted form.Value total start bytes rest o b = rw (strings_accepted total start bytes b.0 b.1 rest b.2, b.3) refl
 body_accepted form.Merge total start bytes rest o b = rw (strings_accepted total start bytes b.0 b.1 rest b.2, b.3) refl
 body_accepted form.LogData total start bytes rest o b = rw (string_accepted total start bytes b.0 rest b.1, b.2) refl
-body_accepted form.NoOp total start bytes rest o b = rw (b.0, b.1) refl
+body_accepted form.Noop total start bytes rest o b = rw (b.0, b.1) refl
 body_accepted form.RangeDeletion total start bytes rest o b = rw (strings_accepted total start bytes b.0 b.1 rest b.2, b.3) refl
 
 family_accepted : (has : Bool) (total start : ℕ) (bytes rest : List ℕ) → IsFamily has bytes → after_family has total start (bytes ++ rest) ≡ Ok rest

@@ -1,15 +1,16 @@
--- Reading records one after the other, as a loop does, and keeping as many as the header counts.
-use Rattle.std.proofs.Common.{◌≡◌, ◌≢◌, ℕ, zero, suc, ◌+◌, ◌<◌, ◌≤◌, cond, eqb, List, [], ◌∷◌, ◌++◌, length, take, Option, Some, None, option_to_list, Result, Ok, Err, refl, ap, sym, ◌∙◌, append_assoc, eq-eqb, arith}
+-- Reading records one after the other, as a loop does, and counting them.
+use Rattle.std.proofs.Common.{◌≡◌, ◌≢◌, ℕ, zero, suc, ◌+◌, ◌<◌, ◌≤◌, cond, eqb, List, [], ◌∷◌, ◌++◌, length, Option, Some, None, option_to_list, Result, Ok, Err, refl, ap, sym, ◌∙◌, append_assoc, eq-eqb, arith}
 use Rattle.std.proofs.lemmas.Bool.Decides.{nat_tests}
-use Rattle.std.proofs.lemmas.List.{append-nil, length-append, take_all, take-append-le}
+use Rattle.std.proofs.lemmas.List.{append-nil, length-append}
 use Rattle.uc_write.specs.declared.op.Op.{Op}
-use Rattle.uc_write.specs.declared.write.Write.{Write}
 use Rattle.uc_batch.specs.declared.error.BatchError.{BatchError}
 use Rattle.uc_batch.specs.declared.error.BatchError.TheVariants as faults
-use Rattle.uc_batch.specs.Reads.{◌>>=◌, Fails}
+use Rattle.std.specs.Prelude.{IsSome}
+use Rattle.uc_batch.specs.Reads.{◌>>=◌}
 use Rattle.uc_batch.specs.Records.{record_at, records_from, operations}
-use Rattle.uc_batch.specs.Batch.{numbered, counted_of}
+use Rattle.uc_batch.specs.Batch.{numbered, counted_of, read_ops, ops_in, AreCounted}
 use Rattle.uc_batch.proofs.Shorter.{record_shorter}
+use Rattle.uc_batch.proofs.Steps.{bind_ok}
 
 -- what was read before, and what is still read
 abbrev pub with_front : List Op → Result (List Op) BatchError → Result (List Op) BatchError
@@ -47,112 +48,105 @@ one_record total (b ∷ bytes) x h e =
     ap (λ (r : Result (Option Op × List ℕ) BatchError). r >>= λ y. records_from (length bytes) total y.1 >>= λ others. Ok (option_to_list y.0 ++ others)) e
     ∙ ap (λ (r : Result (List Op) BatchError). r >>= λ others. Ok (option_to_list x.0 ++ others)) enough
 
-one_fails : (e : BatchError) (total : ℕ) (bytes : List ℕ) → 0 < length bytes → record_at total bytes ≡ Err e → operations total bytes ≡ Err e
+pub one_fails : (e : BatchError) (total : ℕ) (bytes : List ℕ) → 0 < length bytes → record_at total bytes ≡ Err e → operations total bytes ≡ Err e
 unfolding records_from
 one_fails e total [] h f = absurd (omega arith)
 one_fails e total (b ∷ bytes) h f = ap (λ (r : Result (Option Op × List ℕ) BatchError). r >>= λ y. records_from (length bytes) total y.1 >>= λ others. Ok (option_to_list y.0 ++ others)) f
 
-length-numbered : (seq : ℕ) (ops : List Op) → length (numbered seq ops) ≡ length ops
+pub length-numbered : (seq : ℕ) (ops : List Op) → length (numbered seq ops) ≡ length ops
 length-numbered seq [] = refl
 length-numbered seq (op ∷ ops) = ap suc (length-numbered (seq + 1) ops)
 
-numbered-append : (seq : ℕ) (ops : List Op) (op : Op) → numbered seq (ops ++ op ∷ []) ≡ numbered seq ops ++ record { seq = seq + length ops; op = op } ∷ []
-numbered-append seq [] op = ap (λ (s : ℕ). record { seq = s; op = op } ∷ []) (omega arith)
-numbered-append seq (x ∷ ops) op =
-    let place : seq + 1 + length ops ≡ seq + suc (length ops) = omega arith in
-    ap (λ (ws : List Write). record { seq = seq; op = x } ∷ ws) (numbered-append (seq + 1) ops op ∙ ap (λ (s : ℕ). numbered (seq + 1) ops ++ record { seq = s; op = op } ∷ []) place)
-
-test_same : (n m : ℕ) (ws : List Write) → n ≡ m → cond (eqb n m) (Ok ws) (Err faults.WrongCount) ≡ Ok ws
-test_same n m ws e = rw (eq-eqb n m e) refl
-
-test_other : (n m : ℕ) (ws : List Write) → n ≢ m → cond (eqb n m) (Ok ws) (Err faults.WrongCount) ≡ Err faults.WrongCount
-test_other n m ws e = grind (arith, nat_tests)
-
--- So far some operations were read; as many as the header counts are kept, and the rest of the body is
--- still to be read.
-pub record ReadsOn (sequence count total : ℕ) (body : List ℕ) (writes : List Write) (records : ℕ) (rest : List ℕ) : Type 0 where
+-- So far some operations were counted, and the rest of the body is still to be read.
+pub record ReadsOn (total : ℕ) (body : List ℕ) (counted : ℕ) (rest : List ℕ) : Type 0 where
   pub ops : List Op
   pub whole : with_front ops (operations total rest) ≡ operations total body
-  pub kept : writes ≡ take count (numbered sequence ops)
-  pub counted : records ≡ length ops
-  pub used : records + length rest ≤ length body
+  pub counted_are : counted ≡ length ops
+  pub used : counted + length rest ≤ length body
 
-pub begins : (sequence count total : ℕ) (body : List ℕ) → ReadsOn sequence count total body [] 0 body
-begins sequence count total body = record {
-  ops = [];
-  whole = with_nothing (operations total body);
-  kept = sym (take_all count [] (omega arith));
-  counted = refl;
-  used = omega arith;
-}
+pub begins : (total : ℕ) (body : List ℕ) → ReadsOn total body 0 body
+begins total body = record { ops = []; whole = with_nothing (operations total body); counted_are = refl; used = omega arith }
 
-module _ (sequence count total : ℕ) (body : List ℕ) (writes : List Write) (records : ℕ) (rest after : List ℕ) (some : 0 < length rest) (shorter : length after < length rest) (so_far : ReadsOn sequence count total body writes records rest) where
+module _ (total : ℕ) (body : List ℕ) (counted : ℕ) (rest after : List ℕ) (some : 0 < length rest) (shorter : length after < length rest) (so_far : ReadsOn total body counted rest) where
   next_whole : (o : Option Op) → record_at total rest ≡ Ok (o, after) → with_front (so_far.ops ++ option_to_list o) (operations total after) ≡ operations total body
   next_whole o e = sym (ap (with_front so_far.ops) (one_record total rest (o, after) some e) ∙ regroup so_far.ops (option_to_list o) (operations total after)) ∙ so_far.whole
 
-  pub passes : record_at total rest ≡ Ok (None, after) → ReadsOn sequence count total body writes records after
+  -- behind a record that isn't counted, and one that is
+  pub passes : record_at total rest ≡ Ok (None, after) → ReadsOn total body counted after
   passes e = record {
     ops = so_far.ops;
     whole = ap (λ (l : List Op). with_front l (operations total after)) (sym (append-nil so_far.ops)) ∙ next_whole None e;
-    kept = so_far.kept;
-    counted = so_far.counted;
+    counted_are = so_far.counted_are;
     used = omega (arith, so_far.used);
   }
 
-  counts : (x : Op) (new : List Write) → record_at total rest ≡ Ok (Some x, after) → new ≡ take count (numbered sequence (so_far.ops ++ x ∷ [])) → ReadsOn sequence count total body new (records + 1) after
-  counts x new e kept = record {
+  pub counts : (x : Op) → record_at total rest ≡ Ok (Some x, after) → ReadsOn total body (counted + 1) after
+  counts x e = record {
     ops = so_far.ops ++ x ∷ [];
     whole = next_whole (Some x) e;
-    kept = kept;
-    counted = omega (arith, so_far.counted, length-append so_far.ops (x ∷ []));
+    counted_are = omega (arith, so_far.counted_are, length-append so_far.ops (x ∷ []));
     used = omega (arith, so_far.used);
   }
 
-  pub keeps : (x : Op) → record_at total rest ≡ Ok (Some x, after) → records < count → ReadsOn sequence count total body (writes ++ record { seq = sequence + records; op = x } ∷ []) (records + 1) after
-  keeps x e room =
-      let all = numbered sequence so_far.ops in
-      let long : length all ≡ length so_far.ops = length-numbered sequence so_far.ops in
-      let had : writes ≡ all = so_far.kept ∙ take_all count all (omega (arith, so_far.counted)) in
-      let more : numbered sequence (so_far.ops ++ x ∷ []) ≡ all ++ record { seq = sequence + records; op = x } ∷ [] = numbered-append sequence so_far.ops x ∙ ap (λ (n : ℕ). all ++ record { seq = sequence + n; op = x } ∷ []) (sym so_far.counted) in
-      let fits : length (numbered sequence (so_far.ops ++ x ∷ [])) ≤ count = omega (arith, length-numbered sequence (so_far.ops ++ x ∷ []), length-append so_far.ops (x ∷ []), so_far.counted) in
-      counts x (writes ++ record { seq = sequence + records; op = x } ∷ []) e (ap (λ (l : List Write). l ++ record { seq = sequence + records; op = x } ∷ []) had ∙ sym more ∙ sym (take_all count (numbered sequence (so_far.ops ++ x ∷ [])) fits))
+  pub counts_some : (o : Option Op) → IsSome o → record_at total rest ≡ Ok (o, after) → ReadsOn total body (counted + 1) after
+  counts_some None is e = absurd cc
+  counts_some (Some x) is e = counts x e
 
-  pub drops : (x : Op) → record_at total rest ≡ Ok (Some x, after) → count ≤ records → ReadsOn sequence count total body writes (records + 1) after
-  drops x e full =
-      let all = numbered sequence so_far.ops in
-      let long : length all ≡ length so_far.ops = length-numbered sequence so_far.ops in
-      counts x writes e (so_far.kept ∙ sym (ap (take count) (numbered-append sequence so_far.ops x) ∙ take-append-le count all (record { seq = sequence + length so_far.ops; op = x } ∷ []) (omega (arith, so_far.counted))))
+  pub passes_other : (o : Option Op) → (IsSome o → ⊥) → record_at total rest ≡ Ok (o, after) → ReadsOn total body counted after
+  passes_other None is e = passes e
+  passes_other (Some x) is e = absurd (is refl)
 
-module _ (sequence count total : ℕ) (body : List ℕ) (writes : List Write) (records : ℕ) (rest : List ℕ) (so_far : ReadsOn sequence count total body writes records rest) where
-  err_whole : (e : BatchError) → operations total rest ≡ Err e → counted_of sequence count total body ≡ Err e
+judged_by : (r : Result (List Op) BatchError) (count : ℕ) (ops : List Op) → r ≡ Ok ops → count ≡ length ops → (r ≡ Ok (read_ops r)) × (count ≡ length (read_ops r))
+judged_by r count ops e n = rw e (refl, n)
+
+module _ (total : ℕ) (body : List ℕ) (counted : ℕ) (rest : List ℕ) (so_far : ReadsOn total body counted rest) where
+  err_whole : (e : BatchError) → operations total rest ≡ Err e → (sequence count : ℕ) → counted_of sequence count total body ≡ Err e
   unfolding counted_of
-  err_whole e f = ap (λ (r : Result (List Op) BatchError). r >>= λ ops. cond (eqb (length ops) count) (Ok (numbered sequence ops)) (Err faults.WrongCount)) (sym so_far.whole ∙ ap (with_front so_far.ops) f)
+  err_whole e f sequence count = ap (λ (r : Result (List Op) BatchError). r >>= λ ops. cond (eqb (length ops) count) (Ok (numbered sequence ops)) (Err faults.WrongCount)) (sym so_far.whole ∙ ap (with_front so_far.ops) f)
 
   done_whole : rest ≡ [] → operations total body ≡ Ok so_far.ops
   unfolding records_from
   done_whole e = sym so_far.whole ∙ ap (λ (l : List ℕ). with_front so_far.ops (operations total l)) e ∙ ap (λ (l : List Op). Ok l) (append-nil so_far.ops)
 
-  pub is_whole : rest ≡ [] → records ≡ count → counted_of sequence count total body ≡ Ok writes
-  unfolding counted_of
-  is_whole e n =
-      let all = numbered sequence so_far.ops in
-      let same : length so_far.ops ≡ count = omega (arith, so_far.counted) in
-      let kept : writes ≡ all = so_far.kept ∙ take_all count all (omega (arith, length-numbered sequence so_far.ops)) in
-      ap (λ (r : Result (List Op) BatchError). r >>= λ ops. cond (eqb (length ops) count) (Ok (numbered sequence ops)) (Err faults.WrongCount)) (done_whole e) ∙ test_same (length so_far.ops) count all same ∙ ap (λ (l : List Write). Ok l) (sym kept)
+  -- all are read, and as many as there should be
+  pub is_whole : rest ≡ [] → (count : ℕ) → counted ≡ count → AreCounted count total body
+  is_whole e count n =
+      let j = judged_by (operations total body) count so_far.ops (done_whole e) (sym n ∙ so_far.counted_are) in
+      record { fine = j.0; counted = j.1 }
 
-  pub is_wrong : rest ≡ [] → records ≢ count → counted_of sequence count total body ≡ Err faults.WrongCount
+  -- or another number
+  pub is_wrong : rest ≡ [] → (sequence count : ℕ) → counted ≢ count → counted_of sequence count total body ≡ Err faults.WrongCount
   unfolding counted_of
-  is_wrong e n =
+  is_wrong e sequence count n =
       ap (λ (r : Result (List Op) BatchError). r >>= λ ops. cond (eqb (length ops) count) (Ok (numbered sequence ops)) (Err faults.WrongCount)) (done_whole e)
-      ∙ test_other (length so_far.ops) count (numbered sequence so_far.ops) (λ same. n (so_far.counted ∙ same))
+      ∙ grind (arith, nat_tests, so_far.counted_are, n)
 
-  pub fails : (e : BatchError) → 0 < length rest → Fails e (record_at total rest) → Fails e (counted_of sequence count total body)
-  fails faults.Memory some f = tt
-  fails faults.TooShort some f = err_whole (faults.TooShort) (one_fails (faults.TooShort) total rest some f)
-  fails (faults.SequenceBack a) some f = err_whole (faults.SequenceBack a) (one_fails (faults.SequenceBack a) total rest some f)
-  fails faults.SequenceTooLarge some f = err_whole (faults.SequenceTooLarge) (one_fails (faults.SequenceTooLarge) total rest some f)
-  fails (faults.BadTag a b) some f = err_whole (faults.BadTag a b) (one_fails (faults.BadTag a b) total rest some f)
-  fails (faults.Cut a) some f = err_whole (faults.Cut a) (one_fails (faults.Cut a) total rest some f)
-  fails (faults.BadVarint a) some f = err_whole (faults.BadVarint a) (one_fails (faults.BadVarint a) total rest some f)
-  fails (faults.OtherFamily a) some f = err_whole (faults.OtherFamily a) (one_fails (faults.OtherFamily a) total rest some f)
-  fails faults.WrongCount some f = err_whole (faults.WrongCount) (one_fails (faults.WrongCount) total rest some f)
+  -- the next record has a fault
+  pub fails : (e : BatchError) → 0 < length rest → record_at total rest ≡ Err e → (sequence count : ℕ) → counted_of sequence count total body ≡ Err e
+  fails e some f = err_whole e (one_fails e total rest some f)
+
+-- what is counted is what the header counts
+pub counted_is : (sequence count total : ℕ) (body : List ℕ) → AreCounted count total body → counted_of sequence count total body ≡ Ok (numbered sequence (ops_in total body))
+unfolding counted_of
+counted_is sequence count total body c = rw c.fine (rw (eq-eqb (length (ops_in total body)) count (sym c.counted)) refl)
+
+-- ---- records that were judged, one after the other
+
+-- the first record of some that have no fault, and the others
+pub first_judged : (total : ℕ) (rest after : List ℕ) (o : Option Op) → 0 < length rest → operations total rest ≡ Ok (ops_in total rest) → record_at total rest ≡ Ok (o, after)
+    → (operations total after ≡ Ok (ops_in total after)) × (ops_in total rest ≡ option_to_list o ++ ops_in total after)
+first_judged total rest after o some fine e =
+    let one = one_record total rest (o, after) some e in
+    let others = bind_ok (operations total after) (λ others. Ok (option_to_list o ++ others)) (ops_in total rest) (sym one ∙ fine) in
+    let there = judged_by (operations total after) (length others.0) others.0 others.1 refl in
+    (there.0, ap read_ops one ∙ rw others.1 refl)
+
+-- none of them has a fault
+pub never_fails : (total : ℕ) (rest : List ℕ) (e : BatchError) → 0 < length rest → operations total rest ≡ Ok (ops_in total rest) → record_at total rest ≡ Err e → ⊥
+never_fails total rest e some fine f = let none = one_fails e total rest some f in cc
+
+-- none is left
+pub nothing_judged : (total : ℕ) (rest : List ℕ) → length rest ≡ 0 → ops_in total rest ≡ []
+unfolding records_from
+nothing_judged total [] e = refl
+nothing_judged total (b ∷ rest) e = absurd (omega arith)

@@ -12,10 +12,10 @@ use Rattle.uc_write.specs.declared.op.Op.TheVariants as op
 use Rattle.uc_write.specs.declared.write.Write.{Write}
 use Rattle.uc_batch.specs.declared.error.BatchError.{BatchError}
 use Rattle.uc_batch.specs.declared.error.BatchError.TheVariants as faults
-use Rattle.uc_batch.specs.declared.form.Form.{Form}
-use Rattle.uc_batch.specs.declared.form.Form.TheVariants as form
-use Rattle.uc_batch.specs.declared.form.Layout.{Layout}
-use Rattle.uc_batch.specs.Form.{layout_at}
+use Rattle.uc_batch.specs.declared.tag.Form.{Form}
+use Rattle.uc_batch.specs.declared.tag.Form.TheVariants as form
+use Rattle.uc_batch.specs.declared.tag.Layout.{Layout}
+use Rattle.uc_batch.specs.Tag.{layout_at}
 use Rattle.uc_batch.specs.Reads.{◌>>=◌, Gives}
 use Rattle.uc_batch.specs.Varint.{varint_from}
 use Rattle.uc_batch.specs.Records.{string_at, strings_at, family_at, body_at, after_family, laid_out, record_at, records_from, operations}
@@ -118,7 +118,7 @@ body_found form.Deletion total start bytes x e = of_string (λ key. Some (op.Del
 body_found form.Value total start bytes x e = of_strings op.Put total start bytes x e
 body_found form.Merge total start bytes x e = of_strings op.Merge total start bytes x e
 body_found form.LogData total start bytes x e = of_string (λ _. None) total start bytes x e
-body_found form.NoOp total start bytes x e =
+body_found form.Noop total start bytes x e =
     let is = ok_is (None, bytes) x e in
     ([], (refl, sym (ap (λ (p : Option Op × List ℕ). p.0) is)), ap (λ (p : Option Op × List ℕ). p.1) is)
 body_found form.RangeDeletion total start bytes x e = of_strings op.DeleteRange total start bytes x e

@@ -8,3 +8,5 @@ pub mod Accepted
 pub mod Found
 pub mod Rises
 pub mod Joined
+pub mod Judged
+pub mod Named

@@ -4,10 +4,10 @@ use Rattle.uc_write.specs.declared.op.Op.{Op}
 use Rattle.uc_write.specs.declared.op.Op.TheVariants as op
 use Rattle.uc_batch.specs.declared.error.BatchError.{BatchError}
 use Rattle.uc_batch.specs.declared.error.BatchError.TheVariants.{Cut, BadVarint, OtherFamily}
-use Rattle.uc_batch.specs.declared.form.Form.{Form}
-use Rattle.uc_batch.specs.declared.form.Form.TheVariants as form
-use Rattle.uc_batch.specs.declared.form.Layout.{Layout}
-use Rattle.uc_batch.specs.Form.{layout_at}
+use Rattle.uc_batch.specs.declared.tag.Form.{Form}
+use Rattle.uc_batch.specs.declared.tag.Form.TheVariants as form
+use Rattle.uc_batch.specs.declared.tag.Layout.{Layout}
+use Rattle.uc_batch.specs.Tag.{layout_at}
 use Rattle.uc_batch.specs.Reads.{◌>>=◌}
 use Rattle.uc_batch.specs.Varint.{varint_from}
 use Rattle.uc_batch.specs.Records.{string_at, family_at, strings_at, after_family, body_at, laid_out, record_at}
@@ -68,7 +68,7 @@ body_shorter form.Deletion total start bytes x e = omega (arith, of_string (λ k
 body_shorter form.Value total start bytes x e = omega (arith, of_strings op.Put total start bytes x e)
 body_shorter form.Merge total start bytes x e = omega (arith, of_strings op.Merge total start bytes x e)
 body_shorter form.LogData total start bytes x e = omega (arith, of_string (λ _. None) total start bytes x e)
-body_shorter form.NoOp total start bytes x e = let h = ap (λ (p : Option Op × List ℕ). length p.1) (ok_is (None, bytes) x e) in omega arith
+body_shorter form.Noop total start bytes x e = let h = ap (λ (p : Option Op × List ℕ). length p.1) (ok_is (None, bytes) x e) in omega arith
 body_shorter form.RangeDeletion total start bytes x e = omega (arith, of_strings op.DeleteRange total start bytes x e)
 
 family_shorter : (b : Bool) (total start : ℕ) (bytes rest : List ℕ) → after_family b total start bytes ≡ Ok rest → length rest ≤ length bytes

@@ -1,5 +1,5 @@
 -- A batch: a sequence, a count, and that many counted records (RocksDB, `write_batch.cc`).
-use Rattle.std.specs.Prelude.{ℕ, List, [], ◌∷◌, length, take, drop, ◌&&◌, Result, Ok, Err, ◌+◌, ◌^◌, ◌==◌, nat_lt, nat_le, if◌then◌else◌}
+use Rattle.std.specs.Prelude.{◌≡◌, ℕ, List, [], ◌∷◌, length, take, drop, ◌&&◌, Result, Ok, Err, ◌+◌, ◌-◌, ◌^◌, ◌==◌, nat_lt, nat_le, if◌then◌else◌}
 use Rattle.std.specs.Int.{w32, w64, from_le_bytes}
 use Rattle.uc_write.specs.declared.op.Op.{Op}
 use Rattle.uc_write.specs.declared.write.Write.{Write}
@@ -12,6 +12,28 @@ use Rattle.uc_batch.specs.Records.{operations}
 abbrev pub numbered : ℕ → List Op → List Write
 numbered seq [] = []
 numbered seq (op ∷ ops) = record { seq = seq; op = op } ∷ numbered (seq + 1) ops
+
+-- the operations that were read, and none where a fault was met
+abbrev pub read_ops : Result (List Op) BatchError → List Op
+read_ops (Ok ops) = ops
+read_ops (Err e) = []
+
+-- the operations of records, the last bytes of a batch of `total` bytes; none where one of them is faulty
+abbrev pub ops_in : ℕ → List ℕ → List Op
+ops_in total rest = read_ops (operations total rest)
+
+-- the last sequence of so many operations of which the first has this one, or `last` where there is none
+abbrev pub last_numbered : ℕ → ℕ → ℕ → ℕ
+last_numbered last seq count = if count == 0 then last else seq + (count - 1)
+
+-- the writes of a batch whose records are judged, where the first has this sequence
+abbrev pub writes_in : ℕ → List ℕ → List Write
+writes_in seq bytes = numbered seq (ops_in (length bytes) (drop 12 bytes))
+
+-- the records have no fault, and as many of them are counted
+pub record AreCounted (count total : ℕ) (rest : List ℕ) : Type 0 where
+  pub fine : operations total rest ≡ Ok (ops_in total rest)
+  pub counted : count ≡ length (ops_in total rest)
 
 -- the operations of the body, which are to be `count`
 unfoldable pub counted_of : ℕ → ℕ → ℕ → List ℕ → Result (List Write) BatchError

@@ -6,10 +6,10 @@ use Rattle.std.specs.Int.{w32, w64, to_le_bytes}
 use Rattle.uc_write.specs.declared.op.Op.{Op}
 use Rattle.uc_write.specs.declared.op.Op.TheVariants as op
 use Rattle.uc_write.specs.declared.write.Write.{Write}
-use Rattle.uc_batch.specs.declared.form.Form.{Form}
-use Rattle.uc_batch.specs.declared.form.Form.TheVariants as form
-use Rattle.uc_batch.specs.declared.form.Layout.{Layout}
-use Rattle.uc_batch.specs.Form.{layout_at}
+use Rattle.uc_batch.specs.declared.tag.Form.{Form}
+use Rattle.uc_batch.specs.declared.tag.Form.TheVariants as form
+use Rattle.uc_batch.specs.declared.tag.Layout.{Layout}
+use Rattle.uc_batch.specs.Tag.{layout_at}
 use Rattle.uc_batch.specs.Batch.{numbered}
 
 -- The bytes, one and at most `more` others, spell n: each has seven bits, low ones first, and the high bit
@@ -38,7 +38,7 @@ IsBody form.Deletion bytes o = (key : List ℕ) × IsString bytes key × (o ≡ 
 IsBody form.Value bytes o = (key value : List ℕ) × AreStrings bytes key value × (o ≡ Some (op.Put key value))
 IsBody form.Merge bytes o = (key operand : List ℕ) × AreStrings bytes key operand × (o ≡ Some (op.Merge key operand))
 IsBody form.LogData bytes o = (text : List ℕ) × IsString bytes text × (o ≡ None)
-IsBody form.NoOp bytes o = (bytes ≡ []) × (o ≡ None)
+IsBody form.Noop bytes o = (bytes ≡ []) × (o ≡ None)
 IsBody form.RangeDeletion bytes o = (begin end : List ℕ) × AreStrings bytes begin end × (o ≡ Some (op.DeleteRange begin end))
 
 -- the parts of a record behind a tag

@@ -1,4 +1,4 @@
-pub mod Form
+pub mod Tag
 pub mod Reads
 pub mod Varint
 pub mod Records
@@ -8,3 +8,4 @@ pub mod Grammar
 pub mod Rising
 pub mod WriteLog
 pub mod Log
+pub mod Position

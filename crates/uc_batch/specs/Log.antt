@@ -47,6 +47,10 @@ ended_at (Some refused) ending = ended.BatchFault refused.0 refused.1
 abbrev pub kept : Batches → Ending → WriteLog
 kept batches ending = record { list = batches.writes; ended = ended_at batches.refused ending }
 
+-- what stands in a log before its first fault, as point-in-time recovery keeps it
+abbrev pub log_writes : List ℕ → WriteLog
+log_writes log = kept (batches_of 0 1 (payloads_of log)) (ending_of log)
+
 -- a torn tail is accepted, and no fault
 abbrev pub unless_faulty : Batches → Ending → Option (ℕ × BatchError) → Result WriteLog ReadError
 unless_faulty batches ending (Some refused) = Err (errors.Batch refused.0 refused.1)

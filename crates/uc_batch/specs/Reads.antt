@@ -18,3 +18,8 @@ Fails e read = read ≡ Err e
 abbrev pub Gives : {X Y : Type 0} → (X → Y) → Result X BatchError → Result Y BatchError → Type 0
 Gives view (Ok x) read = read ≡ Ok (view x)
 Gives view (Err e) read = Fails e read
+
+-- What a function that takes no memory returned, seen by view, is what reading gives.
+abbrev pub Exactly : {X Y : Type 0} → (X → Y) → Result X BatchError → Result Y BatchError → Type 0
+Exactly view (Ok x) read = read ≡ Ok (view x)
+Exactly view (Err e) read = read ≡ Err e

@@ -4,10 +4,10 @@ use Rattle.uc_write.specs.declared.op.Op.{Op}
 use Rattle.uc_write.specs.declared.op.Op.TheVariants as op
 use Rattle.uc_batch.specs.declared.error.BatchError.{BatchError}
 use Rattle.uc_batch.specs.declared.error.BatchError.TheVariants.{BadTag, Cut, OtherFamily}
-use Rattle.uc_batch.specs.declared.form.Form.{Form}
-use Rattle.uc_batch.specs.declared.form.Form.TheVariants as form
-use Rattle.uc_batch.specs.declared.form.Layout.{Layout}
-use Rattle.uc_batch.specs.Form.{layout_at}
+use Rattle.uc_batch.specs.declared.tag.Form.{Form}
+use Rattle.uc_batch.specs.declared.tag.Form.TheVariants as form
+use Rattle.uc_batch.specs.declared.tag.Layout.{Layout}
+use Rattle.uc_batch.specs.Tag.{layout_at}
 use Rattle.uc_batch.specs.Reads.{◌>>=◌}
 use Rattle.uc_batch.specs.Varint.{varint_from}
 
@@ -47,7 +47,7 @@ body_at form.Merge total start bytes = do
 body_at form.LogData total start bytes = do
   text ← string_at total start bytes
   Ok (None, text.1)
-body_at form.NoOp total start bytes = Ok (None, bytes)
+body_at form.Noop total start bytes = Ok (None, bytes)
 body_at form.RangeDeletion total start bytes = do
   two ← strings_at total start bytes
   Ok (Some (op.DeleteRange two.0.0 two.0.1), two.1)

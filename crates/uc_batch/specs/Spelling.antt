@@ -3,6 +3,8 @@ use Rattle.std.specs.Prelude.{ℕ, zero, suc, List, [], ◌∷◌, ◌++◌, len
 use Rattle.std.specs.List.{flat_map}
 use Rattle.std.specs.Int.{w32, w64, to_le_bytes}
 use Rattle.uc_write.specs.declared.op.Op.{Op}
+use Rattle.uc_batch.specs.declared.tag.Tag.TheVariants as tag
+use Rattle.uc_batch.specs.Tag.{byte_of}
 use Rattle.uc_write.specs.declared.op.Op.TheVariants.{Put, Delete, Merge, DeleteRange}
 
 -- a number in one byte and at most `more` others, as few as will do
@@ -16,10 +18,10 @@ string_text bytes = varint_text 4 (length bytes) ++ bytes
 
 -- an operation's record
 abbrev pub op_text : Op → List ℕ
-op_text (Delete key) = 0x00 ∷ string_text key
-op_text (Put key value) = 0x01 ∷ (string_text key ++ string_text value)
-op_text (Merge key operand) = 0x02 ∷ (string_text key ++ string_text operand)
-op_text (DeleteRange begin end) = 0x0F ∷ (string_text begin ++ string_text end)
+op_text (Delete key) = byte_of tag.Deletion ∷ string_text key
+op_text (Put key value) = byte_of tag.Value ∷ (string_text key ++ string_text value)
+op_text (Merge key operand) = byte_of tag.Merge ∷ (string_text key ++ string_text operand)
+op_text (DeleteRange begin end) = byte_of tag.RangeDeletion ∷ (string_text begin ++ string_text end)
 
 -- a batch of these operations whose first has the sequence `seq`
 abbrev pub batch_text : ℕ → List Op → List ℕ

@@ -5,19 +5,25 @@
 //! `reading.rt` and `writing.rt`.
 #![tactic(auto)]
 
+mod batch_reader;
+mod batch_writes;
+mod cursor;
 mod ended;
 mod error;
-mod form;
+mod header;
 mod laws;
 mod log;
 mod mode;
 mod read_error;
 mod reading;
 mod records;
+mod tag;
 mod varint;
 mod writes;
 mod writing;
 
+pub use batch_reader::{Advance, BatchReader};
+pub use batch_writes::BatchWrites;
 pub use ended::Ended;
 pub use error::BatchError;
 pub use laws::written_batch_is_read;
@@ -25,7 +31,7 @@ pub use log::read_writes;
 pub use mode::Mode;
 pub use read_error::ReadError;
 pub use reading::{last_used, read_batch, read_batch_in_place};
-pub use uc_write::{Op, OpKind, OpRef, Write, WriteRef};
+pub use uc_write::{MAX_SEQUENCE, Op, OpKind, OpRef, Write, WriteRef};
 pub use writes::Writes;
 pub use writing::{fits_batch, write_batch};
 

@@ -1,7 +1,10 @@
+//! Batches whose bytes come from outside.
 use super::*;
+use crate::tag::{Form, Tag};
 use std::alloc::Global;
 use std::test::Fail;
 use uc_bytes::Bytes;
+use uc_logrec::LogWriter;
 
 /// Sequence 1, and a count.
 const fn header(count: u8) -> [u8; 12] {
@@ -161,15 +164,70 @@ fn texts_are_borrowed(rt: HostRuntime) -> Result<(), Fail> {
     let borrowed = read_batch_in_place(alloc, &bytes, 0)?;
     let owned = read_batch(alloc, &bytes, 0)?;
     assert_eq!(rt; borrowed.len(), owned.len());
-    for (write, want) in borrowed.iter().zip(&owned) {
+    for (write, want) in BatchWrites::read(&bytes, 0)?.zip(&owned) {
         assert_eq!(rt; &write.to_write(alloc)?, want);
     }
     assert_eq!(rt; last_used(&borrowed, 0), 4);
     assert_eq!(rt; last_used(&[], 9), 9);
     let refused = batch(alloc, header(1), b"\x09")?;
     assert_eq!(rt;
-        read_batch_in_place(alloc, &refused, 0).err(),
+        BatchWrites::read(&refused, 0).err(),
         Some(BatchError::BadTag(9, 12))
     );
+    Ok(())
+}
+
+#[test]
+fn tags_have_bytes(rt: HostRuntime) {
+    for byte in 0..=255u8 {
+        match Tag::of_byte(byte) {
+            Some(tag) => assert_eq!(rt; tag.byte(), byte),
+            None => assert!(rt; byte >= 0x09),
+        }
+    }
+    let layout = Tag::ColumnFamilySingleDeletion.layout();
+    assert_eq!(rt; layout.form, Form::Deletion);
+    assert!(rt; layout.has_family);
+}
+
+/// The sequences of a log's writes, and how far it is read.
+fn sequences(alloc: Global, log: &[u8]) -> Result<(Vec<u64>, Ended), Fail> {
+    let mut sequences = Vec::new(alloc);
+    let mut batches = BatchReader::new(alloc, log);
+    loop {
+        match batches.advance()? {
+            Advance::Batch => {
+                for write in batches.writes() {
+                    sequences.push(write.seq())?;
+                }
+            }
+            Advance::Ended(ended) => return Ok((sequences, ended)),
+        }
+    }
+}
+
+/// The batch of a text for the log alone, which takes more than one block.
+fn large_batch(alloc: Global) -> Result<Vec<u8>, Fail> {
+    let mut large = batch(alloc, header(0), b"\x03\xc0\xb8\x02")?;
+    large.append(&mut vec![in alloc; 7; 40_000]?)?;
+    Ok(large)
+}
+
+#[test]
+fn batches_are_lent(rt: HostRuntime) -> Result<(), Fail> {
+    let alloc = rt.alloc();
+    let mut writer = LogWriter::new(alloc);
+    writer.add(&batch(alloc, header(4), PLAIN_FORMS)?)?;
+    writer.add(&large_batch(alloc)?)?;
+    let mut again = header(1);
+    again[0] = 4;
+    writer.add(&batch(alloc, again, PUTS[0])?)?;
+    let log = writer.finish();
+    let (sequences, ended) = sequences(alloc, &log)?;
+    assert_eq!(rt; sequences.as_slice(), [1, 2, 3, 4].as_slice());
+    assert_eq!(rt; ended, Ended::BatchFault(3, BatchError::SequenceBack(4)));
+    let mut batches = BatchReader::new(alloc, &log);
+    assert_eq!(rt; batches.last(), 0);
+    assert!(rt; batches.writes().next().is_none());
     Ok(())
 }

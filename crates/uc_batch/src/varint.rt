@@ -1,8 +1,12 @@
+//! Numbers of 32 bits, in one to five bytes.
 ghost use Rattle.std.specs.Prelude.{◌<◌, ◌≤◌, length, IfOk};
-ghost use Rattle.uc_batch.specs.Reads.{Gives};
+ghost use Rattle.uc_batch.specs.Reads.{Exactly};
 ghost use Rattle.uc_batch.specs.Varint.{varint_from, room_for};
 
 use crate::error::BatchError;
+
+/// How many bytes a number may have behind its first: five hold any of 32 bits.
+pub(crate) const MORE_BYTES: u32 = 4;
 
 /// Reads a number of one byte and at most `more` others, low seven bits first, and gives what is
 /// behind it.
@@ -11,14 +15,14 @@ use crate::error::BatchError;
 /// (RocksDB, `coding.h`, `GetVarint32`). `start` is the offset of the record's tag and `here` that
 /// of the number, for the faults.
 #[tactic(auto, unfolding(crate::specs::Varint::varint_from))]
-pub fn read_varint(
+pub(crate) fn read_varint(
     bytes: &[u8],
     more: u32,
     start: u64,
     here: u64,
 ) -> Result<(u32, &[u8]), BatchError>
     requires { more ≤ 4 }
-    ensures value { Gives (λ read. (read.0, read.1.now)) result (varint_from more start here bytes.now) }
+    ensures value { Exactly (λ read. (read.0, read.1.now)) result (varint_from more start here bytes.now) }
     ensures small { IfOk result (λ read. read.0 < room_for more) }
     ensures shorter { IfOk result (λ read. length read.1.now < length bytes.now) }
 {

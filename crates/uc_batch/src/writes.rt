@@ -1,10 +1,11 @@
+//! [`Writes`]: a log's writes, whose sequences rise.
 ghost use Rattle.std.specs.Prelude.{◌≡◌, ◌↔◌, IsTrue, IsSome, IfSome};
 ghost use Rattle.uc_batch.specs.Rising.{IsRising, last_of};
 ghost use Rattle.uc_batch.specs.declared.ended.Ended.TheVariants as ending;
 
 use crate::ended::Ended;
 use std::marker::Model;
-use uc_write::Write;
+use uc_write::{MAX_SEQUENCE, Write};
 
 /// Writes whose sequences rise, and how far the log that they come from was read.
 ///
@@ -32,7 +33,7 @@ fn is_rising(list: &[Write]) -> bool
 {
     let mut last = 0;
     for write in list {
-        if write.seq <= last || write.seq >= 1 << 56 {
+        if write.seq <= last || write.seq > MAX_SEQUENCE {
             return false;
         }
         last = write.seq;

@@ -1,15 +1,12 @@
+//! From operations to the text of a batch.
 ghost use Rattle.std.specs.Prelude.{◌≡◌, ◌<◌, ◌≤◌, ◌^◌, ◌++◌, ◌↔◌, length, IsTrue, IfOk, OnOk};
 ghost use Rattle.uc_batch.specs.Varint.{room_for};
 ghost use Rattle.uc_batch.specs.Spelling.{varint_text, string_text, op_text, batch_text, FitsOp, FitsBatch};
 
+use crate::tag::Tag;
+use crate::varint::MORE_BYTES;
 use std::alloc::{AllocError, Global};
-use uc_write::Op;
-
-/// How many bytes a number may have behind its first.
-const MORE_BYTES: u32 = 4;
-
-/// Above every sequence number.
-const SEQUENCES: u64 = 1 << 56;
+use uc_write::{MAX_SEQUENCE, Op};
 
 /// Above every length and every count.
 const LENGTHS: usize = 1 << 32;
@@ -45,21 +42,21 @@ fn push_op(out: &mut Vec<u8>, op: &Op) -> Result<(), AllocError>
 {
     match op {
         Op::Delete(key) => {
-            out.push(0x00)?;
+            out.push(Tag::Deletion.byte())?;
             push_string(out, key.as_slice())
         }
         Op::Put(key, value) => {
-            out.push(0x01)?;
+            out.push(Tag::Value.byte())?;
             push_string(out, key.as_slice())?;
             push_string(out, value.as_slice())
         }
         Op::Merge(key, operand) => {
-            out.push(0x02)?;
+            out.push(Tag::Merge.byte())?;
             push_string(out, key.as_slice())?;
             push_string(out, operand.as_slice())
         }
         Op::DeleteRange(begin, end) => {
-            out.push(0x0F)?;
+            out.push(Tag::RangeDeletion.byte())?;
             push_string(out, begin.as_slice())?;
             push_string(out, end.as_slice())
         }
@@ -84,8 +81,8 @@ fn fits_op(op: &Op) -> bool
 pub fn fits_batch(seq: u64, ops: &[Op]) -> bool
     ensures { IsTrue result ↔ FitsBatch seq ops.now }
 {
-    let in_range = 1 <= seq && seq < SEQUENCES && ops.len() < LENGTHS;
-    in_range && ops.len() as u64 <= SEQUENCES - seq && ops.iter().all(|op| fits_op(op))
+    let in_range = 1 <= seq && seq <= MAX_SEQUENCE && ops.len() < LENGTHS;
+    in_range && ops.len() as u64 <= MAX_SEQUENCE - seq + 1 && ops.iter().all(|op| fits_op(op))
 }
 
 /// The text of a batch: the sequence of its first operation, how many there are, and each one's

@@ -11,7 +11,7 @@ mod write_ref;
 
 pub use op::Op;
 pub use op_ref::{OpKind, OpRef};
-pub use write::Write;
+pub use write::{MAX_SEQUENCE, Write};
 pub use write_ref::WriteRef;
 
 #[cfg(test)]

@@ -28,7 +28,7 @@ impl<'a> WriteRef<'a> {
         WriteRef { seq, op }
     }
 
-    /// Its place in the order of all writes, from 1 to 2^56 - 1.
+    /// Its place in the order of all writes, from 1 to [`MAX_SEQUENCE`](crate::MAX_SEQUENCE).
     pub fn seq(&self) -> u64
         ensures { result ≡ self.now.seq }
     {

@@ -1,6 +1,6 @@
 use Rattle.std.proofs.Common.{arith}
 use Rattle.uc_batch.proofs.Rises.{open_rising, close_rising}
-use Rattle.uc_batch.proofs.writes.is_rising.Goals.{then-write-last-via-then-write-last, then-write-last-via-else-write-last+then-write}
+use Rattle.uc_batch.proofs.writes.is_rising.Goals.{then-write-last-via-then-write-last, then-write-last-via-else-write-last+then-write-gt-MAX_SEQUENCE}
 use Rattle.uc_batch.proofs.writes.is_rising.Goals as goal
 
 pub loop-write-preserved : goal.loop-write-preserved
@@ -8,7 +8,7 @@ loop-write-preserved c =
     let l = c.loop-write in
     let ws = c.args.list.now in
     let w = c.write-item.result in (
-      λ h. l.invariant.0 (close_rising l.last l.write-index ws w c.loop-write-test.true c.write-item.is (c.if-write-last.false, c.if-write.false, h)),
+      λ h. l.invariant.0 (close_rising l.last l.write-index ws w c.loop-write-test.true c.write-item.is (c.if-write-last.false, omega arith, h)),
       λ h. (open_rising l.last l.write-index ws w c.loop-write-test.true c.write-item.is (l.invariant.1 h)).2,
     )
 
@@ -22,6 +22,6 @@ returns-then-write-last c =
           let opened = open_rising l.last l.write-index ws w c.loop-write-test.true c.write-item.is (l.invariant.1 h) in
           elim c.then-write-last.branch [
             | then-write-last-via-then-write-last b ↦ absurd (omega arith)
-            | then-write-last-via-else-write-last+then-write b ↦ absurd (omega arith)
+            | then-write-last-via-else-write-last+then-write-gt-MAX_SEQUENCE b ↦ absurd (omega arith)
           ],
     )

@@ -1,0 +1,5 @@
+use Rattle.uc_batch.proofs.Judged.{empty_judged}
+use Rattle.uc_batch.proofs.batch_reader.BatchReader.new.Goals as goal
+
+pub invariant_of-result : goal.invariant_of-result
+invariant_of-result c = empty_judged

@@ -1,0 +1,75 @@
+//! [`Header`]: the sequence and the count at the front of a batch.
+ghost use Rattle.std.specs.Prelude.{◌≡◌, ◌<◌, ◌≤◌, ◌+◌, ◌^◌, length, take, drop, MatchOption, OnOk};
+ghost use Rattle.std.specs.Int.{w32, w64, from_le_bytes};
+ghost use Rattle.uc_batch.specs.Reads.{Exactly};
+ghost use Rattle.uc_batch.specs.Batch.{judged, last_numbered};
+
+use crate::error::BatchError;
+use uc_write::MAX_SEQUENCE;
+
+/// The bytes of a batch's sequence and count.
+pub(crate) const HEADER_SIZE: usize = 12;
+
+/// What stands in front of a batch's records.
+#[derive(Clone, Copy, Debug)]
+pub(crate) struct Header {
+    /// The sequence of the first operation.
+    pub(crate) sequence: u64,
+    /// How many operations there are.
+    pub(crate) count: u32,
+}
+
+impl Header {
+    /// The header of a batch without operations.
+    pub(crate) const EMPTY: Header = Header {
+        sequence: 0,
+        count: 0,
+    };
+
+    /// The header at the front, and the bytes behind it; nothing where there are fewer than its 12 bytes.
+    pub(crate) fn split(bytes: &[u8]) -> Option<(Header, &[u8])>
+        ensures long { MatchOption result (length bytes.now < 12) (λ found. 12 ≤ length bytes.now) }
+        ensures sequence { MatchOption result (length bytes.now < 12) (λ found. found.0.sequence ≡ from_le_bytes w64 (take 8 bytes.now)) }
+        ensures count { MatchOption result (length bytes.now < 12) (λ found. found.0.count ≡ from_le_bytes w32 (take 4 (drop 8 bytes.now))) }
+        ensures body { MatchOption result (length bytes.now < 12) (λ found. found.1.now ≡ drop 12 bytes.now) }
+    {
+        let (sequence, rest) = bytes.split_first_chunk::<8>()?;
+        let (count, body) = rest.split_first_chunk::<4>()?;
+        let sequence = u64::from_le_bytes(*sequence);
+        let count = u32::from_le_bytes(*count);
+        Some((Header { sequence, count }, body))
+    }
+
+    /// Refuses a sequence that isn't above the last one used, or that has too little room above it for
+    /// the operations. The sequence of a batch without operations isn't looked at.
+    #[tactic(auto, unfolding(crate::specs::Batch::judged))]
+    pub(crate) fn judge(self, last: u64) -> Result<(), BatchError>
+        ensures value { Exactly (λ _. self.sequence) result (judged last self.sequence self.count) }
+        ensures above { OnOk result (0 < self.count → last < self.sequence) }
+        ensures room { OnOk result (0 < self.count → self.sequence + self.count ≤ 2 ^ 56) }
+    {
+        if self.count == 0 {
+            return Ok(());
+        }
+        if self.sequence <= last {
+            return Err(BatchError::SequenceBack(last));
+        }
+        if self.sequence > MAX_SEQUENCE
+            || u64::from(self.count) - 1 > MAX_SEQUENCE - self.sequence
+        {
+            return Err(BatchError::SequenceTooLarge);
+        }
+        Ok(())
+    }
+
+    /// The last sequence used behind the batch, where `last` was the last one before it.
+    pub(crate) fn last_used(self, last: u64) -> u64
+        requires { 0 < self.count → self.sequence + self.count ≤ 2 ^ 56 }
+        ensures { result ≡ last_numbered last self.sequence self.count }
+    {
+        if self.count == 0 {
+            return last;
+        }
+        self.sequence + (u64::from(self.count) - 1)
+    }
+}
