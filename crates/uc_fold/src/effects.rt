@@ -1,7 +1,8 @@
-ghost use Rattle.std.specs.Prelude.{◌≡◌, ⊤, ℕ, List, Option, fold};
+//! [`Effects`]: effects on one key, joined in order.
+ghost use Rattle.std.specs.Prelude.{◌≡◌, ⊤};
 ghost use Rattle.uc_oper.specs.declared.effect.Effect.{Effect as EffectOf};
-ghost use Rattle.uc_oper.specs.Composition.{applied, composed};
-ghost use Rattle.uc_fold.specs.Composing.{applied_in_turn, composing_lawful};
+ghost use Rattle.uc_oper.specs.Composition.{composed};
+ghost use Rattle.uc_fold.specs.Composing.{composing_lawful};
 
 use crate::joins::Joins;
 use std::alloc::{AllocError, Global};
@@ -34,9 +35,3 @@ impl<O: Operator> Joins for Effects<O> {
         older.then::<O>(alloc, newer)
     }
 }
-
-/// A fold of effects does to a value what the effects do one after the other.
-pub fn effects_act_in_turn<O: Operator>()
-    ensures { (effects : List EffectOf) (value : Option (List ℕ)) →
-        applied O.meaning (fold (composed O.meaning) EffectOf.Keep effects) value ≡ applied_in_turn O.meaning value effects }
-{}

@@ -1,3 +1,4 @@
+//! A fold in several threads.
 ghost use Rattle.std.specs.Prelude.{◌≡◌, fold, IfOk};
 
 use crate::joins::Joins;

@@ -1,3 +1,4 @@
+//! [`Joins`]: how two neighbours become one part.
 ghost use Rattle.std.specs.Prelude.{◌≡◌, IfOk};
 ghost use Rattle.uc_fold.specs.Joining.{IsLawful};
 

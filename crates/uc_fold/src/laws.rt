@@ -1,6 +1,13 @@
-ghost use Rattle.std.specs.Prelude.{◌≡◌, List, ◌++◌, fold};
+//! What holds of every way to join, of effects and of totals.
+ghost use Rattle.std.specs.Prelude.{◌≡◌, ◌-◌, ◌^◌, min, ℕ, List, Option, ◌++◌, fold, sum_by};
+ghost use Rattle.uc_oper.specs.declared.effect.Effect.{Effect as EffectOf};
+ghost use Rattle.uc_oper.specs.Composition.{applied, composed};
+ghost use Rattle.uc_fold.specs.declared.totals.Totals.{Totals as TotalsOf};
+ghost use Rattle.uc_fold.specs.Adding.{nothing, added};
+ghost use Rattle.uc_fold.specs.Composing.{applied_in_turn};
 
 use crate::joins::Joins;
+use uc_oper::Operator;
 
 /// Parts may be joined in any grouping.
 pub fn joins_are_associative<J: Joins>()
@@ -17,4 +24,17 @@ pub fn unit_changes_nothing<J: Joins>()
 pub fn folds_may_be_cut<J: Joins>()
     ensures { (front back : List J.Part) → fold J.join J.unit (front ++ back)
         ≡ J.join (fold J.join J.unit front) (fold J.join J.unit back) }
+{}
+
+/// A fold of effects does to a value what the effects do one after the other.
+pub fn effects_act_in_turn<O: Operator>()
+    ensures { (effects : List EffectOf) (value : Option (List ℕ)) →
+        applied O.meaning (fold (composed O.meaning) EffectOf.Keep effects) value ≡ applied_in_turn O.meaning value effects }
+{}
+
+/// Each total is the sum over all parts, or 2^64 - 1 where that is less.
+pub fn sums_are_held()
+    ensures points { (parts : List TotalsOf) → (fold added nothing parts).points ≡ min (sum_by (λ t. t.points) parts) (2 ^ 64 - 1) }
+    ensures fragments { (parts : List TotalsOf) → (fold added nothing parts).fragments ≡ min (sum_by (λ t. t.fragments) parts) (2 ^ 64 - 1) }
+    ensures size { (parts : List TotalsOf) → (fold added nothing parts).size ≡ min (sum_by (λ t. t.size) parts) (2 ^ 64 - 1) }
 {}

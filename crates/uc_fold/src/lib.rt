@@ -14,11 +14,14 @@ mod laws;
 mod sums;
 mod totals;
 
-pub use effects::{Effects, effects_act_in_turn};
+pub use effects::Effects;
 pub use folding::fold_all;
 pub use joins::Joins;
-pub use laws::{folds_may_be_cut, joins_are_associative, unit_changes_nothing};
-pub use sums::{Sums, sums_are_held};
+pub use laws::{
+    effects_act_in_turn, folds_may_be_cut, joins_are_associative, sums_are_held,
+    unit_changes_nothing,
+};
+pub use sums::Sums;
 pub use totals::Totals;
 
 #[cfg(test)]

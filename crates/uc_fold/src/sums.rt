@@ -1,5 +1,5 @@
-ghost use Rattle.std.specs.Prelude.{◌≡◌, ◌-◌, ◌^◌, min, List, fold, sum_by, Ok};
-ghost use Rattle.uc_fold.specs.declared.totals.Totals.{Totals as TotalsOf};
+//! [`Sums`]: totals, added.
+ghost use Rattle.std.specs.Prelude.{◌≡◌, Ok};
 ghost use Rattle.uc_fold.specs.Adding.{IsHeld, nothing, added, adding_lawful};
 
 use crate::joins::Joins;
@@ -40,10 +40,3 @@ impl Joins for Sums {
         })
     }
 }
-
-/// Each total is the sum over all parts, or 2^64 - 1 where that is less.
-pub fn sums_are_held()
-    ensures points { (parts : List TotalsOf) → (fold added nothing parts).points ≡ min (sum_by (λ t. t.points) parts) (2 ^ 64 - 1) }
-    ensures fragments { (parts : List TotalsOf) → (fold added nothing parts).fragments ≡ min (sum_by (λ t. t.fragments) parts) (2 ^ 64 - 1) }
-    ensures size { (parts : List TotalsOf) → (fold added nothing parts).size ≡ min (sum_by (λ t. t.size) parts) (2 ^ 64 - 1) }
-{}

@@ -1,3 +1,4 @@
+//! Folds of thousands of parts, and joins of two.
 use super::*;
 use std::alloc::Global;
 use std::test::Fail;
@@ -8,12 +9,12 @@ const ONE: [u8; 8] = [1, 0, 0, 0, 0, 0, 0, 0];
 
 const FIVE_THOUSAND: [u8; 8] = [0x88, 0x13, 0, 0, 0, 0, 0, 0];
 
-// An effect of this operand.
+/// An effect of this operand.
 fn fold_of(alloc: Global, operand: &[u8]) -> Result<Effect, Fail> {
     Ok(Effect::Fold(Bytes::from_slice(alloc, operand)?))
 }
 
-// The operands in turn, over and over.
+/// The operands in turn, over and over.
 fn folds_of(alloc: Global, operands: &[&[u8]], times: usize) -> Result<Vec<Effect>, Fail> {
     let mut parts = Vec::new(alloc);
     for _ in 0..times {

@@ -1,3 +1,4 @@
+//! [`Totals`]: how much some runs hold.
 /// How much some runs hold in all.
 #[derive(Clone, Copy, Debug, PartialEq, Eq)]
 pub struct Totals {

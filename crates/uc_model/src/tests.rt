@@ -1,3 +1,4 @@
+//! Values by sequence, and which keys are touched.
 use super::*;
 use std::alloc::Global;
 use std::test::Fail;

@@ -1,4 +1,4 @@
-//! Texts that are appended with a delimiter.
+//! [`Append`]: texts with a delimiter between them.
 ghost use Rattle.uc_oper.specs.Appending as appending;
 ghost use Rattle.std.specs.Prelude.{◌≡◌, IfOk, OnOk};
 

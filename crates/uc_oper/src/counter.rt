@@ -1,4 +1,4 @@
-//! Numbers that are added.
+//! [`Counter`]: numbers that are added.
 ghost use Rattle.uc_oper.specs.Counting as counting;
 ghost use Rattle.std.specs.Prelude.{◌≡◌, ◌+◌, ◌%◌, ◌^◌, IfOk};
 

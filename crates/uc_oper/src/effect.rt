@@ -1,4 +1,4 @@
-//! What writes do to one key.
+//! [`Effect`]: what writes do to one key.
 ghost use Rattle.std.specs.Prelude.{◌≡◌, IfOk};
 ghost use Rattle.uc_oper.specs.Composition as composition;
 

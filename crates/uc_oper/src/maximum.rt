@@ -1,4 +1,4 @@
-//! Texts of which the greatest stays.
+//! [`Maximum`]: the greatest text.
 ghost use Rattle.uc_oper.specs.Greatest as greatest;
 ghost use Rattle.std.specs.Prelude.{◌≡◌, IfOk};
 

@@ -1,4 +1,4 @@
-//! What a merge operator has to give.
+//! [`Operator`]: what a merge operator has to give.
 ghost use Rattle.std.specs.Prelude.{◌≡◌, IfOk};
 ghost use Rattle.uc_oper.specs.Operation.{Operation, IsLawful};
 

@@ -1,3 +1,4 @@
+//! Operators on a few texts, and effects that compose.
 use super::*;
 use std::alloc::Global;
 use std::test::Fail;

@@ -1,4 +1,4 @@
-//! What is answered to a query.
+//! [`Answer`]: what is answered to a query.
 use crate::rows::Rows;
 use uc_bytes::Bytes;
 

@@ -1,4 +1,4 @@
-//! What is asked of a store.
+//! [`Query`]: what is asked of a store.
 ghost use Rattle.std.specs.Prelude.{◌≡◌};
 
 use uc_bytes::Bytes;

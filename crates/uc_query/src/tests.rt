@@ -1,3 +1,4 @@
+//! Lookups and scans of a few writes.
 use super::*;
 use std::alloc::Global;
 use std::test::Fail;

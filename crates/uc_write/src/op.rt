@@ -1,3 +1,4 @@
+//! [`Op`]: one change to the store.
 ghost use Rattle.std.specs.Prelude.{◌≡◌, IfOk};
 
 use std::alloc::AllocError;

@@ -1,3 +1,4 @@
+//! [`OpRef`]: a change whose texts are borrowed.
 ghost use Rattle.std.specs.Prelude.{◌≡◌, [], IfOk};
 ghost use Rattle.uc_write.specs.declared.op.Op.TheVariants as changes;
 ghost use Rattle.uc_write.specs.Borrowed.{op_of};

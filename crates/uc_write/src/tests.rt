@@ -1,3 +1,4 @@
+//! Copies of changes of each kind, owned and borrowed.
 use super::*;
 use std::alloc::Global;
 use std::test::Fail;

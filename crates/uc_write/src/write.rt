@@ -1,3 +1,4 @@
+//! [`Write`]: a change and its sequence number.
 ghost use Rattle.std.specs.Prelude.{◌≡◌, IfOk};
 
 use crate::op::Op;

@@ -1,3 +1,4 @@
+//! [`WriteRef`]: a write whose texts are borrowed.
 ghost use Rattle.std.specs.Prelude.{◌≡◌, IfOk};
 
 use crate::op_ref::OpRef;

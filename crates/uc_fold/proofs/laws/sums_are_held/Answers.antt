@@ -1,7 +1,7 @@
 use Rattle.std.proofs.Common.{refl}
 use Rattle.uc_fold.specs.Adding.{nothing}
 use Rattle.uc_fold.proofs.HeldSums.{total}
-use Rattle.uc_fold.proofs.sums.sums_are_held.Goals as goal
+use Rattle.uc_fold.proofs.laws.sums_are_held.Goals as goal
 
 pub returns : goal.returns
 returns c = record {
