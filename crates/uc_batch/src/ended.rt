@@ -1,3 +1,4 @@
+//! How far a log was read.
 ghost use Rattle.std.specs.Prelude.{◌≡◌};
 ghost use Rattle.uc_batch.specs.Log.{ended_by};
 

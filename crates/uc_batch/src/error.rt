@@ -1,3 +1,4 @@
+//! Why a batch is refused.
 ghost use Rattle.std.specs.Prelude.{◌≡◌};
 ghost use Rattle.uc_batch.specs.declared.error.BatchError.TheVariants.{Memory};
 

@@ -1,3 +1,4 @@
+//! What holds of the definitions alone.
 ghost use Rattle.std.specs.Prelude.{◌≡◌, ℕ, ◌<◌, List, length, Ok};
 ghost use Rattle.uc_write.specs.declared.op.Op.{Op as Operation};
 ghost use Rattle.uc_batch.specs.Batch.{numbered, batch_of};

@@ -1,8 +1,8 @@
 //! Write batches, and the plain writes of a log.
 //!
 //! A batch is the payload of one log record: a sequence number, a count, and that many operations
-//! (RocksDB, `write_batch.cc`). Read `error.rt` and `form.rt` for what a batch may hold, then
-//! `reading.rt` and `writing.rt`.
+//! (RocksDB, `write_batch.cc`). Read `error.rt` and `tag.rt` for what a batch may hold, then `records.rt`,
+//! `batch_writes.rt` and `writing.rt`. [`BatchReader`] goes through a log batch by batch and lends its writes.
 #![tactic(auto)]
 
 mod batch_reader;

@@ -1,3 +1,4 @@
+//! Which logs are accepted, and how far.
 /// Which logs are accepted, and how far (RocksDB, `WALRecoveryMode`).
 #[derive(Clone, Copy, Debug, PartialEq, Eq)]
 pub enum Mode {

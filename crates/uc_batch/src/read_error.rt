@@ -1,3 +1,4 @@
+//! Why a log has no writes to give.
 ghost use Rattle.std.specs.Prelude.{◌≡◌};
 ghost use Rattle.uc_batch.specs.declared.read_error.ReadError.TheVariants.{Memory};
 
