@@ -1,4 +1,5 @@
 pub mod BySeq
+pub mod Sorted
 pub mod Points
 pub mod Covers
 pub mod Lookup

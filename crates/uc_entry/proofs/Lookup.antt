@@ -18,7 +18,7 @@ use Rattle.uc_model.specs.Meaning.{is_seen, effect_of, effect_in_turn, effect_on
 use Rattle.uc_entry.specs.declared.entry.Entry.{Entry}
 use Rattle.uc_entry.specs.declared.fragment.Fragment.{Fragment}
 use Rattle.uc_entry.specs.Order.{IsFalling}
-use Rattle.uc_entry.specs.Run.{Contents, IsRun, covers}
+use Rattle.uc_entry.specs.Run.{Contents, IsWhole, IsRun, covers}
 use Rattle.uc_entry.specs.PlainList.{point_write, fragment_writes, writes_of, by_seq, plain_list}
 use Rattle.uc_entry.specs.Lookup.{points_effect, is_visible, points_on, seqs_over, above_newest, effect_found}
 use Rattle.uc_entry.proofs.BySeq.{Ascends, all_map, all_is, all_each, ascends-by_seq, moved-by_seq, filter-by_seq}
@@ -238,7 +238,7 @@ module _ (m : Operation) (run : Contents) (is_run : IsRun run.low run.high run.p
   found_by (newest ∷ older) e =
       above m (points_on run key at) (visible_fall key at run.points is_run.points_sorted) (seen_covers key at run.fragments) newest older
       (seqs_of_covers key at run.fragments ∙ e)
-      (first_below newest older (subst IsFalling e (covers_fall key at run.fragments is_run.fragments_sorted is_run.seqs_falling)))
+      (first_below newest older (subst IsFalling e (covers_fall key at run.fragments is_run.fragments_sorted (all_map (IsWhole run.low run.high) (λ f. IsFalling f.seqs) (λ f whole. whole.1) run.fragments is_run.whole))))
       (covers_clear key at run.fragments)
       (apart_points newest older e run.points is_run.apart)
 

@@ -23,6 +23,14 @@ covers f key = is_le (bytes_cmp f.begin key) && is_lt (bytes_cmp key f.end)
 abbrev pub IsWithin : ℕ → ℕ → ℕ → Type 0
 IsWithin low high seq = (low ≤ seq) × (seq ≤ high)
 
+-- a fragment has sequences, which fall and lie in the range
+abbrev pub IsWhole : ℕ → ℕ → Fragment → Type 0
+IsWhole low high f = (f.seqs ≢ []) × IsFalling f.seqs × AllByRecursion (IsWithin low high) f.seqs
+
+-- no fragment that covers the point's key has its sequence
+abbrev pub IsApart : List Fragment → Entry → Type 0
+IsApart fragments p = AllByRecursion (λ f. covers f p.key ≡ true → ¬ Contains f.seqs p.seq) fragments
+
 -- These make a run.
 pub record IsRun (low high : ℕ) (points : List Entry) (fragments : List Fragment) : Type 0 where
   -- a range of sequences that writes may have
@@ -31,12 +39,10 @@ pub record IsRun (low high : ℕ) (points : List Entry) (fragments : List Fragme
   pub below : high < 2 ^ 56
   -- points by key, of one key the newest first, no two of one key with one sequence
   pub points_sorted : IsStrictlySortedBy entry_cmp points
-  -- fragments by key, with keys, which don't overlap; each has sequences, the newest first
+  -- fragments by key, with keys, which don't overlap; each has sequences of the range, the newest first
   pub fragments_sorted : AreInOrder fragments
-  pub some_seq : AllByRecursion (λ f. f.seqs ≢ []) fragments
-  pub seqs_falling : AllByRecursion (λ f. IsFalling f.seqs) fragments
-  -- all sequences lie in the range
+  pub whole : AllByRecursion (IsWhole low high) fragments
+  -- the points' sequences lie in the range
   pub points_within : AllByRecursion (λ p. IsWithin low high p.seq) points
-  pub seqs_within : AllByRecursion (λ f. AllByRecursion (IsWithin low high) f.seqs) fragments
   -- no point has a sequence of a fragment that covers its key: one write has one sequence
-  pub apart : AllByRecursion (λ p. AllByRecursion (λ f. covers f p.key ≡ true → ¬ Contains f.seqs p.seq) fragments) points
+  pub apart : AllByRecursion (IsApart fragments) points

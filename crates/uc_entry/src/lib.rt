@@ -5,6 +5,7 @@
 //! Read `specs/Run.antt` first, then `specs/PlainList.antt`: a run means a plain list of writes.
 #![tactic(auto)]
 
+mod checking;
 mod entry;
 mod fragment;
 mod laws;
