@@ -10,3 +10,4 @@ pub mod Rises
 pub mod Joined
 pub mod Judged
 pub mod Named
+pub mod Spelled

@@ -2,6 +2,7 @@
 ghost use Rattle.std.specs.Prelude.{◌≡◌, ℕ, ◌<◌, List, length, Ok};
 ghost use Rattle.uc_write.specs.declared.op.Op.{Op as Operation};
 ghost use Rattle.uc_batch.specs.Batch.{numbered, batch_of};
+ghost use Rattle.uc_batch.specs.Grammar.{IsBatch};
 ghost use Rattle.uc_batch.specs.Spelling.{batch_text, FitsBatch};
 
 /// What the writer writes is read again as the same operations, after every sequence that is below the
@@ -9,4 +10,9 @@ ghost use Rattle.uc_batch.specs.Spelling.{batch_text, FitsBatch};
 pub fn written_batch_is_read()
     ensures { (last seq : ℕ) (ops : List Operation) → FitsBatch seq ops → (0 < length ops → last < seq) →
         batch_of last (batch_text seq ops) ≡ Ok (numbered seq ops) }
+{}
+
+/// The text that the writer gives a batch is one of these operations by the grammar.
+pub fn written_batch_is_spelled()
+    ensures { (seq : ℕ) (ops : List Operation) → FitsBatch seq ops → IsBatch (batch_text seq ops) seq (length ops) ops }
 {}

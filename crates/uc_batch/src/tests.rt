@@ -154,6 +154,7 @@ fn what_is_written_is_read(rt: HostRuntime) -> Result<(), Fail> {
     assert!(rt; !fits_batch(1 << 56, &[]));
     assert!(rt; fits_batch((1 << 56) - 1, &ops));
     written_batch_is_read();
+    written_batch_is_spelled();
     Ok(())
 }
 
