@@ -25,7 +25,7 @@ use Rattle.uc_batch.proofs.Steps.{bind_ok, passed, avoided, ok_is}
 use Rattle.uc_batch.proofs.Shorter.{record_shorter}
 
 -- what a reader took from the front
-abbrev Takes : (List ℕ → Type 0) → List ℕ → List ℕ → Type 0
+abbrev pub Takes : (List ℕ → Type 0) → List ℕ → List ℕ → Type 0
 Takes P bytes rest = (front : List ℕ) × P front × (bytes ≡ front ++ rest)
 
 -- ---- numbers
@@ -54,7 +54,7 @@ more_bytes more b rest r x false t e takes =
     let large : 128 ≤ b = ltb-false b 128 t in
     (b ∷ front.0, inr (high.0.0, large, front.1, omega arith), ap (λ (l : List ℕ). b ∷ l) (front.2 ∙ ap (λ (l : List ℕ). front.0 ++ l) rest-is))
 
-varint_found : (more start here : ℕ) (bytes : List ℕ) (x : ℕ × List ℕ) → varint_from more start here bytes ≡ Ok x → Takes (λ front. Spells more front x.0) bytes x.1
+pub varint_found : (more start here : ℕ) (bytes : List ℕ) (x : ℕ × List ℕ) → varint_from more start here bytes ≡ Ok x → Takes (λ front. Spells more front x.0) bytes x.1
 unfolding varint_from
 varint_found more start here [] x e = absurd cc
 varint_found zero start here (b ∷ rest) x e =
@@ -65,7 +65,7 @@ varint_found (suc more) start here (b ∷ rest) x e =
 
 -- ---- strings
 
-string_found : (total start : ℕ) (bytes : List ℕ) (x : List ℕ × List ℕ) → string_at total start bytes ≡ Ok x → Takes (λ front. IsString front x.0) bytes x.1
+pub string_found : (total start : ℕ) (bytes : List ℕ) (x : List ℕ × List ℕ) → string_at total start bytes ≡ Ok x → Takes (λ front. IsString front x.0) bytes x.1
 unfolding string_at
 string_found total start bytes x e =
     let here = total - length bytes in
@@ -123,7 +123,7 @@ body_found form.Noop total start bytes x e =
     ([], (refl, sym (ap (λ (p : Option Op × List ℕ). p.0) is)), ap (λ (p : Option Op × List ℕ). p.1) is)
 body_found form.RangeDeletion total start bytes x e = of_strings op.DeleteRange total start bytes x e
 
-family_found : (has : Bool) (total start : ℕ) (bytes rest : List ℕ) → after_family has total start bytes ≡ Ok rest → Takes (λ front. IsFamily has front) bytes rest
+pub family_found : (has : Bool) (total start : ℕ) (bytes rest : List ℕ) → after_family has total start bytes ≡ Ok rest → Takes (λ front. IsFamily has front) bytes rest
 unfolding after_family family_at
 family_found false total start bytes rest e = ([], refl, ok_is bytes rest e)
 family_found true total start bytes rest e =
@@ -145,13 +145,13 @@ laid_out_found (Some layout) tag total start bytes x l e =
       family.2 ∙ ap (λ (r : List ℕ). family.0 ++ r) body.2 ∙ sym (append_assoc family.0 body.0 x.1),
     )
 
-record_found : (total b : ℕ) (bytes : List ℕ) (x : Option Op × List ℕ) → record_at total (b ∷ bytes) ≡ Ok x → Takes (λ front. IsRecord front x.0) (b ∷ bytes) x.1
+pub record_found : (total b : ℕ) (bytes : List ℕ) (x : Option Op × List ℕ) → record_at total (b ∷ bytes) ≡ Ok x → Takes (λ front. IsRecord front x.0) (b ∷ bytes) x.1
 unfolding record_at
 record_found total b bytes x e =
     let parts = laid_out_found (layout_at b) b total (total - length (b ∷ bytes)) bytes x refl e in
     (b ∷ parts.0, parts.1, ap (λ (l : List ℕ). b ∷ l) parts.2)
 
-records_found : (most total : ℕ) (bytes : List ℕ) (ops : List Op) → length bytes ≤ most → records_from most total bytes ≡ Ok ops → AreRecords bytes ops
+pub records_found : (most total : ℕ) (bytes : List ℕ) (ops : List Op) → length bytes ≤ most → records_from most total bytes ≡ Ok ops → AreRecords bytes ops
 unfolding records_from
 records_found most total [] ops enough e = record { records = []; each = tt; whole = refl; counted = sym (ok_is [] ops e) }
 records_found zero total (b ∷ bytes) ops enough e = absurd (omega arith)
@@ -169,14 +169,14 @@ records_found (suc most) total (b ∷ bytes) ops enough e =
 
 -- ---- the header
 
-not_failed : {A : Type 0} (b : Bool) (d : BatchError) (r : Result A BatchError) (y : A) → cond b (Err d) r ≡ Ok y → (b ≡ false) × (r ≡ Ok y)
+pub not_failed : {A : Type 0} (b : Bool) (d : BatchError) (r : Result A BatchError) (y : A) → cond b (Err d) r ≡ Ok y → (b ≡ false) × (r ≡ Ok y)
 not_failed true d r y e = absurd cc
 not_failed false d r y e = (refl, e)
 
-asked : (count : ℕ) (b : Bool) → (ltb 0 (suc count) && b) ≡ false → b ≡ false
+pub asked : (count : ℕ) (b : Bool) → (ltb 0 (suc count) && b) ≡ false → b ≡ false
 asked count b e = rw (lt-ltb 0 (suc count) (omega arith)) at e
 
-judged_found : (last seq count got : ℕ) → judged last seq count ≡ Ok got → (got ≡ seq) × (0 < count → last < seq) × (0 < count → seq + count ≤ 2 ^ 56)
+pub judged_found : (last seq count got : ℕ) → judged last seq count ≡ Ok got → (got ≡ seq) × (0 < count → last < seq) × (0 < count → seq + count ≤ 2 ^ 56)
 unfolding judged
 judged_found last seq zero got e = (sym (ok_is seq got e), λ h. absurd (omega arith), λ h. absurd (omega arith))
 judged_found last seq (suc count) got e =
@@ -229,6 +229,23 @@ batch_numbers last bytes writes e =
       c.3 ∙ ap (λ (s : ℕ). numbered s c.0) fine.0,
     )
 
+-- the header's numbers fit, and its bytes are theirs
+pub eight_fit : (bytes : List ℕ) → IsBytes bytes → from_le_bytes w64 (take 8 bytes) < 2 ^ 64
+eight_fit bytes fits = eight_below (take 8 bytes) (IsBytes-take 8 bytes fits)
+
+pub four_fit : (bytes : List ℕ) → IsBytes bytes → from_le_bytes w32 (take 4 (drop 8 bytes)) < 2 ^ 32
+four_fit bytes fits = four_below (take 4 (drop 8 bytes)) (IsBytes-take 4 (drop 8 bytes) (IsBytes-drop 8 bytes fits))
+
+pub header_whole : (bytes : List ℕ) → 12 ≤ length bytes → IsBytes bytes → bytes ≡ to_le_bytes w64 (from_le_bytes w64 (take 8 bytes)) ++ (to_le_bytes w32 (from_le_bytes w32 (take 4 (drop 8 bytes))) ++ drop 12 bytes)
+header_whole bytes long fits =
+    let seq = from_le_bytes w64 (take 8 bytes) in
+    let count = from_le_bytes w32 (take 4 (drop 8 bytes)) in
+    let eight : to_le_bytes w64 seq ≡ take 8 bytes = le_bytes_8 (take 8 bytes) seq (omega (arith, length-take 8 bytes)) (IsBytes-take 8 bytes fits) refl in
+    let four : to_le_bytes w32 count ≡ take 4 (drop 8 bytes) = le_bytes_4 (take 4 (drop 8 bytes)) count (omega (arith, length-take 4 (drop 8 bytes), length-drop 8 bytes)) (IsBytes-take 4 (drop 8 bytes) (IsBytes-drop 8 bytes fits)) refl in
+    let behind : drop 12 bytes ≡ drop 4 (drop 8 bytes) = sym (drop-drop 4 8 bytes) in
+    let tail : take 4 (drop 8 bytes) ++ drop 12 bytes ≡ drop 8 bytes = ap (λ (l : List ℕ). take 4 (drop 8 bytes) ++ l) behind ∙ take-append-drop 4 (drop 8 bytes) in
+    sym (take-append-drop 8 bytes) ∙ ap (λ (l : List ℕ). l ++ drop 8 bytes) (sym eight) ∙ ap (λ (l : List ℕ). to_le_bytes w64 seq ++ l) (sym tail ∙ ap (λ (l : List ℕ). l ++ drop 12 bytes) (sym four))
+
 -- what is accepted is a batch
 pub batch_found : (last : ℕ) (bytes : List ℕ) (writes : List Write) → IsBytes bytes → batch_of last bytes ≡ Ok writes → Accepts last bytes writes
 unfolding batch_of
@@ -240,19 +257,15 @@ batch_found last bytes writes fits e =
     let j = bind_ok (judged last seq count) (λ s. counted_of s count (length bytes) (drop 12 bytes)) writes a.1 in
     let fine = judged_found last seq count j.0 j.1 in
     let c = counted_found j.0 count (length bytes) (drop 12 bytes) writes j.2 in
-    let eight : to_le_bytes w64 seq ≡ take 8 bytes = le_bytes_8 (take 8 bytes) seq (omega (arith, length-take 8 bytes)) (IsBytes-take 8 bytes fits) refl in
-    let four : to_le_bytes w32 count ≡ take 4 (drop 8 bytes) = le_bytes_4 (take 4 (drop 8 bytes)) count (omega (arith, length-take 4 (drop 8 bytes), length-drop 8 bytes)) (IsBytes-take 4 (drop 8 bytes) (IsBytes-drop 8 bytes fits)) refl in
-    let behind : drop 12 bytes ≡ drop 4 (drop 8 bytes) = sym (drop-drop 4 8 bytes) in
-    let tail : take 4 (drop 8 bytes) ++ drop 12 bytes ≡ drop 8 bytes = ap (λ (l : List ℕ). take 4 (drop 8 bytes) ++ l) behind ∙ take-append-drop 4 (drop 8 bytes) in
     record {
       seq = seq;
       count = count;
       ops = c.0;
       is_batch = record {
         body = drop 12 bytes;
-        seq_fits = eight_below (take 8 bytes) (IsBytes-take 8 bytes fits);
-        count_fits = four_below (take 4 (drop 8 bytes)) (IsBytes-take 4 (drop 8 bytes) (IsBytes-drop 8 bytes fits));
-        whole = sym (take-append-drop 8 bytes) ∙ ap (λ (l : List ℕ). l ++ drop 8 bytes) (sym eight) ∙ ap (λ (l : List ℕ). to_le_bytes w64 seq ++ l) (sym tail ∙ ap (λ (l : List ℕ). l ++ drop 12 bytes) (sym four));
+        seq_fits = eight_fit bytes fits;
+        count_fits = four_fit bytes fits;
+        whole = header_whole bytes long fits;
         records = c.1;
       };
       right_count = c.2;

@@ -11,3 +11,4 @@ pub mod Joined
 pub mod Judged
 pub mod Named
 pub mod Spelled
+pub mod Refused

@@ -9,3 +9,4 @@ pub mod Rising
 pub mod WriteLog
 pub mod Log
 pub mod Position
+pub mod Refusal

@@ -26,7 +26,7 @@ pub use batch_reader::{Advance, BatchReader};
 pub use batch_writes::BatchWrites;
 pub use ended::Ended;
 pub use error::BatchError;
-pub use laws::{written_batch_is_read, written_batch_is_spelled};
+pub use laws::{refusal_stands_in_batch, written_batch_is_read, written_batch_is_spelled};
 pub use log::read_writes;
 pub use mode::Mode;
 pub use read_error::ReadError;

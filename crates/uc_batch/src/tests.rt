@@ -66,6 +66,7 @@ const REFUSED: [(&[u8], BatchError); 12] = [
 
 #[test]
 fn refusals_name_the_first_fault(rt: HostRuntime) -> Result<(), Fail> {
+    refusal_stands_in_batch();
     let alloc = rt.alloc();
     for (records, want) in REFUSED {
         let bytes = batch(alloc, header(1), records)?;
