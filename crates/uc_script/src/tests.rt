@@ -5,7 +5,7 @@ use std::alloc::Global;
 use std::process::Abort;
 use std::test::Fail;
 use uc_bytes::Bytes;
-use uc_write::Op;
+use uc_write::{Op, OpKind};
 
 /// The line at fault, if there is one.
 fn fault(rt: &impl Abort, alloc: Global, text: &[u8]) -> Option<u64> {
@@ -14,14 +14,6 @@ fn fault(rt: &impl Abort, alloc: Global, text: &[u8]) -> Option<u64> {
         Err(ScriptError::Fault(line)) => Some(line),
         Err(ScriptError::Memory) => panic!(rt; "there is memory"),
     }
-}
-
-fn script(alloc: Global, text: &[u8]) -> Result<Script, Fail> {
-    Ok(read_script(alloc, text)?)
-}
-
-fn bytes(alloc: Global, bytes: &[u8]) -> Result<Bytes, Fail> {
-    Ok(Bytes::from_slice(alloc, bytes)?)
 }
 
 #[test]
@@ -144,67 +136,87 @@ fn faulty_lines_after_open(rt: HostRuntime) -> Result<(), Fail> {
     Ok(())
 }
 
+/// A change by its kind and its texts, of which a deletion has one.
+fn parts(op: &Op) -> (OpKind, &[u8], &[u8]) {
+    match op {
+        Op::Put(key, value) => (OpKind::Put, key.as_slice(), value.as_slice()),
+        Op::Delete(key) => (OpKind::Delete, key.as_slice(), b""),
+        Op::Merge(key, operand) => (OpKind::Merge, key.as_slice(), operand.as_slice()),
+        Op::DeleteRange(begin, end) => (OpKind::DeleteRange, begin.as_slice(), end.as_slice()),
+    }
+}
+
+/// What the changes of a script are.
+const CHANGES: [(OpKind, &[u8], &[u8]); 5] = [
+    (OpKind::Put, b"a", b"b"),
+    (OpKind::Delete, b"j", b""),
+    (OpKind::Merge, b"\xab", b"\xcd"),
+    (OpKind::DeleteRange, b"a", b""),
+    (OpKind::Put, b"", b""),
+];
+
 #[test]
 fn the_changes_in_order(rt: HostRuntime) -> Result<(), Fail> {
-    let alloc = rt.alloc();
     let text =
         b"# \xff\x00 any byte\nput 61 62\n\ndelete 6A\nmerge aB Cd\nrange 61 .\nput . .\nopen";
-    let read = script(alloc, text)?;
-    let ops = [
-        Op::Put(bytes(alloc, b"a")?, bytes(alloc, b"b")?),
-        Op::Delete(bytes(alloc, b"j")?),
-        Op::Merge(bytes(alloc, b"\xab")?, bytes(alloc, b"\xcd")?),
-        Op::DeleteRange(bytes(alloc, b"a")?, bytes(alloc, b"")?),
-        Op::Put(bytes(alloc, b"")?, bytes(alloc, b"")?),
-    ];
-    assert!(rt; read.ops.as_slice() == ops.as_slice());
+    let read = read_script(rt.alloc(), text)?;
     assert!(rt; read.keeps.as_slice().is_empty());
     assert!(rt; read.calls.as_slice().is_empty());
-    let taken = read.ops.into_vec();
-    assert_eq!(rt; taken.len(), 5);
+    let ops = read.ops.into_vec();
+    assert_eq!(rt; ops.len(), CHANGES.len());
+    for (op, change) in ops.iter().zip(CHANGES) {
+        assert_eq!(rt; parts(op), change);
+    }
     Ok(())
 }
 
 #[test]
 fn the_keeps_in_order(rt: HostRuntime) -> Result<(), Fail> {
     let text = b"keep 7\nkeep 0\nkeep 18446744073709551615\nkeep 7\nopen\n#\n";
-    let read = script(rt.alloc(), text)?;
+    let read = read_script(rt.alloc(), text)?;
     let keeps = [7, 0, u64::MAX, 7];
     assert_eq!(rt; read.keeps.as_slice(), keeps.as_slice());
     assert!(rt; read.ops.as_slice().is_empty());
     Ok(())
 }
 
+/// A call by its first key, the end and the limit of a scan, and its sequence.
+type Asked<'a> = (&'a [u8], Option<&'a [u8]>, Option<u64>, Seq);
+
+fn asked(call: &Call) -> Asked<'_> {
+    match call {
+        Call::Get { key, at } => (key.as_slice(), None, None, *at),
+        Call::Scan {
+            low,
+            high,
+            limit,
+            at,
+        } => {
+            let high = high.as_ref().map(Bytes::as_slice);
+            (low.as_slice(), high, Some(*limit), *at)
+        }
+    }
+}
+
+/// What a script asks.
+const ASKED: [Asked<'static>; 4] = [
+    (b"a", None, None, Seq::Last),
+    (b"", None, Some(0), Seq::Number(0)),
+    (b"a", Some(b""), Some(u64::MAX), Seq::Last),
+    (b"", None, None, Seq::Number(10)),
+];
+
 #[test]
 fn the_calls_in_order(rt: HostRuntime) -> Result<(), Fail> {
-    let alloc = rt.alloc();
     let text =
         b"open\nget 61 last\n# then\n\nscan . - 0 0\nscan 61 . 18446744073709551615 last\nget . 10";
-    let read = script(alloc, text)?;
-    let calls = [
-        Call::Get {
-            key: bytes(alloc, b"a")?,
-            at: Seq::Last,
-        },
-        Call::Scan {
-            low: bytes(alloc, b"")?,
-            high: None,
-            limit: 0,
-            at: Seq::Number(0),
-        },
-        Call::Scan {
-            low: bytes(alloc, b"a")?,
-            high: Some(bytes(alloc, b"")?),
-            limit: u64::MAX,
-            at: Seq::Last,
-        },
-        Call::Get {
-            key: bytes(alloc, b"")?,
-            at: Seq::Number(10),
-        },
-    ];
-    assert!(rt; read.calls.as_slice() == calls.as_slice());
+    let read = read_script(rt.alloc(), text)?;
     assert!(rt; read.ops.as_slice().is_empty());
+    let calls = read.calls.as_slice();
+    assert_eq!(rt; calls.len(), ASKED.len());
+    for (call, wanted) in calls.iter().zip(ASKED) {
+        assert_eq!(rt; asked(call), wanted);
+    }
     Ok(())
 }
 
