@@ -8,12 +8,11 @@ use Rattle.uc_write.specs.declared.op_ref.OpKind.TheVariants as kind
 use Rattle.uc_write.specs.declared.write.Write.{Write}
 use Rattle.uc_logrec.specs.declared.fault.LogFault.{LogFault}
 use Rattle.uc_logrec.specs.declared.fault.LogFault.TheVariants as log
-use Rattle.uc_logrec.specs.Log.{payloads_of, ending_of}
 use Rattle.uc_batch.specs.declared.ended.Ended.{Ended}
 use Rattle.uc_batch.specs.declared.ended.Ended.TheVariants as ended
 use Rattle.uc_batch.specs.declared.error.BatchError.{BatchError}
 use Rattle.uc_batch.specs.declared.error.BatchError.TheVariants as batch
-use Rattle.uc_batch.specs.Log.{batches_of, kept}
+use Rattle.uc_batch.specs.Log.{log_writes}
 use Rattle.uc_batch.specs.WriteLog.{WriteLog}
 use Rattle.uc_script.specs.Texts.{hex_text}
 use Rattle.uc_tool.specs.Texts.{numbered_line}
@@ -77,10 +76,6 @@ done_of (ended.BatchFault number fault) = BadLog
 abbrev pub shown : WriteLog → Output
 shown log = record { replies = map write_line log.list ++ ended_line log.ended ∷ []; done = done_of log.ended }
 
--- what stands in a log's bytes before its first fault, as point-in-time recovery keeps it
-abbrev pub log_of : List ℕ → WriteLog
-log_of input = kept (batches_of 0 1 (payloads_of input)) (ending_of input)
-
 -- what the dump of a log's bytes prints
 abbrev pub dump_of : List ℕ → Output
-dump_of input = shown (log_of input)
+dump_of input = shown (log_writes input)

@@ -1,8 +1,9 @@
 //! `dump`: what stands in a write-ahead log, as lines.
 
 ghost use Rattle.std.specs.Prelude.{◌≡◌, ◌≤◌, length, map, IfOk, IfSome};
+ghost use Rattle.uc_batch.specs.Log.{log_writes};
 ghost use Rattle.uc_tool.specs.Dump as dumps;
-ghost use Rattle.uc_tool.specs.Dump.{write_line, log_of, dump_of};
+ghost use Rattle.uc_tool.specs.Dump.{write_line, dump_of};
 ghost use Rattle.uc_tool.specs.Output.{Prints, HasWritten};
 
 use crate::done::Done;
@@ -14,47 +15,34 @@ use crate::writing::write_bytes;
 use std::alloc::Global;
 use std::io;
 use std::io::Read;
-use uc_batch::{BatchError, Ended, last_used, read_batch_in_place};
-use uc_logrec::{LogReader, Next};
-use uc_write::WriteRef;
+use uc_batch::{Advance, BatchReader, BatchWrites, Ended};
 
 /// Prints the writes of a batch, a line each. The lines are put together in a buffer first, whose bytes
 /// are of no use before or after.
 fn print_writes<W: io::Write>(
     lines: &mut Vec<u8>,
-    writes: &[WriteRef<'_>],
+    writes: BatchWrites<'_>,
     writer: &mut W,
 ) -> Result<(), RunError>
-    ensures { Prints (map write_line writes.now) (W.contents writer.old) (W.contents writer.new) result }
+    ensures { Prints (map write_line writes.entry) (W.contents writer.old) (W.contents writer.new) result }
 {
     lines.clear();
     push_writes(lines, writes)?;
     write_bytes(writer, lines)
 }
 
-/// Prints the writes of a log, up to its first fault, and gives how far it was read. A batch is read where it
-/// stands: a copy is made of a payload in several pieces alone, and there is one such copy at a time.
+/// Prints the writes of a log, up to its first fault, and gives how far it was read. A write is printed from
+/// the bytes where it stands in the log.
 fn print_log<W: io::Write>(alloc: Global, input: &[u8], writer: &mut W) -> Result<Ended, RunError>
-    ensures printed { Prints (map write_line (log_of input.now).list) (W.contents writer.old) (W.contents writer.new) result }
-    ensures ended { IfOk result (λ ended. ended ≡ (log_of input.now).ended) }
+    ensures printed { Prints (map write_line (log_writes input.now).list) (W.contents writer.old) (W.contents writer.new) result }
+    ensures ended { IfOk result (λ ended. ended ≡ (log_writes input.now).ended) }
 {
-    let mut log = LogReader::new(input);
-    let mut joined = Vec::new(alloc);
+    let mut batches = BatchReader::new(alloc, input);
     let mut lines = Vec::new(alloc);
-    let mut last = 0;
     loop {
-        let payload = match log.next(&mut joined)? {
-            Next::Whole(payload) => payload,
-            Next::Joined => joined.as_slice(),
-            Next::Ended(ending) => return Ok(Ended::from(ending)),
-        };
-        match read_batch_in_place(alloc, payload, last) {
-            Ok(batch) => {
-                print_writes(&mut lines, &batch, writer)?;
-                last = last_used(&batch, last);
-            }
-            Err(BatchError::Memory) => return Err(RunError::Memory),
-            Err(fault) => return Ok(Ended::BatchFault(log.payloads_read(), fault)),
+        match batches.advance()? {
+            Advance::Batch => print_writes(&mut lines, batches.writes(), writer)?,
+            Advance::Ended(ended) => return Ok(ended),
         }
     }
 }

@@ -8,7 +8,7 @@ ghost use Rattle.uc_tool.specs.Dump.{op_text, write_line, batch_words};
 
 use crate::texts::numbered_line;
 use std::alloc::{AllocError, Global};
-use uc_batch::{BatchError, Ended};
+use uc_batch::{BatchError, BatchWrites, Ended};
 use uc_logrec::LogFault;
 use uc_script::{push_hex, push_number};
 use uc_write::{OpKind, OpRef, WriteRef};
@@ -50,11 +50,11 @@ fn push_write(out: &mut Vec<u8>, write: &WriteRef<'_>) -> Result<(), AllocError>
 }
 
 /// Appends a line for each write.
-pub fn push_writes(out: &mut Vec<u8>, writes: &[WriteRef<'_>]) -> Result<(), AllocError>
-    ensures { OnOk result (out.new.items ≡ out.old.items ++ flat_map write_line writes.now) }
+pub fn push_writes(out: &mut Vec<u8>, writes: BatchWrites<'_>) -> Result<(), AllocError>
+    ensures { OnOk result (out.new.items ≡ out.old.items ++ flat_map write_line writes.entry) }
 {
     for write in writes {
-        push_write(out, write)?;
+        push_write(out, &write)?;
     }
     Ok(())
 }

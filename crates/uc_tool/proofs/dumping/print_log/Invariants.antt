@@ -1,10 +1,9 @@
-use Rattle.std.proofs.Common.{length}
-use Rattle.uc_tool.specs.Dump.{log_of}
+use Rattle.uc_batch.specs.Log.{log_writes}
 use Rattle.uc_tool.proofs.Dumps.{DumpsOn}
 use Rattle.uc_tool.proofs.dumping.print_log.Given as goal
 
 abbrev pub invariant-loop-lines : goal.invariant-loop-lines
-invariant-loop-lines g l = DumpsOn (log_of l.input) l.last l.log (g.W.Write.contents l.fn.writer) (g.W.Write.contents l.writer)
+invariant-loop-lines g l = DumpsOn (log_writes l.input) l.batches (g.W.Write.contents l.fn.writer) (g.W.Write.contents l.writer)
 
 abbrev pub decreases-loop-lines : goal.decreases-loop-lines
-decreases-loop-lines g l = length l.log.ahead.payloads
+decreases-loop-lines g l = l.batches.left

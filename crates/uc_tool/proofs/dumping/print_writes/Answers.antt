@@ -7,6 +7,6 @@ pub returns : goal.returns
 returns g c =
     let contents = g.W.Write.contents in
     let lines = rw c.clear.ensures.items at c.in_ok-push_writes.ensures in
-    let all = c.deref.ensures.value ∙ lines ∙ joined_map write_line c.args.writes.now in
-    prints_at_once (map write_line c.args.writes.now) (contents c.args.writer.now) (contents c.write_bytes.new.writer) c.write_bytes.result
+    let all = c.deref.ensures.value ∙ lines ∙ joined_map write_line c.args.writes in
+    prints_at_once (map write_line c.args.writes) (contents c.args.writer.now) (contents c.write_bytes.new.writer) c.write_bytes.result
     (rw all at c.write_bytes.ensures.ok) (rw all at c.write_bytes.ensures.err) c.write_bytes.ensures.device
