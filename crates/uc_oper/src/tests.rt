@@ -1,6 +1,8 @@
 //! Operators on a few texts, and effects that compose.
+ghost use Rattle.std.specs.Prelude.{refl};
+
 use super::*;
-use std::alloc::Global;
+use std::alloc::{AllocError, Global};
 use std::test::Fail;
 use uc_bytes::Bytes;
 
@@ -137,6 +139,40 @@ fn the_greater_text_stays_in_place(rt: HostRuntime) -> Result<(), Fail> {
         let paired = Maximum::pair_onto(alloc, operand, newer)?;
         assert_eq!(rt; paired.as_slice(), want);
     }
+    Ok(())
+}
+
+/// Keeps the newest text. It gives the required functions alone.
+enum Newest {}
+
+impl Operator for Newest {
+    ghost meaning = { record { first = λ x. x; join = λ base x. x; pair = λ older newer. newer } };
+
+    ghost lawful = { record { join_pair = λ b x y. refl; first_pair = λ x y. refl; pair_assoc = λ x y z. refl } };
+
+    fn first(alloc: Global, operand: &[u8]) -> Result<Vec<u8>, AllocError> {
+        Vec::from_slice(alloc, operand)
+    }
+
+    fn join(alloc: Global, _: &[u8], operand: &[u8]) -> Result<Vec<u8>, AllocError> {
+        Vec::from_slice(alloc, operand)
+    }
+
+    fn pair(alloc: Global, _: &[u8], newer: &[u8]) -> Result<Vec<u8>, AllocError> {
+        Vec::from_slice(alloc, newer)
+    }
+}
+
+#[test]
+fn owned_forms_are_provided(rt: HostRuntime) -> Result<(), Fail> {
+    let alloc = rt.alloc();
+    let value = Newest::join_onto(alloc, Vec::from_slice(alloc, b"a")?, b"b")?;
+    assert_eq!(rt; value.as_slice(), b"b".as_slice());
+    let pair = Newest::pair_onto(alloc, value, b"c")?;
+    assert_eq!(rt; pair.as_slice(), b"c".as_slice());
+    let effect = Effect::Fold(Bytes::from(pair)).folded::<Newest>(alloc, b"d")?;
+    let value = effect.apply::<Newest>(alloc, Some(Bytes::from_slice(alloc, b"e")?))?;
+    assert_eq!(rt; value, Some(Bytes::from_slice(alloc, b"d")?));
     Ok(())
 }
 
