@@ -2,7 +2,7 @@
 # Folds of merge operands into one key, by `Effect::then`, beside plain Rust that extends one `Vec<u8>`.
 # Needs rustc, and crates/bench_fold/out/bench_fold, which `rt run` in crates/bench_fold builds.
 # Append: operands of 10 bytes, joined with a comma. Counter: numbers of 8 bytes, added. Each line has the medians
-# of 9 runs, which take turns, and both programs must come to the same operand. The second line of a kind has twice
+# of 25 runs, which take turns, and both programs must come to the same operand. The second line of a kind has twice
 # the operands; its last column is our time over that of the first.
 set -eu
 here=$(cd "$(dirname "$0")" && pwd)
@@ -15,7 +15,7 @@ before=
 measure() { # KIND COUNT
     : > "$work/ours"
     : > "$work/rust"
-    for _ in 1 2 3 4 5 6 7 8 9; do
+    for _ in $(seq 25); do
         "$ours" "$1" "$2" >> "$work/ours"
         "$work/baseline" "$1" "$2" >> "$work/rust"
     done
@@ -23,8 +23,8 @@ measure() { # KIND COUNT
         echo "run.sh: the folds of $2 operands differ" >&2
         exit 1
     fi
-    one=$(sort -n "$work/ours" | sed -n 5p | cut -d ' ' -f 1)
-    two=$(sort -n "$work/rust" | sed -n 5p | cut -d ' ' -f 1)
+    one=$(sort -n "$work/ours" | sed -n 13p | cut -d ' ' -f 1)
+    two=$(sort -n "$work/rust" | sed -n 13p | cut -d ' ' -f 1)
     awk -v kind="$1" -v count="$2" -v one="$one" -v two="$two" -v before="$before" 'BEGIN {
         growth = before == "" ? "" : sprintf("%.2f", one / before)
         printf "%-8s %9d %10.3f %10.3f %10.1f %10.1f %8.2f %8s\n", kind, count, one / 1e6, two / 1e6,
