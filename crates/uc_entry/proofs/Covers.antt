@@ -105,7 +105,7 @@ covers_clear key at fs = all-filtered Clears (is_seen key at) (flat_map fragment
 no_less_itself : (x : List ℕ) → bytes_cmp x x ≡ Less → ⊥
 no_less_itself x e = let t = tied_itself nat_list_cmp_total x in cc
 
-before_begin : (key end begin : List ℕ) (o p q : Ordering) → bytes_cmp key end ≡ o → bytes_cmp end begin ≡ p → bytes_cmp begin key ≡ q → is_lt o ≡ true → is_le p ≡ true → (b : Bool) → (is_le q && b) ≡ false
+pub before_begin : (key end begin : List ℕ) (o p q : Ordering) → bytes_cmp key end ≡ o → bytes_cmp end begin ≡ p → bytes_cmp begin key ≡ q → is_lt o ≡ true → is_le p ≡ true → (b : Bool) → (is_le q && b) ≡ false
 before_begin key end begin Less Less Less e f g lt le b = absurd (let loop : bytes_cmp key key ≡ Less = nat_list_cmp_total.trans key begin key (nat_list_cmp_total.trans key end begin e f) g in no_less_itself key loop)
 before_begin key end begin Less Less Equal e f g lt le b =
     absurd (no_less_itself key (subst (λ (k : List ℕ). bytes_cmp key k ≡ Less) (exact_bytes begin key g) (nat_list_cmp_total.trans key end begin e f)))

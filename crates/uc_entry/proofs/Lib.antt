@@ -3,3 +3,4 @@ pub mod Sorted
 pub mod Points
 pub mod Covers
 pub mod Lookup
+pub mod Covering

@@ -15,7 +15,7 @@ use Rattle.std.proofs.lemmas.Cmp.{nat_list_cmp_total, nat_cmp_total, then_total,
 use Rattle.uc_entry.specs.declared.entry.Entry.{Entry}
 use Rattle.uc_bytes.specs.Bytes.{bytes_cmp}
 use Rattle.uc_entry.specs.declared.fragment.Fragment.{Fragment}
-use Rattle.uc_entry.specs.Order.{entry_cmp, IsFalling, AreInOrder}
+use Rattle.uc_entry.specs.Order.{entry_cmp, IsFalling, AreInOrder, FirstHasKeys}
 
 -- each element stands before all those behind it
 abbrev pub AllPairs : {X : Type 0} → (X → X → Type 0) → List X → Type 0
@@ -118,7 +118,7 @@ second_true : (a b : Bool) → IsTrue (a && b) → IsTrue b
 second_true true b p = p
 second_true false b p = absurd (false≢true p)
 
-le_lt : (x y z : List ℕ) → is_le (bytes_cmp x y) ≡ true → is_lt (bytes_cmp y z) ≡ true → is_lt (bytes_cmp x z) ≡ true
+pub le_lt : (x y z : List ℕ) → is_le (bytes_cmp x y) ≡ true → is_lt (bytes_cmp y z) ≡ true → is_lt (bytes_cmp x z) ≡ true
 le_lt x y z le lt = ap is_lt (le_lt_trans nat_list_cmp_total x y z le ((less_of (bytes_cmp y z)).0 lt))
 
 lt_to_le : (o : Ordering) → is_lt o ≡ true → is_le o ≡ true
@@ -126,7 +126,7 @@ lt_to_le Less e = refl
 lt_to_le Equal e = absurd cc
 lt_to_le Greater e = absurd cc
 
-le_le : (x y z : List ℕ) → is_lt (bytes_cmp x y) ≡ true → is_le (bytes_cmp y z) ≡ true → (o : Ordering) → bytes_cmp y z ≡ o → is_le (bytes_cmp x z) ≡ true
+pub le_le : (x y z : List ℕ) → is_lt (bytes_cmp x y) ≡ true → is_le (bytes_cmp y z) ≡ true → (o : Ordering) → bytes_cmp y z ≡ o → is_le (bytes_cmp x z) ≡ true
 le_le x y z lt le Less e = lt_to_le (bytes_cmp x z) (ap is_lt (nat_list_cmp_total.trans x y z ((less_of (bytes_cmp x y)).0 lt) e))
 le_le x y z lt le Equal e = lt_to_le (bytes_cmp x z) (sym (ap (λ (w : List ℕ). is_lt (bytes_cmp x w)) (exact_bytes y z e)) ∙ lt)
 le_le x y z lt le Greater e = absurd (false≢true (ap is_le (sym e) ∙ le))
@@ -137,10 +137,6 @@ follows_far f g h p q =
     let to_end : is_lt (bytes_cmp f.end g.end) ≡ true = le_lt f.end g.begin g.end (first_true (is_le (bytes_cmp f.end g.begin)) (is_lt (bytes_cmp g.begin g.end)) p) (second_true (is_le (bytes_cmp f.end g.begin)) (is_lt (bytes_cmp g.begin g.end)) p) in
     let to_begin : is_le (bytes_cmp f.end h.begin) ≡ true = le_le f.end g.end h.begin to_end (first_true (is_le (bytes_cmp g.end h.begin)) (is_lt (bytes_cmp h.begin h.end)) q) (bytes_cmp g.end h.begin) refl in
     both_true (is_le (bytes_cmp f.end h.begin)) (is_lt (bytes_cmp h.begin h.end)) to_begin (second_true (is_le (bytes_cmp g.end h.begin)) (is_lt (bytes_cmp h.begin h.end)) q)
-
-abbrev pub FirstHasKeys : List Fragment → Type 0
-FirstHasKeys [] = Unit {0}
-FirstHasKeys (f ∷ fs) = is_lt (bytes_cmp f.begin f.end) ≡ true
 
 all_le : (f : Fragment) (fs : List Fragment) → AllByRecursion (Follows f) fs → AllByRecursion (λ g. is_le (bytes_cmp f.end g.begin) ≡ true) fs
 all_le f [] h = tt
@@ -169,8 +165,7 @@ first_of_order (f ∷ fs) order = order.0
 -- what a test of the first one and one of all neighbours answer
 pub in_order_by : (fs : List Fragment) (a b : Bool) → IsTrue a ↔ FirstHasKeys fs → IsAllAdjacentAnswer (λ x y r. r ≡ is_followed_by x y) fs b → IsTrue (a && b) ↔ AreInOrder fs
 in_order_by fs a b first h =
-    let by : IsTrue b ↔ AllPairs Follows fs = pairs_by Follows follows_far is_followed_by (λ x y. ((λ t. t), (λ t. t))) fs b h in
-    (
+    let by : IsTrue b ↔ AllPairs Follows fs = pairs_by Follows follows_far is_followed_by (λ x y. ((λ t. t), (λ t. t))) fs b h in (
       (λ t. in_order fs (first.0 (first_true a b t)) (by.0 (second_true a b t))),
       (λ order. both_true a b (first.1 (first_of_order fs order)) (by.1 (pairs_follow fs order))),
     )

@@ -20,3 +20,8 @@ IsFalling seqs = IsStrictlySortedBy (flip_args nat_cmp) seqs
 abbrev pub AreInOrder : List Fragment → Type 0
 AreInOrder [] = ⊤
 AreInOrder (f ∷ fs) = (is_lt (bytes_cmp f.begin f.end) ≡ true) × AllByRecursion (λ g. is_le (bytes_cmp f.end g.begin) ≡ true) fs × AreInOrder fs
+
+-- the first fragment, where there is one, has keys
+abbrev pub FirstHasKeys : List Fragment → Type 0
+FirstHasKeys [] = ⊤
+FirstHasKeys (f ∷ fs) = is_lt (bytes_cmp f.begin f.end) ≡ true

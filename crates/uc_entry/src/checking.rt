@@ -1,12 +1,15 @@
 //! Which points and fragments make a run.
-ghost use Rattle.std.specs.Prelude.{◌≡◌, ◌↔◌, true, Contains, IsTrue};
+ghost use Rattle.std.specs.Prelude.{◌≡◌, ◌&&◌, [], ◌∷◌, filter, IfSome, IfNone, MatchOption, if◌then◌else◌, ◌↔◌, true, Contains, IsTrue};
 ghost use Rattle.std.specs.List.{AllByRecursion};
 ghost use Rattle.std.specs.List.Sorted.{IsStrictlySortedBy};
-ghost use Rattle.std.specs.Ordering.{is_lt};
-ghost use Rattle.uc_entry.specs.Order.{entry_cmp, IsFalling};
-ghost use Rattle.uc_entry.specs.Run.{IsWithin};
+ghost use Rattle.std.specs.Ordering.{is_lt, is_le};
+ghost use Rattle.uc_bytes.specs.Bytes.{bytes_cmp};
+ghost use Rattle.uc_entry.specs.Order.{entry_cmp, IsFalling, AreInOrder, FirstHasKeys};
+ghost use Rattle.uc_entry.specs.Run as run;
+ghost use Rattle.uc_entry.specs.Run.{IsWithin, IsWhole};
 
 use crate::entry::Entry;
+use crate::fragment::Fragment;
 use std::cmp::Ordering;
 
 /// Above every sequence number (RocksDB, `dbformat.h`, `kMaxSequenceNumber`).
@@ -42,4 +45,94 @@ fn are_falling(seqs: &[u64]) -> bool
     ensures { IsTrue result ↔ IsFalling seqs.now }
 {
     seqs.is_sorted_by(|seq, next| next < seq)
+}
+
+/// Whether a fragment has keys.
+fn has_keys(fragment: &Fragment) -> bool
+    ensures { result ≡ is_lt (bytes_cmp fragment.now.begin fragment.now.end) }
+{
+    fragment.begin < fragment.end
+}
+
+/// Whether a fragment ends at or before the begin of another, which has keys.
+fn is_followed_by(fragment: &Fragment, next: &Fragment) -> bool
+    ensures { result ≡ (is_le (bytes_cmp fragment.now.end next.now.begin) && is_lt (bytes_cmp next.now.begin next.now.end)) }
+{
+    fragment.end <= next.begin && has_keys(next)
+}
+
+/// Whether the first fragment, where there is one, has keys.
+fn first_has_keys(fragments: &[Fragment]) -> bool
+    ensures { IsTrue result ↔ FirstHasKeys fragments.now }
+{
+    match fragments {
+        [] => true,
+        [first, ..] => has_keys(first),
+    }
+}
+
+/// Whether fragments have keys, stand in order and don't overlap.
+fn are_in_order(fragments: &[Fragment]) -> bool
+    ensures { IsTrue result ↔ AreInOrder fragments.now }
+{
+    first_has_keys(fragments) && fragments.is_sorted_by(is_followed_by)
+}
+
+/// Whether a fragment has sequences, which fall and lie in a range.
+fn is_whole(low: u64, high: u64, fragment: &Fragment) -> bool
+    ensures { IsTrue result ↔ IsWhole low high fragment.now }
+{
+    let seqs = fragment.seqs.as_slice();
+    !seqs.is_empty() && are_falling(seqs) && are_within(low, high, seqs)
+}
+
+/// Whether all sequences lie in a range.
+fn are_within(low: u64, high: u64, seqs: &[u64]) -> bool
+    ensures { IsTrue result ↔ AllByRecursion (IsWithin low high) seqs.now }
+{
+    seqs.iter().all(|seq| is_within(low, high, *seq))
+}
+
+/// Whether the fragment covers a key: from its begin to below its end.
+fn covers(fragment: &Fragment, key: &[u8]) -> bool
+    ensures { result ≡ run.covers fragment.now key.now }
+{
+    fragment.begin.as_slice().cmp(&key).is_le() && key.cmp(&fragment.end.as_slice()).is_lt()
+}
+
+/// Whether the fragment ends at or before a key.
+fn ends_by(fragment: &Fragment, key: &[u8]) -> bool
+    ensures { result ≡ is_le (bytes_cmp fragment.now.end key.now) }
+{
+    fragment.end.as_slice().cmp(&key).is_le()
+}
+
+/// The first fragment that ends above a key, if one does: no other can cover the key.
+fn first_above<'a>(fragments: &'a [Fragment], key: &[u8]) -> Option<&'a Fragment>
+    requires { AreInOrder fragments.now }
+    ensures { MatchOption result (filter (λ g. run.covers g key.now) fragments.now ≡ [])
+        (λ f. filter (λ g. run.covers g key.now) fragments.now ≡ (if run.covers f.now key.now then f.now ∷ [] else [])) }
+{
+    let place = fragments.partition_point(|fragment| ends_by(fragment, key));
+    fragments.get(place)
+}
+
+/// The fragment that covers a key, if one does. Fragments in order don't overlap, so there is no other.
+///
+/// It looks at as many fragments as the logarithm of their number.
+pub fn covering_fragment<'a>(fragments: &'a [Fragment], key: &[u8]) -> Option<&'a Fragment>
+    requires { AreInOrder fragments.now }
+    ensures some { IfSome result (λ f. filter (λ g. run.covers g key.now) fragments.now ≡ f.now ∷ []) }
+    ensures none { IfNone result (filter (λ g. run.covers g key.now) fragments.now ≡ []) }
+{
+    match first_above(fragments, key) {
+        None => None,
+        Some(fragment) => {
+            if covers(fragment, key) {
+                Some(fragment)
+            } else {
+                None
+            }
+        }
+    }
 }

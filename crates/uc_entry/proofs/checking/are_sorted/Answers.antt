@@ -8,4 +8,4 @@ use Rattle.uc_entry.proofs.checking.are_sorted.Goals as goal
 pub returns : goal.returns
 returns c =
     points_sorted_by c.args.points.now c.is_sorted_by.result
-        (c.is_sorted_by.ensures.cases (λ x y. is_lt (entry_cmp x y)) (always_returns_same _ _ _ (λ a r f called. search rules)))
+    (c.is_sorted_by.ensures.cases (λ x y. is_lt (entry_cmp x y)) (always_returns_same _ _ _ (λ a r f called. search rules)))
