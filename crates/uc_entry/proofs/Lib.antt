@@ -4,3 +4,4 @@ pub mod Points
 pub mod Covers
 pub mod Lookup
 pub mod Covering
+pub mod Apart

@@ -6,7 +6,7 @@ ghost use Rattle.std.specs.Ordering.{is_lt, is_le};
 ghost use Rattle.uc_bytes.specs.Bytes.{bytes_cmp};
 ghost use Rattle.uc_entry.specs.Order.{entry_cmp, IsFalling, AreInOrder, FirstHasKeys};
 ghost use Rattle.uc_entry.specs.Run as run;
-ghost use Rattle.uc_entry.specs.Run.{IsWithin, IsWhole};
+ghost use Rattle.uc_entry.specs.Run.{IsWithin, IsWhole, IsApart};
 
 use crate::entry::Entry;
 use crate::fragment::Fragment;
@@ -134,5 +134,25 @@ pub fn covering_fragment<'a>(fragments: &'a [Fragment], key: &[u8]) -> Option<&'
                 None
             }
         }
+    }
+}
+
+/// Whether a sequence is among some that fall.
+fn has_seq(seqs: &[u64], seq: u64) -> bool
+    requires { IsFalling seqs.now }
+    ensures { IsTrue result ↔ Contains seqs.now seq }
+{
+    seqs.binary_search_by(|other| seq.cmp(other)).is_ok()
+}
+
+/// Whether no fragment that covers a point's key has its sequence.
+fn is_apart(point: &Entry, fragments: &[Fragment]) -> bool
+    requires order { AreInOrder fragments.now }
+    requires falling { AllByRecursion (λ f. IsFalling f.seqs) fragments.now }
+    ensures { IsTrue result ↔ IsApart fragments.now point.now }
+{
+    match covering_fragment(fragments, point.key.as_slice()) {
+        None => true,
+        Some(fragment) => !has_seq(fragment.seqs.as_slice(), point.seq),
     }
 }
