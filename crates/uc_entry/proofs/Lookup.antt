@@ -1,8 +1,8 @@
 -- What a lookup finds is what the plain list does.
-use Rattle.std.proofs.Common.{◌≡◌, ◌≢◌, ℕ, ◌<◌, ◌≤◌, Bool, true, false, cond, leb, ltb, List, [], ◌∷◌, ◌++◌, All, map, fold, filter, refl, sym, ap, ◌∙◌, subst, arith, ◌==◌}
+use Rattle.std.proofs.Common.{◌≡◌, ℕ, ◌<◌, ◌≤◌, Bool, true, false, cond, leb, ltb, List, [], ◌∷◌, ◌++◌, map, fold, filter, refl, sym, ap, ◌∙◌, subst, arith, ◌==◌}
 use Rattle.std.specs.Prelude.{None, nat_lt, Contains}
 use Rattle.std.specs.List.{AllByRecursion, flat_map}
-use Rattle.std.specs.List.Sorted.{IsPermutation, IsStrictlySortedBy}
+use Rattle.std.specs.List.Sorted.{IsStrictlySortedBy}
 use Rattle.std.specs.declared.cmp.Ordering.TheVariants.{Less}
 use Rattle.std.specs.Ordering.{nat_cmp}
 use Rattle.std.proofs.lemmas.Bool.Decides.{nat_tests}
@@ -16,7 +16,6 @@ use Rattle.uc_oper.specs.declared.effect.Effect.TheVariants.{Keep, Set}
 use Rattle.uc_write.specs.declared.write.Write.{Write}
 use Rattle.uc_model.specs.Meaning.{is_seen, effect_of, effect_in_turn, effect_on}
 use Rattle.uc_entry.specs.declared.entry.Entry.{Entry}
-use Rattle.uc_entry.specs.declared.fragment.Fragment.{Fragment}
 use Rattle.uc_entry.specs.Order.{IsFalling}
 use Rattle.uc_entry.specs.Run.{Contents, IsWhole, IsRun, covers}
 use Rattle.uc_entry.specs.PlainList.{point_write, fragment_writes, writes_of, by_seq, plain_list}

@@ -6,7 +6,7 @@ ghost use Rattle.std.specs.Ordering.{is_lt, is_le};
 ghost use Rattle.uc_bytes.specs.Bytes.{bytes_cmp};
 ghost use Rattle.uc_entry.specs.Order.{entry_cmp, IsFalling, AreInOrder, FirstHasKeys};
 ghost use Rattle.uc_entry.specs.Run as run;
-ghost use Rattle.uc_entry.specs.Run.{IsWithin, IsWhole, IsApart};
+ghost use Rattle.uc_entry.specs.Run.{IsWithin, IsWhole, IsApart, IsRun};
 
 use crate::entry::Entry;
 use crate::fragment::Fragment;
@@ -155,4 +155,47 @@ fn is_apart(point: &Entry, fragments: &[Fragment]) -> bool
         None => true,
         Some(fragment) => !has_seq(fragment.seqs.as_slice(), point.seq),
     }
+}
+
+/// Whether each fragment has sequences, which fall and lie in a range.
+fn are_whole(low: u64, high: u64, fragments: &[Fragment]) -> bool
+    ensures { IsTrue result ↔ AllByRecursion (IsWhole low high) fragments.now }
+{
+    fragments
+        .iter()
+        .all(|fragment| is_whole(low, high, fragment))
+}
+
+/// Whether each point's sequence lies in a range.
+fn are_points_within(low: u64, high: u64, points: &[Entry]) -> bool
+    ensures { IsTrue result ↔ AllByRecursion (λ p. IsWithin low high p.seq) points.now }
+{
+    points.iter().all(|point| is_within(low, high, point.seq))
+}
+
+/// Whether no point has a sequence of a fragment that covers its key.
+fn are_apart(points: &[Entry], fragments: &[Fragment]) -> bool
+    requires order { AreInOrder fragments.now }
+    requires falling { AllByRecursion (λ f. IsFalling f.seqs) fragments.now }
+    ensures { IsTrue result ↔ AllByRecursion (IsApart fragments.now) points.now }
+{
+    points.iter().all(|point| is_apart(point, fragments))
+}
+
+/// Whether these sequences, points and fragments make a run: sequences from 1 to 2^56 - 1, points in order of key and
+/// of one key the newest first, fragments in order that don't overlap, each with sequences that fall, all sequences
+/// between `low` and `high`, and no point with a sequence of a fragment that covers its key.
+///
+/// It goes over the points and the fragments once, and looks for the fragment over a point by a binary search.
+pub fn is_run(low: u64, high: u64, points: &[Entry], fragments: &[Fragment]) -> bool
+    ensures { IsTrue result ↔ IsRun low high points.now fragments.now }
+{
+    1 <= low
+        && low <= high
+        && high < SEQUENCE_LIMIT
+        && are_in_order(fragments)
+        && are_whole(low, high, fragments)
+        && are_sorted(points)
+        && are_points_within(low, high, points)
+        && are_apart(points, fragments)
 }

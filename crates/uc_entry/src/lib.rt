@@ -10,6 +10,10 @@ mod entry;
 mod fragment;
 mod laws;
 
+pub use checking::{covering_fragment, is_run};
 pub use entry::{Entry, What};
 pub use fragment::Fragment;
 pub use laws::{plain_list_does_what_is_found, plain_list_is_in_order};
+
+#[cfg(test)]
+mod tests;

@@ -1,5 +1,4 @@
 use Rattle.std.proofs.Common.{rules}
-use Rattle.std.proofs.lemmas.Fn.{always_returns_same}
 use Rattle.std.proofs.lemmas.List.Sorted.{IsPartitionPoint-from_clause}
 use Rattle.uc_entry.proofs.Covering.{ends_by, partitioned, found_by}
 use Rattle.uc_entry.proofs.checking.first_above.Goals as goal

@@ -6,5 +6,5 @@ use Rattle.uc_entry.proofs.checking.has_seq.Goals as goal
 pub returns : goal.returns
 returns c =
     found_among c.args.seq c.args.seqs.now c.requires c.binary_search_by.result c.binary_search_by.ensures.bound
-        (c.binary_search_by.ensures.position (order c.args.seq) (always_returns_same _ _ _ (λ a r f called. search rules)))
-        c.is_ok.result c.is_ok.ensures.value
+    (c.binary_search_by.ensures.position (order c.args.seq) (always_returns_same _ _ _ (λ a r f called. search rules)))
+    c.is_ok.result c.is_ok.ensures.value

@@ -1,5 +1,5 @@
 use Rattle.uc_entry.specs.PlainList.{writes_of}
-use Rattle.uc_entry.proofs.BySeq.{moved-by_seq, ascends-by_seq, non_decreasing}
+use Rattle.uc_entry.proofs.BySeq.{moved-by_seq, non_decreasing}
 use Rattle.uc_entry.proofs.laws.plain_list_is_in_order.Goals as goal
 
 pub returns : goal.returns
