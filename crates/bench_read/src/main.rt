@@ -10,8 +10,9 @@ use std::alloc::{AllocError, Global};
 use std::env;
 use std::io::Read;
 use std::time::Instant;
-use uc_batch::{Mode, Op, Writes, read_writes};
+use uc_batch::{Mode, Writes, read_writes};
 use uc_logrec::LogWriter;
+use uc_write::Op;
 
 const FEW: u8 = 100;
 

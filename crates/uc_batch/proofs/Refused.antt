@@ -14,11 +14,10 @@ use Rattle.uc_batch.specs.Reads.{◌>>=◌}
 use Rattle.uc_batch.specs.Varint.{varint_from}
 use Rattle.std.specs.Prelude.{◌&&◌}
 use Rattle.std.specs.Int.{w32, w64, from_le_bytes}
-use Rattle.uc_write.specs.declared.write.Write.{Write}
 use Rattle.uc_batch.specs.Batch.{numbered, judged, counted_of, batch_of}
 use Rattle.uc_batch.specs.Records.{operations, string_at, strings_at, family_at, body_at, after_family, laid_out, record_at, records_from}
-use Rattle.uc_batch.specs.Grammar.{Spells, IsRecord, AreRecords}
-use Rattle.uc_batch.specs.Refusal.{NumberIsCut, NumberIsLong, Field, Family, Text, texts_of, fields_of, IsField, AreFields, FieldFault, number_cut, text_cut, number_long, other_family, FaultAmong, RecordFault, bad_tag, bad_field, StopsAt, HasHeader, MayFollow, IsRefused, too_short, sequence_back, sequence_too_large, faulty, wrong_count}
+use Rattle.uc_batch.specs.Grammar.{IsRecord, AreRecords}
+use Rattle.uc_batch.specs.Refusal.{NumberIsCut, NumberIsLong, Field, Family, Text, texts_of, fields_of, IsField, FieldFault, number_cut, text_cut, number_long, other_family, FaultAmong, RecordFault, bad_tag, bad_field, StopsAt, HasHeader, MayFollow, IsRefused, too_short, sequence_back, sequence_too_large, faulty, wrong_count}
 use Rattle.uc_batch.proofs.Found.{Takes, varint_found, string_found, family_found, record_found, records_found, judged_found, asked, IsBytes, header_whole, eight_fit, four_fit}
 use Rattle.uc_batch.proofs.Shorter.{record_shorter}
 

@@ -31,7 +31,7 @@ pub use log::read_writes;
 pub use mode::Mode;
 pub use read_error::ReadError;
 pub use reading::{last_used, read_batch, read_batch_in_place};
-pub use uc_write::{MAX_SEQUENCE, Op, OpKind, OpRef, Write, WriteRef};
+pub use uc_write::{Op, Write};
 pub use writes::Writes;
 pub use writing::{fits_batch, write_batch};
 

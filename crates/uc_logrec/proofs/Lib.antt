@@ -8,3 +8,4 @@ pub mod Along
 pub mod Endings
 pub mod OneMeaning
 pub mod Ahead
+pub mod LaidOut

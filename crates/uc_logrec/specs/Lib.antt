@@ -3,3 +3,4 @@ pub mod Steps
 pub mod Log
 pub mod Grammar
 pub mod Position
+pub mod Layout

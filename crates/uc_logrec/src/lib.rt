@@ -23,7 +23,7 @@ mod step;
 
 pub use ending::Ending;
 pub use fault::LogFault;
-pub use laws::{log_is_read_by_grammar, written_log_is_read};
+pub use laws::{log_is_read_by_grammar, written_log_is_read, written_records_fill_blocks};
 pub use log_read::{LogRead, Payloads, read_log};
 pub use log_reader::{LogReader, Next};
 pub use log_writer::LogWriter;

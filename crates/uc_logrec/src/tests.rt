@@ -80,6 +80,8 @@ fn records_without_data(rt: HostRuntime) -> Result<(), Fail> {
 
 #[test]
 fn one_batch(rt: HostRuntime) -> Result<(), Fail> {
+    written_log_is_read();
+    log_is_read_by_grammar();
     let mut writer = LogWriter::new(rt.alloc());
     writer.add(&BATCH)?;
     let log = writer.finish();
@@ -171,6 +173,7 @@ fn record_stands(rt: &impl Abort, log: &[u8], place: usize, len: [u8; 2], kind: 
 
 #[test]
 fn payloads_over_blocks(rt: HostRuntime) -> Result<(), Fail> {
+    written_records_fill_blocks();
     let log = log_with(rt.alloc(), &[1000, 97270, 8000])?;
     assert_eq!(rt; log.len(), 106_311);
     for (place, len, kind) in [

@@ -3,9 +3,10 @@ use crate::lines::op_line;
 use std::alloc::Global;
 use std::process::Abort;
 use std::test::Fail;
-use uc_batch::{BatchError, Ended, Mode, ReadError, Write, read_writes};
+use uc_batch::{BatchError, Ended, Mode, ReadError, read_writes};
 use uc_logrec::{Ending, LogFault, LogWriter, read_log};
 use uc_tool::{Done, dump};
+use uc_write::Write;
 
 /// A payload of a log, which is a batch.
 #[derive(Clone, Copy)]

@@ -3,12 +3,13 @@ use crate::plays::{plays, small};
 use std::alloc::Global;
 use std::process::Abort;
 use std::test::Fail;
-use uc_batch::{Op, Write, Writes};
+use uc_batch::Writes;
 use uc_bytes::Bytes;
 use uc_oper::{Append, Counter, Maximum, Operator};
 use uc_query::{Answer, Query, answer_writes};
 use uc_tests_formats::lines::{field, op_line};
 use uc_tool::Done;
+use uc_write::{Op, Write};
 
 /// A linear congruential generator, with the constants of Knuth's MMIX.
 #[derive(Drop)]

@@ -7,8 +7,9 @@ ghost use Rattle.uc_tool.specs.Opening.{batch_texts, FitsLog};
 
 use std::alloc::{AllocError, Global};
 use std::slice;
-use uc_batch::{Mode, Op, ReadError, Writes, read_writes, write_batch, written_batch_is_read};
+use uc_batch::{Mode, ReadError, Writes, read_writes, write_batch, written_batch_is_read};
 use uc_logrec::{LogWriter, written_log_is_read};
+use uc_write::Op;
 
 /// Writes the operations as a log, a batch for each, numbered from 1.
 fn write_log(alloc: Global, ops: &[Op]) -> Result<Vec<u8>, AllocError>
