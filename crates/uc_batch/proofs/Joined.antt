@@ -1,27 +1,12 @@
 -- Reading a log's batches one after the other, as a loop does.
-use Rattle.std.proofs.Common.{◌≡◌, ◌≢◌, ℕ, List, [], ◌++◌, Result, Err, refl, ap, sym, ◌∙◌, subst, append_assoc}
+use Rattle.std.proofs.Common.{◌≡◌, ℕ, List, [], ◌++◌, ap, sym, ◌∙◌, subst, append_assoc}
 use Rattle.std.proofs.lemmas.List.{append-nil}
 use Rattle.uc_write.specs.declared.write.Write.{Write}
-use Rattle.uc_batch.specs.declared.error.BatchError.{BatchError}
-use Rattle.uc_batch.specs.declared.error.BatchError.TheVariants as faults
 use Rattle.uc_batch.specs.declared.ended.Ended.{Ended}
-use Rattle.uc_batch.specs.Reads.{Fails}
 use Rattle.uc_batch.specs.Rising.{IsRising, last_of}
 use Rattle.uc_batch.specs.WriteLog.{WriteLog}
 use Rattle.uc_batch.specs.Position.{BatchPosition, BatchComesFirst, with_batch, nothing_ahead}
 use Rattle.uc_batch.proofs.Rises.{rising-append, last_of-append}
-
--- an error that isn't want of memory is the fault that stands there
-pub fault_is : {Y : Type 0} (e : BatchError) (r : Result Y BatchError) → e ≢ faults.Memory → Fails e r → r ≡ Err e
-fault_is faults.Memory r other f = absurd (other refl)
-fault_is faults.TooShort r other f = f
-fault_is (faults.SequenceBack a) r other f = f
-fault_is faults.SequenceTooLarge r other f = f
-fault_is (faults.BadTag a b) r other f = f
-fault_is (faults.Cut a) r other f = f
-fault_is (faults.BadVarint a) r other f = f
-fault_is (faults.OtherFamily a) r other f = f
-fault_is faults.WrongCount r other f = f
 
 -- So far these writes were read, and the others are ahead.
 pub record JoinsOn (all : WriteLog) (position : BatchPosition) (writes : List Write) : Type 0 where

@@ -30,7 +30,7 @@ pub use laws::{refusal_stands_in_batch, written_batch_is_read, written_batch_is_
 pub use log::read_writes;
 pub use mode::Mode;
 pub use read_error::ReadError;
-pub use reading::{last_used, read_batch, read_batch_in_place};
+pub use reading::read_batch;
 pub use uc_write::{Op, Write};
 pub use writes::Writes;
 pub use writing::{fits_batch, write_batch};

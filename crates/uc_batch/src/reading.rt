@@ -3,35 +3,12 @@ ghost use Rattle.std.specs.Prelude.{◌≡◌, ◌++◌, List, IfOk, OnOk, Ok};
 ghost use Rattle.uc_batch.specs.Reads.{Gives};
 ghost use Rattle.uc_batch.specs.Batch.{batch_of};
 ghost use Rattle.uc_batch.specs.Grammar.{Accepts};
-ghost use Rattle.uc_batch.specs.Rising.{last_of};
 ghost use Rattle.uc_write.specs.declared.write.Write.{Write as WriteOf};
 
 use crate::batch_writes::BatchWrites;
 use crate::error::BatchError;
 use std::alloc::{AllocError, Global};
-use uc_write::{Write, WriteRef};
-
-/// Reads a batch as [`read_batch`] does, and gives its writes with their texts as they stand in it: the
-/// only memory that it takes is the list's. See [`BatchWrites`] for one that takes none.
-pub fn read_batch_in_place(
-    alloc: Global,
-    bytes: &[u8],
-    last: u64,
-) -> Result<Vec<WriteRef<'_>>, BatchError>
-    ensures { Gives (λ writes. writes.items) result (batch_of last bytes.now) }
-{
-    Ok(BatchWrites::read(bytes, last)?.collect(alloc)?)
-}
-
-/// The last sequence used after a batch with these writes, where `last` was the last one before it.
-pub fn last_used(batch: &[WriteRef<'_>], last: u64) -> u64
-    ensures { result ≡ last_of last batch.now }
-{
-    match batch.last() {
-        Some(write) => write.seq(),
-        None => last,
-    }
-}
+use uc_write::Write;
 
 /// Adds copies of writes, with their texts.
 pub(crate) fn push_copies(
