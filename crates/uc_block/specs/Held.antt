@@ -1,0 +1,13 @@
+-- How a run holds its contents.
+use Rattle.std.specs.Prelude.{◌≡◌, ℕ, List}
+use Rattle.uc_entry.specs.Run.{Contents, IsRun}
+use Rattle.uc_entry.specs.Size.{size_of}
+use Rattle.uc_block.specs.declared.run.Run.TheInside.{Inside}
+
+abbrev pub contents : Inside → Contents
+contents r = record { low = r.low; high = r.high; points = r.points.items; fragments = r.fragments.items }
+
+-- they make a run, and its size is counted
+pub record IsHeld (r : Inside) : Type 0 where
+  pub is_run : IsRun r.low r.high r.points.items r.fragments.items
+  pub size_counted : r.size ≡ size_of (contents r)

@@ -1,0 +1,10 @@
+//! Runs: immutable tables of points and range deletions, sorted by key, in memory.
+//!
+//! A [`Run`] keeps its points in blocks of 16 in order of key. A contract sees it as its contents (`uc_entry`'s
+//! `specs/Run.antt`): none but those of [`Run::blocks`] and [`Run::fence`] speaks of blocks. Read `run.rt` first.
+#![tactic(auto)]
+
+mod run;
+mod size;
+
+pub use run::Run;
