@@ -1,3 +1,4 @@
+//! The checksum beside the division, and vectors of RFC 3720.
 use super::*;
 use std::test::*;
 

@@ -11,9 +11,7 @@ ghost use Rattle.uc_entry.specs.Run.{IsWithin, IsWhole, IsApart, IsRun};
 use crate::entry::Entry;
 use crate::fragment::Fragment;
 use std::cmp::Ordering;
-
-/// Above every sequence number (RocksDB, `dbformat.h`, `kMaxSequenceNumber`).
-const SEQUENCE_LIMIT: u64 = 1 << 56;
+use uc_write::MAX_SEQUENCE;
 
 /// Whether a sequence lies in a range of sequences.
 fn is_within(low: u64, high: u64, seq: u64) -> bool
@@ -192,7 +190,7 @@ pub fn is_run(low: u64, high: u64, points: &[Entry], fragments: &[Fragment]) -> 
 {
     1 <= low
         && low <= high
-        && high < SEQUENCE_LIMIT
+        && high <= MAX_SEQUENCE
         && are_in_order(fragments)
         && are_whole(low, high, fragments)
         && are_sorted(points)
