@@ -1,5 +1,9 @@
 //! [`OperatorName`]: which operator merges, as the command line names it.
 
+ghost use Rattle.std.specs.Prelude.{◌≡◌, map};
+ghost use Rattle.ucstore.specs.OperatorName as names;
+ghost use Rattle.ucstore.specs.OperatorName.{operators, word_of};
+
 /// A merge operator that the command line can name.
 ///
 /// What the parser lets through, and what the program runs, both come from here: a name that isn't in
@@ -23,7 +27,9 @@ impl OperatorName {
     ];
 
     /// The word for it.
-    fn word(self) -> &'static str {
+    fn word(self) -> &'static str
+        ensures { result.now ≡ word_of self }
+    {
         match self {
             OperatorName::Counter => "counter",
             OperatorName::Append => "append",
@@ -32,14 +38,19 @@ impl OperatorName {
     }
 
     /// The words for all of them.
-    pub fn words() -> [&'static str; 3] {
+    pub fn words() -> [&'static str; 3]
+        ensures { map (λ word. word.now) result ≡ map word_of operators }
+    {
         OperatorName::ALL.map(OperatorName::word)
     }
 
     /// The operator that a word names.
-    pub fn named(word: &str) -> Option<OperatorName> {
+    pub fn named(word: &str) -> Option<OperatorName>
+        ensures { result ≡ names.named word.now }
+    {
         OperatorName::ALL
-            .into_iter()
+            .iter()
+            .copied()
             .find(|name| name.word() == word)
     }
 }

@@ -1,6 +1,7 @@
 //! [`Refusal`]: why the program runs nothing.
 
 ghost use Rattle.std.specs.Prelude.{◌≡◌};
+ghost use Rattle.ucstore.specs.Refusal.{done_of};
 ghost use Rattle.ucstore.specs.declared.refusal.Refusal.TheVariants.{Memory};
 
 use std::alloc::AllocError;
@@ -28,7 +29,9 @@ impl From<AllocError> for Refusal {
 
 impl Refusal {
     /// How the program ends for it.
-    pub fn done(self) -> Done {
+    pub fn done(self) -> Done
+        ensures { result ≡ done_of self }
+    {
         match self {
             Refusal::NotText => Done::Refused,
             Refusal::Memory => Done::NoMemory,
