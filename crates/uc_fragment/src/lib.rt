@@ -1,10 +1,15 @@
-//! Range deletions cut into fragments, which don't overlap.
+//! Range deletions cut into fragments, which don't overlap: what they are.
 //!
 //! Ranges overlap as they were written. A lookup wants the ones over a key at once, so they are cut at all their
 //! ends into pieces, each with the sequences of the ranges over it (RocksDB's fragmented range tombstones).
-//! Read `specs/Cutting.antt` first.
+//! `specs/Cutting.antt` defines them, and `laws.rt` says what holds of them. The function that cuts is to come.
 #![tactic(auto)]
 
+mod laws;
 mod range;
 
+pub use laws::fragments_are_in_order;
 pub use range::Range;
+
+#[cfg(test)]
+mod tests;

@@ -1,0 +1,15 @@
+//! The law and the constructor, called.
+use super::*;
+use std::test::Fail;
+
+#[test]
+fn a_range_and_the_law(rt: HostRuntime) -> Result<(), Fail> {
+    let range = Range::new(b"a", b"c", 5);
+    assert!(rt;
+        format!(in rt.alloc(); "{range:?}")?
+            .as_str()
+            .contains("seq: 5")
+    );
+    fragments_are_in_order();
+    Ok(())
+}
