@@ -1,19 +1,20 @@
 //! [`Options`]: how a store is opened and compacted.
 
-/// How a store is opened and compacted (RocksDB wiki, "Universal Compaction").
+/// How a store is opened and compacted, with RocksDB's name for each option (RocksDB wiki, "Universal Compaction").
 #[derive(Clone, Copy, Debug, PartialEq, Eq)]
 pub struct Options {
-    /// At how many bytes a memtable is flushed, from 1 on.
+    /// At how many bytes a memtable is flushed, from 1 on (`write_buffer_size`).
     pub memtable: u64,
-    /// From how many runs on something is compacted, from 1 on.
+    /// From how many runs on something is compacted, from 1 on (`level0_file_num_compaction_trigger`).
     pub trigger: u32,
-    /// By how many percent a run may be larger than those above it to be compacted with them.
+    /// By how many percent a run may be larger than those above it to be compacted with them (`size_ratio`).
     pub ratio: u32,
-    /// At how many percent of the oldest run's size the newer ones are compacted with it.
+    /// Above how many percent of the oldest run's size the newer ones together are compacted with it
+    /// (`max_size_amplification_percent`).
     pub percent: u32,
-    /// How many runs a compaction takes at the least, from 2 on.
+    /// How many runs a compaction takes at the least, from 2 on (`min_merge_width`).
     pub least: u32,
-    /// How many runs a compaction takes at the most.
+    /// How many runs a compaction takes at the most (`max_merge_width`).
     pub greatest: u32,
     /// The number of the first run, from 1 to 2^64 - 65.
     pub first_id: u64,
