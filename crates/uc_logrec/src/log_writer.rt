@@ -63,12 +63,12 @@ impl LogWriter {
 
 /// Writes a record at the end.
 #[tactic(auto, using(std::proofs::lemmas::List::append_assoc), unfolding(crate::specs::Format::record_text))]
-fn push_record(text: &mut Vec<u8>, record: Record<'_>) -> Result<(), AllocError>
-    requires { length record.fragment.now < 2 ^ 16 }
-    ensures ok { OnOk result (text.new.items ≡ text.old.items ++ record_text record.entry.kind record.entry.fragment.now) }
+fn push_record(text: &mut Vec<u8>, part: Record<'_>) -> Result<(), AllocError>
+    requires { length part.fragment.now < 2 ^ 16 }
+    ensures ok { OnOk result (text.new.items ≡ text.old.items ++ record_text part.entry.kind part.entry.fragment.now) }
     ensures kept { Extends text.old.items text.new.items }
 {
-    let Record { kind, fragment } = record;
+    let Record { kind, fragment } = part;
     text.extend_from_slice(&checksum_of(kind.code(), fragment).to_le_bytes())?;
     text.extend_from_slice(&(fragment.len() as u16).to_le_bytes())?;
     text.push(kind.code())?;

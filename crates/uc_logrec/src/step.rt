@@ -36,30 +36,30 @@ pub(crate) fn step_at(
     unfinished: Option<Unfinished>,
     joined: &mut Vec<u8>,
     offset: u64,
-    record: Record<'_>,
+    found: Record<'_>,
 ) -> Result<Step, AllocError>
-    ensures { IfOk result (λ step. step_with_data step joined.new.items record.entry.fragment.now ≡
-        log.step_at (open_in unfinished joined.old.items) offset record.entry.kind record.entry.fragment.now) }
+    ensures { IfOk result (λ step. step_with_data step joined.new.items found.entry.fragment.now ≡
+        log.step_at (open_in unfinished joined.old.items) offset found.entry.kind found.entry.fragment.now) }
 {
     match unfinished {
-        None => step_outside(joined, offset, record),
-        Some(unfinished) => step_inside(unfinished, joined, offset, record),
+        None => step_outside(joined, offset, found),
+        Some(unfinished) => step_inside(unfinished, joined, offset, found),
     }
 }
 
 /// What a record does where no payload is open.
-fn step_outside(joined: &mut Vec<u8>, offset: u64, record: Record<'_>) -> Result<Step, AllocError>
-    ensures { IfOk result (λ step. step_with_data step joined.new.items record.entry.fragment.now ≡
-        log.step_outside offset record.entry.kind record.entry.fragment.now) }
+fn step_outside(joined: &mut Vec<u8>, offset: u64, found: Record<'_>) -> Result<Step, AllocError>
+    ensures { IfOk result (λ step. step_with_data step joined.new.items found.entry.fragment.now ≡
+        log.step_outside offset found.entry.kind found.entry.fragment.now) }
 {
-    match record.kind {
+    match found.kind {
         Kind::Full => Ok(Step::Whole),
         Kind::First => {
             joined.clear();
-            joined.extend_from_slice(record.fragment)?;
+            joined.extend_from_slice(found.fragment)?;
             Ok(Step::Open(Unfinished {
                 start: offset,
-                is_empty_first: record.fragment.is_empty(),
+                is_empty_first: found.fragment.is_empty(),
             }))
         }
         Kind::Middle => Ok(Step::Refused(LogFault::MiddleAlone)),
@@ -72,26 +72,26 @@ fn step_inside(
     unfinished: Unfinished,
     joined: &mut Vec<u8>,
     offset: u64,
-    record: Record<'_>,
+    found: Record<'_>,
 ) -> Result<Step, AllocError>
-    ensures { IfOk result (λ step. step_with_data step joined.new.items record.entry.fragment.now ≡
-        log.step_inside (fragments_of unfinished joined.old.items) offset record.entry.kind record.entry.fragment.now) }
+    ensures { IfOk result (λ step. step_with_data step joined.new.items found.entry.fragment.now ≡
+        log.step_inside (fragments_of unfinished joined.old.items) offset found.entry.kind found.entry.fragment.now) }
 {
-    match record.kind {
+    match found.kind {
         Kind::Full | Kind::First if unfinished.is_empty_first => {
-            step_outside(joined, offset, record)
+            step_outside(joined, offset, found)
         }
         Kind::Full => Ok(Step::Refused(LogFault::FullInside)),
         Kind::First => Ok(Step::Refused(LogFault::FirstInside)),
         Kind::Middle => {
-            joined.extend_from_slice(record.fragment)?;
+            joined.extend_from_slice(found.fragment)?;
             Ok(Step::Open(Unfinished {
                 start: unfinished.start,
                 is_empty_first: false,
             }))
         }
         Kind::Last => {
-            joined.extend_from_slice(record.fragment)?;
+            joined.extend_from_slice(found.fragment)?;
             Ok(Step::Joined)
         }
     }
