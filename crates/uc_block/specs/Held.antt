@@ -1,5 +1,5 @@
 -- How a run holds its contents.
-use Rattle.std.specs.Prelude.{◌≡◌, ℕ, List}
+use Rattle.std.specs.Prelude.{◌≡◌}
 use Rattle.uc_entry.specs.Run.{Contents, IsRun}
 use Rattle.uc_entry.specs.Size.{size_of}
 use Rattle.uc_block.specs.declared.run.Run.TheInside.{Inside}

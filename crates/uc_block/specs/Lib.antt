@@ -1,2 +1,4 @@
 pub mod Held
 pub mod Blocks
+pub mod Places
+pub mod Overwriting

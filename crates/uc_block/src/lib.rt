@@ -4,6 +4,8 @@
 //! `specs/Run.antt`): none but those of [`Run::blocks`] and [`Run::fence`] speaks of blocks. Read `run.rt` first.
 #![tactic(auto)]
 
+mod lookup;
+mod places;
 mod run;
 mod size;
 

@@ -3,12 +3,21 @@ ghost use Rattle.std.specs.Prelude.{◌≡◌, ℕ, length, IfOk, option_map, op
 ghost use Rattle.std.specs.List.{slice_get};
 ghost use Rattle.uc_entry.specs.Run.{Contents, IsRun};
 ghost use Rattle.uc_entry.specs.Size as size;
+ghost use Rattle.uc_entry.specs.Seek as seek;
+ghost use Rattle.uc_entry.specs.PlainList.{plain_list};
+ghost use Rattle.uc_model.specs.Meaning.{effect_on};
 ghost use Rattle.uc_block.specs.Blocks.{blocks_of, fence_of};
 
+use crate::lookup::effect_found;
+use crate::places::seek_place;
 use crate::size::size_of;
 use std::alloc::{AllocError, Global};
 use std::marker::Model;
-use uc_entry::{Entry, Fragment, What};
+use uc_entry::{Entry, Fragment, What, plain_list_does_what_is_found};
+use uc_oper::{Effect, Operator};
+
+/// How many points a block has, but the last one, which may have fewer.
+const BLOCK_POINTS: usize = 16;
 
 /// An immutable sorted table (LevelDB `table_format.md`, in memory): points in order of key, fragments of range
 /// deletions, and the range of their sequences. A contract sees it as these.
@@ -81,6 +90,50 @@ impl Run {
         ensures { result.now ≡ self.now.fragments }
     {
         &self.fragments
+    }
+
+    /// The point at a place in the order of key, the newest of a key first: its key, its sequence, and what it says.
+    pub fn point(&self, place: u64) -> Option<(&[u8], u64, &What)>
+        ensures { option_map (λ p. record { key = p.0.now; seq = p.1; what = p.2.now }) result ≡ slice_get self.now.points place }
+    {
+        let point = self.points.get(usize::try_from(place).ok()?)?;
+        Some((point.key.as_slice(), point.seq, &point.what))
+    }
+
+    /// How many blocks its points fill.
+    pub fn blocks(&self) -> u64
+        ensures { result ≡ blocks_of self.now.points }
+    {
+        self.points.len().div_ceil(BLOCK_POINTS) as u64
+    }
+
+    /// The place of the first point whose key is at or above `low` or, where strict, above it: how many stand before.
+    pub fn seek(&self, low: &[u8], strict: bool) -> u64
+        ensures { result ≡ seek.seek_place self.now.points low.now strict }
+    {
+        seek_place(&self.points, low, strict) as u64
+    }
+
+    /// The least key of a point that is at or above `low` or, where strict, above it.
+    pub fn next_key(&self, low: &[u8], strict: bool) -> Option<&[u8]>
+        ensures { option_map (λ key. key.now) result ≡ option_map (λ p. p.key) (slice_get self.now.points (seek.seek_place self.now.points low.now strict)) }
+    {
+        let point = self.points.get(seek_place(&self.points, low, strict))?;
+        Some(point.key.as_slice())
+    }
+
+    /// What the run's writes at or below a sequence together do to a key. It costs the logarithms of the numbers of
+    /// points and fragments and, from the key's last put or delete on, its points. It fails only for want of memory.
+    pub fn effect<O: Operator>(
+        &self,
+        alloc: Global,
+        key: &[u8],
+        at: u64,
+    ) -> Result<Effect, AllocError>
+        ensures { IfOk result (λ effect. effect ≡ effect_on O.meaning (plain_list self.now) key.now at) }
+    {
+        plain_list_does_what_is_found::<O>();
+        effect_found::<O>(alloc, &self.points, &self.fragments, key, at)
     }
 
     /// How many bytes its points and fragments have, with 8 for each sequence, held at 2^64 - 1.

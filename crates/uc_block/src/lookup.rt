@@ -1,0 +1,95 @@
+//! What a lookup of a key finds among points and fragments.
+ghost use Rattle.std.specs.Prelude.{◌≡◌, ℕ, filter, IfOk, nat_le};
+ghost use Rattle.std.specs.List.{AllByRecursion, flat_map, slice_get};
+ghost use Rattle.std.specs.List.Sorted.{IsStrictlySortedBy};
+ghost use Rattle.uc_oper.specs.Operation.{Operation};
+ghost use Rattle.uc_oper.specs.Composition.{composed};
+ghost use Rattle.uc_oper.specs.declared.effect.Effect.{Effect as EffectOf};
+ghost use Rattle.uc_entry.specs.Order.{entry_cmp, IsFalling, AreInOrder};
+ghost use Rattle.uc_entry.specs.Run.{covers};
+ghost use Rattle.uc_entry.specs.Lookup as lookup;
+ghost use Rattle.uc_block.specs.Overwriting as overwriting;
+
+use crate::places::{greatest_at, newer_than, points_on};
+use std::alloc::{AllocError, Global};
+use uc_entry::{Entry, Fragment, What, covering_fragment};
+use uc_oper::{Effect, Operator};
+
+/// Whether a point overwrites what is older.
+fn overwrites(point: &Entry) -> bool
+    ensures { result ≡ overwriting.overwrites point.now }
+{
+    match point.what {
+        What::Put(_) | What::Delete => true,
+        What::Merge(_) => false,
+    }
+}
+
+/// The points, the newest first, but those that a newer one overwrites.
+fn lasting(points: &[Entry]) -> &[Entry]
+    ensures { (m : Operation) (before : EffectOf) → lookup.points_effect m before result.now ≡ lookup.points_effect m before points.now }
+{
+    match points.iter().position(overwrites) {
+        None => points,
+        Some(place) => &points[..place + 1],
+    }
+}
+
+/// An effect, and then a point. Its operand is written into the effect's text, and only a text that is kept
+/// is copied. Want of memory loses the effect.
+fn changed_by<O: Operator>(alloc: Global, effect: Effect, what: &What) -> Result<Effect, AllocError>
+    ensures { IfOk result (λ both. both ≡ composed O.meaning effect (lookup.what_effect what.now)) }
+{
+    match what {
+        What::Put(value) => Ok(Effect::Set(Some(value.clone()?))),
+        What::Delete => Ok(Effect::Set(None)),
+        What::Merge(operand) => effect.folded::<O>(alloc, operand.as_slice()),
+    }
+}
+
+/// What points of one key, the newest first, do in turn to what an effect before them leaves. Want of memory
+/// loses that effect.
+fn points_effect<O: Operator>(
+    alloc: Global,
+    before: Effect,
+    points: &[Entry],
+) -> Result<Effect, AllocError>
+    ensures { IfOk result (λ effect. effect ≡ lookup.points_effect O.meaning before points.now) }
+{
+    let points = lasting(points);
+    let mut effect = before;
+    for place in (0..points.len()).rev() {
+        effect = changed_by::<O>(alloc, effect, &points[place].what)?;
+    }
+    Ok(effect)
+}
+
+/// The sequence of the newest range deletion over the key at or below the sequence.
+fn newest_over(fragments: &[Fragment], key: &[u8], at: u64) -> Option<u64>
+    requires order { AreInOrder fragments.now }
+    requires falling { AllByRecursion (λ f. IsFalling f.seqs) fragments.now }
+    ensures { result ≡ slice_get (filter (λ seq. nat_le seq at) (flat_map (λ f. f.seqs) (filter (λ f. covers f key.now) fragments.now))) 0 }
+{
+    let fragment = covering_fragment(fragments, key)?;
+    greatest_at(fragment.seqs.as_slice(), at)
+}
+
+/// What a lookup of the key at the sequence finds.
+pub(crate) fn effect_found<O: Operator>(
+    alloc: Global,
+    points: &[Entry],
+    fragments: &[Fragment],
+    key: &[u8],
+    at: u64,
+) -> Result<Effect, AllocError>
+    requires sorted { IsStrictlySortedBy entry_cmp points.now }
+    requires order { AreInOrder fragments.now }
+    requires falling { AllByRecursion (λ f. IsFalling f.seqs) fragments.now }
+    ensures { IfOk result (λ effect. effect ≡ lookup.effect_found O.meaning (record { low = 0; high = 0; points = points.now; fragments = fragments.now }) key.now at) }
+{
+    let on = points_on(points, key, at);
+    match newest_over(fragments, key, at) {
+        None => points_effect::<O>(alloc, Effect::Keep, on),
+        Some(newest) => points_effect::<O>(alloc, Effect::Set(None), newer_than(on, newest)),
+    }
+}

@@ -1,0 +1,74 @@
+//! Places among points and sequences, by binary search.
+ghost use Rattle.std.specs.Prelude.{◌≡◌, ◌≤◌, true, false, length, filter, nat_le, nat_lt};
+ghost use Rattle.std.specs.List.{slice_get};
+ghost use Rattle.std.specs.List.Sorted.{IsStrictlySortedBy, IsPartitionPoint};
+ghost use Rattle.uc_entry.specs.Order.{entry_cmp, IsFalling};
+ghost use Rattle.uc_entry.specs.Seek as seek;
+ghost use Rattle.uc_entry.specs.Lookup as lookup;
+ghost use Rattle.uc_block.specs.Places as places;
+ghost use Rattle.uc_block.specs.Places.{PointsFall};
+
+use std::cmp::Ordering;
+use uc_entry::Entry;
+
+/// Whether who looks for the keys from `low` on or, where strict, behind `low`, passes over a key.
+fn is_passed(low: &[u8], strict: bool, key: &[u8]) -> bool
+    ensures { result ≡ seek.is_passed low.now strict key.now }
+{
+    match key.cmp(&low) {
+        Ordering::Less => true,
+        Ordering::Equal => strict,
+        Ordering::Greater => false,
+    }
+}
+
+/// How many points are passed over.
+pub(crate) fn seek_place(points: &[Entry], low: &[u8], strict: bool) -> usize
+    requires { IsStrictlySortedBy entry_cmp points.now }
+    ensures bound { result ≤ length points.now }
+    ensures place { IsPartitionPoint (λ p. seek.is_passed low.now strict p.key ≡ true)
+        (λ p. seek.is_passed low.now strict p.key ≡ false) points.now result }
+    ensures count { result ≡ seek.seek_place points.now low.now strict }
+{
+    points.partition_point(|point| is_passed(low, strict, point.key.as_slice()))
+}
+
+/// Whether a point stands before those of the key at or below the sequence.
+fn is_newer(point: &Entry, key: &[u8], at: u64) -> bool
+    ensures { result ≡ places.is_newer key.now at point.now }
+{
+    match point.key.as_slice().cmp(&key) {
+        Ordering::Less => true,
+        Ordering::Equal => at < point.seq,
+        Ordering::Greater => false,
+    }
+}
+
+/// The points of the key at or below the sequence, the newest first.
+pub(crate) fn points_on<'a>(points: &'a [Entry], key: &[u8], at: u64) -> &'a [Entry]
+    requires { IsStrictlySortedBy entry_cmp points.now }
+    ensures points { result.now ≡ filter (lookup.is_visible key.now at) points.now }
+    ensures fall { PointsFall result.now }
+{
+    let end = seek_place(points, key, true);
+    let begin = points.partition_point(|point| is_newer(point, key, at));
+    &points[begin..end]
+}
+
+/// Those of a key's points that are newer than a sequence.
+pub(crate) fn newer_than<'a>(points: &'a [Entry], seq: u64) -> &'a [Entry]
+    requires { PointsFall points.now }
+    ensures { result.now ≡ filter (λ p. nat_lt seq p.seq) points.now }
+{
+    let count = points.partition_point(|point| seq < point.seq);
+    &points[..count]
+}
+
+/// The greatest of falling sequences at or below a sequence.
+pub(crate) fn greatest_at(seqs: &[u64], at: u64) -> Option<u64>
+    requires { IsFalling seqs.now }
+    ensures { result ≡ slice_get (filter (λ seq. nat_le seq at) seqs.now) 0 }
+{
+    let newer = seqs.partition_point(|seq| at < *seq);
+    seqs[newer..].first().copied()
+}
