@@ -1,3 +1,2 @@
 pub mod Sets
 pub mod Pieces
-pub mod Over
