@@ -1,3 +1,4 @@
 pub mod Sets
 pub mod Pieces
 pub mod Over
+pub mod Seqs

@@ -1,7 +1,7 @@
 -- The sequences over a key: those of the fragments that cover it, and those of the ranges that do.
-use Rattle.std.proofs.Common.{◌≡◌, ℕ, Bool, true, false, cond, ltb, List, [], ◌∷◌, ◌++◌, length, map, filter, ◌⊎◌, inl, inr, refl, sym, ap, ◌∙◌, subst}
+use Rattle.std.proofs.Common.{◌≡◌, ℕ, Bool, true, false, cond, List, [], ◌∷◌, filter, ◌⊎◌, inl, inr, refl, sym, ap, ◌∙◌}
 use Rattle.std.specs.Prelude.{◌&&◌}
-use Rattle.std.specs.List.{AllByRecursion, flat_map}
+use Rattle.std.specs.List.{AllByRecursion}
 use Rattle.std.specs.List.Sorted.{IsStrictlySortedBy}
 use Rattle.std.specs.declared.cmp.Ordering.{Ordering}
 use Rattle.std.specs.declared.cmp.Ordering.TheVariants.{Less, Equal, Greater}
@@ -11,18 +11,18 @@ use Rattle.std.proofs.lemmas.Cmp.{nat_list_cmp_total, tied_itself}
 use Rattle.std.specs.BTreeMap.Comparable.{le_lt_trans}
 use Rattle.std.proofs.lemmas.Map.Lookups.{exact_bytes}
 use Rattle.uc_bytes.specs.Bytes.{bytes_cmp}
-use Rattle.uc_fragment.specs.Cutting.{RangeOf, Piece, has_keys, range_covers, spans, cut_points, pieces}
+use Rattle.uc_fragment.specs.Cutting.{Piece, pieces}
 
 module _ (key : List ℕ) where
   -- the key stands in a piece
-  abbrev is_in : Piece → Bool
+  abbrev pub is_in : Piece → Bool
   is_in p = is_le (bytes_cmp p.0 key) && is_lt (bytes_cmp key p.1)
 
   -- a cut is at or before the key, or behind it
-  abbrev IsAtOrBefore : List ℕ → Type 0
+  abbrev pub IsAtOrBefore : List ℕ → Type 0
   IsAtOrBefore c = is_le (bytes_cmp c key) ≡ true
 
-  abbrev IsBehind : List ℕ → Type 0
+  abbrev pub IsBehind : List ℕ → Type 0
   IsBehind c = is_lt (bytes_cmp key c) ≡ true
 
   -- The piece that a key stands in: no cut lies between its ends.
@@ -36,7 +36,7 @@ module _ (key : List ℕ) where
 
   -- ---- the order of texts
 
-  lt_of : (x y : List ℕ) → is_lt (bytes_cmp x y) ≡ true → bytes_cmp x y ≡ Less
+  pub lt_of : (x y : List ℕ) → is_lt (bytes_cmp x y) ≡ true → bytes_cmp x y ≡ Less
   lt_of x y e = by (bytes_cmp x y) e
     where
       by : (o : Ordering) → is_lt o ≡ true → o ≡ Less
@@ -47,16 +47,16 @@ module _ (key : List ℕ) where
   no_less_itself : (x : List ℕ) → bytes_cmp x x ≡ Less → ⊥
   no_less_itself x e = let t = tied_itself nat_list_cmp_total x in cc
 
-  le_lt : (x y z : List ℕ) → is_le (bytes_cmp x y) ≡ true → bytes_cmp y z ≡ Less → bytes_cmp x z ≡ Less
+  pub le_lt : (x y z : List ℕ) → is_le (bytes_cmp x y) ≡ true → bytes_cmp y z ≡ Less → bytes_cmp x z ≡ Less
   le_lt x y z le lt = le_lt_trans nat_list_cmp_total x y z le lt
 
-  lt_le : (x y z : List ℕ) → bytes_cmp x y ≡ Less → (o : Ordering) → bytes_cmp y z ≡ o → is_le o ≡ true → bytes_cmp x z ≡ Less
+  pub lt_le : (x y z : List ℕ) → bytes_cmp x y ≡ Less → (o : Ordering) → bytes_cmp y z ≡ o → is_le o ≡ true → bytes_cmp x z ≡ Less
   lt_le x y z lt Less e le = nat_list_cmp_total.trans x y z lt e
   lt_le x y z lt Equal e le = sym (ap (λ (w : List ℕ). bytes_cmp x w) (exact_bytes y z e)) ∙ lt
   lt_le x y z lt Greater e le = absurd (false≢true le)
 
   -- a cut isn't on both sides of the key
-  one_side : (c : List ℕ) → IsAtOrBefore c → IsBehind c → ⊥
+  pub one_side : (c : List ℕ) → IsAtOrBefore c → IsBehind c → ⊥
   one_side c at behind = no_less_itself key (lt_le key c key (lt_of key c behind) (bytes_cmp c key) refl at)
 
   -- and it is on one

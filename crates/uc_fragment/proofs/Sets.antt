@@ -1,5 +1,5 @@
 -- Keys that are inserted one after the other, each once.
-use Rattle.std.proofs.Common.{◌≡◌, List, [], ◌∷◌, fold, refl, ap, ◌∙◌}
+use Rattle.std.proofs.Common.{◌≡◌, List, [], ◌∷◌, fold, refl, sym, ap, ◌∙◌, subst}
 use Rattle.std.specs.List.{AllByRecursion}
 use Rattle.std.specs.List.Sorted.{IsStrictlySortedBy}
 use Rattle.std.specs.declared.cmp.Ordering.{Ordering}
@@ -40,3 +40,24 @@ module _ {K : Type 0} (cmp : K → K → Ordering) (total : IsTotalOrder cmp) wh
   pub sorted_set : (ks : List K) → IsStrictlySortedBy cmp (fold (insert_key cmp) [] ks)
   unfolding IsStrictlySortedBy
   sorted_set ks = sorted-fold ks [] tt
+
+-- what holds of all that came of insertions holds of what was inserted
+module _ {K : Type 0} (cmp : K → K → Ordering) (exact : (x y : K) → cmp x y ≡ Equal → x ≡ y) where
+  back_placed : (P : K → Type 0) (k x : K) (xs others : List K) (o : Ordering) → cmp k x ≡ o → AllByRecursion P (match_ordering o (k ∷ x ∷ xs) (x ∷ xs) (x ∷ others)) → (AllByRecursion P others → P k × AllByRecursion P xs) → P k × AllByRecursion P (x ∷ xs)
+  back_placed P k x xs others Less e h rest = (h.0, h.1)
+  back_placed P k x xs others Equal e h rest = (subst P (sym (exact k x e)) h.0, h)
+  back_placed P k x xs others Greater e h rest = ((rest h.1).0, (h.0, (rest h.1).1))
+
+  back_inserted : (P : K → Type 0) (k : K) (xs : List K) → AllByRecursion P (insert_key cmp xs k) → P k × AllByRecursion P xs
+  back_inserted P k [] h = (h.0, tt)
+  back_inserted P k (x ∷ xs) h = back_placed P k x xs (insert_key cmp xs k) (cmp k x) refl h (back_inserted P k xs)
+
+  back_fold : (P : K → Type 0) (ks acc : List K) → AllByRecursion P (fold (insert_key cmp) acc ks) → AllByRecursion P acc × AllByRecursion P ks
+  back_fold P [] acc h = (h, tt)
+  back_fold P (k ∷ ks) acc h =
+      let rest : AllByRecursion P (insert_key cmp acc k) × AllByRecursion P ks = back_fold P ks (insert_key cmp acc k) h in
+      let here : P k × AllByRecursion P acc = back_inserted P k acc rest.0 in
+      (here.1, (here.0, rest.1))
+
+  pub all_back : (P : K → Type 0) (ks : List K) → AllByRecursion P (fold (insert_key cmp) [] ks) → AllByRecursion P ks
+  all_back P ks h = (back_fold P ks [] h).1

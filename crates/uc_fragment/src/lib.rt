@@ -8,7 +8,7 @@
 mod laws;
 mod range;
 
-pub use laws::fragments_are_in_order;
+pub use laws::{fragments_are_in_order, fragments_cover_what_ranges_cover};
 pub use range::Range;
 
 #[cfg(test)]
