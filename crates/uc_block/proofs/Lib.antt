@@ -1,3 +1,4 @@
 pub mod Cuts
 pub mod Order
 pub mod Effects
+pub mod Fenced

@@ -1,4 +1,5 @@
 pub mod Held
 pub mod Blocks
+pub mod Fences
 pub mod Places
 pub mod Overwriting

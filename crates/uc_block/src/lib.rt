@@ -4,6 +4,7 @@
 //! `specs/Run.antt`): none but those of [`Run::blocks`] and [`Run::fence`] speaks of blocks. Read `run.rt` first.
 #![tactic(auto)]
 
+mod fences;
 mod lookup;
 mod places;
 mod run;

@@ -12,7 +12,7 @@ use std::cmp::Ordering;
 use uc_entry::Entry;
 
 /// Whether who looks for the keys from `low` on or, where strict, behind `low`, passes over a key.
-fn is_passed(low: &[u8], strict: bool, key: &[u8]) -> bool
+pub(crate) fn is_passed(low: &[u8], strict: bool, key: &[u8]) -> bool
     ensures { result ≡ seek.is_passed low.now strict key.now }
 {
     match key.cmp(&low) {

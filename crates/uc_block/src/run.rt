@@ -8,16 +8,14 @@ ghost use Rattle.uc_entry.specs.PlainList.{plain_list};
 ghost use Rattle.uc_model.specs.Meaning.{effect_on};
 ghost use Rattle.uc_block.specs.Blocks.{blocks_of, fence_of};
 
+use crate::fences::{fences_of, seek_by_fences};
 use crate::lookup::effect_found;
-use crate::places::seek_place;
 use crate::size::size_of;
 use std::alloc::{AllocError, Global};
 use std::marker::Model;
+use uc_bytes::Bytes;
 use uc_entry::{Entry, Fragment, What, plain_list_does_what_is_found};
 use uc_oper::{Effect, Operator};
-
-/// How many points a block has, but the last one, which may have fewer.
-const BLOCK_POINTS: usize = 16;
 
 /// An immutable sorted table (LevelDB `table_format.md`, in memory): points in order of key, fragments of range
 /// deletions, and the range of their sequences. A contract sees it as these.
@@ -26,6 +24,8 @@ pub struct Run {
     low: u64,
     high: u64,
     points: Vec<Entry>,
+    /// The key of the first point of each block, apart from the points, so that few lines of memory are looked at.
+    fences: Vec<Bytes>,
     fragments: Vec<Fragment>,
     size: u64,
 }
@@ -55,10 +55,12 @@ impl Run {
         ensures { IfOk result (λ run. run ≡ record { low = low; high = high; points = points.items; fragments = fragments.items }) }
     {
         let size = size_of(&points, &fragments);
+        let fences = fences_of(alloc, &points)?;
         Ok(Run {
             low,
             high,
             points,
+            fences,
             fragments,
             size,
         })
@@ -104,21 +106,31 @@ impl Run {
     pub fn blocks(&self) -> u64
         ensures { result ≡ blocks_of self.now.points }
     {
-        self.points.len().div_ceil(BLOCK_POINTS) as u64
+        self.fences.len() as u64
+    }
+
+    /// The key of the first point of a block.
+    pub fn fence(&self, block: u64) -> Option<&[u8]>
+        ensures { option_map (λ key. key.now) result ≡ fence_of self.now.points block }
+    {
+        let fence = self.fences.get(usize::try_from(block).ok()?)?;
+        Some(fence.as_slice())
     }
 
     /// The place of the first point whose key is at or above `low` or, where strict, above it: how many stand before.
     pub fn seek(&self, low: &[u8], strict: bool) -> u64
         ensures { result ≡ seek.seek_place self.now.points low.now strict }
     {
-        seek_place(&self.points, low, strict) as u64
+        seek_by_fences(&self.points, &self.fences, low, strict) as u64
     }
 
     /// The least key of a point that is at or above `low` or, where strict, above it.
     pub fn next_key(&self, low: &[u8], strict: bool) -> Option<&[u8]>
         ensures { option_map (λ key. key.now) result ≡ option_map (λ p. p.key) (slice_get self.now.points (seek.seek_place self.now.points low.now strict)) }
     {
-        let point = self.points.get(seek_place(&self.points, low, strict))?;
+        let point = self
+            .points
+            .get(seek_by_fences(&self.points, &self.fences, low, strict))?;
         Some(point.key.as_slice())
     }
 
