@@ -8,6 +8,10 @@ mod fences;
 mod lookup;
 mod places;
 mod run;
+mod same;
 mod size;
 
 pub use run::Run;
+
+#[cfg(test)]
+mod tests;

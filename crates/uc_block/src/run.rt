@@ -1,5 +1,5 @@
 //! [`Run`]: points and range deletions, sorted by key.
-ghost use Rattle.std.specs.Prelude.{◌≡◌, ℕ, length, IfOk, option_map, option_copied};
+ghost use Rattle.std.specs.Prelude.{◌≡◌, ◌↔◌, IsTrue, ℕ, length, IfOk, option_map, option_copied};
 ghost use Rattle.std.specs.List.{slice_get};
 ghost use Rattle.uc_entry.specs.Run.{Contents, IsRun};
 ghost use Rattle.uc_entry.specs.Size as size;
@@ -10,6 +10,7 @@ ghost use Rattle.uc_block.specs.Blocks.{blocks_of, fence_of};
 
 use crate::fences::{fences_of, seek_by_fences};
 use crate::lookup::effect_found;
+use crate::same::{same_fragments, same_points};
 use crate::size::size_of;
 use std::alloc::{AllocError, Global};
 use std::marker::Model;
@@ -146,6 +147,16 @@ impl Run {
     {
         plain_list_does_what_is_found::<O>();
         effect_found::<O>(alloc, &self.points, &self.fragments, key, at)
+    }
+
+    /// Whether the runs have equal points, fragments and ranges.
+    pub fn same(&self, other: &Run) -> bool
+        ensures { IsTrue result ↔ (self.now ≡ other.now) }
+    {
+        self.low == other.low
+            && self.high == other.high
+            && same_points(&self.points, &other.points)
+            && same_fragments(&self.fragments, &other.fragments)
     }
 
     /// How many bytes its points and fragments have, with 8 for each sequence, held at 2^64 - 1.

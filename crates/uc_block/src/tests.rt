@@ -1,0 +1,164 @@
+//! Runs of some sizes, and lookups in them.
+use super::*;
+use std::alloc::Global;
+use std::test::Fail;
+use uc_bytes::{Bytes, Items};
+use uc_entry::{Entry, Fragment, What, is_run};
+use uc_oper::{Append, Effect};
+
+fn bytes(alloc: Global, text: &[u8]) -> Result<Bytes, Fail> {
+    Ok(Bytes::from_slice(alloc, text)?)
+}
+
+/// The run of points and fragments that make one, with sequences from 1 to 40.
+fn built(alloc: Global, points: Vec<Entry>, fragments: Vec<Fragment>) -> Result<Run, Fail> {
+    if is_run(1, 40, &points, &fragments) {
+        Ok(Run::build(alloc, 1, 40, points, fragments)?)
+    } else {
+        Err(Fail::new("no run"))
+    }
+}
+
+/// A run with a put at 1 of each key of one byte below `count`.
+fn puts(alloc: Global, count: u8) -> Result<Run, Fail> {
+    let mut points = Vec::new(alloc);
+    for key in 0..count {
+        points.push(Entry {
+            key: bytes(alloc, &[key])?,
+            seq: 1,
+            what: What::Put(bytes(alloc, &[key])?),
+        })?;
+    }
+    built(alloc, points, Vec::new(alloc))
+}
+
+/// Numbers of points, and how many blocks they fill.
+const BLOCKS: [(u8, u64); 7] = [(0, 0), (1, 1), (15, 1), (16, 1), (17, 2), (32, 2), (33, 3)];
+
+#[test]
+fn points_fill_blocks(rt: HostRuntime) -> Result<(), Fail> {
+    let alloc = rt.alloc();
+    for (count, blocks) in BLOCKS {
+        let run = puts(alloc, count)?;
+        assert_eq!(rt; run.points(), u64::from(count));
+        assert_eq!(rt; run.blocks(), blocks);
+        assert_eq!(rt; run.size(), u64::from(count) * 10);
+        assert_eq!(rt; run.seek(&[255], false), u64::from(count));
+        assert_eq!(rt; run.next_key(&[count], false), None);
+    }
+    Ok(())
+}
+
+/// Blocks, and their fences.
+const FENCES: [(u64, Option<&[u8]>); 4] = [
+    (0, Some(b"\x00")),
+    (1, Some(b"\x10")),
+    (2, Some(b"\x20")),
+    (3, None),
+];
+
+/// Keys, whether they are looked for strictly, their place, and the key there.
+const PLACES: [(&[u8], bool, u64, Option<&[u8]>); 6] = [
+    (b"", false, 0, Some(b"\x00")),
+    (b"\x0f", false, 15, Some(b"\x0f")),
+    (b"\x0f", true, 16, Some(b"\x10")),
+    (b"\x10", true, 17, Some(b"\x11")),
+    (b"\x20", true, 33, None),
+    (b"\x21", false, 33, None),
+];
+
+#[test]
+fn keys_have_places(rt: HostRuntime) -> Result<(), Fail> {
+    let alloc = rt.alloc();
+    let run = puts(alloc, 33)?;
+    for (block, fence) in FENCES {
+        assert_eq!(rt; run.fence(block), fence);
+    }
+    for (low, strict, place, key) in PLACES {
+        assert_eq!(rt; run.seek(low, strict), place);
+        assert_eq!(rt; run.next_key(low, strict), key);
+    }
+    let what = What::Put(bytes(alloc, b"\x11")?);
+    assert_eq!(rt; run.point(17), Some((b"\x11".as_slice(), 1, &what)));
+    assert_eq!(rt; run.point(33), None);
+    assert_eq!(rt; run.low_seq(), 1);
+    assert_eq!(rt; run.high_seq(), 40);
+    Ok(())
+}
+
+#[test]
+fn a_key_goes_over_blocks(rt: HostRuntime) -> Result<(), Fail> {
+    let alloc = rt.alloc();
+    let mut points = Vec::new(alloc);
+    for back in 0..40_u8 {
+        points.push(Entry {
+            key: bytes(alloc, b"k")?,
+            seq: u64::from(40 - back),
+            what: What::Put(bytes(alloc, &[40 - back])?),
+        })?;
+    }
+    let run = built(alloc, points, Vec::new(alloc))?;
+    assert_eq!(rt; run.blocks(), 3);
+    for block in 0..3_u64 {
+        assert_eq!(rt; run.fence(block), Some(b"k".as_slice()));
+    }
+    assert_eq!(rt; run.seek(b"k", false), 0);
+    assert_eq!(rt; run.seek(b"k", true), 40);
+    assert_eq!(rt; run.next_key(b"k", true), None);
+    let effect = run.effect::<Append<44>>(alloc, b"k", 17)?;
+    assert_eq!(rt; effect, Effect::Set(Some(bytes(alloc, &[17])?)));
+    let nothing = run.effect::<Append<44>>(alloc, b"k", 0)?;
+    assert_eq!(rt; nothing, Effect::Keep);
+    Ok(())
+}
+
+/// A run with merges of a key at 2, 5 and 6, its put at 1, and a range deletion over it at 4.
+fn merges(alloc: Global) -> Result<Run, Fail> {
+    let mut points = Vec::new(alloc);
+    for seq in [6, 5, 2_u8] {
+        points.push(Entry {
+            key: bytes(alloc, b"k")?,
+            seq: u64::from(seq),
+            what: What::Merge(bytes(alloc, &[b'a' + seq])?),
+        })?;
+    }
+    points.push(Entry {
+        key: bytes(alloc, b"k")?,
+        seq: 1,
+        what: What::Put(bytes(alloc, b"b")?),
+    })?;
+    let fragment = Fragment {
+        begin: bytes(alloc, b"j")?,
+        end: bytes(alloc, b"l")?,
+        seqs: Items::from(Vec::from_slice(alloc, &[4])?),
+    };
+    built(alloc, points, vec![in alloc; fragment]?)
+}
+
+/// Sequences, and the value that there is then, if one is known.
+const EFFECTS: [(u64, Option<&[u8]>); 6] = [
+    (1, Some(b"b")),
+    (2, Some(b"b,c")),
+    (3, Some(b"b,c")),
+    (4, None),
+    (5, Some(b"f")),
+    (6, Some(b"f,g")),
+];
+
+#[test]
+fn effects_by_sequence(rt: HostRuntime) -> Result<(), Fail> {
+    let alloc = rt.alloc();
+    let run = merges(alloc)?;
+    for (at, value) in EFFECTS {
+        let effect = run.effect::<Append<44>>(alloc, b"k", at)?;
+        let want = match value {
+            None => None,
+            Some(value) => Some(bytes(alloc, value)?),
+        };
+        assert_eq!(rt; effect, Effect::Set(want));
+    }
+    assert_eq!(rt; run.effect::<Append<44>>(alloc, b"l", 9)?, Effect::Keep);
+    assert_eq!(rt; run.fragments().len(), 1);
+    assert_eq!(rt; run.size(), 50);
+    Ok(())
+}
