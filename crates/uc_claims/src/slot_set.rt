@@ -69,6 +69,7 @@ impl SlotSet {
     }
 }
 
+/// Whether a bit of a group is set.
 fn has_bit(bits: u64, place: usize) -> bool
     requires { place < BITS }
     ensures { IsTrue result ↔ (bit_at bits place ≡ 1) }
@@ -76,6 +77,7 @@ fn has_bit(bits: u64, place: usize) -> bool
     bits & (1 << place) != 0
 }
 
+/// A group with one bit set.
 fn with_bit(bits: u64, place: usize) -> u64
     requires { place < BITS }
     ensures same { bit_at result place ≡ 1 }
@@ -84,6 +86,7 @@ fn with_bit(bits: u64, place: usize) -> u64
     bits | (1 << place)
 }
 
+/// A group with one bit not set.
 fn without_bit(bits: u64, place: usize) -> u64
     requires { place < BITS }
     ensures same { bit_at result place ≡ 0 }
@@ -92,6 +95,7 @@ fn without_bit(bits: u64, place: usize) -> u64
     bits & !(1 << place)
 }
 
+/// The least bit of a group that is set.
 fn lowest_bit(bits: u64) -> usize
     requires { 0 < bits }
     ensures { (result < BITS) × (bit_at bits result ≡ 1) }

@@ -2,7 +2,7 @@
 ghost use Rattle.std.specs.Prelude.{◌≡◌};
 ghost use Rattle.uc_crc.specs.Mask.{masked, unmasked};
 
-// LevelDB's `kMaskDelta`.
+/// LevelDB's `kMaskDelta`.
 const MASK_DELTA: u32 = 0xa282_ead8;
 
 /// The masked form of a checksum: rotated right by 15 bits, plus 0xa282ead8 modulo 2^32 (LevelDB's

@@ -12,8 +12,8 @@ pub(crate) fn remainder_of(behind: usize, byte: u8) -> u32
     REMAINDERS[behind][byte as usize]
 }
 
-// A row for each number of zero bytes, and in it an entry for each byte. Each row is the row before
-// it, shifted by one more zero byte.
+/// A row for each number of zero bytes, and in it an entry for each byte. Each row is the row before
+/// it, shifted by one more zero byte.
 static REMAINDERS: [[u32; 256]; 8] = [
     [
         0x00000000, 0xf26b8303, 0xe13b70f7, 0x1350f3f4, 0xc79a971f, 0x35f1141c, 0x26a1e7e8,
