@@ -160,5 +160,7 @@ fn effects_by_sequence(rt: HostRuntime) -> Result<(), Fail> {
     assert_eq!(rt; run.effect::<Append<44>>(alloc, b"l", 9)?, Effect::Keep);
     assert_eq!(rt; run.fragments().len(), 1);
     assert_eq!(rt; run.size(), 50);
+    assert!(rt; run.same(&merges(alloc)?));
+    assert!(rt; !run.same(&puts(alloc, 4)?));
     Ok(())
 }
