@@ -127,13 +127,23 @@ module _ (key : List ℕ) (at : ℕ) (p : Entry) where
   pub behind_hidden : is_passed key true p.key ≡ false → is_visible key at p ≡ false
   behind_hidden passed = behind_by (bytes_cmp p.key key) refl passed
 
-  passed_by_newer : (o : Ordering) → is_lt (ordering_then o (nat_cmp at p.seq)) ≡ true → is_le o ≡ true
-  passed_by_newer Less newer = refl
-  passed_by_newer Equal newer = refl
-  passed_by_newer Greater newer = absurd cc
+  newer_by_passed : (o : Ordering) → is_lt o ≡ true → is_lt (ordering_then o (nat_cmp at p.seq)) ≡ true
+  newer_by_passed Less passed = refl
+  newer_by_passed Equal passed = absurd cc
+  newer_by_passed Greater passed = absurd cc
 
-  pub newer_passed : is_newer key at p ≡ true → is_passed key true p.key ≡ true
-  newer_passed newer = passed_by_newer (bytes_cmp p.key key) newer
+  -- what is of a lower key is newer
+  pub before_newer : is_passed key false p.key ≡ true → is_newer key at p ≡ true
+  before_newer passed = newer_by_passed (bytes_cmp p.key key) passed
+
+both_by : (o : Ordering) → is_lt o ≡ true → is_le o ≡ true
+both_by Less e = refl
+both_by Equal e = absurd cc
+both_by Greater e = absurd cc
+
+-- who looks behind a key passes over what he who looks from it on does
+pub passed_both : (key : List ℕ) (p : Entry) → is_passed key false p.key ≡ true → is_passed key true p.key ≡ true
+passed_both key p passed = both_by (bytes_cmp p.key key) passed
 
 -- the points of a key fall
 falling_below : (n : ℕ) (ps : List Entry) (p : Entry) → n ≡ p.seq → AllByRecursion (λ q. q.seq < n) ps → AllByRecursion (λ q. newest_first p q ≡ Less) ps

@@ -8,10 +8,12 @@ ghost use Rattle.uc_oper.specs.declared.effect.Effect.{Effect as EffectOf};
 ghost use Rattle.uc_entry.specs.Order.{entry_cmp, IsFalling, AreInOrder};
 ghost use Rattle.uc_entry.specs.Run.{covers};
 ghost use Rattle.uc_entry.specs.Lookup as lookup;
+ghost use Rattle.uc_block.specs.Fences.{IsFenced};
 ghost use Rattle.uc_block.specs.Overwriting as overwriting;
 
 use crate::places::{greatest_at, newer_than, points_on};
 use std::alloc::{AllocError, Global};
+use uc_bytes::Bytes;
 use uc_entry::{Entry, Fragment, What, covering_fragment};
 use uc_oper::{Effect, Operator};
 
@@ -78,16 +80,18 @@ fn newest_over(fragments: &[Fragment], key: &[u8], at: u64) -> Option<u64>
 pub(crate) fn effect_found<O: Operator>(
     alloc: Global,
     points: &[Entry],
+    fences: &[Bytes],
     fragments: &[Fragment],
     key: &[u8],
     at: u64,
 ) -> Result<Effect, AllocError>
     requires sorted { IsStrictlySortedBy entry_cmp points.now }
+    requires fenced { IsFenced points.now fences.now }
     requires order { AreInOrder fragments.now }
     requires falling { AllByRecursion (λ f. IsFalling f.seqs) fragments.now }
     ensures { IfOk result (λ effect. effect ≡ lookup.effect_found O.meaning (record { low = 0; high = 0; points = points.now; fragments = fragments.now }) key.now at) }
 {
-    let on = points_on(points, key, at);
+    let on = points_on(points, fences, key, at);
     match newest_over(fragments, key, at) {
         None => points_effect::<O>(alloc, Effect::Keep, on),
         Some(newest) => points_effect::<O>(alloc, Effect::Set(None), newer_than(on, newest)),

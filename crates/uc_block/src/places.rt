@@ -1,14 +1,17 @@
 //! Places among points and sequences, by binary search.
 ghost use Rattle.std.specs.Prelude.{◌≡◌, ◌≤◌, true, false, length, filter, nat_le, nat_lt};
 ghost use Rattle.std.specs.List.{slice_get};
-ghost use Rattle.std.specs.List.Sorted.{IsStrictlySortedBy, IsPartitionPoint};
+ghost use Rattle.std.specs.List.Sorted.{IsStrictlySortedBy, IsPartitionPoint, IsPartitionedBy};
 ghost use Rattle.uc_entry.specs.Order.{entry_cmp, IsFalling};
 ghost use Rattle.uc_entry.specs.Seek as seek;
 ghost use Rattle.uc_entry.specs.Lookup as lookup;
+ghost use Rattle.uc_block.specs.Fences.{IsFenced};
 ghost use Rattle.uc_block.specs.Places as places;
 ghost use Rattle.uc_block.specs.Places.{PointsFall};
 
+use crate::fences::seek_by_fences;
 use std::cmp::Ordering;
+use uc_bytes::Bytes;
 use uc_entry::Entry;
 
 /// Whether who looks for the keys from `low` on or, where strict, behind `low`, passes over a key.
@@ -22,17 +25,6 @@ pub(crate) fn is_passed(low: &[u8], strict: bool, key: &[u8]) -> bool
     }
 }
 
-/// How many points are passed over.
-pub(crate) fn seek_place(points: &[Entry], low: &[u8], strict: bool) -> usize
-    requires { IsStrictlySortedBy entry_cmp points.now }
-    ensures bound { result ≤ length points.now }
-    ensures place { IsPartitionPoint (λ p. seek.is_passed low.now strict p.key ≡ true)
-        (λ p. seek.is_passed low.now strict p.key ≡ false) points.now result }
-    ensures count { result ≡ seek.seek_place points.now low.now strict }
-{
-    points.partition_point(|point| is_passed(low, strict, point.key.as_slice()))
-}
-
 /// Whether a point stands before those of the key at or below the sequence.
 fn is_newer(point: &Entry, key: &[u8], at: u64) -> bool
     ensures { result ≡ places.is_newer key.now at point.now }
@@ -44,15 +36,32 @@ fn is_newer(point: &Entry, key: &[u8], at: u64) -> bool
     }
 }
 
+/// How many of the points stand before those of the key at or below the sequence, where those that do stand first.
+fn newer_in(points: &[Entry], key: &[u8], at: u64) -> usize
+    requires { IsPartitionedBy (places.is_newer key.now at) points.now }
+    ensures bound { result ≤ length points.now }
+    ensures place { IsPartitionPoint (λ p. places.is_newer key.now at p ≡ true)
+        (λ p. places.is_newer key.now at p ≡ false) points.now result }
+{
+    points.partition_point(|point| is_newer(point, key, at))
+}
+
 /// The points of the key at or below the sequence, the newest first.
-pub(crate) fn points_on<'a>(points: &'a [Entry], key: &[u8], at: u64) -> &'a [Entry]
-    requires { IsStrictlySortedBy entry_cmp points.now }
+pub(crate) fn points_on<'a>(
+    points: &'a [Entry],
+    fences: &[Bytes],
+    key: &[u8],
+    at: u64,
+) -> &'a [Entry]
+    requires sorted { IsStrictlySortedBy entry_cmp points.now }
+    requires fenced { IsFenced points.now fences.now }
     ensures points { result.now ≡ filter (lookup.is_visible key.now at) points.now }
     ensures fall { PointsFall result.now }
 {
-    let end = seek_place(points, key, true);
-    let begin = points.partition_point(|point| is_newer(point, key, at));
-    &points[begin..end]
+    let end = seek_by_fences(points, fences, key, true);
+    let begin = seek_by_fences(points, fences, key, false);
+    let newer = newer_in(&points[begin..end], key, at);
+    &points[begin + newer..end]
 }
 
 /// Those of a key's points that are newer than a sequence.

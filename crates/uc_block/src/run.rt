@@ -146,7 +146,7 @@ impl Run {
         ensures { IfOk result (λ effect. effect ≡ effect_on O.meaning (plain_list self.now) key.now at) }
     {
         plain_list_does_what_is_found::<O>();
-        effect_found::<O>(alloc, &self.points, &self.fragments, key, at)
+        effect_found::<O>(alloc, &self.points, &self.fences, &self.fragments, key, at)
     }
 
     /// Whether the runs have equal points, fragments and ranges.
