@@ -1,5 +1,5 @@
 //! What a lookup of a key finds among points and fragments.
-ghost use Rattle.std.specs.Prelude.{◌≡◌, ℕ, filter, IfOk, nat_le};
+ghost use Rattle.std.specs.Prelude.{◌≡◌, filter, IfOk, nat_le};
 ghost use Rattle.std.specs.List.{AllByRecursion, flat_map, slice_get};
 ghost use Rattle.std.specs.List.Sorted.{IsStrictlySortedBy};
 ghost use Rattle.uc_oper.specs.Operation.{Operation};

@@ -1,7 +1,7 @@
 //! [`Run`]: points and range deletions, sorted by key.
-ghost use Rattle.std.specs.Prelude.{◌≡◌, ◌↔◌, IsTrue, ℕ, length, IfOk, option_map, option_copied};
+ghost use Rattle.std.specs.Prelude.{◌≡◌, ◌↔◌, IsTrue, length, IfOk, option_map};
 ghost use Rattle.std.specs.List.{slice_get};
-ghost use Rattle.uc_entry.specs.Run.{Contents, IsRun};
+ghost use Rattle.uc_entry.specs.Run.{IsRun};
 ghost use Rattle.uc_entry.specs.Size as size;
 ghost use Rattle.uc_entry.specs.Seek as seek;
 ghost use Rattle.uc_entry.specs.PlainList.{plain_list};
