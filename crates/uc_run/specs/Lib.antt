@@ -1,0 +1,4 @@
+pub mod Rising
+pub mod Size
+pub mod Slots
+pub mod Held

@@ -1,0 +1,20 @@
+-- The writes that slots and an arena hold.
+use Rattle.std.specs.Prelude.{ℕ, ◌+◌, ◌≤◌, List, map, take, drop, length}
+use Rattle.std.specs.List.{AllByRecursion}
+use Rattle.uc_write.specs.declared.write.Write.{Write}
+use Rattle.uc_write.specs.Borrowed.{op_of}
+use Rattle.uc_run.specs.declared.slot.Slot.{Slot}
+
+-- the write of a slot: its second text lies behind its first
+abbrev pub slot_write : List ℕ → Slot → Write
+slot_write text s = record { seq = s.seq; op = op_of s.kind (take s.first (drop s.start text)) (take s.second (drop (s.start + s.first) text)) }
+
+abbrev pub slot_writes : List ℕ → List Slot → List Write
+slot_writes text slots = map (slot_write text) slots
+
+-- the texts of a slot lie within so many bytes
+abbrev pub LiesWithin : ℕ → Slot → Type 0
+LiesWithin room s = s.start + s.first + s.second ≤ room
+
+abbrev pub LieWithin : List ℕ → List Slot → Type 0
+LieWithin text slots = AllByRecursion (LiesWithin (length text)) slots

@@ -1,0 +1,130 @@
+//! [`Memtable`]: writes in one arena, in the order of their insertion.
+ghost use Rattle.std.specs.Prelude.{◌≡◌, ◌<◌, ◌^◌, ◌↔◌, ◌∷◌, ◌++◌, [], IsTrue, OnOk, OnErr};
+ghost use Rattle.uc_run.specs.Rising.{last_of};
+ghost use Rattle.uc_run.specs.Size.{memtable_size};
+
+use crate::size::op_size;
+use crate::slot::Slot;
+use std::alloc::{AllocError, Global};
+use std::marker::Model;
+use uc_write::{Op, OpRef, Write, WriteRef};
+
+/// The newest writes, before they become a run (RocksDB wiki, "MemTable"). A contract sees it as the list of the
+/// writes that were inserted, in order.
+#[derive(Debug, Drop)]
+pub struct Memtable {
+    /// The arena: the texts of all writes behind each other.
+    text: Vec<u8>,
+    slots: Vec<Slot>,
+    size: u64,
+    last: u64,
+}
+
+impl Model for Memtable {
+    ghost use Rattle.std.specs.Prelude.{List};
+    ghost use Rattle.uc_write.specs.declared.write.Write.{Write};
+    ghost use Rattle.uc_run.specs.Held.{inserted, IsHeld};
+
+    ghost Value = { List Write };
+
+    ghost view = { inserted };
+
+    ghost invariant = { IsHeld };
+}
+
+/// Writes both texts at the end. It fails only for want of memory, and then writes nothing.
+fn push_texts(text: &mut Vec<u8>, first: &[u8], second: &[u8]) -> Result<(), AllocError>
+    ensures ok { OnOk result (text.new.items ≡ text.old.items ++ (first.now ++ second.now)) }
+    ensures err { OnErr result (text.new.items ≡ text.old.items) }
+{
+    let before = text.len();
+    text.extend_from_slice(first)?;
+    if let Err(error) = text.extend_from_slice(second) {
+        text.truncate(before);
+        return Err(error);
+    }
+    Ok(())
+}
+
+/// The change with its texts borrowed.
+fn borrowed(op: &Op) -> OpRef<'_>
+    ensures { result ≡ op.now }
+{
+    match op {
+        Op::Put(key, value) => OpRef::put(key.as_slice(), value.as_slice()),
+        Op::Delete(key) => OpRef::delete(key.as_slice()),
+        Op::Merge(key, operand) => OpRef::merge(key.as_slice(), operand.as_slice()),
+        Op::DeleteRange(begin, end) => OpRef::delete_range(begin.as_slice(), end.as_slice()),
+    }
+}
+
+impl Memtable {
+    /// A memtable without writes. It takes no memory.
+    pub fn new(alloc: Global) -> Memtable
+        ensures { result ≡ [] }
+    {
+        Memtable {
+            text: Vec::new(alloc),
+            slots: Vec::new(alloc),
+            size: 0,
+            last: 0,
+        }
+    }
+
+    /// Whether nothing was inserted.
+    pub fn is_empty(&self) -> bool
+        ensures { IsTrue result ↔ (self.now ≡ []) }
+    {
+        self.slots.is_empty()
+    }
+
+    /// How many bytes its writes have: of each the lengths of its texts, and 8; nothing of a range whose begin isn't
+    /// below its end. It is held at 2^64 - 1.
+    pub fn size(&self) -> u64
+        ensures { result ≡ memtable_size self.now }
+    {
+        self.size
+    }
+
+    /// The last sequence, or 0 where there is no write.
+    pub fn last(&self) -> u64
+        ensures { result ≡ last_of 0 self.now }
+    {
+        self.last
+    }
+
+    /// Inserts a write, whose sequence is above all before it and at most
+    /// [`MAX_SEQUENCE`](uc_write::MAX_SEQUENCE). It costs a copy of the texts, amortized. It fails only for want of
+    /// memory, and then inserts nothing.
+    pub fn insert(&mut self, write: &Write) -> Result<(), AllocError>
+        requires above { last_of 0 self.old < write.now.seq }
+        requires below { write.now.seq < 2 ^ 56 }
+        ensures ok { OnOk result (self.new ≡ self.old ++ write.now ∷ []) }
+        ensures err { OnErr result (self.new ≡ self.old) }
+    {
+        self.insert_ref(&WriteRef::new(write.seq, borrowed(&write.op)))
+    }
+
+    /// Inserts a write whose texts are borrowed, as [`insert`](Memtable::insert) does.
+    pub fn insert_ref(&mut self, write: &WriteRef<'_>) -> Result<(), AllocError>
+        requires above { last_of 0 self.old < write.now.seq }
+        requires below { write.now.seq < 2 ^ 56 }
+        ensures ok { OnOk result (self.new ≡ self.old ++ write.now ∷ []) }
+        ensures err { OnErr result (self.new ≡ self.old) }
+    {
+        let (kind, first, second) = write.op().parts();
+        self.slots.reserve(1)?;
+        let start = self.text.len();
+        push_texts(&mut self.text, first, second)?;
+        self.slots.push(Slot {
+            seq: write.seq(),
+            kind,
+            start,
+            first: first.len(),
+            second: second.len(),
+        })?;
+        self.size = self.size.saturating_add(op_size(kind, first, second));
+        self.last = write.seq();
+        Ok(())
+    }
+}

@@ -1,0 +1,15 @@
+//! [`Slot`]: where a write's texts lie in the arena.
+use uc_write::OpKind;
+
+/// A write whose texts lie in an arena, the second behind the first.
+#[derive(Debug, Drop)]
+pub(crate) struct Slot {
+    pub(crate) seq: u64,
+    pub(crate) kind: OpKind,
+    /// Where the first text begins.
+    pub(crate) start: usize,
+    /// The length of the first text.
+    pub(crate) first: usize,
+    /// The length of the second text, which is of no account where the kind has one text alone.
+    pub(crate) second: usize,
+}
