@@ -11,14 +11,10 @@ use Rattle.uc_write.specs.Borrowed.{op_of}
 use Rattle.uc_run.specs.declared.slot.Slot.{Slot}
 use Rattle.uc_run.specs.Rising.{IsRising, last_of}
 use Rattle.uc_run.specs.Size.{write_size, memtable_size}
-use Rattle.uc_run.specs.Slots.{slot_write, slot_writes, LiesWithin, LieWithin}
+use Rattle.uc_run.specs.Slots.{slot_at, Grows, slot_write, slot_writes, LiesWithin, LieWithin}
 
 abbrev pub written : ℕ → OpKind → List ℕ → List ℕ → Write
 written seq kind first second = record { seq = seq; op = op_of kind first second }
-
--- the slot of two texts at the end of an arena of so many bytes
-abbrev pub slot_at : ℕ → ℕ → OpKind → List ℕ → List ℕ → Slot
-slot_at room seq kind first second = record { seq = seq; kind = kind; start = room; first = length first; second = length second }
 
 -- a part of a text that more stands behind
 part_kept : (text more : List ℕ) (start len : ℕ) → start + len ≤ length text → take len (drop start (text ++ more)) ≡ take len (drop start text)
@@ -47,7 +43,7 @@ slot_new text first second seq kind =
     ap (λ (a : List ℕ). written seq kind a (take (length second) (drop (length text + length first) (text ++ (first ++ second))))) one
     ∙ ap (λ (b : List ℕ). written seq kind first b) two
 
-pub writes_grown : (text first second : List ℕ) (slots : List Slot) (seq : ℕ) (kind : OpKind) → LieWithin text slots → slot_writes (text ++ (first ++ second)) (slots ++ slot_at (length text) seq kind first second ∷ []) ≡ slot_writes text slots ++ written seq kind first second ∷ []
+writes_grown : (text first second : List ℕ) (slots : List Slot) (seq : ℕ) (kind : OpKind) → LieWithin text slots → slot_writes (text ++ (first ++ second)) (slots ++ slot_at (length text) seq kind first second ∷ []) ≡ slot_writes text slots ++ written seq kind first second ∷ []
 writes_grown text first second slots seq kind all =
     map-append (slot_write (text ++ (first ++ second))) slots (slot_at (length text) seq kind first second ∷ [])
     ∙ ap (λ (ws : List Write). ws ++ slot_write (text ++ (first ++ second)) (slot_at (length text) seq kind first second) ∷ []) (slots_kept text (first ++ second) slots all)
@@ -57,7 +53,7 @@ lie_grown : (room more : ℕ) (slots : List Slot) (s : Slot) → room ≤ more �
 lie_grown room more [] s le here all = (here, tt)
 lie_grown room more (x ∷ slots) s le here all = (omega (arith, le, all.0), lie_grown room more slots s le here all.1)
 
-pub within_grown : (text first second : List ℕ) (slots : List Slot) (seq : ℕ) (kind : OpKind) → LieWithin text slots → LieWithin (text ++ (first ++ second)) (slots ++ slot_at (length text) seq kind first second ∷ [])
+within_grown : (text first second : List ℕ) (slots : List Slot) (seq : ℕ) (kind : OpKind) → LieWithin text slots → LieWithin (text ++ (first ++ second)) (slots ++ slot_at (length text) seq kind first second ∷ [])
 within_grown text first second slots seq kind all =
     let room : length (text ++ (first ++ second)) ≡ length text + (length first + length second) =
     length-append text (first ++ second) ∙ ap (λ (n : ℕ). length text + n) (length-append first second) in
@@ -76,15 +72,6 @@ held_sum m a b = omega arith
 
 pub size_grown : (ws : List Write) (w : Write) → min (memtable_size ws + min (write_size w) (2 ^ 64 - 1)) (2 ^ 64 - 1) ≡ memtable_size (ws ++ w ∷ [])
 size_grown ws w = held_sum (2 ^ 64 - 1) (sum_by write_size ws) (write_size w) ∙ ap (λ (n : ℕ). min n (2 ^ 64 - 1)) (sym (sum_by_push write_size ws w))
-
--- an arena and slots with a write more
-pub record Grows (text grown : List ℕ) (slots more : List Slot) (w : Write) : Type 0 where
-  pub kind : OpKind
-  pub first : List ℕ
-  pub second : List ℕ
-  pub texts : grown ≡ text ++ (first ++ second)
-  pub slots_are : more ≡ slots ++ slot_at (length text) w.seq kind first second ∷ []
-  pub op : op_of kind first second ≡ w.op
 
 pub grown_writes : (text grown : List ℕ) (slots more : List Slot) (w : Write) → Grows text grown slots more w → LieWithin text slots → slot_writes grown more ≡ slot_writes text slots ++ w ∷ []
 grown_writes text grown slots more w g all =

@@ -1,6 +1,7 @@
 -- The writes that slots and an arena hold.
-use Rattle.std.specs.Prelude.{ℕ, ◌+◌, ◌≤◌, List, map, take, drop, length}
+use Rattle.std.specs.Prelude.{◌≡◌, ℕ, ◌+◌, ◌≤◌, List, [], ◌∷◌, ◌++◌, map, take, drop, length}
 use Rattle.std.specs.List.{AllByRecursion}
+use Rattle.uc_write.specs.declared.op_ref.OpKind.{OpKind}
 use Rattle.uc_write.specs.declared.write.Write.{Write}
 use Rattle.uc_write.specs.Borrowed.{op_of}
 use Rattle.uc_run.specs.declared.slot.Slot.{Slot}
@@ -18,3 +19,16 @@ LiesWithin room s = s.start + s.first + s.second ≤ room
 
 abbrev pub LieWithin : List ℕ → List Slot → Type 0
 LieWithin text slots = AllByRecursion (LiesWithin (length text)) slots
+
+-- the slot of two texts that begin at `start`
+abbrev pub slot_at : ℕ → ℕ → OpKind → List ℕ → List ℕ → Slot
+slot_at start seq kind first second = record { seq = seq; kind = kind; start = start; first = length first; second = length second }
+
+-- an arena and slots with a write more: its texts and its slot stand at the end
+pub record Grows (text grown : List ℕ) (slots more : List Slot) (w : Write) : Type 0 where
+  pub kind : OpKind
+  pub first : List ℕ
+  pub second : List ℕ
+  pub texts : grown ≡ text ++ (first ++ second)
+  pub slots_are : more ≡ slots ++ slot_at (length text) w.seq kind first second ∷ []
+  pub op : op_of kind first second ≡ w.op

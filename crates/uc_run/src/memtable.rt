@@ -2,6 +2,7 @@
 ghost use Rattle.std.specs.Prelude.{◌≡◌, ◌<◌, ◌^◌, ◌↔◌, ◌∷◌, ◌++◌, [], IsTrue, OnOk, OnErr};
 ghost use Rattle.uc_run.specs.Rising.{last_of};
 ghost use Rattle.uc_run.specs.Size.{memtable_size};
+ghost use Rattle.uc_run.specs.Slots.{Grows};
 
 use crate::size::op_size;
 use crate::slot::Slot;
@@ -43,6 +44,32 @@ fn push_texts(text: &mut Vec<u8>, first: &[u8], second: &[u8]) -> Result<(), All
         text.truncate(before);
         return Err(error);
     }
+    Ok(())
+}
+
+/// Puts a write behind the others: a copy of its texts, and its slot. It fails only for want of memory, and then
+/// changes nothing.
+fn push_write(
+    text: &mut Vec<u8>,
+    slots: &mut Vec<Slot>,
+    write: &WriteRef<'_>,
+) -> Result<(), AllocError>
+    ensures ok { OnOk result (Grows text.old.items text.new.items slots.old.items slots.new.items write.now) }
+    ensures texts_kept { OnErr result (text.new.items ≡ text.old.items) }
+    ensures slots_kept { OnErr result (slots.new.items ≡ slots.old.items) }
+{
+    let (kind, first, second) = write.op().parts();
+    // The steps that can fail come first.
+    slots.reserve(1)?;
+    let start = text.len();
+    push_texts(text, first, second)?;
+    slots.push(Slot {
+        seq: write.seq(),
+        kind,
+        start,
+        first: first.len(),
+        second: second.len(),
+    })?;
     Ok(())
 }
 
@@ -112,18 +139,8 @@ impl Memtable {
         ensures ok { OnOk result (self.new ≡ self.old ++ write.now ∷ []) }
         ensures err { OnErr result (self.new ≡ self.old) }
     {
-        let (kind, first, second) = write.op().parts();
-        self.slots.reserve(1)?;
-        let start = self.text.len();
-        push_texts(&mut self.text, first, second)?;
-        self.slots.push(Slot {
-            seq: write.seq(),
-            kind,
-            start,
-            first: first.len(),
-            second: second.len(),
-        })?;
-        self.size = self.size.saturating_add(op_size(kind, first, second));
+        push_write(&mut self.text, &mut self.slots, write)?;
+        self.size = self.size.saturating_add(op_size(write.op()));
         self.last = write.seq();
         Ok(())
     }

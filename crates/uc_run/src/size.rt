@@ -6,7 +6,7 @@ ghost use Rattle.uc_write.specs.declared.op.Op.TheVariants as changes;
 ghost use Rattle.uc_write.specs.Borrowed.{op_of};
 ghost use Rattle.uc_run.specs.Size as size;
 
-use uc_write::OpKind;
+use uc_write::{OpKind, OpRef};
 
 /// The lengths of both texts, and 8, held at the greatest number.
 fn sum_of(first: usize, second: usize) -> u64
@@ -35,8 +35,8 @@ fn range_size(begin: &[u8], end: &[u8]) -> u64
     }
 }
 
-/// The lengths of a change's texts, and 8, held at the greatest number; 0 for a range without keys.
-pub(crate) fn op_size(kind: OpKind, first: &[u8], second: &[u8]) -> u64
+/// The size of the change of a kind to these texts.
+fn parts_size(kind: OpKind, first: &[u8], second: &[u8]) -> u64
     ensures { result ≡ min (size.op_size (op_of kind first.now second.now)) (2 ^ 64 - 1) }
 {
     match kind {
@@ -44,4 +44,12 @@ pub(crate) fn op_size(kind: OpKind, first: &[u8], second: &[u8]) -> u64
         OpKind::Delete => sum_of(first.len(), 0),
         OpKind::DeleteRange => range_size(first, second),
     }
+}
+
+/// The lengths of a change's texts, and 8, held at the greatest number; 0 for a range without keys.
+pub(crate) fn op_size(op: &OpRef<'_>) -> u64
+    ensures { result ≡ min (size.op_size op.now) (2 ^ 64 - 1) }
+{
+    let (kind, first, second) = op.parts();
+    parts_size(kind, first, second)
 }
