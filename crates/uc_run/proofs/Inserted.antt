@@ -9,7 +9,7 @@ use Rattle.uc_write.specs.declared.op_ref.OpKind.{OpKind}
 use Rattle.uc_write.specs.declared.write.Write.{Write}
 use Rattle.uc_write.specs.Borrowed.{op_of}
 use Rattle.uc_run.specs.declared.slot.Slot.{Slot}
-use Rattle.uc_run.specs.Rising.{IsRising, last_of}
+use Rattle.uc_batch.specs.Rising.{IsRising, last_of}
 use Rattle.uc_run.specs.Size.{write_size, memtable_size}
 use Rattle.uc_run.specs.Slots.{slot_at, Grows, slot_write, slot_writes, LiesWithin, LieWithin}
 

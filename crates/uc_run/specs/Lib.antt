@@ -1,4 +1,3 @@
-pub mod Rising
 pub mod Size
 pub mod Slots
 pub mod Held

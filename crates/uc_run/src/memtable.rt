@@ -1,6 +1,6 @@
 //! [`Memtable`]: writes in one arena, in the order of their insertion.
 ghost use Rattle.std.specs.Prelude.{◌≡◌, ◌<◌, ◌^◌, ◌↔◌, ◌∷◌, ◌++◌, [], IsTrue, OnOk, OnErr};
-ghost use Rattle.uc_run.specs.Rising.{last_of};
+ghost use Rattle.uc_batch.specs.Rising.{last_of};
 ghost use Rattle.uc_run.specs.Size.{memtable_size};
 ghost use Rattle.uc_run.specs.Slots.{Grows};
 
