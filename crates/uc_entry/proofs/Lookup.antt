@@ -1,6 +1,6 @@
 -- What a lookup finds is what the plain list does.
 use Rattle.std.proofs.Common.{◌≡◌, ℕ, ◌<◌, ◌≤◌, Bool, true, false, cond, leb, ltb, List, [], ◌∷◌, ◌++◌, map, fold, filter, refl, sym, ap, ◌∙◌, subst, arith, ◌==◌}
-use Rattle.std.specs.Prelude.{None, nat_lt, Contains}
+use Rattle.std.specs.Prelude.{None, nat_lt, Contains, ◌&&◌}
 use Rattle.std.specs.List.{AllByRecursion, flat_map}
 use Rattle.std.specs.List.Sorted.{IsStrictlySortedBy}
 use Rattle.std.specs.declared.cmp.Ordering.TheVariants.{Less}
@@ -14,15 +14,15 @@ use Rattle.uc_oper.specs.Composition.{composed}
 use Rattle.uc_oper.specs.declared.effect.Effect.{Effect}
 use Rattle.uc_oper.specs.declared.effect.Effect.TheVariants.{Keep, Set}
 use Rattle.uc_write.specs.declared.write.Write.{Write}
-use Rattle.uc_model.specs.Meaning.{is_seen, effect_of, effect_in_turn, effect_on}
+use Rattle.uc_model.specs.Meaning.{touches_key, effect_of, effect_in_turn, effect_within}
 use Rattle.uc_entry.specs.declared.entry.Entry.{Entry}
 use Rattle.uc_entry.specs.Order.{IsFalling}
 use Rattle.uc_entry.specs.Run.{Contents, IsWhole, IsRun, covers}
 use Rattle.uc_entry.specs.PlainList.{point_write, fragment_writes, writes_of, by_seq, plain_list}
-use Rattle.uc_entry.specs.Lookup.{points_effect, is_visible, points_on, seqs_over, above_newest, effect_found}
+use Rattle.uc_entry.specs.Lookup.{points_effect, is_passing, passing_points, passing_seqs, above_newest, passing_effect}
 use Rattle.uc_entry.proofs.BySeq.{Ascends, all_map, all_is, all_each, ascends-by_seq, moved-by_seq, filter-by_seq}
-use Rattle.uc_entry.proofs.Points.{backwards, turn-backwards, fold_on, key_of_visible, PointsFall, all_pass, PointsFall-filter, visible_fall, by_seq-points, seen_points, filter-points, all-filtered}
-use Rattle.uc_entry.proofs.Covers.{all_append, seen_covers, seqs_of_covers, Clears, covers_clear, covers_fall, missing_over}
+use Rattle.uc_entry.proofs.Points.{backwards, turn-backwards, fold_on, key_of_passing, PointsFall, all_pass, PointsFall-filter, passing_fall, by_seq-points, seen_points, filter-points, all-filtered}
+use Rattle.uc_entry.proofs.Covers.{is_touching, all_append, seen_covers, seqs_of_covers, Clears, covers_clear, covers_fall, missing_over}
 
 -- ---- writes that ascend, cut at a sequence
 
@@ -203,45 +203,60 @@ first_below : (newest : ℕ) (older : List ℕ) → IsFalling (newest ∷ older)
 unfolding IsStrictlySortedBy
 first_below newest older h = falling_below newest older h.0
 
-module _ (m : Operation) (run : Contents) (is_run : IsRun run.low run.high run.points run.fragments) (key : List ℕ) (at : ℕ) where
+module _ (m : Operation) (run : Contents) (is_run : IsRun run.low run.high run.points run.fragments) (key : List ℕ) (test : ℕ → Bool) where
   abbrev seen : List Write
-  seen = map point_write (points_on run key at) ++ seen_covers key at run.fragments
+  seen = map point_write (passing_points run key test) ++ seen_covers key test run.fragments
 
-  seen_is : filter (is_seen key at) (writes_of run) ≡ seen
+  seen_is : filter (is_touching key test) (writes_of run) ≡ seen
   seen_is =
-      filter-append (is_seen key at) (map point_write run.points) (flat_map fragment_writes run.fragments)
-      ∙ ap (λ (ws : List Write). ws ++ seen_covers key at run.fragments) (seen_points key at run.points)
+      filter-append (is_touching key test) (map point_write run.points) (flat_map fragment_writes run.fragments)
+      ∙ ap (λ (ws : List Write). ws ++ seen_covers key test run.fragments) (seen_points key test run.points)
 
   Apart : Entry → Type 0
   Apart p = AllByRecursion (λ f. covers f p.key ≡ true → ¬ Contains f.seqs p.seq) run.fragments
 
-  apart_point : (newest : ℕ) (older : List ℕ) → seqs_over run key at ≡ newest ∷ older → (p : Entry) → is_visible key at p ≡ true → Apart p → p.seq ≡ newest → ⊥
+  apart_point : (newest : ℕ) (older : List ℕ) → passing_seqs run key test ≡ newest ∷ older → (p : Entry) → is_passing key test p ≡ true → Apart p → p.seq ≡ newest → ⊥
   unfolding Apart
   apart_point newest older e p visible apart same =
       let here : AllByRecursion (λ f. covers f key ≡ true → ¬ Contains f.seqs p.seq) run.fragments =
-      subst (λ (k : List ℕ). AllByRecursion (λ f. covers f k ≡ true → ¬ Contains f.seqs p.seq) run.fragments) (key_of_visible key at p visible) apart in
-      let missing : AllByRecursion (λ n. n ≡ p.seq → ⊥) (newest ∷ older) = subst (AllByRecursion (λ n. n ≡ p.seq → ⊥)) e (missing_over key at p.seq run.fragments is_run.fragments_sorted here) in
+      subst (λ (k : List ℕ). AllByRecursion (λ f. covers f k ≡ true → ¬ Contains f.seqs p.seq) run.fragments) (key_of_passing key test p visible) apart in
+      let missing : AllByRecursion (λ n. n ≡ p.seq → ⊥) (newest ∷ older) = subst (AllByRecursion (λ n. n ≡ p.seq → ⊥)) e (missing_over key test p.seq run.fragments is_run.fragments_sorted here) in
       missing.0 (sym same)
 
-  apart_kept : (newest : ℕ) (older : List ℕ) → seqs_over run key at ≡ newest ∷ older → (p : Entry) (kept : List Entry) (b : Bool) → is_visible key at p ≡ b → Apart p → AllByRecursion (λ q. q.seq ≡ newest → ⊥) kept → AllByRecursion (λ q. q.seq ≡ newest → ⊥) (cond b (p ∷ kept) kept)
+  apart_kept : (newest : ℕ) (older : List ℕ) → passing_seqs run key test ≡ newest ∷ older → (p : Entry) (kept : List Entry) (b : Bool) → is_passing key test p ≡ b → Apart p → AllByRecursion (λ q. q.seq ≡ newest → ⊥) kept → AllByRecursion (λ q. q.seq ≡ newest → ⊥) (cond b (p ∷ kept) kept)
   apart_kept newest older e p kept true visible apart h = (apart_point newest older e p visible apart, h)
   apart_kept newest older e p kept false visible apart h = h
 
-  apart_points : (newest : ℕ) (older : List ℕ) → seqs_over run key at ≡ newest ∷ older → (ps : List Entry) → AllByRecursion (λ p. AllByRecursion (λ f. covers f p.key ≡ true → ¬ Contains f.seqs p.seq) run.fragments) ps → AllByRecursion (λ p. p.seq ≡ newest → ⊥) (filter (is_visible key at) ps)
+  apart_points : (newest : ℕ) (older : List ℕ) → passing_seqs run key test ≡ newest ∷ older → (ps : List Entry) → AllByRecursion (λ p. AllByRecursion (λ f. covers f p.key ≡ true → ¬ Contains f.seqs p.seq) run.fragments) ps → AllByRecursion (λ p. p.seq ≡ newest → ⊥) (filter (is_passing key test) ps)
   unfolding Apart
   apart_points newest older e [] h = tt
-  apart_points newest older e (p ∷ ps) h = apart_kept newest older e p (filter (is_visible key at) ps) (is_visible key at p) refl h.0 (apart_points newest older e ps h.1)
+  apart_points newest older e (p ∷ ps) h = apart_kept newest older e p (filter (is_passing key test) ps) (is_passing key test p) refl h.0 (apart_points newest older e ps h.1)
 
-  found_by : (seqs : List ℕ) → seqs_over run key at ≡ seqs → effect_in_turn m (by_seq seen) ≡ above_newest m (points_on run key at) seqs
-  found_by [] e = alone m (points_on run key at) (visible_fall key at run.points is_run.points_sorted) (seen_covers key at run.fragments) (seqs_of_covers key at run.fragments ∙ e)
+  found_by : (seqs : List ℕ) → passing_seqs run key test ≡ seqs → effect_in_turn m (by_seq seen) ≡ above_newest m (passing_points run key test) seqs
+  found_by [] e = alone m (passing_points run key test) (passing_fall key test run.points is_run.points_sorted) (seen_covers key test run.fragments) (seqs_of_covers key test run.fragments ∙ e)
   found_by (newest ∷ older) e =
-      above m (points_on run key at) (visible_fall key at run.points is_run.points_sorted) (seen_covers key at run.fragments) newest older
-      (seqs_of_covers key at run.fragments ∙ e)
-      (first_below newest older (subst IsFalling e (covers_fall key at run.fragments is_run.fragments_sorted (all_map (IsWhole run.low run.high) (λ f. IsFalling f.seqs) (λ f whole. whole.1) run.fragments is_run.whole))))
-      (covers_clear key at run.fragments)
+      above m (passing_points run key test) (passing_fall key test run.points is_run.points_sorted) (seen_covers key test run.fragments) newest older
+      (seqs_of_covers key test run.fragments ∙ e)
+      (first_below newest older (subst IsFalling e (covers_fall key test run.fragments is_run.fragments_sorted (all_map (IsWhole run.low run.high) (λ f. IsFalling f.seqs) (λ f whole. whole.1) run.fragments is_run.whole))))
+      (covers_clear key test run.fragments)
       (apart_points newest older e run.points is_run.apart)
 
-  pub found_is : effect_on m (plain_list run) key at ≡ effect_found m run key at
+  pub found_is : effect_in_turn m (filter (is_touching key test) (plain_list run)) ≡ passing_effect m run key test
   found_is =
-      ap (effect_in_turn m) (filter-by_seq (is_seen key at) (writes_of run) ∙ ap by_seq seen_is)
-      ∙ found_by (seqs_over run key at) refl
+      ap (effect_in_turn m) (filter-by_seq (is_touching key test) (writes_of run) ∙ ap by_seq seen_is)
+      ∙ found_by (passing_seqs run key test) refl
+
+-- ---- within a stripe
+
+grouped : (a b c : Bool) → (a && (b && c)) ≡ ((a && b) && c)
+grouped true b c = refl
+grouped false b c = refl
+
+same_filter : (f g : Write → Bool) → ((w : Write) → f w ≡ g w) → (ws : List Write) → filter f ws ≡ filter g ws
+same_filter f g same [] = refl
+same_filter f g same (w ∷ ws) = ap (λ b. cond b (w ∷ filter f ws) (filter f ws)) (same w) ∙ ap (λ (kept : List Write). cond (g w) (w ∷ kept) kept) (same_filter f g same ws)
+
+pub found_within : (m : Operation) (run : Contents) → IsRun run.low run.high run.points run.fragments → (key : List ℕ) (low high : ℕ) → effect_within m (plain_list run) key low high ≡ passing_effect m run key (λ seq. ltb low seq && leb seq high)
+found_within m run is_run key low high =
+    ap (effect_in_turn m) (same_filter (λ w. ltb low w.seq && (leb w.seq high && touches_key key w.op)) (is_touching key (λ seq. ltb low seq && leb seq high)) (λ w. grouped (ltb low w.seq) (leb w.seq high) (touches_key key w.op)) (plain_list run))
+    ∙ found_is m run is_run key (λ seq. ltb low seq && leb seq high)

@@ -15,13 +15,13 @@ use Rattle.uc_oper.specs.Operation.{Operation}
 use Rattle.uc_oper.specs.Composition.{composed}
 use Rattle.uc_oper.specs.declared.effect.Effect.{Effect}
 use Rattle.uc_write.specs.declared.write.Write.{Write}
-use Rattle.uc_model.specs.Meaning.{touches_key, is_seen, effect_of}
+use Rattle.uc_model.specs.Meaning.{touches_key, effect_of}
 use Rattle.uc_entry.specs.declared.entry.Entry.{Entry}
 use Rattle.uc_entry.specs.declared.entry.What.{What}
 use Rattle.uc_entry.specs.declared.entry.What.TheVariants.{Put, Delete, Merge}
 use Rattle.uc_entry.specs.Order.{entry_cmp}
 use Rattle.uc_entry.specs.PlainList.{op_of, point_write, by_seq}
-use Rattle.uc_entry.specs.Lookup.{what_effect, points_effect, is_visible}
+use Rattle.uc_entry.specs.Lookup.{what_effect, points_effect, is_passing}
 use Rattle.uc_entry.proofs.BySeq.{Rises, all_map, by_seq_is}
 
 -- ---- the writes of points, oldest first
@@ -125,15 +125,15 @@ and_true : (a b : Bool) → (a && b) ≡ true → b ≡ true
 and_true true b e = e
 and_true false b e = absurd cc
 
-pub key_of_visible : (key : List ℕ) (at : ℕ) (p : Entry) → is_visible key at p ≡ true → p.key ≡ key
-key_of_visible key at p e = same_text p.key key (sym (and_true (leb p.seq at) (same_bytes p.key key) e))
+pub key_of_passing : (key : List ℕ) (test : ℕ → Bool) (p : Entry) → is_passing key test p ≡ true → p.key ≡ key
+key_of_passing key test p e = same_text p.key key (sym (and_true (test p.seq) (same_bytes p.key key) e))
 
 -- the points of a key fall
-pub visible_fall : (key : List ℕ) (at : ℕ) (ps : List Entry) → IsStrictlySortedBy entry_cmp ps → PointsFall (filter (is_visible key at) ps)
-visible_fall key at ps sorted =
-    one_key_falls key (filter (is_visible key at) ps)
-    (all_map (λ p. is_visible key at p ≡ true) (λ p. p.key ≡ key) (key_of_visible key at) (filter (is_visible key at) ps) (all_pass (is_visible key at) ps))
-    (IsStrictlySortedBy-filter entry_cmp (is_visible key at) ps sorted)
+pub passing_fall : (key : List ℕ) (test : ℕ → Bool) (ps : List Entry) → IsStrictlySortedBy entry_cmp ps → PointsFall (filter (is_passing key test) ps)
+passing_fall key test ps sorted =
+    one_key_falls key (filter (is_passing key test) ps)
+    (all_map (λ p. is_passing key test p ≡ true) (λ p. p.key ≡ key) (key_of_passing key test) (filter (is_passing key test) ps) (all_pass (is_passing key test) ps))
+    (IsStrictlySortedBy-filter entry_cmp (is_passing key test) ps sorted)
 
 -- ---- a read sees the writes of visible points
 
@@ -146,12 +146,12 @@ kept_write : (p : Entry) (ps : List Entry) (b : Bool) → cond b (point_write p 
 kept_write p ps true = refl
 kept_write p ps false = refl
 
-pub seen_points : (key : List ℕ) (at : ℕ) (ps : List Entry) → filter (is_seen key at) (map point_write ps) ≡ map point_write (filter (is_visible key at) ps)
-seen_points key at [] = refl
-seen_points key at (p ∷ ps) =
-    ap (λ (ws : List Write). cond (is_seen key at (point_write p)) (point_write p ∷ ws) ws) (seen_points key at ps)
-    ∙ ap (λ b. cond (leb p.seq at && b) (point_write p ∷ map point_write (filter (is_visible key at) ps)) (map point_write (filter (is_visible key at) ps))) (touched key p.key p.what)
-    ∙ kept_write p (filter (is_visible key at) ps) (is_visible key at p)
+pub seen_points : (key : List ℕ) (test : ℕ → Bool) (ps : List Entry) → filter (λ (w : Write). test w.seq && touches_key key w.op) (map point_write ps) ≡ map point_write (filter (is_passing key test) ps)
+seen_points key test [] = refl
+seen_points key test (p ∷ ps) =
+    ap (λ (ws : List Write). cond (test p.seq && touches_key key (op_of p.key p.what)) (point_write p ∷ ws) ws) (seen_points key test ps)
+    ∙ ap (λ b. cond (test p.seq && b) (point_write p ∷ map point_write (filter (is_passing key test) ps)) (map point_write (filter (is_passing key test) ps))) (touched key p.key p.what)
+    ∙ kept_write p (filter (is_passing key test) ps) (is_passing key test p)
 
 -- a test of sequences passes the same points as it does writes
 pub filter-points : (test : ℕ → Bool) (ps : List Entry) → filter (λ (w : Write). test w.seq) (map point_write ps) ≡ map point_write (filter (λ (p : Entry). test p.seq) ps)

@@ -22,23 +22,39 @@ abbrev pub points_effect : Operation → Effect → List Entry → Effect
 points_effect m before [] = before
 points_effect m before (newest ∷ older) = composed m (points_effect m before older) (what_effect newest.what)
 
+-- a point of the key whose sequence passes a test
+abbrev pub is_passing : List ℕ → (ℕ → Bool) → Entry → Bool
+is_passing key test p = test p.seq && same_bytes p.key key
+
+-- the points of the key whose sequences pass, the newest first
+abbrev pub passing_points : Contents → List ℕ → (ℕ → Bool) → List Entry
+passing_points run key test = filter (is_passing key test) run.points
+
+-- the sequences that pass of the range deletions over the key, the newest first
+abbrev pub passing_seqs : Contents → List ℕ → (ℕ → Bool) → List ℕ
+passing_seqs run key test = filter test (flat_map (λ f. f.seqs) (filter (λ f. covers f key) run.fragments))
+
 -- a point of the key, at or below the sequence
 abbrev pub is_visible : List ℕ → ℕ → Entry → Bool
-is_visible key at p = nat_le p.seq at && same_bytes p.key key
+is_visible key at = is_passing key (λ seq. nat_le seq at)
 
--- the points of the key at or below the sequence, the newest first
+-- the points of the key at or below the sequence
 abbrev pub points_on : Contents → List ℕ → ℕ → List Entry
-points_on run key at = filter (is_visible key at) run.points
+points_on run key at = passing_points run key (λ seq. nat_le seq at)
 
--- the sequences at or below the sequence of the range deletions over the key, the newest first
+-- the sequences at or below the sequence of the range deletions over the key
 abbrev pub seqs_over : Contents → List ℕ → ℕ → List ℕ
-seqs_over run key at = filter (λ seq. nat_le seq at) (flat_map (λ f. f.seqs) (filter (λ f. covers f key) run.fragments))
+seqs_over run key at = passing_seqs run key (λ seq. nat_le seq at)
 
 -- the points above the newest range deletion, on no value where there is one
 abbrev pub above_newest : Operation → List Entry → List ℕ → Effect
 above_newest m points [] = points_effect m Keep points
 above_newest m points (newest ∷ older) = points_effect m (Set None) (filter (λ p. nat_lt newest p.seq) points)
 
+-- what the points and range deletions do to the key whose sequences pass
+abbrev pub passing_effect : Operation → Contents → List ℕ → (ℕ → Bool) → Effect
+passing_effect m run key test = above_newest m (passing_points run key test) (passing_seqs run key test)
+
 -- what a lookup of the key at the sequence finds
 abbrev pub effect_found : Operation → Contents → List ℕ → ℕ → Effect
-effect_found m run key at = above_newest m (points_on run key at) (seqs_over run key at)
+effect_found m run key at = passing_effect m run key (λ seq. nat_le seq at)

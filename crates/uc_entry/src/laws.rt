@@ -1,11 +1,11 @@
 //! What holds of the plain list of a run, under every operator.
-ghost use Rattle.std.specs.Prelude.{◌≡◌, ℕ, List};
+ghost use Rattle.std.specs.Prelude.{◌≡◌, ℕ, ◌&&◌, List, nat_lt, nat_le};
 ghost use Rattle.std.specs.List.Sorted.{IsPermutation, IsNonDecreasingBy};
 ghost use Rattle.uc_write.specs.declared.write.Write.{Write};
-ghost use Rattle.uc_model.specs.Meaning.{effect_on};
+ghost use Rattle.uc_model.specs.Meaning.{effect_on, effect_within};
 ghost use Rattle.uc_entry.specs.Run.{Contents, IsRun};
 ghost use Rattle.uc_entry.specs.PlainList.{writes_of, plain_list};
-ghost use Rattle.uc_entry.specs.Lookup.{effect_found};
+ghost use Rattle.uc_entry.specs.Lookup.{effect_found, passing_effect};
 
 use uc_oper::Operator;
 
@@ -20,4 +20,11 @@ pub fn plain_list_is_in_order()
 pub fn plain_list_does_what_is_found<O: Operator>()
     ensures { (run : Contents) (key : List ℕ) (at : ℕ) → IsRun run.low run.high run.points run.fragments →
         effect_on O.meaning (plain_list run) key at ≡ effect_found O.meaning run key at }
+{}
+
+/// The same within a stripe: of the points and range deletions above `low`, at or below `high`.
+pub fn stripes_of_plain_list_do_what_is_found<O: Operator>()
+    ensures { (run : Contents) (key : List ℕ) (low high : ℕ) → IsRun run.low run.high run.points run.fragments →
+        effect_within O.meaning (plain_list run) key low high ≡
+        passing_effect O.meaning run key (λ seq. nat_lt low seq && nat_le seq high) }
 {}

@@ -13,7 +13,9 @@ mod laws;
 pub use checking::{covering_fragment, is_run};
 pub use entry::{Entry, What};
 pub use fragment::Fragment;
-pub use laws::{plain_list_does_what_is_found, plain_list_is_in_order};
+pub use laws::{
+    plain_list_does_what_is_found, plain_list_is_in_order, stripes_of_plain_list_do_what_is_found,
+};
 
 #[cfg(test)]
 mod tests;

@@ -119,4 +119,5 @@ fn the_fragment_over_a_key(rt: HostRuntime) -> Result<(), Fail> {
 fn laws_hold_under_an_operator() {
     plain_list_is_in_order();
     plain_list_does_what_is_found::<Counter>();
+    stripes_of_plain_list_do_what_is_found::<Counter>();
 }

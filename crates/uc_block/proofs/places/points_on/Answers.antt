@@ -1,6 +1,7 @@
 use Rattle.std.proofs.Common.{rules, sym, subst, filter}
+use Rattle.std.specs.Prelude.{nat_le}
 use Rattle.uc_entry.specs.Lookup.{is_visible}
-use Rattle.uc_entry.proofs.Points.{visible_fall}
+use Rattle.uc_entry.proofs.Points.{passing_fall}
 use Rattle.uc_block.specs.Places.{PointsFall}
 use Rattle.uc_block.proofs.KeyPoints.{in_order, part_parted, fits, visible_between}
 use Rattle.uc_block.proofs.Order.{points_fall}
@@ -28,4 +29,4 @@ returns-clause-points c =
 
 pub returns-clause-fall : goal.returns-clause-fall
 returns-clause-fall c =
-    subst PointsFall (sym (returns-clause-points c)) (points_fall (filter (is_visible c.args.key.now c.args.at) c.args.points.now) (visible_fall c.args.key.now c.args.at c.args.points.now c.requires.sorted))
+    subst PointsFall (sym (returns-clause-points c)) (points_fall (filter (is_visible c.args.key.now c.args.at) c.args.points.now) (passing_fall c.args.key.now (λ seq. nat_le seq c.args.at) c.args.points.now c.requires.sorted))
