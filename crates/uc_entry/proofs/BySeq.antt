@@ -262,7 +262,7 @@ pub by_seq_is : (xs ys : List Write) → Rises ys → IsPermutation xs ys → by
 by_seq_is xs ys ry moved = ascending_is (by_seq xs) ys (ascends-by_seq xs) ry (IsPermutation-trans (by_seq xs) xs ys (IsPermutation-sym xs (by_seq xs) (moved-by_seq xs)) moved)
 
 -- the order by the places of the list
-ascends_by_place : (ws : List Write) → Ascends ws → (i j : ℕ) (d : Write) → i ≤ j → j < length ws → (get_or ws i d).seq ≤ (get_or ws j d).seq
+pub ascends_by_place : (ws : List Write) → Ascends ws → (i j : ℕ) (d : Write) → i ≤ j → j < length ws → (get_or ws i d).seq ≤ (get_or ws j d).seq
 ascends_by_place [] h i j d le lt = absurd (omega (arith, lt))
 ascends_by_place (w ∷ ws) h zero zero d le lt = omega arith
 ascends_by_place (w ∷ ws) h zero (suc j) d le lt = All-get_or (λ (v : Write). w.seq ≤ v.seq) ws j d (omega (arith, lt)) (all_is (λ (v : Write). w.seq ≤ v.seq) ws h.0)

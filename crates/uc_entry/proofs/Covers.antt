@@ -130,7 +130,7 @@ not_behind : (key : List ℕ) (f g : Fragment) → covers f key ≡ true → is_
 not_behind key f g e le =
     before_begin key f.end g.begin (bytes_cmp key f.end) (bytes_cmp f.end g.begin) (bytes_cmp g.begin key) refl refl refl (and_second (is_le (bytes_cmp f.begin key)) (is_lt (bytes_cmp key f.end)) e) le (is_lt (bytes_cmp key g.end))
 
-none_behind : (key : List ℕ) (f : Fragment) (fs : List Fragment) → covers f key ≡ true → AllByRecursion (λ g. is_le (bytes_cmp f.end g.begin) ≡ true) fs → filter (λ g. covers g key) fs ≡ []
+pub none_behind : (key : List ℕ) (f : Fragment) (fs : List Fragment) → covers f key ≡ true → AllByRecursion (λ g. is_le (bytes_cmp f.end g.begin) ≡ true) fs → filter (λ g. covers g key) fs ≡ []
 none_behind key f [] e le = refl
 none_behind key f (g ∷ gs) e le = ap (λ b. cond b (g ∷ filter (λ h. covers h key) gs) (filter (λ h. covers h key) gs)) (not_behind key f g e le.0) ∙ none_behind key f gs e le.1
 

@@ -126,7 +126,7 @@ all_behind : {X : Type 0} (P : X → Type 0) (xs ys : List X) → AllByRecursion
 all_behind P [] ys h = h
 all_behind P (x ∷ xs) ys h = all_behind P xs ys h.1
 
-all_moved : (P : Write → Type 0) (ws : List Write) → AllByRecursion P ws → AllByRecursion P (by_seq ws)
+pub all_moved : (P : Write → Type 0) (ws : List Write) → AllByRecursion P ws → AllByRecursion P (by_seq ws)
 all_moved P ws h = all_each P (by_seq ws) (All-permutation P ws (by_seq ws) (moved-by_seq ws) (all_is P ws h))
 
 all_moved_back : (P : Write → Type 0) (ws : List Write) → AllByRecursion P (by_seq ws) → AllByRecursion P ws

@@ -1,0 +1,9 @@
+pub mod Lists
+pub mod Effects
+pub mod Choosing
+pub mod Across
+pub mod Parted
+pub mod Kept
+pub mod OutputRun
+pub mod Staying
+pub mod Leaving

@@ -1,0 +1,4 @@
+pub mod Stripes
+pub mod Inputs
+pub mod Output
+pub mod Values

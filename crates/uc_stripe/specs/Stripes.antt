@@ -1,0 +1,20 @@
+-- Stripes of sequences (RocksDB wiki, "Snapshot"): reads are made at kept sequences alone, so what happens within a
+-- stripe is seen at its end only, and may be folded.
+use Rattle.std.specs.Prelude.{ℕ, ◌-◌, ◌^◌, Bool, ◌&&◌, List, [], ◌∷◌, ◌++◌, nat_lt, nat_le}
+
+-- the sequences above one, up to another and with it
+pub record Stripe : Type 0 where
+  pub above : ℕ
+  pub upto : ℕ
+
+abbrev pub is_in : Stripe → ℕ → Bool
+is_in s seq = nat_lt s.above seq && nat_le seq s.upto
+
+-- The stripes above a sequence, the newest first, where keeps rise: each keep is the greatest sequence of a stripe, and
+-- the top stripe, above all keeps, goes up to the greatest sequence of all.
+abbrev pub stripes_above : ℕ → List ℕ → List Stripe
+stripes_above above [] = record { above = above; upto = 2 ^ 56 - 1 } ∷ []
+stripes_above above (keep ∷ keeps) = stripes_above keep keeps ++ record { above = above; upto = keep } ∷ []
+
+abbrev pub stripes : List ℕ → List Stripe
+stripes keeps = stripes_above 0 keeps

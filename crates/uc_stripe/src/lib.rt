@@ -1,0 +1,16 @@
+//! What a compaction makes of runs: definitions, and the laws that make them right.
+//!
+//! A compaction folds what happened to each key between two neighbouring kept sequences, a *stripe*. Read
+//! `specs/Stripes.antt` first, then `specs/Inputs.antt` and `specs/Output.antt`, which says what comes of each key and
+//! stripe, and `laws.rt`, which says that reads see no difference.
+#![tactic(auto)]
+
+mod laws;
+
+pub use laws::{
+    compaction_gives_a_run, compaction_keeps_one_of_each_stripe, compaction_keeps_what_is_read,
+    compaction_of_the_oldest_leaves_values, sequences_have_one_stripe,
+};
+
+#[cfg(test)]
+mod tests;

@@ -1,0 +1,12 @@
+//! The laws, called.
+use super::*;
+use uc_oper::Counter;
+
+#[test]
+fn laws_hold_under_an_operator() {
+    sequences_have_one_stripe();
+    compaction_gives_a_run::<Counter>();
+    compaction_keeps_what_is_read::<Counter>();
+    compaction_keeps_one_of_each_stripe::<Counter>();
+    compaction_of_the_oldest_leaves_values::<Counter>();
+}
