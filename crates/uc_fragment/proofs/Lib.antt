@@ -1,4 +1,11 @@
 pub mod Sets
+pub mod SameSets
 pub mod Pieces
 pub mod Over
 pub mod Seqs
+pub mod Cuts
+pub mod Once
+pub mod Newest
+pub mod Filled
+pub mod Spanned
+pub mod Written

@@ -57,6 +57,14 @@ module _ (ranges : List RangeOf) where
   all-filter P [] h = tt
   all-filter P (f ∷ fs) h = all_kept P f (filter has_seqs fs) (has_seqs f) h.0 (all-filter P fs h.1)
 
+  order_over : (ps : List Piece) → ArePieces ps → AreInOrder (over ps)
+  order_over [] h = tt
+  order_over (p ∷ ps) h = (h.0, later_fragments p.1 ps h.1, order_over ps h.2)
+
+  -- fragments over pieces stand in order, whichever ranges fill them
+  pub over_in_order : (cut : List RangeOf) → AreInOrder (over (pieces (cut_points cut)))
+  over_in_order cut = order_over (pieces (cut_points cut)) (are_pieces (cut_points cut) (sorted_set bytes_cmp nat_list_cmp_total (flat_map (λ r. r.begin ∷ r.end ∷ []) (filter has_keys cut))))
+
   order_kept : (f : Fragment) (kept : List Fragment) (b : Bool) → is_lt (bytes_cmp f.begin f.end) ≡ true → AllByRecursion (λ g. is_le (bytes_cmp f.end g.begin) ≡ true) kept → AreInOrder kept → AreInOrder (cond b (f ∷ kept) kept)
   order_kept f kept true lt le h = (lt, le, h)
   order_kept f kept false lt le h = h

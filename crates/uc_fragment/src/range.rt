@@ -1,5 +1,6 @@
 //! [`Range`]: a range deletion, with its ends borrowed.
 ghost use Rattle.std.specs.Prelude.{◌≡◌};
+ghost use Rattle.uc_fragment.specs.Cutting as cutting;
 
 use std::marker::Model;
 
@@ -26,5 +27,33 @@ impl<'a> Range<'a> {
         ensures { result ≡ record { begin = begin.now; end = end.now; seq = seq } }
     {
         Range { begin, end, seq }
+    }
+
+    /// The least key that it covers, where it covers any.
+    pub(crate) fn begin(&self) -> &'a [u8]
+        ensures { result.now ≡ self.now.begin }
+    {
+        self.begin
+    }
+
+    /// The least key behind those that it covers.
+    pub(crate) fn end(&self) -> &'a [u8]
+        ensures { result.now ≡ self.now.end }
+    {
+        self.end
+    }
+
+    /// Its sequence.
+    pub(crate) fn seq(&self) -> u64
+        ensures { result ≡ self.now.seq }
+    {
+        self.seq
+    }
+
+    /// Whether it covers any key.
+    pub(crate) fn has_keys(&self) -> bool
+        ensures { result ≡ cutting.has_keys self.now }
+    {
+        self.begin.cmp(&self.end).is_lt()
     }
 }
