@@ -1,12 +1,12 @@
 -- What a test passes of a list, where that is a part of it between two places.
-use Rattle.std.proofs.Common.{◌≡◌, ℕ, zero, suc, ◌+◌, ◌<◌, ◌≤◌, Bool, true, false, cond, ltb, List, [], ◌∷◌, length, get_or, take, drop, filter, refl, sym, ap, ◌∙◌, arith}
-use Rattle.std.specs.List.{count_by}
+use Rattle.std.proofs.Common.{◌≡◌, ℕ, zero, suc, ◌+◌, ◌-◌, ◌<◌, ◌≤◌, Bool, true, false, cond, ltb, List, [], ◌∷◌, length, get_or, take, drop, filter, refl, sym, ap, ◌∙◌, arith}
+use Rattle.std.specs.List.{count_by, AllWithin}
 use Rattle.std.specs.List.Sorted.{IsStrictlySortedBy, IsPartitionPoint, IsPartitionedBy}
 use Rattle.std.specs.declared.cmp.Ordering.{Ordering}
 use Rattle.std.specs.declared.cmp.Ordering.TheVariants.{Less}
 use Rattle.std.proofs.lemmas.Bool.{false≢true}
 use Rattle.std.proofs.lemmas.Bool.Decides.{nat_tests}
-use Rattle.std.proofs.lemmas.List.{length-take-le}
+use Rattle.std.proofs.lemmas.List.{get_or-drop, get_or-take, length-take-le, length-drop}
 use Rattle.std.proofs.lemmas.List.Sums.{length-filter}
 use Rattle.std.proofs.lemmas.List.Elements.{All-from_recursion}
 
@@ -78,3 +78,41 @@ module _ {X : Type 0} (p q : X → Bool) (weaker : (x : X) → p x ≡ true → 
 
   pub places_in_order : (xs : List X) (a b : ℕ) → a ≤ length xs → IsPartitionPoint (λ x. p x ≡ true) (λ x. p x ≡ false) xs a → IsPartitionPoint (λ x. q x ≡ true) (λ x. q x ≡ false) xs b → a ≤ b
   places_in_order xs a b le first second = places_by xs a b (ltb b a) refl le first second
+
+-- what a part of a list has at a place
+pub part_at : {X : Type 0} (xs : List X) (a n k : ℕ) (d : X) → k < n → get_or (take n (drop a xs)) k d ≡ get_or xs (a + k) d
+part_at xs a n k d l = get_or-take n (drop a xs) k d l ∙ get_or-drop a xs k d
+
+-- a search goes on between two places, where all before the first pass the test, and none from the second on does
+module _ {X : Type 0} (test : X → Bool) (xs : List X) (begin end : ℕ) (order : begin ≤ end) (within : end ≤ length xs) where
+  pub length_part : length (take (end - begin) (drop begin xs)) ≡ end - begin
+  length_part = length-take-le (end - begin) (drop begin xs) (let l : length (drop begin xs) ≡ length xs - begin = length-drop begin xs in omega (arith, l, within))
+
+  pub part_parted : IsPartitionedBy test xs → IsPartitionedBy test (take (end - begin) (drop begin xs))
+  part_parted parted i j d le l passes =
+      let short : j < end - begin = omega (arith, l, length_part) in
+      ap test (part_at xs begin (end - begin) i d (omega (arith, le, short)))
+      ∙ parted (begin + i) (begin + j) d (omega (arith, le)) (omega (arith, short, within)) (sym (ap test (part_at xs begin (end - begin) j d short)) ∙ passes)
+
+  pub part_point : AllWithin (λ x. test x ≡ true) xs 0 begin → AllWithin (λ x. test x ≡ false) xs end (length xs) → (r : ℕ) → r ≤ length (take (end - begin) (drop begin xs)) → IsPartitionPoint (λ x. test x ≡ true) (λ x. test x ≡ false) (take (end - begin) (drop begin xs)) r → IsPartitionPoint (λ x. test x ≡ true) (λ x. test x ≡ false) xs (begin + r)
+  part_point before behind r le point = (
+    (λ k d l m. passes k d (ltb k begin) refl m),
+    (λ k d l m. fails k d (ltb k end) refl l m),
+  )
+    where
+      at_part : (k : ℕ) (d : X) → begin ≤ k → k < end → test (get_or (take (end - begin) (drop begin xs)) (k - begin) d) ≡ test (get_or xs k d)
+      at_part k d l m =
+          let sum : begin + (k - begin) ≡ k = omega (arith, l) in
+          ap test (part_at xs begin (end - begin) (k - begin) d (omega (arith, l, m))) ∙ ap (λ j. test (get_or xs j d)) sum
+
+      passes : (k : ℕ) (d : X) (b : Bool) → ltb k begin ≡ b → k < begin + r → test (get_or xs k d) ≡ true
+      passes k d true e m = before k d (omega arith) (grind (arith, nat_tests))
+      passes k d false e m =
+          let ge : begin ≤ k = grind (arith, nat_tests) in
+          sym (at_part k d ge (omega (arith, m, le, length_part))) ∙ point.0 (k - begin) d (omega arith) (omega (arith, ge, m))
+
+      fails : (k : ℕ) (d : X) (b : Bool) → ltb k end ≡ b → begin + r ≤ k → k < length xs → test (get_or xs k d) ≡ false
+      fails k d true e l m =
+          let lt : k < end = grind (arith, nat_tests) in
+          sym (at_part k d (omega (arith, l)) lt) ∙ point.1 (k - begin) d (omega (arith, l)) (omega (arith, l, lt, length_part))
+      fails k d false e l m = behind k d (grind (arith, nat_tests)) m

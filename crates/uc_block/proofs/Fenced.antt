@@ -1,13 +1,20 @@
 -- Where a search goes on from the fences of blocks.
 use Rattle.std.proofs.Common.{◌≡◌, ℕ, ◌+◌, ◌-◌, ◌*◌, ◌<◌, ◌≤◌, Bool, true, false, ltb, List, [], length, get_or, take, drop, min, refl, sym, ap, ◌∙◌, arith}
-use Rattle.std.specs.List.Sorted.{IsPartitionPoint, IsPartitionedBy}
+use Rattle.std.specs.List.Sorted.{IsStrictlySortedBy, IsPartitionPoint, IsPartitionedBy}
+use Rattle.std.specs.Ordering.{is_le}
 use Rattle.std.proofs.lemmas.Bool.{false≢true}
 use Rattle.std.proofs.lemmas.Bool.Decides.{nat_tests}
-use Rattle.std.proofs.lemmas.List.{get_or-drop, get_or-take, length-take-le, length-drop}
+use Rattle.std.proofs.lemmas.Cmp.{nat_list_cmp_total, tied_itself}
+use Rattle.std.proofs.lemmas.List.{length-take-le, length-drop}
 use Rattle.uc_entry.specs.declared.entry.Entry.{Entry}
 use Rattle.uc_entry.specs.declared.entry.What.TheVariants.{Delete}
 use Rattle.uc_block.specs.Blocks.{blocks_of}
+use Rattle.uc_entry.specs.Order.{entry_cmp}
+use Rattle.uc_entry.specs.Seek.{is_passed}
 use Rattle.uc_block.specs.Fences.{IsFenced}
+use Rattle.uc_block.specs.Prefixes.{AreRising}
+use Rattle.uc_block.proofs.Cuts.{part_at, partitioned}
+use Rattle.uc_block.proofs.Order.{passed_before}
 
 any : Entry
 any = record { key = []; seq = 0; what = Delete }
@@ -15,10 +22,6 @@ any = record { key = []; seq = 0; what = Delete }
 not_true : (b : Bool) → (b ≡ true → ⊥) → b ≡ false
 not_true true never = absurd (never refl)
 not_true false never = refl
-
--- what a part of a list has at a place
-pub part_at : {X : Type 0} (xs : List X) (a n k : ℕ) (d : X) → k < n → get_or (take n (drop a xs)) k d ≡ get_or xs (a + k) d
-part_at xs a n k d l = get_or-take n (drop a xs) k d l ∙ get_or-drop a xs k d
 
 module _ (test : List ℕ → Bool) (points : List Entry) (fences : List (List ℕ)) (parted : IsPartitionedBy (λ p. test p.key) points) (fenced : IsFenced points fences) where
   -- a fence passes the test where the point does
@@ -121,3 +124,9 @@ module _ (test : List ℕ → Bool) (points : List Entry) (fences : List (List �
 
     pub last_place : (r : ℕ) → r ≤ length block → IsPartitionPoint (λ p. test p.key ≡ true) (λ p. test p.key ≡ false) block r → IsPartitionPoint (λ p. test p.key ≡ true) (λ p. test p.key ≡ false) points (begin + r)
     last_place r le inner = within_block passed begin end r some bound place refl within at_end in_order long le inner
+
+pub fences_rise : (points : List Entry) → IsStrictlySortedBy entry_cmp points → (fences : List (List ℕ)) → IsFenced points fences → AreRising fences
+fences_rise points sorted fences fenced i j d le l =
+    let key : List ℕ = get_or fences j d in
+    fences_parted (is_passed key true) points fences (partitioned (λ p. is_passed key true p.key) entry_cmp (passed_before key true) points sorted) fenced i j d le l
+    (ap is_le (tied_itself nat_list_cmp_total key))

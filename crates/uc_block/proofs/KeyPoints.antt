@@ -9,9 +9,8 @@ use Rattle.uc_entry.specs.Order.{entry_cmp}
 use Rattle.uc_entry.specs.Seek.{is_passed}
 use Rattle.uc_entry.specs.Lookup.{is_visible}
 use Rattle.uc_block.specs.Places.{is_newer}
-use Rattle.uc_block.proofs.Cuts.{partitioned, filter-cut, places_in_order}
+use Rattle.uc_block.proofs.Cuts.{partitioned, filter-cut, places_in_order, part_at}
 use Rattle.uc_block.proofs.Order.{newer_before, newer_hidden, here_visible, behind_hidden, before_newer, passed_both}
-use Rattle.uc_block.proofs.Fenced.{part_at}
 
 module _ (points : List Entry) (sorted : IsStrictlySortedBy entry_cmp points) (key : List ℕ) (at begin end : ℕ) (begin_bound : begin ≤ length points) (end_bound : end ≤ length points) (first : IsPartitionPoint (λ p. is_passed key false p.key ≡ true) (λ p. is_passed key false p.key ≡ false) points begin) (last : IsPartitionPoint (λ p. is_passed key true p.key ≡ true) (λ p. is_passed key true p.key ≡ false) points end) where
   pub in_order : begin ≤ end

@@ -3,3 +3,6 @@ pub mod Order
 pub mod Effects
 pub mod Fenced
 pub mod KeyPoints
+pub mod PrefixOrder
+pub mod Fronts
+pub mod Decided

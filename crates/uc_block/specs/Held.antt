@@ -12,4 +12,4 @@ contents r = record { low = r.low; high = r.high; points = r.points.items; fragm
 pub record IsHeld (r : Inside) : Type 0 where
   pub is_run : IsRun r.low r.high r.points.items r.fragments.items
   pub size_counted : r.size ≡ size_of (contents r)
-  pub fenced : IsFenced r.points.items r.fences.items
+  pub fenced : IsFenced r.points.items r.fences

@@ -3,3 +3,4 @@ pub mod Blocks
 pub mod Fences
 pub mod Places
 pub mod Overwriting
+pub mod Prefixes

@@ -1,4 +1,4 @@
-//! Blocks of points and their fences.
+//! [`Fences`]: the first keys of blocks of points, and searches by them.
 ghost use Rattle.std.specs.Prelude.{◌≡◌, ◌≤◌, true, false, length, IfOk};
 ghost use Rattle.std.specs.List.Sorted.{IsStrictlySortedBy, IsPartitionPoint, IsPartitionedBy};
 ghost use Rattle.uc_entry.specs.Order.{entry_cmp};
@@ -6,22 +6,82 @@ ghost use Rattle.uc_entry.specs.Seek as seek;
 ghost use Rattle.uc_block.specs.Fences.{IsFenced};
 
 use crate::places::is_passed;
+use crate::prefixes::{prefixes_of, shared_front, undecided};
 use std::alloc::{AllocError, Global};
+use std::marker::Model;
 use uc_bytes::Bytes;
 use uc_entry::Entry;
 
 /// How many points a block has, but the last one, which may have fewer.
 const BLOCK_POINTS: usize = 16;
 
-/// The key of the first point of each block.
-pub(crate) fn fences_of(alloc: Global, points: &[Entry]) -> Result<Vec<Bytes>, AllocError>
-    ensures { IfOk result (λ fences. IsFenced points.now fences.items) }
-{
-    let mut fences = Vec::new(alloc);
-    for block in 0..points.len().div_ceil(BLOCK_POINTS) {
-        fences.push(points[block * BLOCK_POINTS].key.clone()?)?;
+/// The key of the first point of each block, apart from the points, so that few lines of memory are looked at.
+/// A contract sees it as these keys.
+#[derive(Debug, Drop)]
+pub(crate) struct Fences {
+    keys: Vec<Bytes>,
+    /// How many bytes all keys have in common at their front.
+    shared: usize,
+    /// The prefix of each key behind these, in one piece: most steps of a search look at no key.
+    prefixes: Vec<u64>,
+}
+
+impl Model for Fences {
+    ghost use Rattle.std.specs.Prelude.{List, ℕ};
+
+    ghost Value = { List (List ℕ) };
+
+    ghost view = { λ f. f.keys.items };
+
+    ghost use Rattle.uc_block.specs.Prefixes.{ArePrefixes};
+
+    ghost invariant = { λ f. ArePrefixes f.keys.items f.shared f.prefixes.items };
+}
+
+impl Fences {
+    /// The keys.
+    #[inline]
+    pub(crate) fn keys(&self) -> &[Bytes]
+        ensures { result.now ≡ self.now }
+    {
+        &self.keys
     }
-    Ok(fences)
+}
+
+/// The key of the first point of each block.
+fn first_keys(alloc: Global, points: &[Entry]) -> Result<Vec<Bytes>, AllocError>
+    ensures { IfOk result (λ keys. IsFenced points.now keys.items) }
+{
+    let mut keys = Vec::new(alloc);
+    for block in 0..points.len().div_ceil(BLOCK_POINTS) {
+        keys.push(points[block * BLOCK_POINTS].key.clone()?)?;
+    }
+    Ok(keys)
+}
+
+/// The fences of points.
+pub(crate) fn fences_of(alloc: Global, points: &[Entry]) -> Result<Fences, AllocError>
+    requires { IsStrictlySortedBy entry_cmp points.now }
+    ensures { IfOk result (λ fences. IsFenced points.now fences) }
+{
+    let keys = first_keys(alloc, points)?;
+    let shared = shared_front(&keys);
+    let prefixes = prefixes_of(alloc, &keys, shared)?;
+    Ok(Fences {
+        keys,
+        shared,
+        prefixes,
+    })
+}
+
+/// How many of the keys are passed over, where those that are stand first.
+fn keys_passed(keys: &[Bytes], low: &[u8], strict: bool) -> usize
+    requires { IsPartitionedBy (seek.is_passed low.now strict) keys.now }
+    ensures bound { result ≤ length keys.now }
+    ensures place { IsPartitionPoint (λ key. seek.is_passed low.now strict key ≡ true)
+        (λ key. seek.is_passed low.now strict key ≡ false) keys.now result }
+{
+    keys.partition_point(|key| is_passed(low, strict, key.as_slice()))
 }
 
 /// How many of the points are passed over, where those that are stand first.
@@ -35,18 +95,21 @@ fn place_in(points: &[Entry], low: &[u8], strict: bool) -> usize
 }
 
 /// How many fences are passed over.
-fn fences_passed(points: &[Entry], fences: &[Bytes], low: &[u8], strict: bool) -> usize
+fn fences_passed(points: &[Entry], fences: &Fences, low: &[u8], strict: bool) -> usize
     requires sorted { IsStrictlySortedBy entry_cmp points.now }
     requires fenced { IsFenced points.now fences.now }
     ensures bound { result ≤ length fences.now }
     ensures place { IsPartitionPoint (λ key. seek.is_passed low.now strict key ≡ true)
         (λ key. seek.is_passed low.now strict key ≡ false) fences.now result }
 {
-    fences.partition_point(|fence| is_passed(low, strict, fence.as_slice()))
+    let keys = fences.keys.as_slice();
+    let prefixes = fences.prefixes.as_slice();
+    let (begin, end) = undecided(keys, fences.shared, prefixes, low, strict);
+    begin + keys_passed(&keys[begin..end], low, strict)
 }
 
 /// How many points are passed over: all before the last block whose fence is, and some of that block.
-pub(crate) fn seek_by_fences(points: &[Entry], fences: &[Bytes], low: &[u8], strict: bool) -> usize
+pub(crate) fn seek_by_fences(points: &[Entry], fences: &Fences, low: &[u8], strict: bool) -> usize
     requires sorted { IsStrictlySortedBy entry_cmp points.now }
     requires fenced { IsFenced points.now fences.now }
     ensures bound { result ≤ length points.now }

@@ -7,6 +7,7 @@
 mod fences;
 mod lookup;
 mod places;
+mod prefixes;
 mod run;
 mod same;
 mod size;

@@ -11,9 +11,9 @@ ghost use Rattle.uc_entry.specs.Lookup as lookup;
 ghost use Rattle.uc_block.specs.Fences.{IsFenced};
 ghost use Rattle.uc_block.specs.Overwriting as overwriting;
 
+use crate::fences::Fences;
 use crate::places::{greatest_at, newer_than, points_on};
 use std::alloc::{AllocError, Global};
-use uc_bytes::Bytes;
 use uc_entry::{Entry, Fragment, What, covering_fragment};
 use uc_oper::{Effect, Operator};
 
@@ -80,7 +80,7 @@ fn newest_over(fragments: &[Fragment], key: &[u8], at: u64) -> Option<u64>
 pub(crate) fn effect_found<O: Operator>(
     alloc: Global,
     points: &[Entry],
-    fences: &[Bytes],
+    fences: &Fences,
     fragments: &[Fragment],
     key: &[u8],
     at: u64,

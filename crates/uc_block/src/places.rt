@@ -9,12 +9,12 @@ ghost use Rattle.uc_block.specs.Fences.{IsFenced};
 ghost use Rattle.uc_block.specs.Places as places;
 ghost use Rattle.uc_block.specs.Places.{PointsFall};
 
-use crate::fences::seek_by_fences;
+use crate::fences::{Fences, seek_by_fences};
 use std::cmp::Ordering;
-use uc_bytes::Bytes;
 use uc_entry::Entry;
 
 /// Whether who looks for the keys from `low` on or, where strict, behind `low`, passes over a key.
+#[inline]
 pub(crate) fn is_passed(low: &[u8], strict: bool, key: &[u8]) -> bool
     ensures { result ≡ seek.is_passed low.now strict key.now }
 {
@@ -49,7 +49,7 @@ fn newer_in(points: &[Entry], key: &[u8], at: u64) -> usize
 /// The points of the key at or below the sequence, the newest first.
 pub(crate) fn points_on<'a>(
     points: &'a [Entry],
-    fences: &[Bytes],
+    fences: &Fences,
     key: &[u8],
     at: u64,
 ) -> &'a [Entry]

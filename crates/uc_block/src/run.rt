@@ -8,13 +8,12 @@ ghost use Rattle.uc_entry.specs.PlainList.{plain_list};
 ghost use Rattle.uc_model.specs.Meaning.{effect_on};
 ghost use Rattle.uc_block.specs.Blocks.{blocks_of, fence_of};
 
-use crate::fences::{fences_of, seek_by_fences};
+use crate::fences::{Fences, fences_of, seek_by_fences};
 use crate::lookup::effect_found;
 use crate::same::{same_fragments, same_points};
 use crate::size::size_of;
 use std::alloc::{AllocError, Global};
 use std::marker::Model;
-use uc_bytes::Bytes;
 use uc_entry::{Entry, Fragment, What, plain_list_does_what_is_found};
 use uc_oper::{Effect, Operator};
 
@@ -25,8 +24,7 @@ pub struct Run {
     low: u64,
     high: u64,
     points: Vec<Entry>,
-    /// The key of the first point of each block, apart from the points, so that few lines of memory are looked at.
-    fences: Vec<Bytes>,
+    fences: Fences,
     fragments: Vec<Fragment>,
     size: u64,
 }
@@ -107,14 +105,14 @@ impl Run {
     pub fn blocks(&self) -> u64
         ensures { result ≡ blocks_of self.now.points }
     {
-        self.fences.len() as u64
+        self.fences.keys().len() as u64
     }
 
     /// The key of the first point of a block.
     pub fn fence(&self, block: u64) -> Option<&[u8]>
         ensures { option_map (λ key. key.now) result ≡ fence_of self.now.points block }
     {
-        let fence = self.fences.get(usize::try_from(block).ok()?)?;
+        let fence = self.fences.keys().get(usize::try_from(block).ok()?)?;
         Some(fence.as_slice())
     }
 

@@ -86,6 +86,51 @@ fn keys_have_places(rt: HostRuntime) -> Result<(), Fail> {
     Ok(())
 }
 
+/// A key behind a shared front. 64 in order have the same eight bytes there.
+fn long_key(alloc: Global, number: u8) -> Result<Bytes, Fail> {
+    let high = b'a' + number / 64;
+    bytes(
+        alloc,
+        &[
+            b'u', b'/', high, high, high, high, high, high, high, high, number,
+        ],
+    )
+}
+
+/// Keys that have no point, and their places among 200 of these.
+const OUTSIDE: [(&[u8], u64); 7] = [
+    (b"", 0),
+    (b"t/z", 0),
+    (b"u", 0),
+    (b"u/", 0),
+    (b"u/b", 64),
+    (b"u/z", 200),
+    (b"u0", 200),
+];
+
+#[test]
+fn keys_with_equal_prefixes_have_places(rt: HostRuntime) -> Result<(), Fail> {
+    let alloc = rt.alloc();
+    let mut points = Vec::new(alloc);
+    for number in 0..200_u8 {
+        points.push(Entry {
+            key: long_key(alloc, number)?,
+            seq: 1,
+            what: What::Delete,
+        })?;
+    }
+    let run = built(alloc, points, Vec::new(alloc))?;
+    for number in 0..200_u8 {
+        let key = long_key(alloc, number)?;
+        assert_eq!(rt; run.seek(key.as_slice(), false), u64::from(number));
+        assert_eq!(rt; run.seek(key.as_slice(), true), u64::from(number) + 1);
+    }
+    for (low, place) in OUTSIDE {
+        assert_eq!(rt; run.seek(low, false), place);
+    }
+    Ok(())
+}
+
 #[test]
 fn a_key_goes_over_blocks(rt: HostRuntime) -> Result<(), Fail> {
     let alloc = rt.alloc();
