@@ -6,3 +6,4 @@ pub mod KeyPoints
 pub mod PrefixOrder
 pub mod Fronts
 pub mod Decided
+pub mod LeastKey

@@ -4,3 +4,4 @@ pub mod Fences
 pub mod Places
 pub mod Overwriting
 pub mod Prefixes
+pub mod NextKey

@@ -5,6 +5,7 @@
 #![tactic(auto)]
 
 mod fences;
+mod laws;
 mod lookup;
 mod places;
 mod prefixes;
@@ -12,6 +13,7 @@ mod run;
 mod same;
 mod size;
 
+pub use laws::next_key_is_the_least;
 pub use run::Run;
 
 #[cfg(test)]

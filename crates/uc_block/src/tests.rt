@@ -209,3 +209,8 @@ fn effects_by_sequence(rt: HostRuntime) -> Result<(), Fail> {
     assert!(rt; !run.same(&puts(alloc, 4)?));
     Ok(())
 }
+
+#[test]
+fn laws_hold() {
+    next_key_is_the_least();
+}
