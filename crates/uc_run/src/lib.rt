@@ -5,10 +5,14 @@
 //! them, is to come. Read `memtable.rt` first.
 #![tactic(auto)]
 
+mod entry_ref;
+mod flush;
+mod laws;
 mod memtable;
 mod size;
 mod slot;
 
+pub use laws::{flush_keeps_every_effect, flushed_writes_are_a_run};
 pub use memtable::Memtable;
 
 #[cfg(test)]

@@ -2,6 +2,7 @@
 use super::*;
 use std::test::Fail;
 use uc_bytes::Bytes;
+use uc_oper::Counter;
 use uc_write::{Op, OpRef, Write, WriteRef};
 
 #[test]
@@ -47,4 +48,10 @@ fn owned_writes_are_inserted(rt: HostRuntime) -> Result<(), Fail> {
     assert!(rt; !memtable.is_empty());
     assert_eq!(rt; (memtable.size(), memtable.last()), (10, 3));
     Ok(())
+}
+
+#[test]
+fn laws_hold_under_an_operator() {
+    flushed_writes_are_a_run();
+    flush_keeps_every_effect::<Counter>();
 }

@@ -1,0 +1,15 @@
+use Rattle.uc_write.specs.declared.write.Write.{Write}
+use Rattle.uc_run.specs.Flush.{point_of}
+use Rattle.uc_run.proofs.Slots.{part_pushed, part_missing}
+use Rattle.uc_run.proofs.flush.points_in.Goals as goal
+use Rattle.uc_run.proofs.flush.points_in.Goals.{in-Some+in_ok-push, in_default}
+
+pub loop-slot-preserved : goal.loop-slot-preserved
+loop-slot-preserved c =
+    let text = c.args.text.now in
+    let slots = c.args.slots.now in
+    let i = c.loop-slot.slot-index in
+    elim c.match-point_at.branch [
+      | in-Some+in_ok-push w ↦ rw w.points-is (part_pushed (λ (v : Write). point_of v.seq v.op) text slots i _ c.point_at.result _ _ _ c.loop-slot-test.true c.point_at.ensures w.in-Some.is c.loop-slot.invariant w.in_ok-push.ensures.items)
+      | in_default w ↦ rw w.points-is (part_missing (λ (v : Write). point_of v.seq v.op) text slots i _ c.point_at.result _ c.loop-slot-test.true c.point_at.ensures w.in_default.is c.loop-slot.invariant)
+    ]

@@ -1,0 +1,129 @@
+//! The points and range deletions of a memtable's slots, as a run wants them.
+ghost use Rattle.std.specs.Prelude.{◌≡◌, ℕ, List, length, IfOk};
+ghost use Rattle.uc_write.specs.Borrowed.{op_of};
+ghost use Rattle.uc_run.specs.Slots.{slot_write, slot_writes, LiesWithin, LieWithin};
+ghost use Rattle.uc_run.specs.Points.{HaveOwnSeqs};
+ghost use Rattle.uc_run.specs.Flush as flush;
+
+use crate::entry_ref::{EntryRef, WhatKind};
+use crate::slot::Slot;
+use std::alloc::{AllocError, Global};
+use uc_entry::Entry;
+use uc_fragment::Range;
+use uc_write::OpKind;
+
+/// The texts of a slot in the arena.
+fn texts_at<'a>(text: &'a [u8], slot: &Slot) -> (&'a [u8], &'a [u8])
+    requires { LiesWithin (length text.now) slot.now }
+    ensures { slot_write text.now slot.now ≡ record { seq = slot.now.seq; op = op_of slot.now.kind result.0.now result.1.now } }
+{
+    let begin = slot.start + slot.first;
+    (&text[slot.start..begin], &text[begin..begin + slot.second])
+}
+
+/// The point that a slot's write is, if it changes one key.
+fn point_at<'a>(text: &'a [u8], slot: &Slot) -> Option<EntryRef<'a>>
+    requires { LiesWithin (length text.now) slot.now }
+    ensures { result ≡ flush.point_of slot.now.seq (slot_write text.now slot.now).op }
+{
+    let (first, second) = texts_at(text, slot);
+    match slot.kind {
+        OpKind::Put => Some(EntryRef::new(first, slot.seq, WhatKind::Put, second)),
+        OpKind::Delete => Some(EntryRef::new(first, slot.seq, WhatKind::Delete, second)),
+        OpKind::Merge => Some(EntryRef::new(first, slot.seq, WhatKind::Merge, second)),
+        OpKind::DeleteRange => None,
+    }
+}
+
+/// The range that a slot's write deletes, if it is a range deletion.
+fn range_at<'a>(text: &'a [u8], slot: &Slot) -> Option<Range<'a>>
+    requires { LiesWithin (length text.now) slot.now }
+    ensures { result ≡ flush.range_of slot.now.seq (slot_write text.now slot.now).op }
+{
+    let (first, second) = texts_at(text, slot);
+    match slot.kind {
+        OpKind::DeleteRange => Some(Range::new(first, second, slot.seq)),
+        OpKind::Put | OpKind::Delete | OpKind::Merge => None,
+    }
+}
+
+/// The points among the slots' writes, in their order. Want of memory loses them.
+fn points_in<'a>(
+    alloc: Global,
+    text: &'a [u8],
+    slots: &[Slot],
+) -> Result<Vec<EntryRef<'a>>, AllocError>
+    requires { LieWithin text.now slots.now }
+    ensures { IfOk result (λ points. points.items ≡ flush.points_in (slot_writes text.now slots.now)) }
+{
+    let mut points = Vec::new(alloc);
+    for slot in slots {
+        if let Some(point) = point_at(text, slot) {
+            points.push(point)?;
+        }
+    }
+    Ok(points)
+}
+
+/// The range deletions among the slots' writes, in their order. Want of memory loses them.
+pub(crate) fn ranges_in<'a>(
+    alloc: Global,
+    text: &'a [u8],
+    slots: &[Slot],
+) -> Result<Vec<Range<'a>>, AllocError>
+    requires { LieWithin text.now slots.now }
+    ensures { IfOk result (λ ranges. ranges.items ≡ flush.ranges_in (slot_writes text.now slots.now)) }
+{
+    let mut ranges = Vec::new(alloc);
+    for slot in slots {
+        if let Some(range) = range_at(text, slot) {
+            ranges.push(range)?;
+        }
+    }
+    Ok(ranges)
+}
+
+/// Puts points in order of key, and those of one key the newest first.
+fn sort_points(points: &mut [EntryRef<'_>])
+    requires { HaveOwnSeqs points.old }
+    ensures { points.new ≡ flush.by_key points.old }
+{
+    points.sort_unstable_by(|point, other| point.order(other));
+}
+
+/// Copies of points, which own their texts. Want of memory loses them.
+fn entries_of(alloc: Global, points: &[EntryRef<'_>]) -> Result<Vec<Entry>, AllocError>
+    ensures { IfOk result (λ entries. entries.items ≡ points.now) }
+{
+    let mut entries = Vec::new(alloc);
+    for point in points {
+        entries.push(point.to_entry(alloc)?)?;
+    }
+    Ok(entries)
+}
+
+/// The points among the slots' writes, by key, and of one key the newest first. The texts are copied in this order.
+/// Want of memory loses them.
+pub(crate) fn points_by_key(
+    alloc: Global,
+    text: &[u8],
+    slots: &[Slot],
+) -> Result<Vec<Entry>, AllocError>
+    requires within { LieWithin text.now slots.now }
+    requires own { HaveOwnSeqs (flush.points_in (slot_writes text.now slots.now)) }
+    ensures { IfOk result (λ points. points.items ≡ flush.by_key (flush.points_in (slot_writes text.now slots.now))) }
+{
+    let mut points = points_in(alloc, text, slots)?;
+    sort_points(&mut points);
+    entries_of(alloc, &points)
+}
+
+/// The sequence of the first slot, or 0 where there is none.
+pub(crate) fn first_seq(slots: &[Slot]) -> u64
+    ensures { (text : List ℕ) → result ≡ flush.first_of (slot_writes text slots.now) }
+{
+    match slots.first() {
+        None => 0,
+        Some(slot) => slot.seq,
+    }
+}

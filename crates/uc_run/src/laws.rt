@@ -1,0 +1,23 @@
+//! What holds of the run that rising writes are flushed to.
+ghost use Rattle.std.specs.Prelude.{◌≡◌, ◌≢◌, ℕ, List, []};
+ghost use Rattle.uc_write.specs.declared.write.Write.{Write};
+ghost use Rattle.uc_batch.specs.Rising.{IsRising};
+ghost use Rattle.uc_model.specs.Meaning.{effect_on};
+ghost use Rattle.uc_entry.specs.Run.{IsRun};
+ghost use Rattle.uc_entry.specs.PlainList.{plain_list};
+ghost use Rattle.uc_run.specs.Flush.{flushed};
+
+use uc_oper::Operator;
+
+/// Writes whose sequences rise are flushed to a run, if there is one.
+pub fn flushed_writes_are_a_run()
+    ensures { (writes : List Write) → IsRising 0 writes → writes ≢ [] →
+        IsRun (flushed writes).low (flushed writes).high (flushed writes).points (flushed writes).fragments }
+{}
+
+/// What writes whose sequences rise together do to a key at a sequence is what the plain list of their run does:
+/// the flush changes no answer.
+pub fn flush_keeps_every_effect<O: Operator>()
+    ensures { (writes : List Write) (key : List ℕ) (at : ℕ) → IsRising 0 writes → writes ≢ [] →
+        effect_on O.meaning (plain_list (flushed writes)) key at ≡ effect_on O.meaning writes key at }
+{}
