@@ -1,13 +1,18 @@
 //! [`Memtable`]: writes in one arena, in the order of their insertion.
-ghost use Rattle.std.specs.Prelude.{◌≡◌, ◌<◌, ◌^◌, ◌↔◌, ◌∷◌, ◌++◌, [], IsTrue, OnOk, OnErr};
+ghost use Rattle.std.specs.Prelude.{◌≡◌, ◌<◌, ◌^◌, ◌↔◌, ◌∷◌, ◌++◌, [], ◌≢◌, IsTrue, IfOk, IfErr, OnOk, OnErr};
 ghost use Rattle.uc_batch.specs.Rising.{last_of};
+ghost use Rattle.uc_run.specs.Flush.{flushed};
 ghost use Rattle.uc_run.specs.Size.{memtable_size};
 ghost use Rattle.uc_run.specs.Slots.{Grows};
 
+use crate::flush::{first_seq, points_by_key, ranges_in};
+use crate::laws::flushed_writes_are_a_run;
 use crate::size::op_size;
 use crate::slot::Slot;
 use std::alloc::{AllocError, Global};
 use std::marker::Model;
+use uc_block::Run;
+use uc_fragment::cut_ranges;
 use uc_write::{Op, OpRef, Write, WriteRef};
 
 /// The newest writes, before they become a run (RocksDB wiki, "MemTable"). A contract sees it as the list of the
@@ -143,5 +148,31 @@ impl Memtable {
         self.size = self.size.saturating_add(op_size(write.op()));
         self.last = write.seq();
         Ok(())
+    }
+
+    /// The run of its writes. Want of memory loses it, and changes nothing here.
+    fn to_run(&self, alloc: Global) -> Result<Run, AllocError>
+        requires { self.now ≢ [] }
+        ensures { IfOk result (λ run. run ≡ flushed self.now) }
+    {
+        flushed_writes_are_a_run();
+        let points = points_by_key(alloc, &self.text, &self.slots)?;
+        let ranges = ranges_in(alloc, &self.text, &self.slots)?;
+        let fragments = cut_ranges(alloc, &ranges)?;
+        Run::build(alloc, first_seq(&self.slots), self.last, points, fragments)
+    }
+
+    /// The run of its writes: the points in order of key, and the range deletions cut into fragments. It costs a sort of
+    /// the points by comparisons, a copy of the texts, and the fragments. It fails only for want of memory, and then
+    /// hands the memtable back with all its writes.
+    pub fn flush(self, alloc: Global) -> Result<Run, (Memtable, AllocError)>
+        requires { self ≢ [] }
+        ensures run { IfOk result (λ run. run ≡ flushed self) }
+        ensures kept { IfErr result (λ refused. refused.0 ≡ self) }
+    {
+        match self.to_run(alloc) {
+            Ok(run) => Ok(run),
+            Err(error) => Err((self, error)),
+        }
     }
 }
