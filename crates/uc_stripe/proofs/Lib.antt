@@ -7,3 +7,4 @@ pub mod Kept
 pub mod OutputRun
 pub mod Staying
 pub mod Leaving
+pub mod Chosen

@@ -2,3 +2,4 @@ pub mod Stripes
 pub mod Inputs
 pub mod Output
 pub mod Values
+pub mod Choice

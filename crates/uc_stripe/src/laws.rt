@@ -1,6 +1,6 @@
 //! What holds of a compaction's output, under every operator.
 ghost use Rattle.std.specs.Prelude.{◌≡◌, ℕ, ◌<◌, ◌≤◌, ◌^◌, ◌&&◌, ◌⊎◌, [], List, Contains, false, true, filter, length};
-ghost use Rattle.std.specs.List.{AllByRecursion};
+ghost use Rattle.std.specs.List.{AllByRecursion, flat_map};
 ghost use Rattle.std.specs.List.Sorted.{IsStrictlySortedBy};
 ghost use Rattle.std.specs.Ordering.{nat_cmp};
 ghost use Rattle.uc_bytes.specs.Bytes.{same_bytes};
@@ -8,8 +8,10 @@ ghost use Rattle.uc_entry.specs.Run.{IsRun};
 ghost use Rattle.uc_entry.specs.PlainList.{plain_list};
 ghost use Rattle.uc_model.specs.Meaning.{effect_on, value_of};
 ghost use Rattle.uc_stripe.specs.Stripes.{Stripe, is_in, stripes};
-ghost use Rattle.uc_stripe.specs.Inputs.{Compaction, AreRuns, Stand, high_of, writes_of, is_bottom};
-ghost use Rattle.uc_stripe.specs.Output.{output_of};
+ghost use Rattle.uc_fragment.specs.Cutting.{fragments_of};
+ghost use Rattle.uc_stripe.specs.Choice.{points_for, points_named, seqs_over, AreOfOneKey};
+ghost use Rattle.uc_stripe.specs.Inputs.{Compaction, AreRuns, Stand, high_of, writes_of, points_of, ranges_of, is_bottom};
+ghost use Rattle.uc_stripe.specs.Output.{keys_of, output_of};
 ghost use Rattle.uc_stripe.specs.Values.{IsPut};
 
 use uc_oper::Operator;
@@ -55,4 +57,14 @@ pub fn compaction_of_the_oldest_leaves_values<O: Operator>()
     ensures fragments { (c : Compaction) → AreRuns c.inputs → Stand c.inputs c.keeps →
         AllByRecursion (λ s. is_bottom c s ≡ true →
         AllByRecursion (λ f. filter (is_in s) f.seqs ≡ []) (output_of O.meaning c).fragments) (stripes c.keeps) }
+{}
+
+/// What a compaction keeps of the points, key by key: it depends on no more than the key's points, the newest first, and
+/// on the sequences over the key in the pieces that all range deletions are cut into. These fall, and none is in both.
+pub fn points_are_chosen_key_by_key<O: Operator>()
+    ensures points { (c : Compaction) → AreRuns c.inputs → Stand c.inputs c.keeps →
+        (output_of O.meaning c).points ≡ flat_map (λ key. points_for O.meaning c key
+            (points_named key (points_of c.inputs)) (seqs_over key (fragments_of (ranges_of c.inputs)))) (keys_of c) }
+    ensures fall { (c : Compaction) (key : List ℕ) → AreRuns c.inputs → Stand c.inputs c.keeps →
+        AreOfOneKey (points_named key (points_of c.inputs)) (seqs_over key (fragments_of (ranges_of c.inputs))) }
 {}

@@ -9,7 +9,8 @@ mod laws;
 
 pub use laws::{
     compaction_gives_a_run, compaction_keeps_one_of_each_stripe, compaction_keeps_what_is_read,
-    compaction_of_the_oldest_leaves_values, sequences_have_one_stripe,
+    compaction_of_the_oldest_leaves_values, points_are_chosen_key_by_key,
+    sequences_have_one_stripe,
 };
 
 #[cfg(test)]

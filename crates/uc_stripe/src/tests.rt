@@ -9,4 +9,5 @@ fn laws_hold_under_an_operator() {
     compaction_keeps_what_is_read::<Counter>();
     compaction_keeps_one_of_each_stripe::<Counter>();
     compaction_of_the_oldest_leaves_values::<Counter>();
+    points_are_chosen_key_by_key::<Counter>();
 }
