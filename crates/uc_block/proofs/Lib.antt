@@ -7,3 +7,4 @@ pub mod PrefixOrder
 pub mod Fronts
 pub mod Decided
 pub mod LeastKey
+pub mod Equal

@@ -77,6 +77,8 @@ impl From<Vec<u8>> for Bytes {
 }
 
 impl Clone for Bytes {
+    ghost is_clone = { λ bytes copy. copy ≡ bytes };
+
     /// A copy. It fails only for want of memory.
     fn clone(&self) -> Result<Bytes, AllocError>
         ensures { IfOk result (λ copy. copy ≡ self.now) }

@@ -1,7 +1,10 @@
 //! [`Items`]: a vector that contracts see as a list.
 ghost use Rattle.std.specs.Prelude.{◌≡◌};
 ghost use Rattle.std.specs.Slice.Iter.{iter_rest};
+ghost use Rattle.std.specs.List.{AllZip};
+ghost use Rattle.std.specs.Cmp.Lexicographic.{pointwise, lists_per, lists_equiv};
 
+use std::alloc::AllocError;
 use std::marker::Model;
 use std::slice;
 
@@ -52,4 +55,29 @@ impl<T> From<Vec<T>> for Items<T> {
     fn from(items: Vec<T>) -> Items<T> {
         Items { items }
     }
+}
+
+impl<T: Clone> Clone for Items<T> {
+    ghost is_clone = { AllZip T.is_clone };
+
+    /// A copy of each item. It fails only where an item's copy does, or for want of memory.
+    fn clone(&self) -> Result<Items<T>, AllocError> {
+        Ok(Items {
+            items: self.items.clone()?,
+        })
+    }
+}
+
+impl<T: PartialEq> PartialEq for Items<T> {
+    ghost eq = { pointwise T.eq };
+
+    ghost laws = { lists_per T.laws };
+
+    fn eq(&self, other: &Items<T>) -> bool {
+        self.items == other.items
+    }
+}
+
+impl<T: Eq> Eq for Items<T> {
+    ghost laws = { lists_equiv T.Eq.laws };
 }

@@ -39,6 +39,8 @@ fn items_are_taken_over_and_given_back(rt: HostRuntime) -> Result<(), Fail> {
     let items = Items::from(Vec::from_slice(rt.alloc(), &[3, 1, 2])?);
     assert_eq!(rt; items.as_slice(), [3, 1, 2].as_slice());
     assert_eq!(rt; items.iter().max(), Some(&3));
+    assert_eq!(rt; items.clone()?, items);
+    assert_ne!(rt; Items::from(Vec::from_slice(rt.alloc(), &[3, 1])?), items);
     assert_eq!(rt; items.into_vec().as_slice(), [3, 1, 2].as_slice());
     Ok(())
 }

@@ -1,4 +1,7 @@
 //! [`Entry`]: a point of a run, and [`What`] it says of its key.
+ghost use Rattle.std.specs.Prelude.{◌≡◌, IfOk};
+
+use std::alloc::AllocError;
 use uc_bytes::Bytes;
 
 /// What a point says of its key.
@@ -12,6 +15,21 @@ pub enum What {
     Merge(Bytes),
 }
 
+impl Clone for What {
+    ghost is_clone = { λ what copy. copy ≡ what };
+
+    /// A copy. It fails only for want of memory.
+    fn clone(&self) -> Result<What, AllocError>
+        ensures { IfOk result (λ copy. copy ≡ self.now) }
+    {
+        Ok(match self {
+            What::Put(value) => What::Put(value.clone()?),
+            What::Delete => What::Delete,
+            What::Merge(operand) => What::Merge(operand.clone()?),
+        })
+    }
+}
+
 /// A point of a run: one change of one key.
 #[derive(Debug, PartialEq, Eq, Drop)]
 pub struct Entry {
@@ -21,4 +39,19 @@ pub struct Entry {
     pub seq: u64,
     /// What it says of the key.
     pub what: What,
+}
+
+impl Clone for Entry {
+    ghost is_clone = { λ point copy. copy ≡ point };
+
+    /// A copy. It fails only for want of memory.
+    fn clone(&self) -> Result<Entry, AllocError>
+        ensures { IfOk result (λ copy. copy ≡ self.now) }
+    {
+        Ok(Entry {
+            key: self.key.clone()?,
+            seq: self.seq,
+            what: self.what.clone()?,
+        })
+    }
 }

@@ -1,9 +1,12 @@
 //! [`Fragment`]: a piece of the key space with the range deletions over it.
+ghost use Rattle.std.specs.Prelude.{◌≡◌, IfOk};
+
+use std::alloc::AllocError;
 use uc_bytes::{Bytes, Items};
 
 /// The range deletions over the keys from `begin` to below `end`, each of which covers all of these keys
 /// (RocksDB's fragmented range tombstones: RocksDB wiki, "DeleteRange").
-#[derive(Debug, Drop)]
+#[derive(Debug, PartialEq, Eq, Drop)]
 pub struct Fragment {
     /// The least key that is covered.
     pub begin: Bytes,
@@ -11,4 +14,19 @@ pub struct Fragment {
     pub end: Bytes,
     /// The sequences of the range deletions, the newest first.
     pub seqs: Items<u64>,
+}
+
+impl Clone for Fragment {
+    ghost is_clone = { λ fragment copy. copy ≡ fragment };
+
+    /// A copy. It fails only for want of memory.
+    fn clone(&self) -> Result<Fragment, AllocError>
+        ensures { IfOk result (λ copy. copy ≡ self.now) }
+    {
+        Ok(Fragment {
+            begin: self.begin.clone()?,
+            end: self.end.clone()?,
+            seqs: self.seqs.clone()?,
+        })
+    }
 }

@@ -116,6 +116,25 @@ fn the_fragment_over_a_key(rt: HostRuntime) -> Result<(), Fail> {
 }
 
 #[test]
+fn copies_are_equal(rt: HostRuntime) -> Result<(), Fail> {
+    let alloc = rt.alloc();
+    for what in [
+        What::Put(Bytes::from_slice(alloc, b"v")?),
+        What::Delete,
+        What::Merge(Bytes::from_slice(alloc, b"v")?),
+    ] {
+        let key = Bytes::from_slice(alloc, b"k")?;
+        let point = Entry { key, seq: 3, what };
+        assert_eq!(rt; point.clone()?, point);
+    }
+    let list = fragments(alloc, &[(b"a", b"c", &[8, 5]), (b"a", b"c", &[8])])?;
+    assert_eq!(rt; list.clone()?, list);
+    assert_eq!(rt; list.len(), 2);
+    assert_ne!(rt; list[0], list[1]);
+    Ok(())
+}
+
+#[test]
 fn laws_hold_under_an_operator() {
     plain_list_is_in_order();
     plain_list_does_what_is_found::<Counter>();
