@@ -1,25 +1,19 @@
 -- The front that keys in order have in common.
-use Rattle.std.proofs.Common.{◌≡◌, ℕ, zero, suc, ◌≤◌, Bool, true, false, cond, eqb, List, [], ◌∷◌, ◌++◌, length, take, drop, min, refl, sym, ap, ◌∙◌, arith}
+use Rattle.std.proofs.Common.{◌≡◌, ℕ, zero, suc, ◌+◌, ◌≤◌, Bool, true, false, cond, eqb, List, [], ◌∷◌, ◌++◌, length, take, drop, min, refl, sym, ap, ◌∙◌, subst, arith}
 use Rattle.std.specs.Prelude.{◌&&◌}
+use Rattle.std.specs.List.{common_prefix_len}
 use Rattle.std.specs.declared.cmp.Ordering.{Ordering}
 use Rattle.std.specs.declared.cmp.Ordering.TheVariants.{Less, Equal, Greater}
 use Rattle.std.specs.Ordering.{nat_cmp, ordering_then, is_le}
 use Rattle.std.proofs.lemmas.Bool.{false≢true}
 use Rattle.std.proofs.lemmas.Bool.Decides.{nat_tests}
 use Rattle.uc_bytes.specs.Bytes.{bytes_cmp, same_bytes}
-use Rattle.uc_block.specs.Prefixes.{common_front}
 
-pub common_le : (xs ys : List ℕ) → common_front xs ys ≤ length xs
-common_le [] ys = omega arith
-common_le (x ∷ xs) [] = omega arith
-common_le (x ∷ xs) (y ∷ ys) = by (eqb x y) (common_le xs ys)
-  where
-    by : (b : Bool) → common_front xs ys ≤ length xs → cond b (suc (common_front xs ys)) 0 ≤ suc (length xs)
-    by true rest = omega (arith, rest)
-    by false rest = omega arith
+abbrev common : List ℕ → List ℕ → ℕ
+common xs ys = common_prefix_len eqb xs ys
 
 -- behind the last byte of the shorter one nothing is common
-pub none_behind : (n : ℕ) (xs ys : List ℕ) → n ≡ min (length xs) (length ys) → common_front (drop n xs) (drop n ys) ≡ 0
+pub none_behind : (n : ℕ) (xs ys : List ℕ) → n ≡ min (length xs) (length ys) → common (drop n xs) (drop n ys) ≡ 0
 none_behind zero [] ys e = refl
 none_behind (suc n) [] ys e = refl
 none_behind zero (x ∷ xs) [] e = refl
@@ -38,23 +32,23 @@ begins_later s x y xs ys e rest = record {
   same = ap (λ z. z ∷ take s ys) (sym e) ∙ ap (λ (zs : List ℕ). x ∷ zs) rest.same;
 }
 
-pub between : (xs ys zs : List ℕ) → is_le (bytes_cmp xs ys) ≡ true → is_le (bytes_cmp ys zs) ≡ true → Begins (common_front xs zs) xs ys
+pub between : (xs ys zs : List ℕ) → is_le (bytes_cmp xs ys) ≡ true → is_le (bytes_cmp ys zs) ≡ true → Begins (common xs zs) xs ys
 between [] ys zs p q = record { long = omega arith; same = refl }
 between (x ∷ xs) ys [] p q = record { long = omega arith; same = refl }
 between (x ∷ xs) [] (z ∷ zs) p q = absurd (false≢true p)
 between (x ∷ xs) (y ∷ ys) (z ∷ zs) p q = by (eqb x z) refl (between xs ys zs)
   where
-    inner : (o r : Ordering) → x ≡ z → nat_cmp x y ≡ o → nat_cmp y z ≡ r → is_le (ordering_then o (bytes_cmp xs ys)) ≡ true → is_le (ordering_then r (bytes_cmp ys zs)) ≡ true → (is_le (bytes_cmp xs ys) ≡ true → is_le (bytes_cmp ys zs) ≡ true → Begins (common_front xs zs) xs ys) → Begins (suc (common_front xs zs)) (x ∷ xs) (y ∷ ys)
+    inner : (o r : Ordering) → x ≡ z → nat_cmp x y ≡ o → nat_cmp y z ≡ r → is_le (ordering_then o (bytes_cmp xs ys)) ≡ true → is_le (ordering_then r (bytes_cmp ys zs)) ≡ true → (is_le (bytes_cmp xs ys) ≡ true → is_le (bytes_cmp ys zs) ≡ true → Begins (common xs zs) xs ys) → Begins (suc (common xs zs)) (x ∷ xs) (y ∷ ys)
     inner Less Less e f g p q behind = absurd (grind (arith, nat_tests))
     inner Less Equal e f g p q behind = absurd (grind (arith, nat_tests))
     inner Less Greater e f g p q behind = absurd (false≢true q)
     inner Equal Less e f g p q behind = absurd (grind (arith, nat_tests))
-    inner Equal Equal e f g p q behind = let same : x ≡ y = grind (arith, nat_tests) in begins_later (common_front xs zs) x y xs ys same (behind p q)
+    inner Equal Equal e f g p q behind = let same : x ≡ y = grind (arith, nat_tests) in begins_later (common xs zs) x y xs ys same (behind p q)
     inner Equal Greater e f g p q behind = absurd (false≢true q)
     inner Greater r e f g p q behind = absurd (false≢true p)
 
-    by : (b : Bool) → eqb x z ≡ b → (is_le (bytes_cmp xs ys) ≡ true → is_le (bytes_cmp ys zs) ≡ true → Begins (common_front xs zs) xs ys) → Begins (cond b (suc (common_front xs zs)) 0) (x ∷ xs) (y ∷ ys)
-    by true e behind = let same : x ≡ z = grind (arith, nat_tests) in inner (nat_cmp x y) (nat_cmp y z) same refl refl p q behind
+    by : (b : Bool) → eqb x z ≡ b → (is_le (bytes_cmp xs ys) ≡ true → is_le (bytes_cmp ys zs) ≡ true → Begins (common xs zs) xs ys) → Begins (cond b (1 + common xs zs) 0) (x ∷ xs) (y ∷ ys)
+    by true e behind = let same : x ≡ z = grind (arith, nat_tests) in subst (λ s. Begins s (x ∷ xs) (y ∷ ys)) (omega arith) (inner (nat_cmp x y) (nat_cmp y z) same refl refl p q behind)
     by false e behind = record { long = omega arith; same = refl }
 
 -- a common front doesn't decide

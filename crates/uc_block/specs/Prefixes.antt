@@ -1,7 +1,7 @@
 -- Prefixes of keys, as numbers that order as the keys do.
-use Rattle.std.specs.Prelude.{◌≡◌, ℕ, suc, ◌-◌, ◌^◌, ◌<◌, ◌≤◌, ◌==◌, true, List, [], ◌∷◌, length, map, drop, slice_index, slice_index_or, if◌then◌else◌}
+use Rattle.std.specs.Prelude.{◌≡◌, ℕ, ◌-◌, ◌^◌, ◌<◌, ◌≤◌, true, List, [], length, map, drop, slice_index, slice_index_or, nat_eq}
 use Rattle.std.specs.Int.{w64, from_be_bytes}
-use Rattle.std.specs.List.{All}
+use Rattle.std.specs.List.{All, common_prefix_len}
 use Rattle.std.specs.Ordering.{is_le}
 use Rattle.uc_bytes.specs.Bytes.{bytes_cmp}
 
@@ -9,15 +9,9 @@ use Rattle.uc_bytes.specs.Bytes.{bytes_cmp}
 unfoldable pub prefix_of : List ℕ → ℕ
 prefix_of bytes = from_be_bytes w64 bytes
 
--- how many bytes two keys have in common at their front
-abbrev pub common_front : List ℕ → List ℕ → ℕ
-common_front [] ys = 0
-common_front (x ∷ xs) [] = 0
-common_front (x ∷ xs) (y ∷ ys) = if x == y then suc (common_front xs ys) else 0
-
--- how many of them keys in order have in common: as many as the first and the last
+-- how many bytes at their front keys in order have in common: as many as the first and the last
 abbrev pub shared_front : List (List ℕ) → ℕ
-shared_front keys = common_front (slice_index_or keys 0 []) (slice_index_or keys (length keys - 1) [])
+shared_front keys = common_prefix_len nat_eq (slice_index_or keys 0 []) (slice_index_or keys (length keys - 1) [])
 
 abbrev pub AreBytes : List ℕ → Type 0
 AreBytes xs = (i : ℕ) → slice_index xs i < 2 ^ 8

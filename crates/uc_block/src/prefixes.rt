@@ -1,5 +1,6 @@
 //! Prefixes of keys: numbers that order as the keys do, of the bytes behind those that all keys share.
-ghost use Rattle.std.specs.Prelude.{◌≡◌, ◌<◌, ◌≤◌, true, false, length, map, drop, slice_index, IfOk};
+ghost use Rattle.std.specs.Prelude.{◌≡◌, ◌<◌, ◌≤◌, true, false, length, map, drop, slice_index, nat_eq, IfOk};
+ghost use Rattle.std.specs.List as list;
 ghost use Rattle.std.specs.List.{AllWithin};
 ghost use Rattle.std.specs.List.Sorted.{IsNonDecreasing, IsPartitionPoint};
 ghost use Rattle.uc_entry.specs.Seek as seek;
@@ -50,8 +51,8 @@ fn prefix_of(bytes: &[u8]) -> u64
 }
 
 /// How many bytes two keys have in common at their front.
-fn common_front(first: &[u8], last: &[u8]) -> usize
-    ensures { result ≡ prefixes.common_front first.now last.now }
+fn common_prefix_len(first: &[u8], last: &[u8]) -> usize
+    ensures { result ≡ list.common_prefix_len nat_eq first.now last.now }
 {
     let short = first.len().min(last.len());
     for place in 0..short {
@@ -69,7 +70,7 @@ pub(crate) fn shared_front(keys: &[Bytes]) -> usize
     if keys.is_empty() {
         return 0;
     }
-    common_front(keys[0].as_slice(), keys[keys.len() - 1].as_slice())
+    common_prefix_len(keys[0].as_slice(), keys[keys.len() - 1].as_slice())
 }
 
 /// The prefix of each key, behind as many bytes as the keys share.

@@ -1,6 +1,6 @@
 use Rattle.std.proofs.Common.{rules, ◌≡◌, length, min, arith}
 use Rattle.uc_block.proofs.Fronts.{none_behind}
-use Rattle.uc_block.proofs.prefixes.common_front.Goals as goal
+use Rattle.uc_block.proofs.prefixes.common_prefix_len.Goals as goal
 
 pub returns : goal.returns
 returns c =
