@@ -86,6 +86,20 @@ impl Run {
         self.points.len() as u64
     }
 
+    /// What holds of every run: its contents make one. It does nothing.
+    pub fn is_one(&self)
+        ensures { IsRun self.now.low self.now.high self.now.points self.now.fragments }
+    {
+        let _ = &self.low;
+    }
+
+    /// The points, in order of key, the newest of a key first.
+    pub fn entries(&self) -> &[Entry]
+        ensures { result.now ≡ self.now.points }
+    {
+        &self.points
+    }
+
     /// The fragments, in order of key.
     pub fn fragments(&self) -> &[Fragment]
         ensures { result.now ≡ self.now.fragments }

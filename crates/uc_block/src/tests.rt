@@ -41,6 +41,8 @@ fn points_fill_blocks(rt: HostRuntime) -> Result<(), Fail> {
     for (count, blocks) in BLOCKS {
         let run = puts(alloc, count)?;
         assert_eq!(rt; run.points(), u64::from(count));
+        assert_eq!(rt; run.entries().len() as u64, u64::from(count));
+        run.is_one();
         assert_eq!(rt; run.blocks(), blocks);
         assert_eq!(rt; run.size(), u64::from(count) * 10);
         assert_eq!(rt; run.seek(&[255], false), u64::from(count));
