@@ -15,8 +15,8 @@ use Rattle.uc_entry.specs.Run.{Contents, IsWithin}
 use Rattle.uc_entry.specs.Lookup.{is_passing, above_newest}
 use Rattle.uc_entry.proofs.Points.{PointsFall as Fall}
 use Rattle.uc_fragment.specs.Cutting.{fragments_of}
-use Rattle.uc_stripe.specs.Stripes.{Stripe, is_in, stripes}
-use Rattle.uc_stripe.specs.Inputs.{Compaction, AreRuns, Stand, points_of, ranges_of, is_bottom}
+use Rattle.uc_stripe.specs.Stripes.{Stripe, is_in, stripes, is_bottom}
+use Rattle.uc_stripe.specs.Inputs.{Compaction, AreRuns, Stand, points_of, ranges_of, keeping_of}
 use Rattle.uc_stripe.specs.Output.{greatest, newest_point, newest_range, effect_in, what_kept, point_kept, keys_of, points_kept}
 use Rattle.uc_stripe.specs.Choice.{point_for, points_for, points_named, seqs_over, PointsFall, AreOfOneKey}
 use Rattle.uc_stripe.proofs.Lists.{all-map, all-filter, all-passed}
@@ -61,15 +61,15 @@ module _ (m : Operation) (c : Compaction) (are : AreRuns c.inputs) (stand : Stan
   over_is : (key : List ℕ) → seqs_over key (fragments_of (ranges_of c.inputs)) ≡ seqs_of key c.inputs
   over_is key = cut_seqs m c are stand key
 
-  chosen_in : IsLawful m → (key : List ℕ) (s : Stripe) → point_kept m c key s ≡ point_for m (is_bottom c s) key (filter (λ (p : Entry). is_in s p.seq) (points_named key (points_of c.inputs))) (filter (is_in s) (seqs_over key (fragments_of (ranges_of c.inputs))))
+  chosen_in : IsLawful m → (key : List ℕ) (s : Stripe) → point_kept m c key s ≡ point_for m (is_bottom (keeping_of c) s) key (filter (λ (p : Entry). is_in s p.seq) (points_named key (points_of c.inputs))) (filter (is_in s) (seqs_over key (fragments_of (ranges_of c.inputs))))
   chosen_in laws key s =
-      ap (λ effect. cond (ltb 0 (newest_point c key s)) (option_map (λ (w : What). record { key = key; seq = newest_point c key s; what = w }) (what_kept m (is_bottom c s) effect (ltb (newest_point c key s) (newest_range c key s)))) None) (effect_of_runs m laws key s c.inputs are stand.newest_first)
-      ∙ ap (λ t. cond (ltb 0 (newest_point c key s)) (option_map (λ (w : What). record { key = key; seq = newest_point c key s; what = w }) (what_kept m (is_bottom c s) (above_newest m (points_in key (is_in s) c.inputs) (seqs_in key (is_in s) c.inputs)) (ltb (newest_point c key s) t))) None) (ap greatest (ranges_seqs key (is_in s) (flat_map (λ (r : Contents). r.fragments) c.inputs)))
-      ∙ ap (λ (ps : List Entry). point_for m (is_bottom c s) key ps (seqs_in key (is_in s) c.inputs)) (sym (passing key (is_in s) (points_of c.inputs)))
-      ∙ ap (λ (ns : List ℕ). point_for m (is_bottom c s) key (filter (λ (p : Entry). is_in s p.seq) (points_named key (points_of c.inputs))) (filter (is_in s) ns)) (sym (over_is key))
+      ap (λ effect. cond (ltb 0 (newest_point c key s)) (option_map (λ (w : What). record { key = key; seq = newest_point c key s; what = w }) (what_kept m (is_bottom (keeping_of c) s) effect (ltb (newest_point c key s) (newest_range c key s)))) None) (effect_of_runs m laws key s c.inputs are stand.newest_first)
+      ∙ ap (λ t. cond (ltb 0 (newest_point c key s)) (option_map (λ (w : What). record { key = key; seq = newest_point c key s; what = w }) (what_kept m (is_bottom (keeping_of c) s) (above_newest m (points_in key (is_in s) c.inputs) (seqs_in key (is_in s) c.inputs)) (ltb (newest_point c key s) t))) None) (ap greatest (ranges_seqs key (is_in s) (flat_map (λ (r : Contents). r.fragments) c.inputs)))
+      ∙ ap (λ (ps : List Entry). point_for m (is_bottom (keeping_of c) s) key ps (seqs_in key (is_in s) c.inputs)) (sym (passing key (is_in s) (points_of c.inputs)))
+      ∙ ap (λ (ns : List ℕ). point_for m (is_bottom (keeping_of c) s) key (filter (λ (p : Entry). is_in s p.seq) (points_named key (points_of c.inputs))) (filter (is_in s) ns)) (sym (over_is key))
 
-  pub chosen_of : IsLawful m → (key : List ℕ) → filter_map (point_kept m c key) (stripes c.keeps) ≡ points_for m c key (points_named key (points_of c.inputs)) (seqs_over key (fragments_of (ranges_of c.inputs)))
-  chosen_of laws key = filter_map-same (point_kept m c key) (λ s. point_for m (is_bottom c s) key (filter (λ (p : Entry). is_in s p.seq) (points_named key (points_of c.inputs))) (filter (is_in s) (seqs_over key (fragments_of (ranges_of c.inputs))))) (chosen_in laws key) (stripes c.keeps)
+  pub chosen_of : IsLawful m → (key : List ℕ) → filter_map (point_kept m c key) (stripes c.keeps) ≡ points_for m (keeping_of c) key (points_named key (points_of c.inputs)) (seqs_over key (fragments_of (ranges_of c.inputs)))
+  chosen_of laws key = filter_map-same (point_kept m c key) (λ s. point_for m (is_bottom (keeping_of c) s) key (filter (λ (p : Entry). is_in s p.seq) (points_named key (points_of c.inputs))) (filter (is_in s) (seqs_over key (fragments_of (ranges_of c.inputs))))) (chosen_in laws key) (stripes c.keeps)
 
   positive : AllByRecursion (HoldsWithin (λ n. 0 < n)) c.inputs
   positive = each c.inputs are
@@ -91,5 +91,5 @@ module _ (m : Operation) (c : Compaction) (are : AreRuns c.inputs) (stand : Stan
     apart = subst (λ (ns : List ℕ). AllByRecursion (λ (p : Entry). AllByRecursion (λ n. n ≢ p.seq) ns) (points_in key (λ _. true) c.inputs)) (all-passed (seqs_of key c.inputs)) (points_apart key (λ _. true) c.inputs are stand.newest_first);
   })
 
-  pub chosen : IsLawful m → points_kept m c ≡ flat_map (λ key. points_for m c key (points_named key (points_of c.inputs)) (seqs_over key (fragments_of (ranges_of c.inputs)))) (keys_of c)
-  chosen laws = flat_map-same (λ key. filter_map (point_kept m c key) (stripes c.keeps)) (λ key. points_for m c key (points_named key (points_of c.inputs)) (seqs_over key (fragments_of (ranges_of c.inputs)))) (chosen_of laws) (keys_of c)
+  pub chosen : IsLawful m → points_kept m c ≡ flat_map (λ key. points_for m (keeping_of c) key (points_named key (points_of c.inputs)) (seqs_over key (fragments_of (ranges_of c.inputs)))) (keys_of c)
+  chosen laws = flat_map-same (λ key. filter_map (point_kept m c key) (stripes c.keeps)) (λ key. points_for m (keeping_of c) key (points_named key (points_of c.inputs)) (seqs_over key (fragments_of (ranges_of c.inputs)))) (chosen_of laws) (keys_of c)

@@ -28,8 +28,8 @@ use Rattle.uc_fragment.specs.Cutting.{RangeOf, range_covers, falling, fragments_
 use Rattle.uc_fragment.proofs.Pieces.{in_order}
 use Rattle.uc_fragment.proofs.Seqs.{seqs_over_key}
 use Rattle.uc_fragment.proofs.Sets.{all_back, sorted_set}
-use Rattle.uc_stripe.specs.Stripes.{Stripe, is_in, stripes}
-use Rattle.uc_stripe.specs.Inputs.{Compaction, AreRuns, Stand, points_of, ranges_over, ranges_of, is_bottom}
+use Rattle.uc_stripe.specs.Stripes.{Stripe, is_in, stripes, is_bottom}
+use Rattle.uc_stripe.specs.Inputs.{Compaction, AreRuns, Stand, points_of, ranges_over, ranges_of, keeping_of}
 use Rattle.uc_stripe.specs.Output.{greatest, newest_point, newest_range, effect_in, what_kept, point_kept, keys_of, points_kept, seq_kept, seqs_kept, fragment_kept, fragments_kept}
 use Rattle.uc_stripe.proofs.Lists.{all-map, all-mapped, all-filter, all-passed}
 use Rattle.uc_stripe.proofs.Effects.{seqs_of}
@@ -193,7 +193,7 @@ module _ (m : Operation) (c : Compaction) (are : AreRuns c.inputs) (stand : Stan
       first_of false b e = absurd cc
 
   abbrev what_of_stripe : List ℕ → Stripe → Option What
-  what_of_stripe key s = what_kept m (is_bottom c s) (effect_in m c key s) (ltb (newest_point c key s) (newest_range c key s))
+  what_of_stripe key s = what_kept m (is_bottom (keeping_of c) s) (effect_in m c key s) (ltb (newest_point c key s) (newest_range c key s))
 
   pub point_facts : (key : List ℕ) (s : Stripe) (x : Entry) → point_kept m c key s ≡ Some x → (x.key ≡ key) × (x.seq ≡ newest_point c key s) × (ltb 0 (newest_point c key s) ≡ true)
   point_facts key s x e = point_is key s (ltb 0 (newest_point c key s)) (what_of_stripe key s) x refl e
@@ -254,7 +254,7 @@ module _ (m : Operation) (c : Compaction) (are : AreRuns c.inputs) (stand : Stan
 
   no_point : (key : List ℕ) (s : Stripe) → AllByRecursion (λ l. same_bytes l key ≡ false) (keys_of c) → point_kept m c key s ≡ None
   no_point key s h =
-      ap (λ (ps : List Entry). cond (ltb 0 (greatest (map (λ (p : Entry). p.seq) ps))) (option_map (λ (w : What). record { key = key; seq = greatest (map (λ (p : Entry). p.seq) ps); what = w }) (what_kept m (is_bottom c s) (effect_in m c key s) (ltb (greatest (map (λ (p : Entry). p.seq) ps)) (newest_range c key s)))) None) (not_named key (is_in s) (points_of c.inputs) (not_among key h))
+      ap (λ (ps : List Entry). cond (ltb 0 (greatest (map (λ (p : Entry). p.seq) ps))) (option_map (λ (w : What). record { key = key; seq = greatest (map (λ (p : Entry). p.seq) ps); what = w }) (what_kept m (is_bottom (keeping_of c) s) (effect_in m c key s) (ltb (greatest (map (λ (p : Entry). p.seq) ps)) (newest_range c key s)))) None) (not_named key (is_in s) (points_of c.inputs) (not_among key h))
 
   pub points_found : (key : List ℕ) → AllByRecursion (λ s. filter (is_passing key (is_in s)) (points_kept m c) ≡ cons_option (point_kept m c key s) []) (stripes c.keeps)
   points_found key = all-map (IsOwn (λ (p : Entry). p.seq) (point_kept m c key) (point_inside key) (group key)) (λ s. filter (is_passing key (is_in s)) (points_kept m c) ≡ cons_option (point_kept m c key s) []) found (stripes c.keeps) (each_own (λ (p : Entry). p.seq) (point_kept m c key) (point_inside key) (stripes c.keeps) (stripes_fall c.keeps stand.keeps_rise))
@@ -277,8 +277,8 @@ module _ (m : Operation) (c : Compaction) (are : AreRuns c.inputs) (stand : Stan
   seq_is ns s false false x e f = absurd cc
   seq_is ns s true b x e f = absurd cc
 
-  pub seq_facts : (ns : List ℕ) (s : Stripe) (x : ℕ) → seq_kept c ns s ≡ Some x → (x ≡ greatest (filter (is_in s) ns)) × (ltb 0 (greatest (filter (is_in s) ns)) ≡ true)
-  seq_facts ns s x e = seq_is ns s (is_bottom c s) (ltb 0 (greatest (filter (is_in s) ns))) x refl e
+  pub seq_facts : (ns : List ℕ) (s : Stripe) (x : ℕ) → seq_kept (keeping_of c) ns s ≡ Some x → (x ≡ greatest (filter (is_in s) ns)) × (ltb 0 (greatest (filter (is_in s) ns)) ≡ true)
+  seq_facts ns s x e = seq_is ns s (is_bottom (keeping_of c) s) (ltb 0 (greatest (filter (is_in s) ns))) x refl e
 
   falls_put : (n : ℕ) (kept : List ℕ) (b : Bool) → AllByRecursion (λ k. k < n) kept → Falls kept → Falls (cond b (n ∷ kept) kept)
   falls_put n kept true below h = (below, h)
@@ -288,13 +288,13 @@ module _ (m : Operation) (c : Compaction) (are : AreRuns c.inputs) (stand : Stan
   filter_falls test [] h = tt
   filter_falls test (n ∷ ns) h = falls_put n (filter test ns) (test n) (all-filter (λ k. k < n) test ns h.0) (filter_falls test ns h.1)
 
-  pub seq_inside : (ns : List ℕ) → Falls ns → (s : Stripe) (x : ℕ) → seq_kept c ns s ≡ Some x → is_in s x ≡ true
+  pub seq_inside : (ns : List ℕ) → Falls ns → (s : Stripe) (x : ℕ) → seq_kept (keeping_of c) ns s ≡ Some x → is_in s x ≡ true
   seq_inside ns falls s x e =
       let facts : (x ≡ greatest (filter (is_in s) ns)) × (ltb 0 (greatest (filter (is_in s) ns)) ≡ true) = seq_facts ns s x e in
       ap (is_in s) facts.0 ∙ greatest_passes (is_in s) (filter (is_in s) ns) (filter_falls (is_in s) ns falls) (all_pass (is_in s) ns) facts.1
 
-  pub seqs_found : (ns : List ℕ) → Falls ns → AllByRecursion (λ s. filter (is_in s) (seqs_kept c ns) ≡ cons_option (seq_kept c ns s) []) (stripes c.keeps)
-  seqs_found ns falls = each_own (λ (n : ℕ). n) (seq_kept c ns) (seq_inside ns falls) (stripes c.keeps) (stripes_fall c.keeps stand.keeps_rise)
+  pub seqs_found : (ns : List ℕ) → Falls ns → AllByRecursion (λ s. filter (is_in s) (seqs_kept (keeping_of c) ns) ≡ cons_option (seq_kept (keeping_of c) ns s) []) (stripes c.keeps)
+  seqs_found ns falls = each_own (λ (n : ℕ). n) (seq_kept (keeping_of c) ns) (seq_inside ns falls) (stripes c.keeps) (stripes_fall c.keeps stand.keeps_rise)
 
   -- fragments
   abbrev cut : List Fragment
@@ -309,46 +309,46 @@ module _ (m : Operation) (c : Compaction) (are : AreRuns c.inputs) (stand : Stan
 
   module _ (key : List ℕ) where
     abbrev over_kept : List Fragment → List ℕ
-    over_kept fs = flat_map (λ (f : Fragment). f.seqs) (filter (λ f. covers f key) (filter (λ (f : Fragment). ltb 0 (length f.seqs)) (map (fragment_kept c) fs)))
+    over_kept fs = flat_map (λ (f : Fragment). f.seqs) (filter (λ f. covers f key) (filter (λ (f : Fragment). ltb 0 (length f.seqs)) (map (fragment_kept (keeping_of c)) fs)))
 
     abbrev kept_over : List Fragment → List ℕ
-    kept_over fs = flat_map (λ (f : Fragment). seqs_kept c f.seqs) (filter (λ f. covers f key) fs)
+    kept_over fs = flat_map (λ (f : Fragment). seqs_kept (keeping_of c) f.seqs) (filter (λ f. covers f key) fs)
 
-    one_kept : (f : Fragment) (fs : List Fragment) (a b : Bool) → ltb 0 (length (seqs_kept c f.seqs)) ≡ a → covers f key ≡ b → over_kept fs ≡ kept_over fs →
-        flat_map (λ (f : Fragment). f.seqs) (filter (λ f. covers f key) (cond a (fragment_kept c f ∷ filter (λ (f : Fragment). ltb 0 (length f.seqs)) (map (fragment_kept c) fs)) (filter (λ (f : Fragment). ltb 0 (length f.seqs)) (map (fragment_kept c) fs))))
-        ≡ flat_map (λ (f : Fragment). seqs_kept c f.seqs) (cond b (f ∷ filter (λ f. covers f key) fs) (filter (λ f. covers f key) fs))
+    one_kept : (f : Fragment) (fs : List Fragment) (a b : Bool) → ltb 0 (length (seqs_kept (keeping_of c) f.seqs)) ≡ a → covers f key ≡ b → over_kept fs ≡ kept_over fs →
+        flat_map (λ (f : Fragment). f.seqs) (filter (λ f. covers f key) (cond a (fragment_kept (keeping_of c) f ∷ filter (λ (f : Fragment). ltb 0 (length f.seqs)) (map (fragment_kept (keeping_of c)) fs)) (filter (λ (f : Fragment). ltb 0 (length f.seqs)) (map (fragment_kept (keeping_of c)) fs))))
+        ≡ flat_map (λ (f : Fragment). seqs_kept (keeping_of c) f.seqs) (cond b (f ∷ filter (λ f. covers f key) fs) (filter (λ f. covers f key) fs))
     one_kept f fs true true e g rest =
-        ap (λ b. flat_map (λ (f : Fragment). f.seqs) (cond b (fragment_kept c f ∷ filter (λ f. covers f key) (filter (λ (f : Fragment). ltb 0 (length f.seqs)) (map (fragment_kept c) fs))) (filter (λ f. covers f key) (filter (λ (f : Fragment). ltb 0 (length f.seqs)) (map (fragment_kept c) fs))))) g
-        ∙ ap (λ (ns : List ℕ). seqs_kept c f.seqs ++ ns) rest
+        ap (λ b. flat_map (λ (f : Fragment). f.seqs) (cond b (fragment_kept (keeping_of c) f ∷ filter (λ f. covers f key) (filter (λ (f : Fragment). ltb 0 (length f.seqs)) (map (fragment_kept (keeping_of c)) fs))) (filter (λ f. covers f key) (filter (λ (f : Fragment). ltb 0 (length f.seqs)) (map (fragment_kept (keeping_of c)) fs))))) g
+        ∙ ap (λ (ns : List ℕ). seqs_kept (keeping_of c) f.seqs ++ ns) rest
     one_kept f fs true false e g rest =
-        ap (λ b. flat_map (λ (f : Fragment). f.seqs) (cond b (fragment_kept c f ∷ filter (λ f. covers f key) (filter (λ (f : Fragment). ltb 0 (length f.seqs)) (map (fragment_kept c) fs))) (filter (λ f. covers f key) (filter (λ (f : Fragment). ltb 0 (length f.seqs)) (map (fragment_kept c) fs))))) g
+        ap (λ b. flat_map (λ (f : Fragment). f.seqs) (cond b (fragment_kept (keeping_of c) f ∷ filter (λ f. covers f key) (filter (λ (f : Fragment). ltb 0 (length f.seqs)) (map (fragment_kept (keeping_of c)) fs))) (filter (λ f. covers f key) (filter (λ (f : Fragment). ltb 0 (length f.seqs)) (map (fragment_kept (keeping_of c)) fs))))) g
         ∙ rest
-    one_kept f fs false true e g rest = rest ∙ ap (λ (ns : List ℕ). ns ++ kept_over fs) (sym (no_seqs (seqs_kept c f.seqs) e))
+    one_kept f fs false true e g rest = rest ∙ ap (λ (ns : List ℕ). ns ++ kept_over fs) (sym (no_seqs (seqs_kept (keeping_of c) f.seqs) e))
     one_kept f fs false false e g rest = rest
 
     all_kept : (fs : List Fragment) → over_kept fs ≡ kept_over fs
     all_kept [] = refl
-    all_kept (f ∷ fs) = one_kept f fs (ltb 0 (length (seqs_kept c f.seqs))) (covers f key) refl refl (all_kept fs)
+    all_kept (f ∷ fs) = one_kept f fs (ltb 0 (length (seqs_kept (keeping_of c) f.seqs))) (covers f key) refl refl (all_kept fs)
 
-    none_kept : (us : List Stripe) → filter_map (seq_kept c []) us ≡ []
+    none_kept : (us : List Stripe) → filter_map (seq_kept (keeping_of c) []) us ≡ []
     none_kept [] = refl
-    none_kept (s ∷ us) = ap (λ (o : Option ℕ). cons_option o (filter_map (seq_kept c []) us)) (none (is_bottom c s)) ∙ none_kept us
+    none_kept (s ∷ us) = ap (λ (o : Option ℕ). cons_option o (filter_map (seq_kept (keeping_of c) []) us)) (none (is_bottom (keeping_of c) s)) ∙ none_kept us
       where
         none : (b : Bool) → cond b None (cond (ltb 0 (greatest [])) (Some (greatest [])) None) ≡ None
         none true = refl
         none false = refl
 
     -- one fragment at the most covers the key
-    sole_by : (f : Fragment) (fs : List Fragment) (b : Bool) → covers f key ≡ b → AllByRecursion (λ g. is_le (bytes_cmp f.end g.begin) ≡ true) fs → kept_over fs ≡ seqs_kept c (flat_map (λ (f : Fragment). f.seqs) (filter (λ f. covers f key) fs)) → flat_map (λ (f : Fragment). seqs_kept c f.seqs) (cond b (f ∷ filter (λ f. covers f key) fs) (filter (λ f. covers f key) fs)) ≡ seqs_kept c (flat_map (λ (f : Fragment). f.seqs) (cond b (f ∷ filter (λ f. covers f key) fs) (filter (λ f. covers f key) fs)))
+    sole_by : (f : Fragment) (fs : List Fragment) (b : Bool) → covers f key ≡ b → AllByRecursion (λ g. is_le (bytes_cmp f.end g.begin) ≡ true) fs → kept_over fs ≡ seqs_kept (keeping_of c) (flat_map (λ (f : Fragment). f.seqs) (filter (λ f. covers f key) fs)) → flat_map (λ (f : Fragment). seqs_kept (keeping_of c) f.seqs) (cond b (f ∷ filter (λ f. covers f key) fs) (filter (λ f. covers f key) fs)) ≡ seqs_kept (keeping_of c) (flat_map (λ (f : Fragment). f.seqs) (cond b (f ∷ filter (λ f. covers f key) fs) (filter (λ f. covers f key) fs)))
     sole_by f fs false e le rest = rest
     sole_by f fs true e le rest =
         let none : filter (λ f. covers f key) fs ≡ [] = none_behind key f fs e le in
-        ap (λ (gs : List Fragment). flat_map (λ (f : Fragment). seqs_kept c f.seqs) (f ∷ gs)) none
-        ∙ append-nil (seqs_kept c f.seqs)
-        ∙ ap (seqs_kept c) (sym (append-nil f.seqs))
-        ∙ ap (λ (gs : List Fragment). seqs_kept c (flat_map (λ (f : Fragment). f.seqs) (f ∷ gs))) (sym none)
+        ap (λ (gs : List Fragment). flat_map (λ (f : Fragment). seqs_kept (keeping_of c) f.seqs) (f ∷ gs)) none
+        ∙ append-nil (seqs_kept (keeping_of c) f.seqs)
+        ∙ ap (seqs_kept (keeping_of c)) (sym (append-nil f.seqs))
+        ∙ ap (λ (gs : List Fragment). seqs_kept (keeping_of c) (flat_map (λ (f : Fragment). f.seqs) (f ∷ gs))) (sym none)
 
-    sole : (fs : List Fragment) → AreInOrder fs → kept_over fs ≡ seqs_kept c (flat_map (λ (f : Fragment). f.seqs) (filter (λ f. covers f key) fs))
+    sole : (fs : List Fragment) → AreInOrder fs → kept_over fs ≡ seqs_kept (keeping_of c) (flat_map (λ (f : Fragment). f.seqs) (filter (λ f. covers f key) fs))
     sole [] order = sym (none_kept (stripes c.keeps))
     sole (f ∷ fs) order = sole_by f fs (covers f key) refl order.1 (sole fs order.2)
 
@@ -362,9 +362,9 @@ module _ (m : Operation) (c : Compaction) (are : AreRuns c.inputs) (stand : Stan
         ∙ ap falling (ranges_seqs key (λ _. true) (flat_map (λ (r : Contents). r.fragments) c.inputs) ∙ all-passed (seqs_of key c.inputs))
         ∙ falling_is (seqs_of key c.inputs) all_seqs_fall
 
-    pub over_is : flat_map (λ (f : Fragment). f.seqs) (filter (λ f. covers f key) (fragments_kept c)) ≡ seqs_kept c (seqs_of key c.inputs)
-    over_is = all_kept cut ∙ sole cut (in_order (ranges_of c.inputs)) ∙ ap (seqs_kept c) cut_seqs
+    pub over_is : flat_map (λ (f : Fragment). f.seqs) (filter (λ f. covers f key) (fragments_kept c)) ≡ seqs_kept (keeping_of c) (seqs_of key c.inputs)
+    over_is = all_kept cut ∙ sole cut (in_order (ranges_of c.inputs)) ∙ ap (seqs_kept (keeping_of c)) cut_seqs
 
     -- in a stripe, one sequence at the most
-    pub cover_found : AllByRecursion (λ s. filter (is_in s) (flat_map (λ (f : Fragment). f.seqs) (filter (λ f. covers f key) (fragments_kept c))) ≡ cons_option (seq_kept c (seqs_of key c.inputs) s) []) (stripes c.keeps)
-    cover_found = all-map (λ s. filter (is_in s) (seqs_kept c (seqs_of key c.inputs)) ≡ cons_option (seq_kept c (seqs_of key c.inputs) s) []) (λ s. filter (is_in s) (flat_map (λ (f : Fragment). f.seqs) (filter (λ f. covers f key) (fragments_kept c))) ≡ cons_option (seq_kept c (seqs_of key c.inputs) s) []) (λ s e. ap (filter (is_in s)) over_is ∙ e) (stripes c.keeps) (seqs_found (seqs_of key c.inputs) all_seqs_fall)
+    pub cover_found : AllByRecursion (λ s. filter (is_in s) (flat_map (λ (f : Fragment). f.seqs) (filter (λ f. covers f key) (fragments_kept c))) ≡ cons_option (seq_kept (keeping_of c) (seqs_of key c.inputs) s) []) (stripes c.keeps)
+    cover_found = all-map (λ s. filter (is_in s) (seqs_kept (keeping_of c) (seqs_of key c.inputs)) ≡ cons_option (seq_kept (keeping_of c) (seqs_of key c.inputs) s) []) (λ s. filter (is_in s) (flat_map (λ (f : Fragment). f.seqs) (filter (λ f. covers f key) (fragments_kept c))) ≡ cons_option (seq_kept (keeping_of c) (seqs_of key c.inputs) s) []) (λ s e. ap (filter (is_in s)) over_is ∙ e) (stripes c.keeps) (seqs_found (seqs_of key c.inputs) all_seqs_fall)

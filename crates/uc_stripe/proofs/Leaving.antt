@@ -12,8 +12,8 @@ use Rattle.uc_entry.specs.Lookup.{is_passing}
 use Rattle.uc_entry.specs.Order.{IsFalling}
 use Rattle.uc_fragment.specs.Cutting.{fragments_of}
 use Rattle.uc_fragment.proofs.Pieces.{seqs_fall}
-use Rattle.uc_stripe.specs.Stripes.{Stripe, is_in, stripes}
-use Rattle.uc_stripe.specs.Inputs.{Compaction, AreRuns, Stand, ranges_of, is_bottom}
+use Rattle.uc_stripe.specs.Stripes.{Stripe, is_in, stripes, is_bottom}
+use Rattle.uc_stripe.specs.Inputs.{Compaction, AreRuns, Stand, ranges_of, keeping_of}
 use Rattle.uc_stripe.specs.Output.{greatest, newest_point, newest_range, effect_in, what_of, what_kept, point_kept, points_kept, seq_kept, seqs_kept, fragment_kept, fragments_kept}
 use Rattle.uc_stripe.specs.Values.{IsPut}
 use Rattle.uc_stripe.proofs.Lists.{all-map, all-filter}
@@ -41,35 +41,35 @@ module _ (m : Operation) (c : Compaction) (are : AreRuns c.inputs) (stand : Stan
   put_value key seq true (Some v) = (tt, tt)
   put_value key seq false v = tt
 
-  value_point : (key : List ℕ) (s : Stripe) (b : Bool) → is_bottom c s ≡ b → b ≡ true → AllByRecursion (λ (p : Entry). IsPut p.what) (cons_option (point_kept m c key s) [])
+  value_point : (key : List ℕ) (s : Stripe) (b : Bool) → is_bottom (keeping_of c) s ≡ b → b ≡ true → AllByRecursion (λ (p : Entry). IsPut p.what) (cons_option (point_kept m c key s) [])
   value_point key s b e t =
       subst (λ bottom. AllByRecursion (λ (p : Entry). IsPut p.what) (cons_option (cond (ltb 0 (newest_point c key s)) (option_map (λ (w : What). record { key = key; seq = newest_point c key s; what = w }) (what_kept m bottom (effect_in m c key s) (ltb (newest_point c key s) (newest_range c key s)))) None) []))
       (sym (e ∙ t)) (put_value key (newest_point c key s) (ltb 0 (newest_point c key s)) (applied m (effect_in m c key s) None))
 
-  pub only_values : (key : List ℕ) → AllByRecursion (λ s. is_bottom c s ≡ true → AllByRecursion (λ (p : Entry). IsPut p.what) (filter (is_passing key (is_in s)) (points_kept m c))) (stripes c.keeps)
-  only_values key = all-map (PointsOf key) (λ s. is_bottom c s ≡ true → AllByRecursion (λ (p : Entry). IsPut p.what) (filter (is_passing key (is_in s)) (points_kept m c))) (λ s e bottom. subst (λ (ps : List Entry). AllByRecursion (λ (p : Entry). IsPut p.what) ps) (sym e) (value_point key s (is_bottom c s) refl bottom)) (stripes c.keeps) (points_found m c are stand key)
+  pub only_values : (key : List ℕ) → AllByRecursion (λ s. is_bottom (keeping_of c) s ≡ true → AllByRecursion (λ (p : Entry). IsPut p.what) (filter (is_passing key (is_in s)) (points_kept m c))) (stripes c.keeps)
+  only_values key = all-map (PointsOf key) (λ s. is_bottom (keeping_of c) s ≡ true → AllByRecursion (λ (p : Entry). IsPut p.what) (filter (is_passing key (is_in s)) (points_kept m c))) (λ s e bottom. subst (λ (ps : List Entry). AllByRecursion (λ (p : Entry). IsPut p.what) ps) (sym e) (value_point key s (is_bottom (keeping_of c) s) refl bottom)) (stripes c.keeps) (points_found m c are stand key)
 
   -- the sequences of each fragment
   abbrev SeqsOf : List ℕ → Stripe → Type 0
-  SeqsOf ns s = filter (is_in s) (seqs_kept c ns) ≡ cons_option (seq_kept c ns s) []
+  SeqsOf ns s = filter (is_in s) (seqs_kept (keeping_of c) ns) ≡ cons_option (seq_kept (keeping_of c) ns s) []
 
-  module _ (P : List ℕ → Stripe → Type 0) (each : (ns : List ℕ) (s : Stripe) → SeqsOf ns s → P (seqs_kept c ns) s) where
-    every : (fs : List Fragment) → AllByRecursion (λ (f : Fragment). IsFalling f.seqs) fs → AllByRecursion (λ (f : Fragment). AllByRecursion (P f.seqs) (stripes c.keeps)) (map (fragment_kept c) fs)
+  module _ (P : List ℕ → Stripe → Type 0) (each : (ns : List ℕ) (s : Stripe) → SeqsOf ns s → P (seqs_kept (keeping_of c) ns) s) where
+    every : (fs : List Fragment) → AllByRecursion (λ (f : Fragment). IsFalling f.seqs) fs → AllByRecursion (λ (f : Fragment). AllByRecursion (P f.seqs) (stripes c.keeps)) (map (fragment_kept (keeping_of c)) fs)
     every [] h = tt
-    every (f ∷ fs) h = (all-map (SeqsOf f.seqs) (P (seqs_kept c f.seqs)) (each f.seqs) (stripes c.keeps) (seqs_found m c are stand f.seqs (falls_from f.seqs h.0)), every fs h.1)
+    every (f ∷ fs) h = (all-map (SeqsOf f.seqs) (P (seqs_kept (keeping_of c) f.seqs)) (each f.seqs) (stripes c.keeps) (seqs_found m c are stand f.seqs (falls_from f.seqs h.0)), every fs h.1)
 
     pub by_stripe : AllByRecursion (λ s. AllByRecursion (λ (f : Fragment). P f.seqs s) (fragments_kept c)) (stripes c.keeps)
-    by_stripe = turned (λ (f : Fragment) s. P f.seqs s) (fragments_kept c) (stripes c.keeps) (all-filter (λ (f : Fragment). AllByRecursion (P f.seqs) (stripes c.keeps)) (λ (f : Fragment). ltb 0 (length f.seqs)) (map (fragment_kept c) (fragments_of (ranges_of c.inputs))) (every (fragments_of (ranges_of c.inputs)) (seqs_fall (ranges_of c.inputs))))
+    by_stripe = turned (λ (f : Fragment) s. P f.seqs s) (fragments_kept c) (stripes c.keeps) (all-filter (λ (f : Fragment). AllByRecursion (P f.seqs) (stripes c.keeps)) (λ (f : Fragment). ltb 0 (length f.seqs)) (map (fragment_kept (keeping_of c)) (fragments_of (ranges_of c.inputs))) (every (fragments_of (ranges_of c.inputs)) (seqs_fall (ranges_of c.inputs))))
 
   pub one_seq : AllByRecursion (λ s. AllByRecursion (λ (f : Fragment). length (filter (is_in s) f.seqs) ≤ 1) (fragments_kept c)) (stripes c.keeps)
-  one_seq = by_stripe (λ ns s. length (filter (is_in s) ns) ≤ 1) (λ ns s e. subst (λ (ks : List ℕ). length ks ≤ 1) (sym e) (at_most_one (seq_kept c ns s)))
+  one_seq = by_stripe (λ ns s. length (filter (is_in s) ns) ≤ 1) (λ ns s e. subst (λ (ks : List ℕ). length ks ≤ 1) (sym e) (at_most_one (seq_kept (keeping_of c) ns s)))
 
-  none_at_bottom : (ns : List ℕ) (s : Stripe) (b : Bool) → is_bottom c s ≡ b → b ≡ true → cons_option (seq_kept c ns s) [] ≡ []
+  none_at_bottom : (ns : List ℕ) (s : Stripe) (b : Bool) → is_bottom (keeping_of c) s ≡ b → b ≡ true → cons_option (seq_kept (keeping_of c) ns s) [] ≡ []
   none_at_bottom ns s b e t = ap (λ bottom. cons_option (cond bottom None (cond (ltb 0 (greatest (filter (is_in s) ns))) (Some (greatest (filter (is_in s) ns))) None)) []) (e ∙ t)
 
-  swap_all : (fs : List Fragment) (s : Stripe) → AllByRecursion (λ (f : Fragment). is_bottom c s ≡ true → filter (is_in s) f.seqs ≡ []) fs → is_bottom c s ≡ true → AllByRecursion (λ (f : Fragment). filter (is_in s) f.seqs ≡ []) fs
-  swap_all fs s h bottom = all-map (λ (f : Fragment). is_bottom c s ≡ true → filter (is_in s) f.seqs ≡ []) (λ f. filter (is_in s) f.seqs ≡ []) (λ f k. k bottom) fs h
+  swap_all : (fs : List Fragment) (s : Stripe) → AllByRecursion (λ (f : Fragment). is_bottom (keeping_of c) s ≡ true → filter (is_in s) f.seqs ≡ []) fs → is_bottom (keeping_of c) s ≡ true → AllByRecursion (λ (f : Fragment). filter (is_in s) f.seqs ≡ []) fs
+  swap_all fs s h bottom = all-map (λ (f : Fragment). is_bottom (keeping_of c) s ≡ true → filter (is_in s) f.seqs ≡ []) (λ f. filter (is_in s) f.seqs ≡ []) (λ f k. k bottom) fs h
 
-  pub no_seqs : AllByRecursion (λ s. is_bottom c s ≡ true → AllByRecursion (λ (f : Fragment). filter (is_in s) f.seqs ≡ []) (fragments_kept c)) (stripes c.keeps)
-  no_seqs = all-map (λ s. AllByRecursion (λ (f : Fragment). is_bottom c s ≡ true → filter (is_in s) f.seqs ≡ []) (fragments_kept c)) (λ s. is_bottom c s ≡ true → AllByRecursion (λ (f : Fragment). filter (is_in s) f.seqs ≡ []) (fragments_kept c)) (λ s h. swap_all (fragments_kept c) s h) (stripes c.keeps)
-      (by_stripe (λ ns s. is_bottom c s ≡ true → filter (is_in s) ns ≡ []) (λ ns s e bottom. e ∙ none_at_bottom ns s (is_bottom c s) refl bottom))
+  pub no_seqs : AllByRecursion (λ s. is_bottom (keeping_of c) s ≡ true → AllByRecursion (λ (f : Fragment). filter (is_in s) f.seqs ≡ []) (fragments_kept c)) (stripes c.keeps)
+  no_seqs = all-map (λ s. AllByRecursion (λ (f : Fragment). is_bottom (keeping_of c) s ≡ true → filter (is_in s) f.seqs ≡ []) (fragments_kept c)) (λ s. is_bottom (keeping_of c) s ≡ true → AllByRecursion (λ (f : Fragment). filter (is_in s) f.seqs ≡ []) (fragments_kept c)) (λ s h. swap_all (fragments_kept c) s h) (stripes c.keeps)
+      (by_stripe (λ ns s. is_bottom (keeping_of c) s ≡ true → filter (is_in s) ns ≡ []) (λ ns s e bottom. e ∙ none_at_bottom ns s (is_bottom (keeping_of c) s) refl bottom))

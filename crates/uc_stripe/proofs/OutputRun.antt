@@ -22,7 +22,7 @@ use Rattle.uc_fragment.specs.Cutting.{RangeOf, Piece, spans, fragment_over, piec
 use Rattle.uc_fragment.proofs.Pieces.{in_order, seqs_fall}
 use Rattle.uc_fragment.proofs.Sets.{all-insert_key, sorted_set}
 use Rattle.uc_stripe.specs.Stripes.{Stripe, is_in, stripes}
-use Rattle.uc_stripe.specs.Inputs.{Compaction, AreRuns, AreNewestFirst, Stand, high_of, low_of, points_of, ranges_over, ranges_of}
+use Rattle.uc_stripe.specs.Inputs.{Compaction, AreRuns, AreNewestFirst, Stand, high_of, low_of, points_of, ranges_over, ranges_of, keeping_of}
 use Rattle.uc_stripe.specs.Output.{greatest, newest_point, point_kept, keys_of, points_kept, seq_kept, seqs_kept, fragment_kept, fragments_kept, output_of}
 use Rattle.uc_stripe.proofs.Lists.{all-append, all-map, all-mapped, all-filter, all-flat_map, all-passed}
 use Rattle.uc_stripe.proofs.Effects.{seqs_of, HoldsWithin, all_points, all_fragments}
@@ -236,22 +236,22 @@ module _ (m : Operation) (c : Compaction) (are : AreRuns c.inputs) (stand : Stan
   points_sorted = groups_sorted (group m c are stand) (group_keys m c are stand) group_sorted (keys_of c) (sorted_set bytes_cmp nat_list_cmp_total (map (λ (p : Entry). p.key) (points_of c.inputs)))
 
   -- sequences that are kept are some of those that there are
-  each_seq : (P : ℕ → Type 0) (ns : List ℕ) → Falls ns → AllByRecursion P ns → (us : List Stripe) → AllByRecursion P (filter_map (seq_kept c ns) us)
+  each_seq : (P : ℕ → Type 0) (ns : List ℕ) → Falls ns → AllByRecursion P ns → (us : List Stripe) → AllByRecursion P (filter_map (seq_kept (keeping_of c) ns) us)
   each_seq P ns falls h [] = tt
-  each_seq P ns falls h (s ∷ us) = put (seq_kept c ns s) refl (each_seq P ns falls h us)
+  each_seq P ns falls h (s ∷ us) = put (seq_kept (keeping_of c) ns s) refl (each_seq P ns falls h us)
     where
-      put : (o : Option ℕ) → seq_kept c ns s ≡ o → AllByRecursion P (filter_map (seq_kept c ns) us) → AllByRecursion P (cons_option o (filter_map (seq_kept c ns) us))
+      put : (o : Option ℕ) → seq_kept (keeping_of c) ns s ≡ o → AllByRecursion P (filter_map (seq_kept (keeping_of c) ns) us) → AllByRecursion P (cons_option o (filter_map (seq_kept (keeping_of c) ns) us))
       put None e rest = rest
       put (Some x) e rest =
           let facts : (x ≡ greatest (filter (is_in s) ns)) × (ltb 0 (greatest (filter (is_in s) ns)) ≡ true) = seq_facts m c are stand ns s x e in
           (subst P (sym facts.0) (greatest_holds P (filter (is_in s) ns) (filter_falls m c are stand (is_in s) ns falls) (all-filter P (is_in s) ns h) facts.1), rest)
 
-  by_falls : (ns : List ℕ) (falls : Falls ns) (ks : List ℕ) → FallsBy (λ (n : ℕ). n) (seq_kept c ns) (seq_inside m c are stand ns falls) ks → Falls ks
+  by_falls : (ns : List ℕ) (falls : Falls ns) (ks : List ℕ) → FallsBy (λ (n : ℕ). n) (seq_kept (keeping_of c) ns) (seq_inside m c are stand ns falls) ks → Falls ks
   by_falls ns falls [] h = tt
   by_falls ns falls (k ∷ ks) h = (h.0, by_falls ns falls ks h.1)
 
-  pub kept_fall : (ns : List ℕ) → Falls ns → Falls (seqs_kept c ns)
-  kept_fall ns falls = by_falls ns falls (seqs_kept c ns) (made_falls (λ (n : ℕ). n) (seq_kept c ns) (seq_inside m c are stand ns falls) (stripes c.keeps) (stripes_fall c.keeps stand.keeps_rise))
+  pub kept_fall : (ns : List ℕ) → Falls ns → Falls (seqs_kept (keeping_of c) ns)
+  kept_fall ns falls = by_falls ns falls (seqs_kept (keeping_of c) ns) (made_falls (λ (n : ℕ). n) (seq_kept (keeping_of c) ns) (seq_inside m c are stand ns falls) (stripes c.keeps) (stripes_fall c.keeps stand.keeps_rise))
 
   abbrev cut : List Fragment
   cut = fragments_of (ranges_of c.inputs)
@@ -263,13 +263,13 @@ module _ (m : Operation) (c : Compaction) (are : AreRuns c.inputs) (stand : Stan
   some_of [] e = absurd cc
   some_of (n ∷ ns) e = λ none. absurd cc
 
-  whole_kept : (f : Fragment) (kept : List Fragment) (b : Bool) → ltb 0 (length (seqs_kept c f.seqs)) ≡ b → Falls f.seqs → AllByRecursion (IsWithin low high) f.seqs → AllByRecursion (IsWhole low high) kept → AllByRecursion (IsWhole low high) (cond b (fragment_kept c f ∷ kept) kept)
-  whole_kept f kept true e falls within rest = ((some_of (seqs_kept c f.seqs) e, falling_from (seqs_kept c f.seqs) (kept_fall f.seqs falls), each_seq (IsWithin low high) f.seqs falls within (stripes c.keeps)), rest)
+  whole_kept : (f : Fragment) (kept : List Fragment) (b : Bool) → ltb 0 (length (seqs_kept (keeping_of c) f.seqs)) ≡ b → Falls f.seqs → AllByRecursion (IsWithin low high) f.seqs → AllByRecursion (IsWhole low high) kept → AllByRecursion (IsWhole low high) (cond b (fragment_kept (keeping_of c) f ∷ kept) kept)
+  whole_kept f kept true e falls within rest = ((some_of (seqs_kept (keeping_of c) f.seqs) e, falling_from (seqs_kept (keeping_of c) f.seqs) (kept_fall f.seqs falls), each_seq (IsWithin low high) f.seqs falls within (stripes c.keeps)), rest)
   whole_kept f kept false e falls within rest = rest
 
-  all_whole : (fs : List Fragment) → AllByRecursion (λ (f : Fragment). IsFalling f.seqs) fs → AllByRecursion (λ (f : Fragment). AllByRecursion (IsWithin low high) f.seqs) fs → AllByRecursion (IsWhole low high) (filter (λ (f : Fragment). ltb 0 (length f.seqs)) (map (fragment_kept c) fs))
+  all_whole : (fs : List Fragment) → AllByRecursion (λ (f : Fragment). IsFalling f.seqs) fs → AllByRecursion (λ (f : Fragment). AllByRecursion (IsWithin low high) f.seqs) fs → AllByRecursion (IsWhole low high) (filter (λ (f : Fragment). ltb 0 (length f.seqs)) (map (fragment_kept (keeping_of c)) fs))
   all_whole [] falls within = tt
-  all_whole (f ∷ fs) falls within = whole_kept f (filter (λ (g : Fragment). ltb 0 (length g.seqs)) (map (fragment_kept c) fs)) (ltb 0 (length (seqs_kept c f.seqs))) refl (falls_from f.seqs falls.0) within.0 (all_whole fs falls.1 within.1)
+  all_whole (f ∷ fs) falls within = whole_kept f (filter (λ (g : Fragment). ltb 0 (length g.seqs)) (map (fragment_kept (keeping_of c)) fs)) (ltb 0 (length (seqs_kept (keeping_of c) f.seqs))) refl (falls_from f.seqs falls.0) within.0 (all_whole fs falls.1 within.1)
 
   -- no point has the sequence of a range deletion over its key
   abbrev IsApartFrom : List ℕ → ℕ → Type 0
@@ -306,7 +306,7 @@ module _ (m : Operation) (c : Compaction) (are : AreRuns c.inputs) (stand : Stan
     range = low_below_high c.inputs are stand.newest_first stand.some;
     below = high_below c.inputs are stand.some;
     points_sorted = points_sorted;
-    fragments_sorted = order_stays (fragment_kept c) (λ f. refl) (λ f. refl) (λ (f : Fragment). ltb 0 (length f.seqs)) cut (in_order (ranges_of c.inputs));
+    fragments_sorted = order_stays (fragment_kept (keeping_of c)) (λ f. refl) (λ f. refl) (λ (f : Fragment). ltb 0 (length f.seqs)) cut (in_order (ranges_of c.inputs));
     whole = all_whole cut (seqs_fall (ranges_of c.inputs)) cut_within;
     points_within = all_points_within (keys_of c);
     apart = all_apart (keys_of c);

@@ -20,8 +20,8 @@ use Rattle.uc_entry.specs.PlainList.{point_write, fragment_writes, plain_list}
 use Rattle.uc_entry.specs.Lookup.{is_passing, above_newest}
 use Rattle.uc_entry.proofs.BySeq.{Ascends, ascends-by_seq, ascends_by_place}
 use Rattle.uc_entry.proofs.Lookup.{found_within, all_moved}
-use Rattle.uc_stripe.specs.Stripes.{Stripe, is_in, stripes_above, stripes}
-use Rattle.uc_stripe.specs.Inputs.{Compaction, AreRuns, AreNewestFirst, Stand, high_of, low_of, writes_of, points_of, is_bottom}
+use Rattle.uc_stripe.specs.Stripes.{Stripe, is_in, stripes_above, stripes, has_bottom, is_bottom}
+use Rattle.uc_stripe.specs.Inputs.{Compaction, AreRuns, AreNewestFirst, Stand, high_of, low_of, writes_of, points_of, keeping_of}
 use Rattle.uc_stripe.specs.Output.{greatest, newest_point, newest_range, effect_in, what_kept, point_kept, points_kept, seq_kept, fragments_kept, output_of}
 use Rattle.uc_stripe.proofs.Lists.{all-append, all-map, all-mapped, all-filter, all-flat_map}
 use Rattle.uc_stripe.proofs.Effects.{seqs_of, HoldsWithin, run_points, run_fragments, all_points, all_seqs, effect_of_runs}
@@ -193,9 +193,9 @@ module _ (m : Operation) (laws : IsLawful m) (c : Compaction) (are : AreRuns c.i
     apart = swapped (λ (p : Entry) (n : ℕ). p.seq ≡ n → ⊥) points seqs (all-map (λ (p : Entry). AllByRecursion (λ n. n ≡ p.seq → ⊥) seqs) (λ p. AllByRecursion (λ n. p.seq ≡ n → ⊥) seqs) (λ p h. all-map (λ n. n ≡ p.seq → ⊥) (λ n. p.seq ≡ n → ⊥) (λ n no e. no (sym e)) seqs h) points (points_apart key (is_in s) c.inputs are stand.newest_first))
 
     pub FoundAs : Effect → Type 0
-    FoundAs effect = effect ≡ above_newest m (cons_option (point_kept m c key s) []) (cons_option (seq_kept c (seqs_of key c.inputs) s) [])
+    FoundAs effect = effect ≡ above_newest m (cons_option (point_kept m c key s) []) (cons_option (seq_kept (keeping_of c) (seqs_of key c.inputs) s) [])
 
-    found_as : filter (is_passing key (is_in s)) (points_kept m c) ≡ cons_option (point_kept m c key s) [] → filter (is_in s) (flat_map (λ (f : Fragment). f.seqs) (filter (λ f. covers f key) (fragments_kept c))) ≡ cons_option (seq_kept c (seqs_of key c.inputs) s) [] → found s ≡ above_newest m (cons_option (point_kept m c key s) []) (cons_option (seq_kept c (seqs_of key c.inputs) s) [])
+    found_as : filter (is_passing key (is_in s)) (points_kept m c) ≡ cons_option (point_kept m c key s) [] → filter (is_in s) (flat_map (λ (f : Fragment). f.seqs) (filter (λ f. covers f key) (fragments_kept c))) ≡ cons_option (seq_kept (keeping_of c) (seqs_of key c.inputs) s) [] → found s ≡ above_newest m (cons_option (point_kept m c key s) []) (cons_option (seq_kept (keeping_of c) (seqs_of key c.inputs) s) [])
     found_as points_are seqs_are =
         found_within m (output_of m c) (output_is_run m c are stand) key s.above s.upto
         ∙ ap (λ (ps : List Entry). above_newest m ps (filter (is_in s) (flat_map (λ (f : Fragment). f.seqs) (filter (λ f. covers f key) (fragments_kept c))))) points_are
@@ -205,20 +205,20 @@ module _ (m : Operation) (laws : IsLawful m) (c : Compaction) (are : AreRuns c.i
     abbrev stood : Bool → Effect → ℕ → Effect
     stood bottom effect t = above_newest m (cons_option (point_for bottom effect t) []) (cons_option (seq_for bottom) [])
 
-    stood_is : (b : Bool) → is_bottom c s ≡ b → above_newest m (cons_option (point_kept m c key s) []) (cons_option (seq_kept c (seqs_of key c.inputs) s) []) ≡ stood b (above_newest m points seqs) (greatest seqs)
+    stood_is : (b : Bool) → is_bottom (keeping_of c) s ≡ b → above_newest m (cons_option (point_kept m c key s) []) (cons_option (seq_kept (keeping_of c) (seqs_of key c.inputs) s) []) ≡ stood b (above_newest m points seqs) (greatest seqs)
     stood_is b e =
         ap (λ bottom. stood bottom (effect_in m c key s) (newest_range c key s)) e
         ∙ ap (λ (effect : Effect). stood b effect (newest_range c key s)) wanted_is
         ∙ ap (stood b (above_newest m points seqs)) range_is
 
-    same_effect : is_bottom c s ≡ false → above_newest m (cons_option (point_kept m c key s) []) (cons_option (seq_kept c (seqs_of key c.inputs) s) []) ≡ wanted s
+    same_effect : is_bottom (keeping_of c) s ≡ false → above_newest m (cons_option (point_kept m c key s) []) (cons_option (seq_kept (keeping_of c) (seqs_of key c.inputs) s) []) ≡ wanted s
     same_effect e =
         stood_is false e
         ∙ ap (above_newest m (cons_option (point_for false (above_newest m points seqs) (greatest seqs)) [])) (kept_seq_is (greatest seqs) (ltb 0 (greatest seqs)))
         ∙ stands m key points seqs (points_fall key (is_in s) c.inputs are stand.newest_first) (seqs_fall key (is_in s) c.inputs are stand.newest_first) points_positive seqs_positive apart
         ∙ sym wanted_is
 
-    same_value : is_bottom c s ≡ true → applied m (above_newest m (cons_option (point_kept m c key s) []) (cons_option (seq_kept c (seqs_of key c.inputs) s) [])) None ≡ applied m (wanted s) None
+    same_value : is_bottom (keeping_of c) s ≡ true → applied m (above_newest m (cons_option (point_kept m c key s) []) (cons_option (seq_kept (keeping_of c) (seqs_of key c.inputs) s) [])) None ≡ applied m (wanted s) None
     same_value e =
         ap (λ (effect : Effect). applied m effect None) (stood_is true e)
         ∙ stands_alone m key points seqs (points_fall key (is_in s) c.inputs are stand.newest_first) points_positive
@@ -263,15 +263,15 @@ module _ (m : Operation) (laws : IsLawful m) (c : Compaction) (are : AreRuns c.i
   no_value_below at lt ws h = sym (effect_gives m laws None ws key at) ∙ ap (λ (effect : Effect). applied m effect None) (none_below at lt ws h)
 
   abbrev FoundIn : Stripe → Type 0
-  FoundIn s = found s ≡ above_newest m (cons_option (point_kept m c key s) []) (cons_option (seq_kept c (seqs_of key c.inputs) s) [])
+  FoundIn s = found s ≡ above_newest m (cons_option (point_kept m c key s) []) (cons_option (seq_kept (keeping_of c) (seqs_of key c.inputs) s) [])
 
   all_found : AllByRecursion FoundIn (stripes c.keeps)
   all_found =
-      all_two (λ s. filter (is_passing key (is_in s)) (points_kept m c) ≡ cons_option (point_kept m c key s) []) (λ s. filter (is_in s) (flat_map (λ (f : Fragment). f.seqs) (filter (λ f. covers f key) (fragments_kept c))) ≡ cons_option (seq_kept c (seqs_of key c.inputs) s) []) FoundIn
+      all_two (λ s. filter (is_passing key (is_in s)) (points_kept m c) ≡ cons_option (point_kept m c key s) []) (λ s. filter (is_in s) (flat_map (λ (f : Fragment). f.seqs) (filter (λ f. covers f key) (fragments_kept c))) ≡ cons_option (seq_kept (keeping_of c) (seqs_of key c.inputs) s) []) FoundIn
       (λ s points_are seqs_are. found_as s points_are seqs_are) (stripes c.keeps) (points_found m c are stand key) (cover_found m c are stand key)
 
-  not_bottom : (s : Stripe) → c.oldest ≡ false → is_bottom c s ≡ false
-  not_bottom s e = ap (λ b. b && is_in s (low_of c.inputs)) e
+  not_bottom : (s : Stripe) → c.oldest ≡ false → is_bottom (keeping_of c) s ≡ false
+  not_bottom s e = ap (λ b. has_bottom (cond b (Some (low_of c.inputs)) None) s) e
 
   pub effects_stay : c.oldest ≡ false → (at : ℕ) → Contains c.keeps at ⊎ (high_of c.inputs ≤ at) → effect_on m V key at ≡ effect_on m W key at
   effects_stay e at kept =
@@ -289,15 +289,22 @@ module _ (m : Operation) (laws : IsLawful m) (c : Compaction) (are : AreRuns c.i
           ∙ ap (composed m (effect_on m W key s.above)) (f ∙ same_effect s (not_bottom s e))
           ∙ sym (stripe_below m laws W key W_order s.above s.upto le)
 
-  above_from : (s : Stripe) → is_bottom c s ≡ true → s.above < low_of c.inputs
-  above_from s e = by c.oldest (ltb s.above (low_of c.inputs)) (leb (low_of c.inputs) s.upto) refl e
+  abbrev bottom_by : Bool → Bool → Bool
+  bottom_by o b = cond o b false
+
+  bottom_is : (s : Stripe) (o : Bool) → has_bottom (cond o (Some (low_of c.inputs)) None) s ≡ bottom_by o (is_in s (low_of c.inputs))
+  bottom_is s true = refl
+  bottom_is s false = refl
+
+  above_from : (s : Stripe) → is_bottom (keeping_of c) s ≡ true → s.above < low_of c.inputs
+  above_from s e = by c.oldest (ltb s.above (low_of c.inputs)) (leb (low_of c.inputs) s.upto) refl (sym (bottom_is s c.oldest) ∙ e)
     where
-      by : (o a b : Bool) → ltb s.above (low_of c.inputs) ≡ a → (o && (a && b)) ≡ true → s.above < low_of c.inputs
+      by : (o a b : Bool) → ltb s.above (low_of c.inputs) ≡ a → bottom_by o (a && b) ≡ true → s.above < low_of c.inputs
       by true true b f g = grind (arith, nat_tests)
       by true false b f g = absurd cc
       by false a b f g = absurd cc
 
-  value_stays : (s : Stripe) → FoundIn s → s.above ≤ s.upto → value_of m V key s.above ≡ value_of m W key s.above → (b : Bool) → is_bottom c s ≡ b → value_of m V key s.upto ≡ value_of m W key s.upto
+  value_stays : (s : Stripe) → FoundIn s → s.above ≤ s.upto → value_of m V key s.above ≡ value_of m W key s.above → (b : Bool) → is_bottom (keeping_of c) s ≡ b → value_of m V key s.upto ≡ value_of m W key s.upto
   value_stays s f le same false e =
       stripe_changes m laws V key V_order s.above s.upto le
       ∙ ap (applied m (found s)) same
@@ -314,7 +321,7 @@ module _ (m : Operation) (laws : IsLawful m) (c : Compaction) (are : AreRuns c.i
   pub values_stay : (at : ℕ) → Contains c.keeps at ⊎ (high_of c.inputs ≤ at) → value_of m V key at ≡ value_of m W key at
   values_stay at kept =
       equal_at (value_of m V key) (value_of m W key) c.keeps stand.keeps_rise (no_value_below 0 zero_below V V_within ∙ sym (no_value_below 0 zero_below W W_within))
-      (all-map FoundIn (StaysOver (value_of m V key) (value_of m W key)) (λ s f le same. value_stays s f le same (is_bottom c s) refl) (stripes c.keeps) all_found)
+      (all-map FoundIn (StaysOver (value_of m V key) (value_of m W key)) (λ s f le same. value_stays s f le same (is_bottom (keeping_of c) s) refl) (stripes c.keeps) all_found)
       (high_of c.inputs) high_top
       (λ a b up over. sym (effect_gives m laws None V key a) ∙ ap (λ (ws : List Write). applied m (effect_in_turn m ws) None) (same_touching V key (high_of c.inputs) a b (up_to_high V V_within) up over) ∙ effect_gives m laws None V key b)
       (λ a b up over. sym (effect_gives m laws None W key a) ∙ ap (λ (ws : List Write). applied m (effect_in_turn m ws) None) (same_touching W key (high_of c.inputs) a b (up_to_high W W_within) up over) ∙ effect_gives m laws None W key b)

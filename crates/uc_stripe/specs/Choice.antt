@@ -10,8 +10,7 @@ use Rattle.uc_entry.specs.declared.fragment.Fragment.{Fragment}
 use Rattle.uc_entry.specs.Lookup.{above_newest}
 use Rattle.uc_entry.specs.Order.{IsFalling}
 use Rattle.uc_entry.specs.Run.{covers}
-use Rattle.uc_stripe.specs.Stripes.{Stripe, is_in, stripes}
-use Rattle.uc_stripe.specs.Inputs.{Compaction, is_bottom}
+use Rattle.uc_stripe.specs.Stripes.{is_in, stripes, Keeping, is_bottom}
 use Rattle.uc_stripe.specs.Output.{greatest, what_kept}
 
 -- the point that stands for points of the key, and sequences of range deletions over it, of one stripe
@@ -23,8 +22,8 @@ point_for m bottom key points seqs =
     else None
 
 -- one for each stripe
-abbrev pub points_for : Operation → Compaction → List ℕ → List Entry → List ℕ → List Entry
-points_for m c key points seqs = filter_map (λ s. point_for m (is_bottom c s) key (filter (λ p. is_in s p.seq) points) (filter (is_in s) seqs)) (stripes c.keeps)
+abbrev pub points_for : Operation → Keeping → List ℕ → List Entry → List ℕ → List Entry
+points_for m k key points seqs = filter_map (λ s. point_for m (is_bottom k s) key (filter (λ p. is_in s p.seq) points) (filter (is_in s) seqs)) (stripes k.keeps)
 
 -- the points of a key among some
 abbrev pub points_named : List ℕ → List Entry → List Entry

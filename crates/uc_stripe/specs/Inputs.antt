@@ -1,5 +1,5 @@
 -- What a compaction takes.
-use Rattle.std.specs.Prelude.{◌≢◌, ℕ, ◌<◌, Bool, ◌&&◌, List, [], ◌∷◌, ◌++◌, map, ⊤}
+use Rattle.std.specs.Prelude.{◌≢◌, ℕ, ◌<◌, Bool, List, [], ◌∷◌, ◌++◌, Some, None, map, ⊤, if◌then◌else◌}
 use Rattle.std.specs.List.{AllByRecursion, flat_map}
 use Rattle.std.specs.List.Sorted.{IsStrictlySortedBy}
 use Rattle.std.specs.Ordering.{nat_cmp}
@@ -9,7 +9,7 @@ use Rattle.uc_entry.specs.declared.fragment.Fragment.{Fragment}
 use Rattle.uc_entry.specs.Run.{Contents, IsRun}
 use Rattle.uc_entry.specs.PlainList.{plain_list}
 use Rattle.uc_fragment.specs.Cutting.{RangeOf}
-use Rattle.uc_stripe.specs.Stripes.{Stripe, is_in}
+use Rattle.uc_stripe.specs.Stripes.{Keeping}
 
 -- runs, the newest first; the kept sequences; and whether the last run is the oldest of all, so that nothing stands below
 pub record Compaction : Type 0 where
@@ -58,6 +58,6 @@ ranges_over f = map (λ seq. record { begin = f.begin; end = f.end; seq = seq })
 abbrev pub ranges_of : List Contents → List RangeOf
 ranges_of runs = flat_map ranges_over (flat_map (λ r. r.fragments) runs)
 
--- the stripe in which the sequences of a compaction with the oldest run begin
-abbrev pub is_bottom : Compaction → Stripe → Bool
-is_bottom c s = c.oldest && is_in s (low_of c.inputs)
+-- what it keeps: with the oldest run the stripe of the inputs' least sequence is at the bottom
+abbrev pub keeping_of : Compaction → Keeping
+keeping_of c = record { keeps = c.keeps; bottom = if c.oldest then Some (low_of c.inputs) else None }

@@ -15,8 +15,8 @@ use Rattle.uc_entry.specs.declared.entry.What.TheVariants.{Put, Delete, Merge}
 use Rattle.uc_entry.specs.declared.fragment.Fragment.{Fragment}
 use Rattle.uc_entry.specs.Run.{Contents}
 use Rattle.uc_fragment.specs.Cutting.{range_covers, fragments_of}
-use Rattle.uc_stripe.specs.Stripes.{Stripe, is_in, stripes}
-use Rattle.uc_stripe.specs.Inputs.{Compaction, high_of, low_of, writes_of, points_of, ranges_of, is_bottom}
+use Rattle.uc_stripe.specs.Stripes.{Stripe, is_in, stripes, Keeping, is_bottom}
+use Rattle.uc_stripe.specs.Inputs.{Compaction, high_of, low_of, writes_of, points_of, ranges_of, keeping_of}
 
 -- the greatest of some sequences, or 0 where there is none
 abbrev pub greatest : List ℕ → ℕ
@@ -51,7 +51,7 @@ abbrev pub point_kept : Operation → Compaction → List ℕ → Stripe → Opt
 point_kept m c key s =
     if nat_lt 0 (newest_point c key s)
     then option_map (λ what. record { key = key; seq = newest_point c key s; what = what })
-    (what_kept m (is_bottom c s) (effect_in m c key s) (nat_lt (newest_point c key s) (newest_range c key s)))
+    (what_kept m (is_bottom (keeping_of c) s) (effect_in m c key s) (nat_lt (newest_point c key s) (newest_range c key s)))
     else None
 
 -- the keys of the inputs' points, in order, each once
@@ -63,22 +63,22 @@ abbrev pub points_kept : Operation → Compaction → List Entry
 points_kept m c = flat_map (λ key. filter_map (point_kept m c key) (stripes c.keeps)) (keys_of c)
 
 -- the greatest of some sequences that the stripe has; none of the bottom stripe, where nothing is left to clear
-abbrev pub seq_kept : Compaction → List ℕ → Stripe → Option ℕ
-seq_kept c seqs s =
-    if is_bottom c s then None
+abbrev pub seq_kept : Keeping → List ℕ → Stripe → Option ℕ
+seq_kept k seqs s =
+    if is_bottom k s then None
     else if nat_lt 0 (greatest (filter (is_in s) seqs)) then Some (greatest (filter (is_in s) seqs)) else None
 
 -- for each stripe, the newest first, at most one of some sequences
-abbrev pub seqs_kept : Compaction → List ℕ → List ℕ
-seqs_kept c seqs = filter_map (seq_kept c seqs) (stripes c.keeps)
+abbrev pub seqs_kept : Keeping → List ℕ → List ℕ
+seqs_kept k seqs = filter_map (seq_kept k seqs) (stripes k.keeps)
 
-abbrev pub fragment_kept : Compaction → Fragment → Fragment
-fragment_kept c f = record { begin = f.begin; end = f.end; seqs = seqs_kept c f.seqs }
+abbrev pub fragment_kept : Keeping → Fragment → Fragment
+fragment_kept k f = record { begin = f.begin; end = f.end; seqs = seqs_kept k f.seqs }
 
 -- the pieces between neighbouring ends of all the inputs' range deletions, with the sequences that are kept of each; a
 -- piece without any is left out, and pieces with equal sequences aren't joined
 abbrev pub fragments_kept : Compaction → List Fragment
-fragments_kept c = filter (λ f. nat_lt 0 (length f.seqs)) (map (fragment_kept c) (fragments_of (ranges_of c.inputs)))
+fragments_kept c = filter (λ f. nat_lt 0 (length f.seqs)) (map (fragment_kept (keeping_of c)) (fragments_of (ranges_of c.inputs)))
 
 -- the run that a compaction makes
 abbrev pub output_of : Operation → Compaction → Contents

@@ -1,6 +1,6 @@
 -- Stripes of sequences (RocksDB wiki, "Snapshot"): reads are made at kept sequences alone, so what happens within a
 -- stripe is seen at its end only, and may be folded.
-use Rattle.std.specs.Prelude.{ℕ, ◌-◌, ◌^◌, Bool, ◌&&◌, List, [], ◌∷◌, ◌++◌, nat_lt, nat_le}
+use Rattle.std.specs.Prelude.{ℕ, ◌-◌, ◌^◌, Bool, false, ◌&&◌, List, [], ◌∷◌, ◌++◌, Option, Some, None, nat_lt, nat_le}
 
 -- the sequences above one, up to another and with it
 pub record Stripe : Type 0 where
@@ -18,3 +18,17 @@ stripes_above above (keep ∷ keeps) = stripes_above keep keeps ++ record { abov
 
 abbrev pub stripes : List ℕ → List Stripe
 stripes keeps = stripes_above 0 keeps
+
+-- What a compaction keeps: the sequences that reads are made at, which rise; and where nothing stands below its inputs, a
+-- sequence of the stripe that is at the bottom then.
+pub record Keeping : Type 0 where
+  pub keeps : List ℕ
+  pub bottom : Option ℕ
+
+-- the bottom stripe has this sequence, where there is one
+abbrev pub has_bottom : Option ℕ → Stripe → Bool
+has_bottom None s = false
+has_bottom (Some seq) s = is_in s seq
+
+abbrev pub is_bottom : Keeping → Stripe → Bool
+is_bottom k s = has_bottom k.bottom s

@@ -7,10 +7,10 @@ ghost use Rattle.uc_bytes.specs.Bytes.{same_bytes};
 ghost use Rattle.uc_entry.specs.Run.{IsRun};
 ghost use Rattle.uc_entry.specs.PlainList.{plain_list};
 ghost use Rattle.uc_model.specs.Meaning.{effect_on, value_of};
-ghost use Rattle.uc_stripe.specs.Stripes.{Stripe, is_in, stripes};
+ghost use Rattle.uc_stripe.specs.Stripes.{is_in, stripes, is_bottom};
 ghost use Rattle.uc_fragment.specs.Cutting.{fragments_of};
 ghost use Rattle.uc_stripe.specs.Choice.{points_for, points_named, seqs_over, AreOfOneKey};
-ghost use Rattle.uc_stripe.specs.Inputs.{Compaction, AreRuns, Stand, high_of, writes_of, points_of, ranges_of, is_bottom};
+ghost use Rattle.uc_stripe.specs.Inputs.{Compaction, AreRuns, Stand, high_of, writes_of, points_of, ranges_of, keeping_of};
 ghost use Rattle.uc_stripe.specs.Output.{keys_of, output_of};
 ghost use Rattle.uc_stripe.specs.Values.{IsPut};
 
@@ -52,10 +52,10 @@ pub fn compaction_keeps_one_of_each_stripe<O: Operator>()
 /// deletion.
 pub fn compaction_of_the_oldest_leaves_values<O: Operator>()
     ensures points { (c : Compaction) (key : List ℕ) → AreRuns c.inputs → Stand c.inputs c.keeps →
-        AllByRecursion (λ s. is_bottom c s ≡ true →
+        AllByRecursion (λ s. is_bottom (keeping_of c) s ≡ true →
         AllByRecursion (λ p. IsPut p.what) (filter (λ p. is_in s p.seq && same_bytes p.key key) (output_of O.meaning c).points)) (stripes c.keeps) }
     ensures fragments { (c : Compaction) → AreRuns c.inputs → Stand c.inputs c.keeps →
-        AllByRecursion (λ s. is_bottom c s ≡ true →
+        AllByRecursion (λ s. is_bottom (keeping_of c) s ≡ true →
         AllByRecursion (λ f. filter (is_in s) f.seqs ≡ []) (output_of O.meaning c).fragments) (stripes c.keeps) }
 {}
 
@@ -63,7 +63,7 @@ pub fn compaction_of_the_oldest_leaves_values<O: Operator>()
 /// on the sequences over the key in the pieces that all range deletions are cut into. These fall, and none is in both.
 pub fn points_are_chosen_key_by_key<O: Operator>()
     ensures points { (c : Compaction) → AreRuns c.inputs → Stand c.inputs c.keeps →
-        (output_of O.meaning c).points ≡ flat_map (λ key. points_for O.meaning c key
+        (output_of O.meaning c).points ≡ flat_map (λ key. points_for O.meaning (keeping_of c) key
             (points_named key (points_of c.inputs)) (seqs_over key (fragments_of (ranges_of c.inputs)))) (keys_of c) }
     ensures fall { (c : Compaction) (key : List ℕ) → AreRuns c.inputs → Stand c.inputs c.keeps →
         AreOfOneKey (points_named key (points_of c.inputs)) (seqs_over key (fragments_of (ranges_of c.inputs))) }

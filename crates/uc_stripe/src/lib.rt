@@ -5,8 +5,10 @@
 //! stripe, and `laws.rt`, which says that reads see no difference.
 #![tactic(auto)]
 
+mod keeping;
 mod laws;
 
+pub use keeping::Keeping;
 pub use laws::{
     compaction_gives_a_run, compaction_keeps_one_of_each_stripe, compaction_keeps_what_is_read,
     compaction_of_the_oldest_leaves_values, points_are_chosen_key_by_key,
