@@ -19,18 +19,24 @@ ends r = r.begin ∷ r.end ∷ []
 abbrev insert : List (List ℕ) → List ℕ → List (List ℕ)
 insert cuts cut = insert_key bytes_cmp cuts cut
 
+abbrev seen : List (Bor (List ℕ)) → List (List ℕ)
+seen cuts = map (λ c. c.now) cuts
+
+abbrev insert_seen : List (Bor (List ℕ)) → Bor (List ℕ) → List (Bor (List ℕ))
+insert_seen cuts cut = insert_key (λ x y. bytes_cmp x.now y.now) cuts cut
+
 seen_placed : (k x : Bor (List ℕ)) (xs put : List (Bor (List ℕ))) (o : Ordering) →
-    map (λ c. c.now) (match_ordering o (k ∷ x ∷ xs) (x ∷ xs) (x ∷ put)) ≡ match_ordering o (k.now ∷ x.now ∷ map (λ c. c.now) xs) (x.now ∷ map (λ c. c.now) xs) (x.now ∷ map (λ c. c.now) put)
+    seen (match_ordering o (k ∷ x ∷ xs) (x ∷ xs) (x ∷ put)) ≡ match_ordering o (k.now ∷ x.now ∷ seen xs) (x.now ∷ seen xs) (x.now ∷ seen put)
 seen_placed k x xs put Less = refl
 seen_placed k x xs put Equal = refl
 seen_placed k x xs put Greater = refl
 
 -- an insertion of a borrowed key
-seen_inserted : (cuts : List (Bor (List ℕ))) (cut : Bor (List ℕ)) → map (λ c. c.now) (insert_key (λ x y. bytes_cmp x.now y.now) cuts cut) ≡ insert (map (λ c. c.now) cuts) cut.now
+seen_inserted : (cuts : List (Bor (List ℕ))) (cut : Bor (List ℕ)) → seen (insert_seen cuts cut) ≡ insert (seen cuts) cut.now
 seen_inserted [] k = refl
 seen_inserted (x ∷ xs) k =
-    seen_placed k x xs (insert_key (λ x y. bytes_cmp x.now y.now) xs k) (bytes_cmp k.now x.now)
-    ∙ ap (λ (put : List (List ℕ)). match_ordering (bytes_cmp k.now x.now) (k.now ∷ x.now ∷ map (λ c. c.now) xs) (x.now ∷ map (λ c. c.now) xs) (x.now ∷ put)) (seen_inserted xs k)
+    seen_placed k x xs (insert_seen xs k) (bytes_cmp k.now x.now)
+    ∙ ap (λ (put : List (List ℕ)). match_ordering (bytes_cmp k.now x.now) (k.now ∷ x.now ∷ seen xs) (x.now ∷ seen xs) (x.now ∷ put)) (seen_inserted xs k)
 
 ends_more : (rs : List RangeOf) (r : RangeOf) (b : Bool) → fold insert [] (flat_map ends (filter has_keys rs ++ cond b (r ∷ []) [])) ≡ cond b (insert (insert (cut_points rs) r.begin) r.end) (cut_points rs)
 ends_more rs r true = ap (fold insert []) (flat_map-append ends (filter has_keys rs) (r ∷ [])) ∙ fold-append insert [] (flat_map ends (filter has_keys rs)) (r.begin ∷ r.end ∷ [])
@@ -41,12 +47,6 @@ cut_more rs i r lt is =
     sym (ends_more (take i rs) r (has_keys r))
     ∙ ap (λ (ss : List RangeOf). fold insert [] (flat_map ends ss)) (sym (filter-append has_keys (take i rs) (r ∷ [])))
     ∙ ap cut_points (ap (λ (s : RangeOf). take i rs ++ s ∷ []) is ∙ sym (take_more rs i r lt))
-
-abbrev seen : List (Bor (List ℕ)) → List (List ℕ)
-seen cuts = map (λ c. c.now) cuts
-
-abbrev insert_seen : List (Bor (List ℕ)) → Bor (List ℕ) → List (Bor (List ℕ))
-insert_seen cuts cut = insert_key (λ x y. bytes_cmp x.now y.now) cuts cut
 
 module _ (rs : List RangeOf) (i : ℕ) (r : RangeOf) (lt : i < length rs) (is : r ≡ get_or rs i r) (old : List (Bor (List ℕ))) (so_far : seen old ≡ cut_points (take i rs)) where
   -- both ends of a range that has keys

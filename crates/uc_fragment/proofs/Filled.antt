@@ -4,7 +4,6 @@ use Rattle.std.specs.List.{AllByRecursion}
 use Rattle.std.specs.List.Sorted.{IsPermutation}
 use Rattle.std.specs.declared.cmp.Ordering.TheVariants.{Equal}
 use Rattle.std.specs.Ordering.{nat_cmp, flip_args, is_lt, is_le}
-use Rattle.uc_bytes.specs.Bytes.{bytes_cmp}
 use Rattle.std.proofs.lemmas.Bool.{false≢true}
 use Rattle.std.proofs.lemmas.List.{append-nil, append_assoc, map-append, take_more}
 use Rattle.std.proofs.lemmas.List.Elements.{filter-append}
@@ -12,38 +11,49 @@ use Rattle.std.proofs.lemmas.List.Sums.{fold_push}
 use Rattle.std.proofs.lemmas.List.Sorted.{IsPermutation-sym}
 use Rattle.std.proofs.lemmas.Cmp.{nat_cmp_total, back_total}
 use Rattle.std.proofs.lemmas.Map.Lookups.{exact_unsigned}
+use Rattle.uc_bytes.specs.Bytes.{bytes_cmp}
 use Rattle.uc_entry.specs.declared.fragment.Fragment.{Fragment}
 use Rattle.uc_entry.specs.Order.{AreInOrder}
 use Rattle.uc_fragment.specs.Cutting.{RangeOf, Piece, spans, falling, fragment_over}
 use Rattle.uc_fragment.specs.Filling.{push_once, with_seq, with_range, filled, AreNewestFirst}
-use denote.Ref.{Bor}
 use Rattle.uc_fragment.proofs.Newest.{newer_before}
 use Rattle.uc_fragment.proofs.Sets.{sorted_set}
 use Rattle.uc_fragment.proofs.Once.{falls, falls_at_end}
-use Rattle.uc_fragment.proofs.SameSets.{Passes, all_inserted, same_set, permutation_passes}
+use Rattle.uc_fragment.proofs.SameSets.{Passes, all_same, all_inserted, same_set, permutation_passes}
+use denote.Ref.{Bor}
 
 falls_exact : (x y : ℕ) → flip_args nat_cmp x y ≡ Equal → x ≡ y
 falls_exact x y e = sym (exact_unsigned y x e)
 
--- ---- one range more
+-- ---- the sequences over a piece
 
 abbrev seqs_over : Piece → List RangeOf → List ℕ
 seqs_over p rs = map (λ r. r.seq) (filter (spans p) rs)
 
-all_kept : (P : ℕ → Type 0) (r : RangeOf) (kept : List RangeOf) (b : Bool) → P r.seq → AllByRecursion P (map (λ s. s.seq) kept) → AllByRecursion P (map (λ s. s.seq) (cond b (r ∷ kept) kept))
-all_kept P r kept true p h = (p, h)
-all_kept P r kept false p h = h
+kept_of_all : (P : ℕ → Type 0) (r : RangeOf) (kept : List RangeOf) (b : Bool) → (b ≡ true → P r.seq) → AllByRecursion P (map (λ s. s.seq) kept) → AllByRecursion P (map (λ s. s.seq) (cond b (r ∷ kept) kept))
+kept_of_all P r kept true one h = (one refl, h)
+kept_of_all P r kept false one h = h
 
-all_over : (P : ℕ → Type 0) (p : Piece) (rs : List RangeOf) → AllByRecursion (λ s. P s.seq) rs → AllByRecursion P (seqs_over p rs)
-all_over P p [] h = tt
-all_over P p (r ∷ rs) h = all_kept P r (filter (spans p) rs) (spans p r) h.0 (all_over P p rs h.1)
+over_of_all : (P : ℕ → Type 0) (p : Piece) (rs : List RangeOf) → AllByRecursion (λ s. spans p s ≡ true → P s.seq) rs → AllByRecursion P (seqs_over p rs)
+over_of_all P p [] h = tt
+over_of_all P p (r ∷ rs) h = kept_of_all P r (filter (spans p) rs) (spans p r) h.0 (over_of_all P p rs h.1)
+
+all_of_kept : (P : ℕ → Type 0) (r : RangeOf) (kept : List RangeOf) (b : Bool) → AllByRecursion P (map (λ s. s.seq) (cond b (r ∷ kept) kept)) → (b ≡ true → P r.seq) × AllByRecursion P (map (λ s. s.seq) kept)
+all_of_kept P r kept true h = ((λ e. h.0), h.1)
+all_of_kept P r kept false h = ((λ e. absurd (false≢true e)), h)
+
+all_of_over : (P : ℕ → Type 0) (p : Piece) (rs : List RangeOf) → AllByRecursion P (seqs_over p rs) → AllByRecursion (λ s. spans p s ≡ true → P s.seq) rs
+all_of_over P p [] h = tt
+all_of_over P p (r ∷ rs) h = let both = all_of_kept P r (filter (spans p) rs) (spans p r) h in (both.0, all_of_over P p rs both.1)
+
+-- ---- one range more
 
 seqs_more : (p : Piece) (done : List RangeOf) (r : RangeOf) → AllByRecursion (λ s. r.seq ≤ s.seq) done → (b : Bool) → falling (map (λ s. s.seq) (filter (spans p) done ++ cond b (r ∷ []) [])) ≡ cond b (push_once (falling (seqs_over p done)) r.seq) (falling (seqs_over p done))
 seqs_more p done r newer true =
     ap falling (map-append (λ (s : RangeOf). s.seq) (filter (spans p) done) (r ∷ []))
     ∙ fold_push falls [] (seqs_over p done) r.seq
     ∙ falls_at_end (falling (seqs_over p done)) r.seq (sorted_set (flip_args nat_cmp) (back_total nat_cmp_total) (seqs_over p done))
-    (all_inserted (flip_args nat_cmp) (back_total nat_cmp_total) falls_exact (λ x. r.seq ≤ x) (seqs_over p done) (all_over (λ x. r.seq ≤ x) p done newer))
+    (all_inserted (flip_args nat_cmp) (back_total nat_cmp_total) falls_exact (λ x. r.seq ≤ x) (seqs_over p done) (over_of_all (λ x. r.seq ≤ x) p done (all_same (λ s le _. le) done newer)))
 seqs_more p done r newer false = ap (λ (rs : List RangeOf). falling (map (λ s. s.seq) rs)) (append-nil (filter (spans p) done))
 
 abbrev with_seqs : Piece → List ℕ → Fragment
@@ -59,27 +69,11 @@ one_more p done r newer =
     ∙ ap (with_seqs p) (sym (seqs_more p done r newer (spans p r)))
     ∙ ap (λ (rs : List RangeOf). with_seqs p (falling (map (λ s. s.seq) rs))) (sym (filter-append (spans p) done (r ∷ [])))
 
-pub all_more : (ps : List Piece) (done : List RangeOf) (r : RangeOf) → AllByRecursion (λ s. r.seq ≤ s.seq) done → map (with_range r) (map (fragment_over done) ps) ≡ map (fragment_over (done ++ r ∷ [])) ps
+all_more : (ps : List Piece) (done : List RangeOf) (r : RangeOf) → AllByRecursion (λ s. r.seq ≤ s.seq) done → map (with_range r) (map (fragment_over done) ps) ≡ map (fragment_over (done ++ r ∷ [])) ps
 all_more [] done r newer = refl
 all_more (p ∷ ps) done r newer = ap (λ (fs : List Fragment). with_range r (fragment_over done p) ∷ fs) (all_more ps done r newer) ∙ ap (λ (f : Fragment). f ∷ map (fragment_over (done ++ r ∷ [])) ps) (one_more p done r newer)
 
 -- ---- the order of the ranges is of no account
-
-all_of_kept : (P : ℕ → Type 0) (r : RangeOf) (kept : List RangeOf) (b : Bool) → AllByRecursion P (map (λ s. s.seq) (cond b (r ∷ kept) kept)) → (b ≡ true → P r.seq) × AllByRecursion P (map (λ s. s.seq) kept)
-all_of_kept P r kept true h = ((λ e. h.0), h.1)
-all_of_kept P r kept false h = ((λ e. absurd (false≢true e)), h)
-
-all_of_over : (P : ℕ → Type 0) (p : Piece) (rs : List RangeOf) → AllByRecursion P (seqs_over p rs) → AllByRecursion (λ s. spans p s ≡ true → P s.seq) rs
-all_of_over P p [] h = tt
-all_of_over P p (r ∷ rs) h = let both = all_of_kept P r (filter (spans p) rs) (spans p r) h in (both.0, all_of_over P p rs both.1)
-
-kept_of_all : (P : ℕ → Type 0) (r : RangeOf) (kept : List RangeOf) (b : Bool) → (b ≡ true → P r.seq) → AllByRecursion P (map (λ s. s.seq) kept) → AllByRecursion P (map (λ s. s.seq) (cond b (r ∷ kept) kept))
-kept_of_all P r kept true one h = (one refl, h)
-kept_of_all P r kept false one h = h
-
-over_of_all : (P : ℕ → Type 0) (p : Piece) (rs : List RangeOf) → AllByRecursion (λ s. spans p s ≡ true → P s.seq) rs → AllByRecursion P (seqs_over p rs)
-over_of_all P p [] h = tt
-over_of_all P p (r ∷ rs) h = kept_of_all P r (filter (spans p) rs) (spans p r) h.0 (over_of_all P p rs h.1)
 
 over_passes : (p : Piece) (rs ss : List RangeOf) → IsPermutation rs ss → Passes (seqs_over p rs) (seqs_over p ss)
 over_passes p rs ss moved P h = over_of_all P p ss (permutation_passes rs ss moved (λ s. spans p s ≡ true → P s.seq) (all_of_over P p rs h))
@@ -88,7 +82,7 @@ same_over : (p : Piece) (rs ss : List RangeOf) → IsPermutation rs ss → fragm
 same_over p rs ss moved =
     ap (with_seqs p) (same_set (flip_args nat_cmp) (back_total nat_cmp_total) falls_exact (seqs_over p rs) (seqs_over p ss) (over_passes p rs ss moved) (over_passes p ss rs (IsPermutation-sym rs ss moved)))
 
-pub all_same_over : (ps : List Piece) (rs ss : List RangeOf) → IsPermutation rs ss → map (fragment_over rs) ps ≡ map (fragment_over ss) ps
+all_same_over : (ps : List Piece) (rs ss : List RangeOf) → IsPermutation rs ss → map (fragment_over rs) ps ≡ map (fragment_over ss) ps
 all_same_over [] rs ss moved = refl
 all_same_over (p ∷ ps) rs ss moved = ap (λ (fs : List Fragment). fragment_over rs p ∷ fs) (all_same_over ps rs ss moved) ∙ ap (λ (f : Fragment). f ∷ map (fragment_over ss) ps) (same_over p rs ss moved)
 
