@@ -1,0 +1,98 @@
+-- The least of the first keys.
+use Rattle.std.proofs.Common.{◌≡◌, ℕ, ◌+◌, ◌<◌, Bool, true, false, cond, List, [], ◌∷◌, ◌++◌, length, get_or, take, refl, sym, ap, ◌∙◌, subst}
+use Rattle.std.specs.Prelude.{Option, Some, None}
+use Rattle.std.specs.List.{AllByRecursion}
+use Rattle.std.specs.declared.cmp.Ordering.{Ordering}
+use Rattle.std.specs.declared.cmp.Ordering.TheVariants.{Less, Equal, Greater}
+use Rattle.std.specs.Ordering.{is_lt, is_le, ordering_reverse}
+use Rattle.std.proofs.lemmas.Bool.{false≢true}
+use Rattle.std.proofs.lemmas.Cmp.{nat_list_cmp_total, tied_itself}
+use Rattle.std.proofs.lemmas.List.{take_more}
+use Rattle.std.proofs.lemmas.Map.Lookups.{exact_bytes}
+use Rattle.std.specs.BTreeMap.Comparable.{le_lt_trans}
+use Rattle.uc_bytes.specs.Bytes.{bytes_cmp}
+use Rattle.uc_entry.specs.declared.entry.Entry.{Entry}
+use Rattle.uc_merge.specs.Heads.{first_key, lesser_of, IsFrom, IsOther, IsLeast}
+
+-- ---- the order of keys
+
+pub le_itself : (x : List ℕ) → is_le (bytes_cmp x x) ≡ true
+le_itself x = ap is_le (tied_itself nat_list_cmp_total x)
+
+pub no_less_itself : (x : List ℕ) → bytes_cmp x x ≡ Less → ⊥
+no_less_itself x e = let t = tied_itself nat_list_cmp_total x in cc
+
+pub lt_of : (x y : List ℕ) → is_lt (bytes_cmp x y) ≡ true → bytes_cmp x y ≡ Less
+lt_of x y e = by (bytes_cmp x y) e
+  where
+    by : (o : Ordering) → is_lt o ≡ true → o ≡ Less
+    by Less e = refl
+    by Equal e = absurd (false≢true e)
+    by Greater e = absurd (false≢true e)
+
+-- what isn't less is at or above
+pub le_of_not : (x y : List ℕ) → is_lt (bytes_cmp x y) ≡ false → is_le (bytes_cmp y x) ≡ true
+le_of_not x y e = ap is_le (nat_list_cmp_total.antisymm y x) ∙ by (bytes_cmp x y) e
+  where
+    by : (o : Ordering) → is_lt o ≡ false → is_le (ordering_reverse o) ≡ true
+    by Less f = absurd (false≢true (sym f))
+    by Equal f = refl
+    by Greater f = refl
+
+pub le_trans : (x y z : List ℕ) → is_le (bytes_cmp x y) ≡ true → is_le (bytes_cmp y z) ≡ true → is_le (bytes_cmp x z) ≡ true
+le_trans x y z e f = by (bytes_cmp y z) refl f
+  where
+    by : (o : Ordering) → bytes_cmp y z ≡ o → is_le o ≡ true → is_le (bytes_cmp x z) ≡ true
+    by Less g h = ap is_le (le_lt_trans nat_list_cmp_total x y z e g)
+    by Equal g h = sym (ap (λ (w : List ℕ). is_le (bytes_cmp x w)) (exact_bytes y z g)) ∙ e
+    by Greater g h = absurd (false≢true h)
+
+-- ---- one list more
+
+all-append : {X : Type 0} (P : X → Type 0) (xs ys : List X) → AllByRecursion P xs → AllByRecursion P ys → AllByRecursion P (xs ++ ys)
+all-append P [] ys h k = k
+all-append P (x ∷ xs) ys h k = (h.0, all-append P xs ys h.1 k)
+
+all-front : {X : Type 0} (P : X → Type 0) (xs ys : List X) → AllByRecursion P (xs ++ ys) → AllByRecursion P xs
+all-front P [] ys h = tt
+all-front P (x ∷ xs) ys h = (h.0, all-front P xs ys h.1)
+
+all-back : {X : Type 0} (P : X → Type 0) (xs ys : List X) → AllByRecursion P (xs ++ ys) → AllByRecursion P ys
+all-back P [] ys h = h
+all-back P (x ∷ xs) ys h = all-back P xs ys h.1
+
+lower_from : (k l : List ℕ) (lists : List (List Entry)) → is_le (bytes_cmp l k) ≡ true → AllByRecursion (IsFrom k) lists → AllByRecursion (IsFrom l) lists
+lower_from k l [] le h = tt
+lower_from k l ([] ∷ lists) le h = (tt, lower_from k l lists le h.1)
+lower_from k l ((p ∷ ps) ∷ lists) le h = (le_trans l k p.key le h.0, lower_from k l lists le h.1)
+
+from_any : (k : List ℕ) (lists : List (List Entry)) → AllByRecursion (λ ps. ps ≡ []) lists → AllByRecursion (IsFrom k) lists
+from_any k [] h = tt
+from_any k (ps ∷ lists) h = (subst (IsFrom k) (sym h.0) tt, from_any k lists h.1)
+
+le_of_lt : (x y : List ℕ) → bytes_cmp x y ≡ Less → is_le (bytes_cmp x y) ≡ true
+le_of_lt x y e = ap is_le e
+
+least_by : (lists : List (List Entry)) (p : Entry) (ps : List Entry) (key : List ℕ) (b : Bool) → is_lt (bytes_cmp p.key key) ≡ b → AllByRecursion (IsFrom key) lists → (AllByRecursion (IsOther key) lists → ⊥) → IsLeast (lists ++ (p ∷ ps) ∷ []) (cond b (Some p.key) (Some key))
+least_by lists p ps key true e from here = (
+  all-append (IsFrom p.key) lists ((p ∷ ps) ∷ []) (lower_from key p.key lists (le_of_lt p.key key (lt_of p.key key e)) from) (le_itself p.key, tt),
+  (λ others. (all-back (IsOther p.key) lists ((p ∷ ps) ∷ []) others).0 refl),
+)
+least_by lists p ps key false e from here = (
+  all-append (IsFrom key) lists ((p ∷ ps) ∷ []) from (le_of_not p.key key e, tt),
+  (λ others. here (all-front (IsOther key) lists ((p ∷ ps) ∷ []) others)),
+)
+
+pub least_more : (lists : List (List Entry)) (ps : List Entry) (o : Option (List ℕ)) → IsLeast lists o → IsLeast (lists ++ ps ∷ []) (lesser_of o (first_key ps))
+least_more lists [] None h = all-append (λ ps. ps ≡ []) lists ([] ∷ []) h (refl, tt)
+least_more lists (p ∷ ps) None h = (
+  all-append (IsFrom p.key) lists ((p ∷ ps) ∷ []) (from_any p.key lists h) (le_itself p.key, tt),
+  (λ others. (all-back (IsOther p.key) lists ((p ∷ ps) ∷ []) others).0 refl),
+)
+least_more lists [] (Some key) h = (all-append (IsFrom key) lists ([] ∷ []) h.0 (tt, tt), (λ others. h.1 (all-front (IsOther key) lists ([] ∷ []) others)))
+least_more lists (p ∷ ps) (Some key) h = least_by lists p ps key (is_lt (bytes_cmp p.key key)) refl h.0 h.1
+
+pub least_step : (lists : List (List Entry)) (i : ℕ) (ps : List Entry) (o next : Option (List ℕ)) → i < length lists → ps ≡ get_or lists i ps → IsLeast (take i lists) o → next ≡ lesser_of o (first_key ps) → IsLeast (take (i + 1) lists) next
+least_step lists i ps o next lt is h made =
+    subst (λ (ls : List (List Entry)). IsLeast ls next) (sym (take_more lists i ps lt))
+    (subst (λ (qs : List Entry). IsLeast (take i lists ++ qs ∷ []) next) is (subst (IsLeast (take i lists ++ ps ∷ [])) (sym made) (least_more (take i lists) ps o h)))

@@ -1,0 +1,4 @@
+pub mod Least
+pub mod Taking
+pub mod Merging
+pub mod Stepping

@@ -1,0 +1,13 @@
+use Rattle.std.proofs.Common.{rules, sym, subst, ap, ◌∙◌, map, List}
+use Rattle.std.specs.List.{AllByRecursion}
+use Rattle.uc_entry.specs.declared.entry.Entry.{Entry}
+use Rattle.uc_merge.specs.Groups.{groups_of}
+use Rattle.uc_merge.proofs.Taking.{Sorted}
+use Rattle.uc_merge.proofs.Merging.{all-mapped, joined-map, whole}
+use Rattle.uc_merge.proofs.groups.Groups.over.Goals as goal
+
+pub invariant_of-result : goal.invariant_of-result
+invariant_of-result c = subst (AllByRecursion Sorted) (sym (whole (λ points. points.now) c.args.runs.now c.loop-points.points-index c.loop-points.cursors.items c.loop-points-test.false c.loop-points.invariant)) (all-mapped (λ points. points.now) Sorted c.args.runs.now c.requires)
+
+pub returns : goal.returns
+returns c = ap groups_of (joined-map (λ points. points.now) c.args.runs.now c.loop-points.cursors.items (whole (λ points. points.now) c.args.runs.now c.loop-points.points-index c.loop-points.cursors.items c.loop-points-test.false c.loop-points.invariant))
