@@ -256,7 +256,7 @@ module _ (m : Operation) (c : Compaction) (are : AreRuns c.inputs) (stand : Stan
   abbrev cut : List Fragment
   cut = fragments_of (ranges_of c.inputs)
 
-  cut_within : AllByRecursion (λ (f : Fragment). AllByRecursion (IsWithin low high) f.seqs) cut
+  pub cut_within : AllByRecursion (λ (f : Fragment). AllByRecursion (IsWithin low high) f.seqs) cut
   cut_within = all-cut (IsWithin low high) (ranges_of c.inputs) (all-ranges (IsWithin low high) (flat_map (λ (r : Contents). r.fragments) c.inputs) (all_fragments (IsWithin low high) c.inputs are (all_within c.inputs are stand.newest_first)))
 
   some_of : (ns : List ℕ) → ltb 0 (length ns) ≡ true → ns ≢ []
