@@ -1,5 +1,5 @@
 -- A key's points are chosen by its own points and the range deletions over it.
-use Rattle.std.proofs.Common.{◌≡◌, ◌≢◌, ℕ, ◌<◌, ◌≤◌, Bool, true, false, cond, ltb, List, [], ◌∷◌, ◌++◌, map, filter, refl, sym, ap, ◌∙◌, subst, arith}
+use Rattle.std.proofs.Common.{◌≡◌, ◌≢◌, ℕ, ◌<◌, ◌≤◌, Bool, true, false, cond, ltb, List, [], ◌∷◌, ◌++◌, filter, refl, sym, ap, ◌∙◌, subst, arith}
 use Rattle.std.specs.Prelude.{◌&&◌, Option, None, option_map, filter_map}
 use Rattle.std.specs.List.{AllByRecursion, flat_map, cons_option}
 use Rattle.std.specs.List.Sorted.{IsStrictlySortedBy}
@@ -10,14 +10,13 @@ use Rattle.uc_bytes.specs.Bytes.{same_bytes}
 use Rattle.uc_oper.specs.Operation.{Operation, IsLawful}
 use Rattle.uc_entry.specs.declared.entry.Entry.{Entry}
 use Rattle.uc_entry.specs.declared.entry.What.{What}
-use Rattle.uc_entry.specs.declared.fragment.Fragment.{Fragment}
-use Rattle.uc_entry.specs.Run.{Contents, IsWithin}
+use Rattle.uc_entry.specs.Run.{Contents}
 use Rattle.uc_entry.specs.Lookup.{is_passing, above_newest}
 use Rattle.uc_entry.proofs.Points.{PointsFall as Fall}
 use Rattle.uc_fragment.specs.Cutting.{fragments_of}
 use Rattle.uc_stripe.specs.Stripes.{Stripe, is_in, stripes, is_bottom}
 use Rattle.uc_stripe.specs.Inputs.{Compaction, AreRuns, Stand, points_of, ranges_of, keeping_of}
-use Rattle.uc_stripe.specs.Output.{greatest, newest_point, newest_range, effect_in, what_kept, point_kept, keys_of, points_kept}
+use Rattle.uc_stripe.specs.Output.{greatest, newest_point, newest_range, what_kept, point_kept, keys_of, points_kept}
 use Rattle.uc_stripe.specs.Choice.{point_for, points_for, points_named, seqs_over, PointsFall, AreOfOneKey}
 use Rattle.uc_stripe.proofs.Lists.{all-map, all-filter, all-passed}
 use Rattle.uc_stripe.proofs.Effects.{seqs_of, HoldsWithin, all_points, all_seqs, effect_of_runs}

@@ -8,3 +8,8 @@ pub mod OutputRun
 pub mod Staying
 pub mod Leaving
 pub mod Chosen
+pub mod Parting
+pub mod Searched
+pub mod Stepping
+pub mod Onward
+pub mod InTurn

@@ -34,7 +34,7 @@ pub rise_on : (keep : ℕ) (keeps : List ℕ) → Rise (keep ∷ keeps) → Rise
 unfolding IsStrictlySortedBy
 rise_on keep keeps h = h.1
 
-all_from : (above : ℕ) (keeps : List ℕ) → Rise keeps → AllByRecursion (λ k. above ≤ k) keeps → AllByRecursion (λ s. above ≤ s.above) (stripes_above above keeps)
+pub all_from : (above : ℕ) (keeps : List ℕ) → Rise keeps → AllByRecursion (λ k. above ≤ k) keeps → AllByRecursion (λ s. above ≤ s.above) (stripes_above above keeps)
 all_from above [] rise le = (omega arith, tt)
 all_from above (keep ∷ keeps) rise le =
     let up : above ≤ keep = le.0 in

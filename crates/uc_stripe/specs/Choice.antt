@@ -18,7 +18,7 @@ abbrev pub point_for : Operation → Bool → List ℕ → List Entry → List �
 point_for m bottom key points seqs =
     if nat_lt 0 (greatest (map (λ p. p.seq) points))
     then option_map (λ what. record { key = key; seq = greatest (map (λ p. p.seq) points); what = what })
-        (what_kept m bottom (above_newest m points seqs) (nat_lt (greatest (map (λ p. p.seq) points)) (greatest seqs)))
+    (what_kept m bottom (above_newest m points seqs) (nat_lt (greatest (map (λ p. p.seq) points)) (greatest seqs)))
     else None
 
 -- one for each stripe

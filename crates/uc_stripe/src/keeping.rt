@@ -1,6 +1,10 @@
 //! [`Keeping`]: which sequences a compaction keeps.
 ghost use Rattle.std.specs.Prelude.{◌≡◌};
+ghost use Rattle.std.specs.List.Sorted.{IsStrictlySortedBy};
+ghost use Rattle.std.specs.Ordering.{nat_cmp};
+ghost use Rattle.uc_stripe.specs.Stripes as stripes;
 
+use crate::stripe::Stripe;
 use std::marker::Model;
 
 /// What a compaction keeps: the sequences that reads are made at, which rise; and where nothing stands below its
@@ -25,5 +29,23 @@ impl<'a> Keeping<'a> {
         ensures { result ≡ record { keeps = keeps.now; bottom = bottom } }
     {
         Keeping { keeps, bottom }
+    }
+
+    /// The stripe of a sequence.
+    pub(crate) fn stripe_of(&self, seq: u64) -> Stripe
+        requires { IsStrictlySortedBy nat_cmp self.now.keeps }
+        ensures { result ≡ stripes.stripe_of self.now.keeps seq }
+    {
+        Stripe::of(self.keeps, seq)
+    }
+
+    /// Whether a stripe is at the bottom, and nothing stands below it.
+    pub(crate) fn is_bottom(&self, stripe: &Stripe) -> bool
+        ensures { result ≡ stripes.is_bottom self.now stripe.now }
+    {
+        match self.bottom {
+            None => false,
+            Some(seq) => stripe.has(seq),
+        }
     }
 }

@@ -64,7 +64,7 @@ pub fn compaction_of_the_oldest_leaves_values<O: Operator>()
 pub fn points_are_chosen_key_by_key<O: Operator>()
     ensures points { (c : Compaction) → AreRuns c.inputs → Stand c.inputs c.keeps →
         (output_of O.meaning c).points ≡ flat_map (λ key. points_for O.meaning (keeping_of c) key
-            (points_named key (points_of c.inputs)) (seqs_over key (fragments_of (ranges_of c.inputs)))) (keys_of c) }
+        (points_named key (points_of c.inputs)) (seqs_over key (fragments_of (ranges_of c.inputs)))) (keys_of c) }
     ensures fall { (c : Compaction) (key : List ℕ) → AreRuns c.inputs → Stand c.inputs c.keeps →
         AreOfOneKey (points_named key (points_of c.inputs)) (seqs_over key (fragments_of (ranges_of c.inputs))) }
 {}

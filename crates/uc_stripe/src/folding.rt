@@ -1,0 +1,126 @@
+//! What a key's points do, as one effect.
+ghost use Rattle.std.specs.Prelude.{◌≡◌, map, IfOk, fold};
+ghost use Rattle.uc_oper.specs.Operation.{Operation};
+ghost use Rattle.uc_oper.specs.Composition.{composed};
+ghost use Rattle.uc_oper.specs.declared.effect.Effect.{Effect as EffectOf};
+ghost use Rattle.uc_oper.specs.declared.effect.Effect.TheVariants.{Keep};
+ghost use Rattle.uc_entry.specs.Lookup as lookup;
+ghost use Rattle.uc_stripe.specs.Choice.{PointsFall};
+ghost use Rattle.uc_stripe.specs.Overwriting as overwriting;
+
+use crate::parts::points_above;
+use std::alloc::{AllocError, Global};
+use std::marker::Sync;
+use std::thread::Threads;
+use uc_entry::{Entry, What};
+use uc_fold::{Effects, fold_all};
+use uc_oper::{Effect, Operator};
+
+/// More points than this are folded in several threads.
+const MANY: usize = 1_000;
+
+/// Whether a point overwrites what is older.
+fn overwrites(point: &Entry) -> bool
+    ensures { result ≡ overwriting.overwrites point.now }
+{
+    match point.what {
+        What::Put(_) | What::Delete => true,
+        What::Merge(_) => false,
+    }
+}
+
+/// The points, the newest first, but those that a newer one overwrites.
+fn lasting<'b, 'a>(points: &'b [&'a Entry]) -> &'b [&'a Entry]
+    ensures { (m : Operation) (before : EffectOf) → lookup.points_effect m before (map (λ p. p.now) result.now) ≡ lookup.points_effect m before (map (λ p. p.now) points.now) }
+{
+    match points.iter().position(|point| overwrites(point)) {
+        None => points,
+        Some(place) => &points[..place + 1],
+    }
+}
+
+/// What a point does.
+fn effect_of(what: &What) -> Result<Effect, AllocError>
+    ensures { IfOk result (λ effect. effect ≡ lookup.what_effect what.now) }
+{
+    Ok(match what {
+        What::Put(value) => Effect::Set(Some(value.clone()?)),
+        What::Delete => Effect::Set(None),
+        What::Merge(operand) => Effect::Fold(operand.clone()?),
+    })
+}
+
+/// An effect, and then a point. Its operand is written into the effect's text. Want of memory loses the effect.
+fn changed_by<O: Operator>(alloc: Global, effect: Effect, what: &What) -> Result<Effect, AllocError>
+    ensures { IfOk result (λ both. both ≡ composed O.meaning effect (lookup.what_effect what.now)) }
+{
+    match what {
+        What::Merge(operand) => effect.folded::<O>(alloc, operand.as_slice()),
+        other => effect_of(other),
+    }
+}
+
+/// An effect, and behind it what each of the points does, the oldest first.
+fn parts_of(alloc: Global, before: Effect, points: &[&Entry]) -> Result<Vec<Effect>, AllocError>
+    ensures { (m : Operation) → IfOk result (λ parts. fold (composed m) Keep parts.items ≡ lookup.points_effect m before (map (λ p. p.now) points.now)) }
+{
+    let mut parts = Vec::new(alloc);
+    parts.push(before)?;
+    for place in (0..points.len()).rev() {
+        parts.push(effect_of(&points[place].what)?)?;
+    }
+    Ok(parts)
+}
+
+/// An effect, and then the points, the newest first, in one thread. Want of memory loses the effect.
+fn folded_onto<O: Operator>(
+    alloc: Global,
+    before: Effect,
+    points: &[&Entry],
+) -> Result<Effect, AllocError>
+    ensures { IfOk result (λ effect. effect ≡ lookup.points_effect O.meaning before (map (λ p. p.now) points.now)) }
+{
+    let mut effect = before;
+    for place in (0..points.len()).rev() {
+        effect = changed_by::<O>(alloc, effect, &points[place].what)?;
+    }
+    Ok(effect)
+}
+
+/// What points of one key, the newest first, do in turn to what an effect before them leaves. Want of memory
+/// loses that effect.
+fn points_effect<O: Operator + Sync>(
+    rt: &(impl Threads + Sync),
+    alloc: Global,
+    before: Effect,
+    points: &[&Entry],
+) -> Result<Effect, AllocError>
+    ensures { IfOk result (λ effect. effect ≡ lookup.points_effect O.meaning before (map (λ p. p.now) points.now)) }
+{
+    let points = lasting(points);
+    if points.len() > MANY {
+        let parts = parts_of(alloc, before, points)?;
+        fold_all::<Effects<O>>(rt, alloc, parts)
+    } else {
+        folded_onto::<O>(alloc, before, points)
+    }
+}
+
+/// What a key's points and the range deletions over it do, both the newest first.
+pub(crate) fn effect_above_newest<O: Operator + Sync>(
+    rt: &(impl Threads + Sync),
+    alloc: Global,
+    points: &[&Entry],
+    seqs: &[u64],
+) -> Result<Effect, AllocError>
+    requires { PointsFall (map (λ p. p.now) points.now) }
+    ensures { IfOk result (λ effect. effect ≡ lookup.above_newest O.meaning (map (λ p. p.now) points.now) seqs.now) }
+{
+    match seqs.first() {
+        None => points_effect::<O>(rt, alloc, Effect::Keep, points),
+        Some(newest) => {
+            let newer = &points[..points_above(points, *newest)];
+            points_effect::<O>(rt, alloc, Effect::Set(None), newer)
+        }
+    }
+}
