@@ -1,0 +1,63 @@
+-- The groups of several runs' points.
+use Rattle.std.proofs.Common.{◌≡◌, ℕ, List, [], ◌∷◌, ◌++◌, map, filter, refl, sym, ap, ◌∙◌, subst}
+use Rattle.std.specs.List.{AllByRecursion, flat_map}
+use Rattle.std.specs.List.Sorted.{IsStrictlySortedBy}
+use Rattle.uc_oper.specs.Operation.{Operation}
+use Rattle.uc_entry.specs.declared.entry.Entry.{Entry}
+use Rattle.uc_entry.specs.declared.fragment.Fragment.{Fragment}
+use Rattle.uc_entry.specs.Order.{entry_cmp}
+use Rattle.uc_entry.specs.Run.{Contents}
+use Rattle.uc_merge.specs.Groups.{Group, keys_of, group_of, groups_of}
+use Rattle.uc_stripe.specs.Stripes.{Keeping}
+use Rattle.uc_stripe.specs.Inputs.{AreRuns, points_of}
+use Rattle.uc_stripe.specs.Choice.{AreOfOneKey, points_for, points_named, seqs_over}
+use Rattle.uc_compact.specs.Parts.{points_of_each}
+use Rattle.uc_compact.proofs.Pushing.{of_group, of_groups, HasOneKey}
+
+-- lists that are seen as the points of runs
+joined-map : {X : Type 0} (f : X → List Entry) (xs : List X) → flat_map f xs ≡ flat_map (λ (ps : List Entry). ps) (map f xs)
+joined-map f [] = refl
+joined-map f (x ∷ xs) = ap (λ (ps : List Entry). f x ++ ps) (joined-map f xs)
+
+joined-each : (runs : List Contents) → flat_map (λ (ps : List Entry). ps) (points_of_each runs) ≡ points_of runs
+joined-each [] = refl
+joined-each (r ∷ rs) = ap (λ (ps : List Entry). r.points ++ ps) (joined-each rs)
+
+pub joined : {X : Type 0} (f : X → List Entry) (xs : List X) (runs : List Contents) → map f xs ≡ points_of_each runs → flat_map f xs ≡ points_of runs
+joined f xs runs e = joined-map f xs ∙ ap (flat_map (λ (ps : List Entry). ps)) e ∙ joined-each runs
+
+sorted_each : (runs : List Contents) → AreRuns runs → AllByRecursion (IsStrictlySortedBy entry_cmp) (points_of_each runs)
+sorted_each [] are = tt
+sorted_each (r ∷ rs) are = (are.0.points_sorted, sorted_each rs are.1)
+
+unmapped : {X : Type 0} (f : X → List Entry) (xs : List X) → AllByRecursion (IsStrictlySortedBy entry_cmp) (map f xs) → AllByRecursion (λ x. IsStrictlySortedBy entry_cmp (f x)) xs
+unmapped f [] h = tt
+unmapped f (x ∷ xs) h = (h.0, unmapped f xs h.1)
+
+pub sorted_by : {X : Type 0} (f : X → List Entry) (xs lent : List X) (runs : List Contents) → AreRuns runs → map f xs ≡ points_of_each runs → lent ≡ xs → AllByRecursion (λ x. IsStrictlySortedBy entry_cmp (f x)) lent
+sorted_by {X} f xs lent runs are e same = subst (λ (ys : List X). AllByRecursion (λ x. IsStrictlySortedBy entry_cmp (f x)) ys) (sym same) (unmapped f xs (subst (AllByRecursion (IsStrictlySortedBy entry_cmp)) (sym e) (sorted_each runs are)))
+
+module _ (m : Operation) (keeping : Keeping) (cut : List Fragment) (points : List Entry) where
+  each_in : ((key : List ℕ) → AreOfOneKey (points_named key points) (seqs_over key cut)) → (ks : List (List ℕ)) → AllByRecursion (HasOneKey m keeping cut) (map (group_of points) ks)
+  each_in h [] = tt
+  each_in h (k ∷ ks) = (h k, each_in h ks)
+
+  pub each_group : ((key : List ℕ) → AreOfOneKey (points_named key points) (seqs_over key cut)) → AllByRecursion (HasOneKey m keeping cut) (groups_of points)
+  each_group h = each_in h (keys_of points)
+
+  by_key : (ks : List (List ℕ)) → of_groups m keeping cut (map (group_of points) ks) ≡ flat_map (λ key. points_for m keeping key (points_named key points) (seqs_over key cut)) ks
+  by_key [] = refl
+  by_key (k ∷ ks) = ap (λ (ps : List Entry). points_for m keeping k (points_named k points) (seqs_over k cut) ++ ps) (by_key ks)
+
+  pub groups_by_key : of_groups m keeping cut (groups_of points) ≡ flat_map (λ key. points_for m keeping key (points_named key points) (seqs_over key cut)) (keys_of points)
+  groups_by_key = by_key (keys_of points)
+
+  -- by what the groups are equal to
+  pub each_by : (groups : List Group) → groups ≡ groups_of points → ((key : List ℕ) → AreOfOneKey (points_named key points) (seqs_over key cut)) → AllByRecursion (HasOneKey m keeping cut) groups
+  each_by groups e h = subst (AllByRecursion (HasOneKey m keeping cut)) (sym e) (each_group h)
+
+  pub kept_by : (groups : List Group) (before after : List Entry) → groups ≡ groups_of points → before ≡ [] → after ≡ before ++ of_groups m keeping cut groups → after ≡ flat_map (λ key. points_for m keeping key (points_named key points) (seqs_over key cut)) (keys_of points)
+  kept_by groups before after e empty made = made ∙ ap (λ (ps : List Entry). ps ++ of_groups m keeping cut groups) empty ∙ ap (of_groups m keeping cut) e ∙ groups_by_key
+
+pub groups_are : {X : Type 0} (f : X → List Entry) (xs lent : List X) (runs : List Contents) (groups : List Group) → map f xs ≡ points_of_each runs → lent ≡ xs → groups ≡ groups_of (flat_map f lent) → groups ≡ groups_of (points_of runs)
+groups_are f xs lent runs groups e same made = made ∙ ap (λ ys. groups_of (flat_map f ys)) same ∙ ap groups_of (joined f xs runs e)

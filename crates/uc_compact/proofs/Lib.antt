@@ -1,0 +1,4 @@
+pub mod Together
+pub mod Pushing
+pub mod Grouping
+pub mod Building

@@ -1,0 +1,62 @@
+//! [`Compacted`]: what a compaction made.
+ghost use Rattle.std.specs.Prelude.{◌≡◌, map};
+ghost use Rattle.std.specs.Arc.{arc_value};
+ghost use Rattle.uc_stripe.specs.Output.{output_of};
+ghost use Rattle.uc_stripe.specs.Inputs.{AreRuns, Stand};
+
+use std::marker::{Model, PhantomData};
+use std::sync::Arc;
+use uc_block::Run;
+use uc_oper::Operator;
+
+/// Runs that were compacted, and the run that was made of them. A contract sees it as what was asked for: the runs,
+/// the keeps, and whether the oldest run of all was among them; its output is what these definitely become.
+#[derive(Drop)]
+pub struct Compacted<O: Operator> {
+    pub(crate) inputs: Vec<Arc<Run>>,
+    pub(crate) keeps: Vec<u64>,
+    pub(crate) oldest: bool,
+    pub(crate) output: Arc<Run>,
+    pub(crate) operator: PhantomData<O>,
+}
+
+impl<O: Operator> Model for Compacted<O> {
+    ghost use Rattle.uc_stripe.specs.Inputs.{Compaction};
+    ghost use Rattle.uc_compact.specs.Made.{asked, IsMade};
+
+    ghost Value = { Compaction };
+
+    ghost view = { asked };
+
+    ghost invariant = { IsMade O.meaning };
+}
+
+impl<O: Operator> Compacted<O> {
+    /// The runs that were compacted, the newest first.
+    pub fn inputs(&self) -> &[Arc<Run>]
+        ensures { map arc_value result.now ≡ self.now.inputs }
+    {
+        &self.inputs
+    }
+
+    /// The sequences at which it reads as its inputs do.
+    pub fn keeps(&self) -> &[u64]
+        ensures { result.now ≡ self.now.keeps }
+    {
+        &self.keeps
+    }
+
+    /// Whether it stands for the oldest run too, so that nothing may stand below it.
+    pub fn oldest(&self) -> bool
+        ensures { result ≡ self.now.oldest }
+    {
+        self.oldest
+    }
+
+    /// The run that stands for the inputs.
+    pub fn output(&self) -> &Arc<Run>
+        ensures { arc_value result.now ≡ output_of O.meaning self.now }
+    {
+        &self.output
+    }
+}

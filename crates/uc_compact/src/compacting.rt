@@ -1,0 +1,75 @@
+//! [`compact`]: several runs made into one.
+ghost use Rattle.std.specs.Prelude.{◌≡◌, Some, None, map, IfOk, if◌then◌else◌};
+ghost use Rattle.std.specs.Arc.{arc_value};
+ghost use Rattle.uc_stripe.specs.Inputs.{Stand, low_of};
+ghost use Rattle.uc_stripe.specs.Output as output;
+
+use crate::compacted::Compacted;
+use crate::fragments::fragments_kept;
+use crate::inputs::{are_runs, high_seq, low_seq, shared};
+use crate::points::points_kept;
+use crate::ranges::ranges_of;
+use std::alloc::{AllocError, Global};
+use std::marker::{PhantomData, Sync};
+use std::sync::Arc;
+use std::thread::Threads;
+use uc_block::Run;
+use uc_fragment::cut_ranges;
+use uc_oper::Operator;
+use uc_stripe::{Keeping, compaction_gives_a_run, points_are_chosen_key_by_key};
+
+/// Where the last run is the oldest of all, a sequence of the stripe below which nothing stands.
+fn bottom_of(inputs: &[Arc<Run>], oldest: bool) -> Option<u64>
+    ensures { result ≡ (if oldest then Some (low_of (map arc_value inputs.now)) else None) }
+{
+    if oldest { Some(low_seq(inputs)) } else { None }
+}
+
+/// The run that the runs become.
+fn output_of<O: Operator + Sync>(
+    rt: &(impl Threads + Sync),
+    alloc: Global,
+    inputs: &[Arc<Run>],
+    keeps: &[u64],
+    oldest: bool,
+) -> Result<Run, AllocError>
+    requires { Stand (map arc_value inputs.now) keeps.now }
+    ensures { IfOk result (λ run. run ≡ output.output_of O.meaning (record { inputs = map arc_value inputs.now; keeps = keeps.now; oldest = oldest })) }
+{
+    are_runs(inputs);
+    compaction_gives_a_run::<O>();
+    points_are_chosen_key_by_key::<O>();
+    let keeping = Keeping::new(keeps, bottom_of(inputs, oldest));
+    let cut = cut_ranges(alloc, &ranges_of(alloc, inputs)?)?;
+    let points = points_kept::<O>(rt, alloc, inputs, &cut, &keeping)?;
+    let fragments = fragments_kept(alloc, cut, &keeping)?;
+    Run::build(alloc, low_seq(inputs), high_seq(inputs), points, fragments)
+}
+
+/// Several runs, the newest first, made into one that reads as they do at every kept sequence, and at and above the
+/// greatest of theirs (RocksDB wiki, "Universal Compaction"). `oldest` says that the last of them is the oldest run of
+/// all, so that nothing stands below it: then no delete, merge or range deletion is left in the stripe of its first
+/// sequence. It fails only for want of memory.
+///
+/// It goes once over the points. Of a key's points between two neighbouring keeps at most one is left, and many
+/// operands of one key are folded in several threads.
+pub fn compact<O: Operator + Sync>(
+    rt: &(impl Threads + Sync),
+    alloc: Global,
+    inputs: &[Arc<Run>],
+    keeps: &[u64],
+    oldest: bool,
+) -> Result<Compacted<O>, AllocError>
+    requires { Stand (map arc_value inputs.now) keeps.now }
+    ensures { IfOk result (λ made. made ≡ record { inputs = map arc_value inputs.now; keeps = keeps.now; oldest = oldest }) }
+{
+    are_runs(inputs);
+    let output = output_of::<O>(rt, alloc, inputs, keeps, oldest)?;
+    Ok(Compacted {
+        inputs: shared(alloc, inputs)?,
+        keeps: keeps.to_vec(alloc)?,
+        oldest,
+        output: Arc::new(alloc, output)?,
+        operator: PhantomData,
+    })
+}

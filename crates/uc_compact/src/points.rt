@@ -1,0 +1,86 @@
+//! The points that a compaction keeps.
+ghost use Rattle.std.specs.Prelude.{◌≡◌, ◌++◌, ℕ, List, map, OnOk, IfOk};
+ghost use Rattle.std.specs.Arc.{arc_value};
+ghost use Rattle.std.specs.List.{AllByRecursion, flat_map};
+ghost use Rattle.std.specs.List.Sorted.{IsStrictlySortedBy};
+ghost use Rattle.std.specs.Ordering.{nat_cmp};
+ghost use Rattle.uc_entry.specs.Order.{AreInOrder};
+ghost use Rattle.uc_merge.specs.Groups.{keys_of};
+ghost use Rattle.uc_compact.specs.Parts.{points_of_each};
+ghost use Rattle.uc_stripe.specs.Choice as choice;
+ghost use Rattle.uc_stripe.specs.Choice.{AreOfOneKey, points_for, points_named};
+ghost use Rattle.uc_stripe.specs.Inputs.{AreRuns, points_of};
+
+use std::alloc::{AllocError, Global};
+use std::marker::Sync;
+use std::sync::Arc;
+use std::thread::Threads;
+use uc_block::Run;
+use uc_entry::{Entry, Fragment, covering_fragment};
+use uc_merge::Groups;
+use uc_oper::Operator;
+use uc_stripe::{Keeping, push_kept_points};
+
+/// The sequences of the range deletions over a key.
+fn seqs_over<'a>(fragments: &'a [Fragment], key: &[u8]) -> &'a [u64]
+    requires { AreInOrder fragments.now }
+    ensures { result.now ≡ choice.seqs_over key.now fragments.now }
+{
+    match covering_fragment(fragments, key) {
+        None => &[],
+        Some(fragment) => fragment.seqs.as_slice(),
+    }
+}
+
+/// Pushes what is kept of the points ahead, key by key.
+fn push_groups<O: Operator + Sync>(
+    rt: &(impl Threads + Sync),
+    alloc: Global,
+    kept: &mut Vec<Entry>,
+    groups: &mut Groups<'_>,
+    fragments: &[Fragment],
+    keeping: &Keeping<'_>,
+) -> Result<(), AllocError>
+    requires order { AreInOrder fragments.now }
+    requires keeps_rise { IsStrictlySortedBy nat_cmp keeping.now.keeps }
+    requires each { AllByRecursion (λ g. AreOfOneKey g.points (choice.seqs_over g.key fragments.now)) groups.old }
+    ensures { OnOk result (kept.new.items ≡ kept.old.items ++ flat_map (λ g. points_for O.meaning keeping.now g.key g.points (choice.seqs_over g.key fragments.now)) groups.old) }
+{
+    let mut points = Vec::new(alloc);
+    while let Some(key) = groups.next_into(&mut points)? {
+        let seqs = seqs_over(fragments, key.as_slice());
+        push_kept_points::<O>(rt, alloc, kept, key.as_slice(), &points, seqs, keeping)?;
+    }
+    Ok(())
+}
+
+/// The points of each run.
+fn points_in<'a>(alloc: Global, inputs: &'a [Arc<Run>]) -> Result<Vec<&'a [Entry]>, AllocError>
+    ensures { IfOk result (λ runs. map (λ points. points.now) runs.items ≡ points_of_each (map arc_value inputs.now)) }
+{
+    let mut runs = Vec::new(alloc);
+    for run in inputs {
+        runs.push(run.entries())?;
+    }
+    Ok(runs)
+}
+
+/// What is kept of the points of runs, key by key.
+pub(crate) fn points_kept<O: Operator + Sync>(
+    rt: &(impl Threads + Sync),
+    alloc: Global,
+    inputs: &[Arc<Run>],
+    fragments: &[Fragment],
+    keeping: &Keeping<'_>,
+) -> Result<Vec<Entry>, AllocError>
+    requires runs { AreRuns (map arc_value inputs.now) }
+    requires order { AreInOrder fragments.now }
+    requires keeps_rise { IsStrictlySortedBy nat_cmp keeping.now.keeps }
+    requires each { (key : List ℕ) → AreOfOneKey (points_named key (points_of (map arc_value inputs.now))) (choice.seqs_over key fragments.now) }
+    ensures { IfOk result (λ kept. kept.items ≡ flat_map (λ key. points_for O.meaning keeping.now key (points_named key (points_of (map arc_value inputs.now))) (choice.seqs_over key fragments.now)) (keys_of (points_of (map arc_value inputs.now)))) }
+{
+    let mut kept = Vec::new(alloc);
+    let mut groups = Groups::over(alloc, &points_in(alloc, inputs)?)?;
+    push_groups::<O>(rt, alloc, &mut kept, &mut groups, fragments, keeping)?;
+    Ok(kept)
+}
