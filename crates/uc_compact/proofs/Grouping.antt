@@ -1,5 +1,5 @@
 -- The groups of several runs' points.
-use Rattle.std.proofs.Common.{◌≡◌, ℕ, List, [], ◌∷◌, ◌++◌, map, filter, refl, sym, ap, ◌∙◌, subst}
+use Rattle.std.proofs.Common.{◌≡◌, ℕ, List, [], ◌∷◌, ◌++◌, map, refl, sym, ap, ◌∙◌, subst}
 use Rattle.std.specs.List.{AllByRecursion, flat_map}
 use Rattle.std.specs.List.Sorted.{IsStrictlySortedBy}
 use Rattle.uc_oper.specs.Operation.{Operation}
@@ -12,7 +12,7 @@ use Rattle.uc_stripe.specs.Stripes.{Keeping}
 use Rattle.uc_stripe.specs.Inputs.{AreRuns, points_of}
 use Rattle.uc_stripe.specs.Choice.{AreOfOneKey, points_for, points_named, seqs_over}
 use Rattle.uc_compact.specs.Parts.{points_of_each}
-use Rattle.uc_compact.proofs.Pushing.{of_group, of_groups, HasOneKey}
+use Rattle.uc_compact.proofs.Pushing.{of_groups, HasOneKey}
 
 -- lists that are seen as the points of runs
 joined-map : {X : Type 0} (f : X → List Entry) (xs : List X) → flat_map f xs ≡ flat_map (λ (ps : List Entry). ps) (map f xs)

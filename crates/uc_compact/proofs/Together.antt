@@ -12,7 +12,7 @@ use Rattle.uc_entry.proofs.Sorted.{sorted_by}
 use Rattle.std.proofs.lemmas.List.{take_more}
 use Rattle.uc_entry.specs.Run.{Contents}
 use Rattle.uc_stripe.specs.Inputs.{AreRuns, AreNewestFirst, low_of}
-use Rattle.uc_stripe.proofs.Lists.{all-append, all-map}
+use Rattle.uc_stripe.proofs.Lists.{all-append}
 
 -- one element more of which all hold
 map-append_one : {X Y : Type 0} (f : X → Y) (xs : List X) (x : X) → map f (xs ++ x ∷ []) ≡ map f xs ++ f x ∷ []

@@ -1,5 +1,5 @@
 -- Parts of the inputs.
-use Rattle.std.specs.Prelude.{ℕ, ◌<◌, List, map}
+use Rattle.std.specs.Prelude.{◌<◌, List, map}
 use Rattle.std.specs.List.{AllByRecursion}
 use Rattle.uc_entry.specs.declared.entry.Entry.{Entry}
 use Rattle.uc_entry.specs.declared.fragment.Fragment.{Fragment}

@@ -416,14 +416,20 @@ fn counters_add_up_within_stripes(rt: HostRuntime) -> Result<(), Fail> {
 /// A run with a merge of one at each of 5,000 sequences from `low` on, all of one key.
 fn ones(alloc: Global, low: u64) -> Result<Arc<Run>, Fail> {
     let mut points = Vec::new(alloc);
-    for place in 0..5_000 {
+    for place in (0..5_000).rev() {
         points.push(Entry {
             key: Bytes::from_slice(alloc, b"k")?,
-            seq: low + (4_999 - place),
+            seq: low.saturating_add(place),
             what: What::Merge(Bytes::from_slice(alloc, ONE)?),
         })?;
     }
-    built(alloc, low, low + 4_999, points, Vec::new(alloc))
+    built(
+        alloc,
+        low,
+        low.saturating_add(4_999),
+        points,
+        Vec::new(alloc),
+    )
 }
 
 #[test]
@@ -450,10 +456,10 @@ fn inputs_stand_newest_first(rt: HostRuntime) -> Result<(), Fail> {
     assert!(rt; inputs_stand(&runs, &[1, 2]));
     assert!(rt; !inputs_stand(&runs, &[2, 2]));
     assert!(rt; !inputs_stand(&[], &[]));
-    runs_of(alloc, APPENDS[0].runs)?;
     let mut turned = Vec::new(alloc);
-    turned.push(runs[1].clone()?)?;
-    turned.push(runs[0].clone()?)?;
+    for run in runs.iter().rev() {
+        turned.push(run.clone()?)?;
+    }
     assert!(rt; !inputs_stand(&turned, &[]));
     Ok(())
 }

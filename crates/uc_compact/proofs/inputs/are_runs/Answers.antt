@@ -1,4 +1,4 @@
-use Rattle.std.proofs.Common.{subst, rules}
+use Rattle.std.proofs.Common.{subst}
 use Rattle.std.specs.Arc.{arc_value}
 use Rattle.uc_entry.specs.Run.{Contents, IsRun}
 use Rattle.uc_compact.proofs.Together.{one_more}

@@ -1,5 +1,4 @@
 use Rattle.std.proofs.Common.{◌≡◌, ◌++◌, take}
-use Rattle.uc_entry.specs.declared.fragment.Fragment.{Fragment}
 use Rattle.uc_stripe.specs.Inputs.{ranges_over}
 use Rattle.uc_compact.proofs.ranges.push_fragment.Given as goal
 
