@@ -13,53 +13,8 @@ use Rattle.std.specs.BTreeMap.Comparable.{le_lt_trans}
 use Rattle.uc_bytes.specs.Bytes.{bytes_cmp}
 use Rattle.uc_entry.specs.declared.entry.Entry.{Entry}
 use Rattle.uc_merge.specs.Heads.{first_key, lesser_of, IsFrom, IsOther, IsLeast}
-
--- ---- the order of keys
-
-pub le_itself : (x : List ℕ) → is_le (bytes_cmp x x) ≡ true
-le_itself x = ap is_le (tied_itself nat_list_cmp_total x)
-
-pub no_less_itself : (x : List ℕ) → bytes_cmp x x ≡ Less → ⊥
-no_less_itself x e = let t = tied_itself nat_list_cmp_total x in cc
-
-pub lt_of : (x y : List ℕ) → is_lt (bytes_cmp x y) ≡ true → bytes_cmp x y ≡ Less
-lt_of x y e = by (bytes_cmp x y) e
-  where
-    by : (o : Ordering) → is_lt o ≡ true → o ≡ Less
-    by Less e = refl
-    by Equal e = absurd (false≢true e)
-    by Greater e = absurd (false≢true e)
-
--- what isn't less is at or above
-pub le_of_not : (x y : List ℕ) → is_lt (bytes_cmp x y) ≡ false → is_le (bytes_cmp y x) ≡ true
-le_of_not x y e = ap is_le (nat_list_cmp_total.antisymm y x) ∙ by (bytes_cmp x y) e
-  where
-    by : (o : Ordering) → is_lt o ≡ false → is_le (ordering_reverse o) ≡ true
-    by Less f = absurd (false≢true (sym f))
-    by Equal f = refl
-    by Greater f = refl
-
-pub le_trans : (x y z : List ℕ) → is_le (bytes_cmp x y) ≡ true → is_le (bytes_cmp y z) ≡ true → is_le (bytes_cmp x z) ≡ true
-le_trans x y z e f = by (bytes_cmp y z) refl f
-  where
-    by : (o : Ordering) → bytes_cmp y z ≡ o → is_le o ≡ true → is_le (bytes_cmp x z) ≡ true
-    by Less g h = ap is_le (le_lt_trans nat_list_cmp_total x y z e g)
-    by Equal g h = sym (ap (λ (w : List ℕ). is_le (bytes_cmp x w)) (exact_bytes y z g)) ∙ e
-    by Greater g h = absurd (false≢true h)
-
--- ---- one list more
-
-all-append : {X : Type 0} (P : X → Type 0) (xs ys : List X) → AllByRecursion P xs → AllByRecursion P ys → AllByRecursion P (xs ++ ys)
-all-append P [] ys h k = k
-all-append P (x ∷ xs) ys h k = (h.0, all-append P xs ys h.1 k)
-
-all-front : {X : Type 0} (P : X → Type 0) (xs ys : List X) → AllByRecursion P (xs ++ ys) → AllByRecursion P xs
-all-front P [] ys h = tt
-all-front P (x ∷ xs) ys h = (h.0, all-front P xs ys h.1)
-
-all-back : {X : Type 0} (P : X → Type 0) (xs ys : List X) → AllByRecursion P (xs ++ ys) → AllByRecursion P ys
-all-back P [] ys h = h
-all-back P (x ∷ xs) ys h = all-back P xs ys h.1
+use Rattle.uc_merge.proofs.Lists.{all-append, all-front, all-back}
+use Rattle.uc_merge.proofs.Keys.{le_itself, lt_of, le_of_not, le_trans, le_of_lt}
 
 lower_from : (k l : List ℕ) (lists : List (List Entry)) → is_le (bytes_cmp l k) ≡ true → AllByRecursion (IsFrom k) lists → AllByRecursion (IsFrom l) lists
 lower_from k l [] le h = tt
@@ -69,9 +24,6 @@ lower_from k l ((p ∷ ps) ∷ lists) le h = (le_trans l k p.key le h.0, lower_f
 from_any : (k : List ℕ) (lists : List (List Entry)) → AllByRecursion (λ ps. ps ≡ []) lists → AllByRecursion (IsFrom k) lists
 from_any k [] h = tt
 from_any k (ps ∷ lists) h = (subst (IsFrom k) (sym h.0) tt, from_any k lists h.1)
-
-le_of_lt : (x y : List ℕ) → bytes_cmp x y ≡ Less → is_le (bytes_cmp x y) ≡ true
-le_of_lt x y e = ap is_le e
 
 least_by : (lists : List (List Entry)) (p : Entry) (ps : List Entry) (key : List ℕ) (b : Bool) → is_lt (bytes_cmp p.key key) ≡ b → AllByRecursion (IsFrom key) lists → (AllByRecursion (IsOther key) lists → ⊥) → IsLeast (lists ++ (p ∷ ps) ∷ []) (cond b (Some p.key) (Some key))
 least_by lists p ps key true e from here = (

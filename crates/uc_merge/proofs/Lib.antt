@@ -1,3 +1,5 @@
+pub mod Lists
+pub mod Keys
 pub mod Least
 pub mod Taking
 pub mod Merging

@@ -15,27 +15,12 @@ use Rattle.uc_fragment.proofs.Sets.{all_back, sorted_set}
 use Rattle.uc_fragment.proofs.SameSets.{same_sorted, all_inserted}
 use Rattle.uc_merge.specs.Groups.{Group, keys_of, group_of, groups_of, Comes}
 use Rattle.uc_merge.specs.Heads.{first_named, IsFrom, IsOther, IsLeast}
-use Rattle.uc_merge.proofs.Least.{no_less_itself}
+use Rattle.uc_merge.proofs.Lists.{all-append, all-back, all-mapped, all-unmapped}
+use Rattle.uc_merge.proofs.Keys.{no_less_itself}
 use Rattle.uc_merge.proofs.Taking.{Sorted, is_named, is_other, all_taken, all_left_is, still_sorted, keys_from, above_others}
 
 abbrev pub joined : List (List Entry) → List Entry
 joined lists = flat_map (λ (ps : List Entry). ps) lists
-
-all-append : {X : Type 0} (P : X → Type 0) (xs ys : List X) → AllByRecursion P xs → AllByRecursion P ys → AllByRecursion P (xs ++ ys)
-all-append P [] ys h k = k
-all-append P (x ∷ xs) ys h k = (h.0, all-append P xs ys h.1 k)
-
-all-back : {X : Type 0} (P : X → Type 0) (xs ys : List X) → AllByRecursion P (xs ++ ys) → AllByRecursion P ys
-all-back P [] ys h = h
-all-back P (x ∷ xs) ys h = all-back P xs ys h.1
-
-pub all-mapped : {X Y : Type 0} (f : X → Y) (P : Y → Type 0) (xs : List X) → AllByRecursion (λ x. P (f x)) xs → AllByRecursion P (map f xs)
-all-mapped f P [] h = tt
-all-mapped f P (x ∷ xs) h = (h.0, all-mapped f P xs h.1)
-
-all-unmapped : {X Y : Type 0} (f : X → Y) (P : Y → Type 0) (xs : List X) → AllByRecursion P (map f xs) → AllByRecursion (λ x. P (f x)) xs
-all-unmapped f P [] h = tt
-all-unmapped f P (x ∷ xs) h = (h.0, all-unmapped f P xs h.1)
 
 all_joined : (key : List ℕ) (lists : List (List Entry)) → AllByRecursion Sorted lists → AllByRecursion (IsFrom key) lists → AllByRecursion (λ (p : Entry). is_le (bytes_cmp key p.key) ≡ true) (joined lists)
 all_joined key [] sorted from = tt
@@ -132,10 +117,6 @@ module _ (lists : List (List Entry)) (sorted : AllByRecursion Sorted lists) wher
 
     pub left_sorted : AllByRecursion Sorted (map (λ ps. drop (first_named key ps) ps) lists)
     left_sorted = still_sorted key lists sorted from
-
--- a loop over all of a list has gone over all
-pub whole : {X Y : Type 0} (f : X → Y) (xs : List X) (i : ℕ) (ys : List Y) → length xs ≤ i → ys ≡ map f (take i xs) → ys ≡ map f xs
-whole f xs i ys le e = e ∙ ap (map f) (take_all i xs le)
 
 pub joined-map : {X : Type 0} (f : X → List Entry) (xs : List X) (lists : List (List Entry)) → lists ≡ map f xs → joined lists ≡ flat_map f xs
 joined-map f xs lists e = ap joined e ∙ over f xs

@@ -17,7 +17,7 @@ use Rattle.uc_bytes.specs.Bytes.{bytes_cmp, same_bytes}
 use Rattle.uc_entry.specs.declared.entry.Entry.{Entry}
 use Rattle.uc_entry.specs.Order.{entry_cmp}
 use Rattle.uc_merge.specs.Heads.{first_named, IsFrom}
-use Rattle.uc_merge.proofs.Least.{le_trans, no_less_itself}
+use Rattle.uc_merge.proofs.Keys.{le_trans, lt_le, no_less_itself, above}
 
 abbrev pub Sorted : List Entry → Type 0
 Sorted ps = IsStrictlySortedBy entry_cmp ps
@@ -29,15 +29,6 @@ module _ (key : List ℕ) where
   abbrev pub is_other : Entry → Bool
   is_other p = not (same_bytes p.key key)
 
-  -- at or above the key, and not it, is above it
-  above : (k : List ℕ) → is_le (bytes_cmp key k) ≡ true → same_bytes k key ≡ false → bytes_cmp key k ≡ Less
-  above k le other = by (bytes_cmp key k) refl le
-    where
-      by : (o : Ordering) → bytes_cmp key k ≡ o → is_le o ≡ true → o ≡ Less
-      by Less e f = refl
-      by Equal e f = absurd (false≢true (sym other ∙ (bytes_decides k key).1 (sym (exact_bytes key k e))))
-      by Greater e f = absurd (false≢true f)
-
   other_of : (k : List ℕ) → bytes_cmp key k ≡ Less → (b : Bool) → same_bytes k key ≡ b → same_bytes k key ≡ false
   other_of k less false e = e
   other_of k less true e = absurd (no_less_itself key (subst (λ (x : List ℕ). bytes_cmp key x ≡ Less) ((bytes_decides k key).0 e) less))
@@ -47,14 +38,6 @@ module _ (key : List ℕ) where
   le_by p q Less e f = ap is_le e
   le_by p q Equal e f = ap is_le e
   le_by p q Greater e f = absurd cc
-
-  lt_le : (x y z : List ℕ) → bytes_cmp x y ≡ Less → is_le (bytes_cmp y z) ≡ true → bytes_cmp x z ≡ Less
-  lt_le x y z less le = by (bytes_cmp y z) refl le
-    where
-      by : (o : Ordering) → bytes_cmp y z ≡ o → is_le o ≡ true → bytes_cmp x z ≡ Less
-      by Less e f = nat_list_cmp_total.trans x y z less e
-      by Equal e f = sym (ap (λ (w : List ℕ). bytes_cmp x w) (exact_bytes y z e)) ∙ less
-      by Greater e f = absurd (false≢true f)
 
   all_others : (p : Entry) (ps : List Entry) → bytes_cmp key p.key ≡ Less → AllByRecursion (λ q. entry_cmp p q ≡ Less) ps → AllByRecursion (λ q. same_bytes q.key key ≡ false) ps
   all_others p [] less h = tt
@@ -74,11 +57,11 @@ module _ (key : List ℕ) where
 
   taken_by : (p : Entry) (ps : List Entry) (b : Bool) → same_bytes p.key key ≡ b → is_le (bytes_cmp key p.key) ≡ true → AllByRecursion (λ q. entry_cmp p q ≡ Less) ps → take (first_named key ps) ps ≡ filter is_named ps → take (cond b (suc (first_named key ps)) 0) (p ∷ ps) ≡ cond b (p ∷ filter is_named ps) (filter is_named ps)
   taken_by p ps true e le h rest = ap (λ (qs : List Entry). p ∷ qs) rest
-  taken_by p ps false e le h rest = sym (none_named ps (all_others p ps (above p.key le e) h))
+  taken_by p ps false e le h rest = sym (none_named ps (all_others p ps (above key p.key le e) h))
 
   left_by : (p : Entry) (ps : List Entry) (b : Bool) → same_bytes p.key key ≡ b → is_le (bytes_cmp key p.key) ≡ true → AllByRecursion (λ q. entry_cmp p q ≡ Less) ps → drop (first_named key ps) ps ≡ filter is_other ps → drop (cond b (suc (first_named key ps)) 0) (p ∷ ps) ≡ cond (not b) (p ∷ filter is_other ps) (filter is_other ps)
   left_by p ps true e le h rest = rest
-  left_by p ps false e le h rest = ap (λ (qs : List Entry). p ∷ qs) (sym (all_left ps (all_others p ps (above p.key le e) h)))
+  left_by p ps false e le h rest = ap (λ (qs : List Entry). p ∷ qs) (sym (all_left ps (all_others p ps (above key p.key le e) h)))
 
   taken_is : (ps : List Entry) → Sorted ps → IsFrom key ps → take (first_named key ps) ps ≡ filter is_named ps
   unfolding IsStrictlySortedBy
@@ -121,4 +104,4 @@ module _ (key : List ℕ) where
     where
       put : (b : Bool) → same_bytes p.key key ≡ b → AllByRecursion (λ q. bytes_cmp key q.key ≡ Less) (filter is_other ps) → AllByRecursion (λ q. bytes_cmp key q.key ≡ Less) (cond (not b) (p ∷ filter is_other ps) (filter is_other ps))
       put true e rest = rest
-      put false e rest = (above p.key h.0 e, rest)
+      put false e rest = (above key p.key h.0 e, rest)

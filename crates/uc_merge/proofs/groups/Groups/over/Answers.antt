@@ -3,7 +3,8 @@ use Rattle.std.specs.List.{AllByRecursion}
 use Rattle.uc_entry.specs.declared.entry.Entry.{Entry}
 use Rattle.uc_merge.specs.Groups.{groups_of}
 use Rattle.uc_merge.proofs.Taking.{Sorted}
-use Rattle.uc_merge.proofs.Merging.{all-mapped, joined-map, whole}
+use Rattle.uc_merge.proofs.Lists.{all-mapped, whole}
+use Rattle.uc_merge.proofs.Merging.{joined-map}
 use Rattle.uc_merge.proofs.groups.Groups.over.Goals as goal
 
 pub invariant_of-result : goal.invariant_of-result
