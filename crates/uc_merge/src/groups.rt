@@ -88,7 +88,8 @@ impl<'a> Groups<'a> {
         Ok(Groups { cursors })
     }
 
-    /// The next key. Its points take the place of those in `points`. Where memory is wanting nothing is ahead any more.
+    /// The next key. Its points take the place of those in `points`, none where there is no key. Where memory is wanting
+    /// nothing is ahead any more.
     pub fn next_into(
         &mut self,
         points: &mut Vec<&'a Entry>,

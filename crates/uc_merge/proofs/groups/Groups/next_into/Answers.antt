@@ -12,7 +12,7 @@ use Rattle.uc_merge.proofs.groups.Groups.next_into.Goals as goal
 pub returns-in_default : goal.returns-in_default
 returns-in_default c =
     let none : c.args.self.now ≡ _ = ends c.args.self.now c.self.inside.cursors.items c.deref.result.now (option_map (λ k. k.now) c.least_key.result) c.self.invariant (sym c.self.view_is) c.deref.ensures.value c.least_key.ensures (ap (option_map (λ k. k.now)) c.in_default.is) in
-    (none, none)
+    (none, ap (map (λ p. p.now)) c.clear.ensures.items, none)
 
 -- the cursors that were lent come back
 back : (c : goal.In_default-take_from_each) → take c.self.inside.cursors.len (c.take_from_each.new.cursors ++ drop (length c.take_from_each.new.cursors) c.self.inside.cursors.items) ≡ c.take_from_each.new.cursors
