@@ -1,5 +1,5 @@
 -- The least key's points come first, and what is left are the other groups.
-use Rattle.std.proofs.Common.{◌≡◌, ℕ, ◌≤◌, Bool, true, false, cond, List, [], ◌∷◌, ◌++◌, length, map, filter, take, take_all, drop, refl, sym, ap, ◌∙◌, subst}
+use Rattle.std.proofs.Common.{◌≡◌, ℕ, Bool, true, false, cond, List, [], ◌∷◌, ◌++◌, map, filter, take, drop, refl, sym, ap, ◌∙◌, subst}
 use Rattle.std.specs.Prelude.{not, Option, Some, None}
 use Rattle.std.specs.List.{AllByRecursion, flat_map}
 use Rattle.std.specs.List.Sorted.{IsStrictlySortedBy}
@@ -13,11 +13,11 @@ use Rattle.uc_bytes.specs.Bytes.{bytes_cmp, same_bytes}
 use Rattle.uc_entry.specs.declared.entry.Entry.{Entry}
 use Rattle.uc_fragment.proofs.Sets.{all_back, sorted_set}
 use Rattle.uc_fragment.proofs.SameSets.{same_sorted, all_inserted}
-use Rattle.uc_merge.specs.Groups.{Group, keys_of, group_of, groups_of, Comes}
+use Rattle.uc_merge.specs.Groups.{Group, keys_of, group_of, groups_of}
 use Rattle.uc_merge.specs.Heads.{first_named, IsFrom, IsOther, IsLeast}
 use Rattle.uc_merge.proofs.Lists.{all-append, all-back, all-mapped, all-unmapped}
 use Rattle.uc_merge.proofs.Keys.{no_less_itself}
-use Rattle.uc_merge.proofs.Taking.{Sorted, is_named, is_other, all_taken, all_left_is, still_sorted, keys_from, above_others}
+use Rattle.uc_merge.proofs.Taking.{Sorted, is_other, all_taken, all_left_is, still_sorted, keys_from, above_others}
 
 abbrev pub joined : List (List Entry) → List Entry
 joined lists = flat_map (λ (ps : List Entry). ps) lists

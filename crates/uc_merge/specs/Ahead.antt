@@ -2,7 +2,6 @@
 use Rattle.std.specs.Prelude.{List}
 use Rattle.std.specs.List.{AllByRecursion, flat_map}
 use Rattle.std.specs.List.Sorted.{IsStrictlySortedBy}
-use Rattle.uc_entry.specs.declared.entry.Entry.{Entry}
 use Rattle.uc_entry.specs.Order.{entry_cmp}
 use Rattle.uc_merge.specs.Groups.{Group, groups_of}
 use Rattle.uc_merge.specs.declared.groups.Groups.TheInside.{Inside}

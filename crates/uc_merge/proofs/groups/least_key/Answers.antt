@@ -1,7 +1,7 @@
 use Rattle.std.specs.Prelude.{option_map}
 use Rattle.uc_merge.proofs.Least.{least_step}
 use Rattle.uc_merge.proofs.groups.least_key.Goals as goal
-use Rattle.std.proofs.Common.{rules, subst, ap, ◌∙◌}
+use Rattle.std.proofs.Common.{ap, ◌∙◌}
 use Rattle.uc_merge.specs.Heads.{lesser_of}
 
 pub loop-cursor-preserved : goal.loop-cursor-preserved

@@ -1,6 +1,5 @@
-use Rattle.std.proofs.Common.{rules, sym, subst, ap, ◌∙◌, map, List}
+use Rattle.std.proofs.Common.{sym, subst, ap}
 use Rattle.std.specs.List.{AllByRecursion}
-use Rattle.uc_entry.specs.declared.entry.Entry.{Entry}
 use Rattle.uc_merge.specs.Groups.{groups_of}
 use Rattle.uc_merge.proofs.Taking.{Sorted}
 use Rattle.uc_merge.proofs.Lists.{all-mapped, whole}
