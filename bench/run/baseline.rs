@@ -1,0 +1,469 @@
+//! The load and the lookups of `bench_run` in plain Rust, with the same layout: an arena and slots, borrowed points
+//! sorted by key, entries made in this order with a `Vec<u8>` for each key and value, blocks of 16 points with
+//! copied fences and their prefixes, and range deletions cut into fragments.
+use std::cmp::Reverse;
+use std::collections::BTreeSet;
+use std::time::Instant;
+
+const BLOCK_POINTS: usize = 16;
+const LIMIT: u64 = 4 << 20;
+const LOOKUPS: u64 = 20_000;
+const FEW: u64 = 1000;
+const FEW_LIMIT: u64 = 8 << 10;
+const WRITES_TO_A_KEY: u64 = 8;
+const SPREAD: u64 = 0x9e37_79b9_7f4a_7c15;
+const REACH: u64 = 1 << 50;
+
+/// Numbers by SplitMix64.
+struct Numbers {
+    state: u64,
+}
+
+impl Numbers {
+    fn next(&mut self) -> u64 {
+        self.state = self.state.wrapping_add(0x9e37_79b9_7f4a_7c15);
+        let mixed = (self.state ^ (self.state >> 30)).wrapping_mul(0xbf58_476d_1ce4_e5b9);
+        let mixed = (mixed ^ (mixed >> 27)).wrapping_mul(0x94d0_49bb_1331_11eb);
+        mixed ^ (mixed >> 31)
+    }
+}
+
+#[derive(Clone, Copy)]
+enum Kind {
+    Put,
+    Delete,
+    Merge,
+    DeleteRange,
+}
+
+/// A write whose texts lie in the arena.
+struct Slot {
+    seq: u64,
+    kind: Kind,
+    start: usize,
+    first: usize,
+    second: usize,
+}
+
+#[derive(Default)]
+struct Memtable {
+    text: Vec<u8>,
+    slots: Vec<Slot>,
+    size: u64,
+    last: u64,
+}
+
+impl Memtable {
+    fn insert(&mut self, seq: u64, kind: Kind, first: &[u8], second: &[u8]) {
+        let start = self.text.len();
+        self.text.extend_from_slice(first);
+        self.text.extend_from_slice(second);
+        self.slots.push(Slot {
+            seq,
+            kind,
+            start,
+            first: first.len(),
+            second: second.len(),
+        });
+        let texts = match kind {
+            Kind::Put | Kind::Merge => first.len() + second.len(),
+            Kind::Delete => first.len(),
+            Kind::DeleteRange if first < second => first.len() + second.len(),
+            Kind::DeleteRange => return,
+        };
+        self.size = self.size.saturating_add(texts as u64 + 8);
+        self.last = seq;
+    }
+
+    fn texts(&self, slot: &Slot) -> (&[u8], &[u8]) {
+        let middle = slot.start + slot.first;
+        (
+            &self.text[slot.start..middle],
+            &self.text[middle..middle + slot.second],
+        )
+    }
+
+    fn flush(self) -> Run {
+        let mut points = Vec::new();
+        for slot in &self.slots {
+            let (key, text) = self.texts(slot);
+            let kind = match slot.kind {
+                Kind::DeleteRange => continue,
+                kind => kind,
+            };
+            points.push(EntryRef {
+                key,
+                seq: slot.seq,
+                kind,
+                text,
+            });
+        }
+        points.sort_unstable_by(|point, other| {
+            point.key.cmp(other.key).then(other.seq.cmp(&point.seq))
+        });
+        let points: Vec<Entry> = points.iter().map(EntryRef::to_entry).collect();
+        let mut ranges = Vec::new();
+        for slot in &self.slots {
+            if let Kind::DeleteRange = slot.kind {
+                let (begin, end) = self.texts(slot);
+                ranges.push((begin, end, slot.seq));
+            }
+        }
+        Run::new(points, cut(&ranges))
+    }
+}
+
+/// A point whose texts lie in the arena.
+struct EntryRef<'a> {
+    key: &'a [u8],
+    seq: u64,
+    kind: Kind,
+    text: &'a [u8],
+}
+
+impl EntryRef<'_> {
+    fn to_entry(&self) -> Entry {
+        let what = match self.kind {
+            Kind::Put => What::Put(self.text.to_vec()),
+            Kind::Merge => What::Merge(self.text.to_vec()),
+            Kind::Delete | Kind::DeleteRange => What::Delete,
+        };
+        Entry {
+            key: self.key.to_vec(),
+            seq: self.seq,
+            what,
+        }
+    }
+}
+
+enum What {
+    Put(Vec<u8>),
+    Delete,
+    Merge(Vec<u8>),
+}
+
+struct Entry {
+    key: Vec<u8>,
+    seq: u64,
+    what: What,
+}
+
+impl Entry {
+    fn size(&self) -> u64 {
+        let text = match &self.what {
+            What::Put(text) | What::Merge(text) => text.len(),
+            What::Delete => 0,
+        };
+        (self.key.len() + text + 8) as u64
+    }
+}
+
+/// The range deletions over the keys from a begin to below an end, the newest first.
+struct Fragment {
+    begin: Vec<u8>,
+    end: Vec<u8>,
+    seqs: Vec<u64>,
+}
+
+impl Fragment {
+    fn size(&self) -> u64 {
+        (self.begin.len() + self.end.len() + 8 * self.seqs.len()) as u64
+    }
+}
+
+/// The fragments of ranges: the pieces between their ends that some range covers.
+fn cut(ranges: &[(&[u8], &[u8], u64)]) -> Vec<Fragment> {
+    let mut cuts = BTreeSet::new();
+    for (begin, end, _) in ranges {
+        if begin < end {
+            cuts.insert(*begin);
+            cuts.insert(*end);
+        }
+    }
+    let cuts: Vec<&[u8]> = cuts.into_iter().collect();
+    let mut pieces: Vec<(&[u8], &[u8], Vec<u64>)> = cuts
+        .windows(2)
+        .map(|ends| (ends[0], ends[1], Vec::new()))
+        .collect();
+    let mut newest_first: Vec<_> = ranges.iter().collect();
+    newest_first.sort_unstable_by_key(|range| Reverse(range.2));
+    for (begin, end, seq) in newest_first {
+        let from = pieces.partition_point(|piece| piece.0 < *begin);
+        let to = pieces.partition_point(|piece| piece.1 <= *end);
+        for piece in pieces.get_mut(from..to).unwrap_or_default() {
+            piece.2.push(*seq);
+        }
+    }
+    let covered = pieces.into_iter().filter(|piece| !piece.2.is_empty());
+    covered
+        .map(|(begin, end, seqs)| Fragment {
+            begin: begin.to_vec(),
+            end: end.to_vec(),
+            seqs,
+        })
+        .collect()
+}
+
+/// The first eight bytes as a number, with zeros for those that aren't there.
+fn prefix_of(bytes: &[u8]) -> u64 {
+    match bytes.first_chunk::<8>() {
+        Some(first) => u64::from_be_bytes(*first),
+        None => {
+            let mut padded = [0; 8];
+            padded[..bytes.len()].copy_from_slice(bytes);
+            u64::from_be_bytes(padded)
+        }
+    }
+}
+
+struct Run {
+    points: Vec<Entry>,
+    fences: Vec<Vec<u8>>,
+    shared: usize,
+    prefixes: Vec<u64>,
+    fragments: Vec<Fragment>,
+    size: u64,
+}
+
+impl Run {
+    fn new(points: Vec<Entry>, fragments: Vec<Fragment>) -> Run {
+        let size = points.iter().map(Entry::size).sum::<u64>()
+            + fragments.iter().map(Fragment::size).sum::<u64>();
+        let fences: Vec<Vec<u8>> = points
+            .iter()
+            .step_by(BLOCK_POINTS)
+            .map(|point| point.key.clone())
+            .collect();
+        let shared = match (fences.first(), fences.last()) {
+            (Some(first), Some(last)) => first.iter().zip(last).take_while(|(a, b)| a == b).count(),
+            _ => 0,
+        };
+        let prefixes = fences.iter().map(|key| prefix_of(&key[shared..])).collect();
+        Run {
+            points,
+            fences,
+            shared,
+            prefixes,
+            fragments,
+            size,
+        }
+    }
+
+    /// Between which fences the prefixes don't decide where a key stands.
+    fn undecided(&self, key: &[u8]) -> (usize, usize) {
+        let Some(first) = self.fences.first() else {
+            return (0, 0);
+        };
+        match key.strip_prefix(&first[..self.shared]) {
+            Some(rest) => {
+                let wanted = prefix_of(rest);
+                let below = self.prefixes.partition_point(|prefix| *prefix < wanted);
+                let up_to = self.prefixes.partition_point(|prefix| *prefix <= wanted);
+                (below, up_to)
+            }
+            None if first.as_slice() < key => (self.fences.len(), self.fences.len()),
+            None => (0, 0),
+        }
+    }
+
+    /// The place of the first point of a key, or where it would stand.
+    fn seek(&self, key: &[u8]) -> usize {
+        let (begin, end) = self.undecided(key);
+        let within = &self.fences[begin..end];
+        let passed = begin + within.partition_point(|fence| fence.as_slice() < key);
+        if passed == 0 {
+            return 0;
+        }
+        let begin = (passed - 1) * BLOCK_POINTS;
+        let end = self.points.len().min(passed * BLOCK_POINTS);
+        let block = &self.points[begin..end];
+        begin + block.partition_point(|point| point.key.as_slice() < key)
+    }
+
+    /// The newest range deletion over a key at or below a sequence.
+    fn deleted_at(&self, key: &[u8], at: u64) -> Option<u64> {
+        let place = self.fragments.partition_point(|fragment| fragment.begin.as_slice() <= key);
+        let fragment = &self.fragments[place.checked_sub(1)?];
+        if fragment.end.as_slice() <= key {
+            return None;
+        }
+        let newer = fragment.seqs.partition_point(|seq| at < *seq);
+        fragment.seqs.get(newer).copied()
+    }
+
+    /// What the writes at or below a sequence together do to a key.
+    fn effect(&self, key: &[u8], at: u64) -> Effect {
+        let deleted = self.deleted_at(key, at);
+        let begin = self.seek(key);
+        let mut end = begin;
+        let mut first = begin;
+        let mut set = false;
+        while let Some(point) = self.points.get(end) {
+            if set || point.key != key || deleted.is_some_and(|deleted| point.seq < deleted) {
+                break;
+            }
+            if at < point.seq {
+                first = end + 1;
+            } else {
+                set = !matches!(point.what, What::Merge(_));
+            }
+            end += 1;
+        }
+        let mut effect = match deleted {
+            Some(_) => Effect::Set(None),
+            None => Effect::Keep,
+        };
+        for point in self.points[first..end].iter().rev() {
+            effect = match &point.what {
+                What::Put(value) => Effect::Set(Some(value.clone())),
+                What::Delete => Effect::Set(None),
+                What::Merge(operand) => effect.folded(operand),
+            };
+        }
+        effect
+    }
+}
+
+enum Effect {
+    Keep,
+    Fold(Vec<u8>),
+    Set(Option<Vec<u8>>),
+}
+
+fn number(bytes: &[u8]) -> u64 {
+    bytes.try_into().map_or(0, u64::from_le_bytes)
+}
+
+fn added(mut older: Vec<u8>, newer: &[u8]) -> Vec<u8> {
+    let sum = number(&older).wrapping_add(number(newer));
+    older.clear();
+    older.extend_from_slice(&sum.to_le_bytes());
+    older
+}
+
+impl Effect {
+    fn folded(self, operand: &[u8]) -> Effect {
+        match self {
+            Effect::Keep => Effect::Fold(operand.to_vec()),
+            Effect::Fold(older) => Effect::Fold(added(older, operand)),
+            Effect::Set(None) => Effect::Set(Some(number(operand).to_le_bytes().to_vec())),
+            Effect::Set(Some(value)) => Effect::Set(Some(added(value, operand))),
+        }
+    }
+
+    fn then(self, newer: Effect) -> Effect {
+        match newer {
+            Effect::Keep => self,
+            Effect::Set(value) => Effect::Set(value),
+            Effect::Fold(operand) => match self {
+                Effect::Keep => Effect::Fold(operand),
+                older => older.folded(&operand),
+            },
+        }
+    }
+}
+
+fn spread(key: u64) -> u64 {
+    key.wrapping_mul(SPREAD)
+}
+
+fn key_at(number: u64) -> [u8; 16] {
+    let mut key = *b"account/........";
+    key[8..].copy_from_slice(&number.to_be_bytes());
+    key
+}
+
+/// Inserts the write behind so many others.
+fn insert_next(memtable: &mut Memtable, before: u64, random: u64, keys: u64) {
+    let seq = before + 1;
+    assert!(memtable.last < seq, "sequences don't rise");
+    let place = spread((random >> 14).checked_rem(keys).unwrap_or(0));
+    let (key, end) = (key_at(place), key_at(place.saturating_add(REACH)));
+    let value = seq.to_le_bytes();
+    match random & 0x3fff {
+        0 => memtable.insert(seq, Kind::DeleteRange, &key, &end),
+        1..=0xff => memtable.insert(seq, Kind::Delete, &key, &[]),
+        0x100..=0x1fff => memtable.insert(seq, Kind::Put, &key, &value),
+        _ => memtable.insert(seq, Kind::Merge, &key, &value),
+    }
+}
+
+/// The runs of the writes, the oldest first.
+fn loaded(writes: u64, limit: u64) -> Vec<Run> {
+    let mut numbers = Numbers { state: 1 };
+    let mut runs = Vec::new();
+    let mut memtable = Memtable::default();
+    for before in 0..writes {
+        insert_next(&mut memtable, before, numbers.next(), writes / WRITES_TO_A_KEY);
+        if memtable.size >= limit {
+            runs.push(std::mem::take(&mut memtable).flush());
+        }
+    }
+    if !memtable.slots.is_empty() {
+        runs.push(memtable.flush());
+    }
+    runs
+}
+
+/// The value of a key at a sequence.
+fn answer(runs: &[Run], key: &[u8], at: u64) -> Option<Vec<u8>> {
+    let mut effect = Effect::Keep;
+    for run in runs.iter().rev() {
+        effect = run.effect(key, at).then(effect);
+        if let Effect::Set(value) = effect {
+            return value;
+        }
+    }
+    match effect {
+        Effect::Fold(operand) => Some(operand),
+        Effect::Keep | Effect::Set(_) => None,
+    }
+}
+
+fn with_value(checksum: u64, value: Option<&[u8]>) -> u64 {
+    let Some(value) = value else {
+        return checksum.wrapping_mul(31);
+    };
+    let sum = value.iter().fold(checksum, |sum, &byte| {
+        sum.wrapping_mul(31).wrapping_add(u64::from(byte))
+    });
+    sum.wrapping_mul(31).wrapping_add(1)
+}
+
+/// A checksum of the values of so many random keys at the last sequence.
+fn looked_up(runs: &[Run], writes: u64, lookups: u64) -> u64 {
+    let mut numbers = Numbers { state: 2 };
+    let mut checksum = 0;
+    for _ in 0..lookups {
+        let key = numbers.next().checked_rem(writes / WRITES_TO_A_KEY).unwrap_or(0);
+        let value = answer(runs, &key_at(spread(key)), writes);
+        checksum = with_value(checksum, value.as_deref());
+    }
+    checksum
+}
+
+/// How many points all runs have, and how large they are.
+fn totals(runs: &[Run]) -> (usize, u64) {
+    let points = runs.iter().map(|run| run.points.len()).sum();
+    (points, runs.iter().map(|run| run.size).sum())
+}
+
+fn main() {
+    let Some(word) = std::env::args().nth(1) else {
+        let runs = loaded(FEW, FEW_LIMIT);
+        let checksum = looked_up(&runs, FEW, FEW);
+        let (points, size) = totals(&runs);
+        println!("{} {points} {size} {checksum:016x}", runs.len());
+        return;
+    };
+    let writes = word.parse().expect("a number of writes");
+    let start = Instant::now();
+    let runs = loaded(writes, LIMIT);
+    let loading = start.elapsed().as_nanos();
+    let start = Instant::now();
+    let checksum = looked_up(&runs, writes, LOOKUPS);
+    let looking_up = start.elapsed().as_nanos();
+    let (points, size) = totals(&runs);
+    let count = runs.len();
+    println!("{loading} {looking_up} {count} {points} {size} {checksum:016x}");
+}

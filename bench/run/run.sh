@@ -1,0 +1,65 @@
+#!/bin/sh
+# Writes loaded into memtables of 4 MiB that are flushed to runs, and 20,000 lookups over all runs, beside plain
+# Rust with the same layout.
+# Needs rustc, GNU time, and crates/bench_run/out/bench_run, which `rt run` in crates/bench_run builds.
+# The writes have keys of 16 bytes and values of 8, half of them merges, eight to a key. Each line has the medians of
+# TURNS runs (9), which take turns, and both programs must come to the same runs and answers. The second line of a
+# step has twice the writes; its last columns are the times over those of the first.
+set -eu
+here=$(cd "$(dirname "$0")" && pwd)
+ours=${OURS:-$here/../../crates/bench_run/out/bench_run}
+turns=${TURNS:-9}
+work=$(mktemp -d)
+trap 'rm -r "$work"' EXIT
+rustc --edition 2021 -O "$here/baseline.rs" -o "$work/baseline"
+
+run() { # NAME PROGRAM WRITES: appends the figures of one run, and behind them its most memory in KiB
+    /usr/bin/time -f %M -o "$work/memory" "$2" "$3" > "$work/figures"
+    paste -d ' ' "$work/figures" "$work/memory" >> "$work/$1.$3"
+}
+
+check_same() { # WRITES
+    if [ "$(cut -d ' ' -f 3-6 "$work/ours.$1" "$work/rust.$1" | sort -u | wc -l)" -ne 1 ]; then
+        echo "run.sh: the runs or the answers of $1 writes differ" >&2
+        exit 1
+    fi
+}
+
+median() { # FILE FIELD
+    cut -d ' ' -f "$2" "$1" | sort -n | sed -n "$(((turns + 1) / 2))p"
+}
+
+measure() { # WRITES
+    for _ in $(seq "$turns"); do
+        run ours "$ours" "$1"
+        run rust "$work/baseline" "$1"
+    done
+    check_same "$1"
+}
+
+row() { # STEP FIELD UNIT WRITES HALF
+    one=$(median "$work/ours.$4" "$2")
+    two=$(median "$work/rust.$4" "$2")
+    half_one= half_two=
+    if [ -n "$5" ]; then
+        half_one=$(median "$work/ours.$5" "$2")
+        half_two=$(median "$work/rust.$5" "$2")
+    fi
+    awk -v step="$1" -v writes="$4" -v unit="$3" -v one="$one" -v two="$two" -v half_one="$half_one" \
+        -v half_two="$half_two" 'BEGIN {
+        growth = half_one == "" ? "" : sprintf("%8.2f %8.2f", one / half_one, two / half_two)
+        printf "%-10s %8d %10.1f %10.1f %8.2f %s\n", step, writes, one / unit, two / unit, one / two, growth
+    }'
+}
+
+grep -m1 'model name' /proc/cpuinfo || true
+echo "load: $(cut -d ' ' -f 1-3 /proc/loadavg)"
+measure 1300000
+measure 2600000
+printf '%-10s %8s %10s %10s %8s %8s %8s\n' step writes ours rust ratio growth rust
+row 'load ms' 1 1e6 1300000 ''
+row 'load ms' 1 1e6 2600000 1300000
+row 'lookups ms' 2 1e6 1300000 ''
+row 'lookups ms' 2 1e6 2600000 1300000
+row 'memory MiB' 7 1024 1300000 ''
+row 'memory MiB' 7 1024 2600000 1300000

@@ -1,0 +1,52 @@
+//! The writes that are loaded: random changes to keys of 16 bytes.
+use anyhow::{Result, ensure};
+use uc_run::Memtable;
+use uc_write::{MAX_SEQUENCE, OpRef, WriteRef};
+
+/// A number that spreads keys over all numbers of 64 bits: odd, so that no two keys meet.
+const SPREAD: u64 = 0x9e37_79b9_7f4a_7c15;
+
+/// How far a range deletion reaches: over about ten of 160,000 keys.
+const REACH: u64 = 1 << 50;
+
+/// A front that all keys share, and a number in the order of numbers.
+fn key_at(number: u64) -> [u8; 16] {
+    let [a, b, c, d, e, f, g, h] = number.to_be_bytes();
+    [
+        b'a', b'c', b'c', b'o', b'u', b'n', b't', b'/', a, b, c, d, e, f, g, h,
+    ]
+}
+
+/// Where a key stands among the numbers of 64 bits.
+fn spread(key: u64) -> u64 {
+    key.wrapping_mul(SPREAD)
+}
+
+/// A key of 16 bytes.
+pub(crate) fn key_of(key: u64) -> [u8; 16] {
+    key_at(spread(key))
+}
+
+/// Inserts the write behind so many others. A random number says which key it changes, and how: half of the writes are
+/// merges, one of 64 is a deletion, one of 16,384 a range deletion, and the others are puts.
+pub(crate) fn insert_next(
+    memtable: &mut Memtable,
+    before: u64,
+    random: u64,
+    keys: u64,
+) -> Result<()> {
+    ensure!(before < MAX_SEQUENCE, "too many writes");
+    let seq = before + 1;
+    ensure!(memtable.last() < seq, "sequences don't rise");
+    let place = spread((random >> 14).checked_rem(keys).unwrap_or(0));
+    let (key, end) = (key_at(place), key_at(place.saturating_add(REACH)));
+    let value = seq.to_le_bytes();
+    let op = match random & 0x3fff {
+        0 => OpRef::delete_range(&key, &end),
+        1..=0xff => OpRef::delete(&key),
+        0x100..=0x1fff => OpRef::put(&key, &value),
+        _ => OpRef::merge(&key, &value),
+    };
+    memtable.insert_ref(&WriteRef::new(seq, op))?;
+    Ok(())
+}
