@@ -6,18 +6,21 @@
 //! writes and runs of 8 KiB, and prints the last four.
 #![tactic(auto)]
 
+ghost use Rattle.std.specs.Prelude.{◌<◌, ◌^◌};
+
 mod numbers;
 mod writes;
 
 use crate::numbers::Numbers;
 use crate::writes::{insert_next, key_of};
-use anyhow::Result;
+use anyhow::{Result, ensure};
 use std::alloc::{AllocError, Global};
 use std::env;
 use std::time::Instant;
 use uc_bytes::Bytes;
 use uc_oper::{Counter, Effect};
 use uc_run::{Memtable, Run};
+use uc_write::MAX_SEQUENCE;
 
 /// How large the writes of a memtable are when it is flushed.
 const LIMIT: u64 = 4 << 20;
@@ -47,7 +50,7 @@ impl Load {
 }
 
 /// Puts the run of a memtable's writes behind the others, if it has any.
-fn push_run(alloc: Global, runs: &mut Vec<Run>, memtable: Memtable) -> Result<()> {
+fn push_run(alloc: Global, runs: &mut Vec<Run>, memtable: Memtable) -> Result<(), AllocError> {
     if memtable.is_empty() {
         return Ok(());
     }
@@ -56,7 +59,9 @@ fn push_run(alloc: Global, runs: &mut Vec<Run>, memtable: Memtable) -> Result<()
 }
 
 /// The runs of the writes, the oldest first.
-fn loaded(alloc: Global, load: Load) -> Result<Vec<Run>> {
+fn loaded(alloc: Global, load: Load) -> Result<Vec<Run>, AllocError>
+    requires { load.writes < 2 ^ 56 }
+{
     let mut numbers = Numbers::new(1);
     let mut runs = Vec::new(alloc);
     let mut memtable = Memtable::new(alloc);
@@ -140,6 +145,7 @@ fn main(rt: HostRuntime) -> Result<()> {
         writes: words[1].parse::<u64>()?,
         limit: LIMIT,
     };
+    ensure!(load.writes <= MAX_SEQUENCE, "too many writes");
     let start = Instant::now(&rt)?;
     let runs = loaded(alloc, load)?;
     let loading = start.elapsed(&rt)?.as_nanos();

@@ -1,7 +1,10 @@
 //! The writes that are loaded: random changes to keys of 16 bytes.
-use anyhow::{Result, ensure};
+ghost use Rattle.std.specs.Prelude.{◌≡◌, ◌≤◌, ◌<◌, ◌+◌, ◌^◌, OnOk};
+ghost use Rattle.uc_batch.specs.Rising.{last_of};
+
+use std::alloc::AllocError;
 use uc_run::Memtable;
-use uc_write::{MAX_SEQUENCE, OpRef, WriteRef};
+use uc_write::{OpRef, WriteRef};
 
 /// A number that spreads keys over all numbers of 64 bits: odd, so that no two keys meet.
 const SPREAD: u64 = 0x9e37_79b9_7f4a_7c15;
@@ -28,16 +31,19 @@ pub(crate) fn key_of(key: u64) -> [u8; 16] {
 }
 
 /// Inserts the write behind so many others. A random number says which key it changes, and how: half of the writes are
-/// merges, one of 64 is a deletion, one of 16,384 a range deletion, and the others are puts.
+/// merges, one of 64 is a deletion, one of 16,384 a range deletion, and the others are puts. It fails only for want of
+/// memory.
 pub(crate) fn insert_next(
     memtable: &mut Memtable,
     before: u64,
     random: u64,
     keys: u64,
-) -> Result<()> {
-    ensure!(before < MAX_SEQUENCE, "too many writes");
+) -> Result<(), AllocError>
+    requires above { last_of 0 memtable.old ≤ before }
+    requires below { before + 1 < 2 ^ 56 }
+    ensures { OnOk result (last_of 0 memtable.new ≡ before + 1) }
+{
     let seq = before + 1;
-    ensure!(memtable.last() < seq, "sequences don't rise");
     let place = spread((random >> 14).checked_rem(keys).unwrap_or(0));
     let (key, end) = (key_at(place), key_at(place.saturating_add(REACH)));
     let value = seq.to_le_bytes();
@@ -47,6 +53,5 @@ pub(crate) fn insert_next(
         0x100..=0x1fff => OpRef::put(&key, &value),
         _ => OpRef::merge(&key, &value),
     };
-    memtable.insert_ref(&WriteRef::new(seq, op))?;
-    Ok(())
+    memtable.insert_ref(&WriteRef::new(seq, op))
 }
