@@ -56,7 +56,7 @@ fn points_in<'a>(
     requires { LieWithin text.now slots.now }
     ensures { IfOk result (λ points. points.items ≡ flush.points_in (slot_writes text.now slots.now)) }
 {
-    let mut points = Vec::new(alloc);
+    let mut points = Vec::with_capacity(alloc, slots.len())?;
     for slot in slots {
         if let Some(point) = point_at(text, slot) {
             points.push(point)?;
@@ -95,7 +95,7 @@ fn sort_points(points: &mut [EntryRef<'_>])
 fn entries_of(alloc: Global, points: &[EntryRef<'_>]) -> Result<Vec<Entry>, AllocError>
     ensures { IfOk result (λ entries. entries.items ≡ points.now) }
 {
-    let mut entries = Vec::new(alloc);
+    let mut entries = Vec::with_capacity(alloc, points.len())?;
     for point in points {
         entries.push(point.to_entry(alloc)?)?;
     }
