@@ -1,20 +1,32 @@
 //! What holds of a compaction's output, under every operator.
-ghost use Rattle.std.specs.Prelude.{◌≡◌, ℕ, ◌<◌, ◌≤◌, ◌^◌, ◌&&◌, ◌⊎◌, [], List, Contains, false, true, filter, length};
+ghost use Rattle.std.specs.Prelude.{◌≡◌, ℕ, ◌<◌, ◌≤◌, ◌^◌, ◌&&◌, ◌⊎◌, [], ◌∷◌, List, Contains, false, true, filter, length};
 ghost use Rattle.std.specs.List.{AllByRecursion, flat_map};
-ghost use Rattle.std.specs.List.Sorted.{IsStrictlySortedBy};
+ghost use Rattle.std.specs.List.Sorted.{IsStrictlySortedBy, IsNonDecreasingBy};
 ghost use Rattle.std.specs.Ordering.{nat_cmp};
 ghost use Rattle.uc_bytes.specs.Bytes.{same_bytes};
-ghost use Rattle.uc_entry.specs.Run.{IsRun};
+ghost use Rattle.uc_oper.specs.Composition.{composed};
+ghost use Rattle.uc_write.specs.declared.write.Write.{Write};
+ghost use Rattle.uc_entry.specs.Run.{Contents, IsRun};
 ghost use Rattle.uc_entry.specs.PlainList.{plain_list};
 ghost use Rattle.uc_model.specs.Meaning.{effect_on, value_of};
 ghost use Rattle.uc_stripe.specs.Stripes.{is_in, stripes, is_bottom};
 ghost use Rattle.uc_fragment.specs.Cutting.{fragments_of};
 ghost use Rattle.uc_stripe.specs.Choice.{points_for, points_named, seqs_over, AreOfOneKey};
-ghost use Rattle.uc_stripe.specs.Inputs.{Compaction, AreRuns, Stand, high_of, writes_of, points_of, ranges_of, keeping_of};
+ghost use Rattle.uc_stripe.specs.Inputs.{Compaction, AreRuns, AreNewestFirst, Stand, high_of, writes_of, points_of, ranges_of, keeping_of};
 ghost use Rattle.uc_stripe.specs.Output.{keys_of, output_of};
 ghost use Rattle.uc_stripe.specs.Values.{IsPut};
 
 use uc_oper::Operator;
+
+/// The writes of runs that stand newest first are in order of sequence, and what they do to a key is what the older
+/// runs' writes do and then those of the newest.
+pub fn runs_compose<O: Operator>()
+    ensures order { (runs : List Contents) → AreRuns runs → AreNewestFirst runs →
+        IsNonDecreasingBy (λ (w : Write). w.seq) (writes_of runs) }
+    ensures effects { (newest : Contents) (older : List Contents) (key : List ℕ) (at : ℕ) →
+        effect_on O.meaning (writes_of (newest ∷ older)) key at ≡ composed O.meaning
+        (effect_on O.meaning (writes_of older) key at) (effect_on O.meaning (plain_list newest) key at) }
+{}
 
 /// Where keeps rise, each sequence that a write may have is in one stripe.
 pub fn sequences_have_one_stripe()

@@ -5,6 +5,7 @@ use uc_oper::Counter;
 
 #[test]
 fn laws_hold_under_an_operator() {
+    runs_compose::<Counter>();
     sequences_have_one_stripe();
     compaction_gives_a_run::<Counter>();
     compaction_keeps_what_is_read::<Counter>();
