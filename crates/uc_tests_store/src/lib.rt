@@ -1,0 +1,11 @@
+//! Random stores, compacted in every way: reads see no difference.
+//!
+//! Each store has a few small runs of drawn writes. Every stretch of them is compacted under drawn keeps, and what the
+//! output does to each key at every kept sequence, at the greatest of the inputs and above, is compared with what the
+//! plain program of `uc_model` makes of the stretch's writes.
+#![tactic(auto)]
+
+#[cfg(test)]
+mod compactions;
+#[cfg(test)]
+mod dice;
