@@ -1,13 +1,16 @@
 //! [`Compacted`]: what a compaction made.
-ghost use Rattle.std.specs.Prelude.{◌≡◌, map};
+ghost use Rattle.std.specs.Prelude.{◌≡◌, ◌≤◌, ◌⊎◌, ℕ, List, Contains, false, map};
 ghost use Rattle.std.specs.Arc.{arc_value};
 ghost use Rattle.uc_stripe.specs.Output.{output_of};
-ghost use Rattle.uc_stripe.specs.Inputs.{AreRuns, Stand};
+ghost use Rattle.uc_entry.specs.PlainList.{plain_list};
+ghost use Rattle.uc_model.specs.Meaning.{effect_on, value_of};
+ghost use Rattle.uc_stripe.specs.Inputs.{AreRuns, Stand, high_of, writes_of};
 
 use std::marker::{Model, PhantomData};
 use std::sync::Arc;
 use uc_block::Run;
 use uc_oper::Operator;
+use uc_stripe::compaction_keeps_what_is_read;
 
 /// Runs that were compacted, and the run that was made of them. A contract sees it as what was asked for: the runs,
 /// the keeps, and whether the oldest run of all was among them; its output is what these definitely become.
@@ -58,5 +61,26 @@ impl<O: Operator> Compacted<O> {
         ensures { arc_value result.now ≡ output_of O.meaning self.now }
     {
         &self.output
+    }
+
+    /// What holds of every value: the runs are runs, and they and the keeps may be compacted together. It does nothing.
+    pub fn stands(&self)
+        ensures runs { AreRuns self.now.inputs }
+        ensures stand { Stand self.now.inputs self.now.keeps }
+    {
+        let _ = &self.oldest;
+    }
+
+    /// The output stands for its inputs: at each of its keeps, and at and above the greatest sequence of the inputs, its
+    /// writes do to every key what theirs do; with the oldest run among them they give the values that theirs give. It
+    /// does nothing.
+    pub fn stands_for_inputs(&self)
+        ensures effects { (key : List ℕ) (at : ℕ) → self.now.oldest ≡ false → Contains self.now.keeps at ⊎ (high_of self.now.inputs ≤ at) →
+            effect_on O.meaning (plain_list (output_of O.meaning self.now)) key at ≡ effect_on O.meaning (writes_of self.now.inputs) key at }
+        ensures values { (key : List ℕ) (at : ℕ) → Contains self.now.keeps at ⊎ (high_of self.now.inputs ≤ at) →
+            value_of O.meaning (plain_list (output_of O.meaning self.now)) key at ≡ value_of O.meaning (writes_of self.now.inputs) key at }
+    {
+        compaction_keeps_what_is_read::<O>();
+        self.stands();
     }
 }
