@@ -146,6 +146,8 @@ fn passes<O: Operator + Sync>(
 ) -> Result<bool, Fail> {
     let runs = runs_of(alloc, case.runs)?;
     let made = output::<O>(rt, alloc, &runs, case.keeps, case.oldest)?;
+    made.stands();
+    made.stands_for_inputs();
     let wanted = run_of(alloc, &case.wanted)?;
     Ok(
         made.output().same(&wanted)
