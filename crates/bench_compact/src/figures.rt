@@ -1,0 +1,76 @@
+//! [`Figures`]: what a run holds, so that two programs' runs can be compared.
+use std::fmt;
+use uc_run::{Entry, Fragment, Run, What};
+
+/// How many points and fragments a run has, how large they are, and a checksum of them.
+#[derive(Drop)]
+pub(crate) struct Figures {
+    points: u64,
+    fragments: usize,
+    size: u64,
+    checksum: u64,
+}
+
+impl Figures {
+    /// Those of a run.
+    pub(crate) fn of(run: &Run) -> Figures {
+        let mut checksum = 0;
+        for point in run.entries() {
+            checksum = with_point(checksum, point);
+        }
+        for fragment in run.fragments() {
+            checksum = with_fragment(checksum, fragment);
+        }
+        Figures {
+            points: run.points(),
+            fragments: run.fragments().len(),
+            size: run.size(),
+            checksum,
+        }
+    }
+}
+
+impl fmt::Display for Figures {
+    fn fmt<W: fmt::Write>(&self, f: &mut fmt::Formatter<W>) -> fmt::Result {
+        write!(
+            f,
+            "{} {} {} {:016x}",
+            self.points, self.fragments, self.size, self.checksum
+        )
+    }
+}
+
+/// A checksum and then a number.
+fn with_number(checksum: u64, number: u64) -> u64 {
+    checksum.wrapping_mul(31).wrapping_add(number)
+}
+
+/// A checksum and then bytes.
+fn with_bytes(checksum: u64, bytes: &[u8]) -> u64 {
+    let mut sum = checksum;
+    for byte in bytes {
+        sum = with_number(sum, u64::from(*byte));
+    }
+    sum
+}
+
+/// A checksum and then a point.
+fn with_point(checksum: u64, point: &Entry) -> u64 {
+    let (kind, text): (u64, &[u8]) = match &point.what {
+        What::Put(value) => (1, value.as_slice()),
+        What::Delete => (2, &[]),
+        What::Merge(operand) => (3, operand.as_slice()),
+    };
+    let sum = with_number(with_bytes(checksum, point.key.as_slice()), point.seq);
+    with_bytes(with_number(sum, kind), text)
+}
+
+/// A checksum and then a fragment.
+fn with_fragment(checksum: u64, fragment: &Fragment) -> u64 {
+    let mut sum = with_bytes(checksum, fragment.begin.as_slice());
+    sum = with_bytes(sum, fragment.end.as_slice());
+    for seq in fragment.seqs.as_slice() {
+        sum = with_number(sum, *seq);
+    }
+    sum
+}

@@ -1,0 +1,119 @@
+//! Makes runs and compacts them into one, for `bench/compact`.
+//!
+//! `bench_compact SHAPE RUNS WRITES KEEPS WHERE` makes so many runs of so many writes each, and compacts them under so many
+//! keeps at equal distances, of which the last is the last sequence. The shape is `counter`, `append` or `ranges`, and
+//! WHERE is `oldest` where nothing stands below the runs, else `newer`. It prints the nanoseconds of the compaction, how
+//! many points and fragments it made, how large they are, and a checksum of them. Without the last two words it only makes
+//! the runs, and says how many. Without words it compacts a little of each shape, and prints the last four.
+#![tactic(auto)]
+
+mod figures;
+mod load;
+mod numbers;
+
+use crate::figures::Figures;
+use crate::load::{Load, Shape, keeps_of, loaded};
+use anyhow::{Result, bail, ensure};
+use std::alloc::Global;
+use std::env;
+use std::marker::Sync;
+use std::thread::Threads;
+use std::time::{Clock, Instant};
+use uc_compact::{compact, inputs_stand};
+use uc_oper::{Append, Counter, Operator};
+
+const COMMA: u8 = 0x2C;
+
+const FEW_RUNS: u32 = 4;
+
+const FEW_WRITES: u32 = 300;
+
+/// How the runs are compacted.
+#[derive(Clone, Copy)]
+struct Plan {
+    load: Load,
+    /// How many keeps there are.
+    keeps: u64,
+    /// Whether nothing stands below the runs.
+    oldest: bool,
+}
+
+/// The nanoseconds that a compaction took, and what it made.
+fn measured_by<O: Operator + Sync>(
+    rt: &(impl Clock + Threads + Sync),
+    alloc: Global,
+    plan: Plan,
+) -> Result<(u128, Figures)> {
+    let runs = loaded(alloc, plan.load)?;
+    let keeps = keeps_of(alloc, plan.load, plan.keeps)?;
+    ensure!(
+        inputs_stand(&runs, &keeps),
+        "the runs or the keeps don't stand"
+    );
+    let start = Instant::now(rt)?;
+    let made = compact::<O>(rt, alloc, &runs, &keeps, plan.oldest)?;
+    let nanoseconds = start.elapsed(rt)?.as_nanos();
+    Ok((nanoseconds, Figures::of(made.output())))
+}
+
+/// The same by the operator that the shape's merges want.
+fn measured(
+    rt: &(impl Clock + Threads + Sync),
+    alloc: Global,
+    plan: Plan,
+) -> Result<(u128, Figures)> {
+    match plan.load.shape {
+        Shape::Append => measured_by::<Append<COMMA>>(rt, alloc, plan),
+        Shape::Counter | Shape::Ranges => measured_by::<Counter>(rt, alloc, plan),
+    }
+}
+
+/// A little of each shape.
+fn few(rt: &(impl Clock + Threads + Sync + Print), alloc: Global) -> Result<()> {
+    for shape in [Shape::Counter, Shape::Append, Shape::Ranges] {
+        let load = Load {
+            shape,
+            runs: FEW_RUNS,
+            writes: FEW_WRITES,
+        };
+        for oldest in [false, true] {
+            let plan = Plan {
+                load,
+                keeps: 3,
+                oldest,
+            };
+            let (_, figures) = measured(rt, alloc, plan)?;
+            println!(rt; "{figures}")?;
+        }
+    }
+    Ok(())
+}
+
+fn main(rt: HostRuntime) -> Result<()> {
+    let alloc = rt.alloc();
+    let words: Vec<String> = env::args(&rt)?.collect(alloc)?;
+    if words.len() < 4 {
+        return few(&rt, alloc);
+    }
+    let Some(shape) = Shape::named(words[1].as_str()) else {
+        bail!("the shape is counter, append or ranges");
+    };
+    let load = Load {
+        shape,
+        runs: words[2].parse::<u32>()?,
+        writes: words[3].parse::<u32>()?,
+    };
+    if words.len() < 6 {
+        let count = loaded(alloc, load)?.len();
+        println!(rt; "{count}")?;
+        return Ok(());
+    }
+    let plan = Plan {
+        load,
+        keeps: words[4].parse::<u64>()?,
+        oldest: words[5].as_str() == "oldest",
+    };
+    let (nanoseconds, figures) = measured(&rt, alloc, plan)?;
+    println!(rt; "{nanoseconds} {figures}")?;
+    Ok(())
+}
