@@ -1,14 +1,8 @@
 -- Runs that stand newest first.
-use Rattle.std.proofs.Common.{◌≡◌, ℕ, zero, suc, ◌+◌, ◌-◌, ◌<◌, ◌≤◌, Bool, true, false, ltb, IsTrue, List, [], ◌∷◌, ◌++◌, length, get_or, map, take, refl, sym, ap, ◌∙◌, subst, arith}
+use Rattle.std.proofs.Common.{◌≡◌, ℕ, zero, suc, ◌+◌, ◌-◌, ◌<◌, ◌≤◌, Bool, true, false, IsTrue, List, [], ◌∷◌, ◌++◌, length, get_or, map, take, refl, sym, ap, ◌∙◌, subst, arith}
 use Rattle.std.specs.Prelude.{◌↔◌, slice_index_or}
 use Rattle.std.specs.List.{AllByRecursion, IsAllAdjacentAnswer}
-use Rattle.std.specs.List.Sorted.{IsStrictlySortedBy}
-use Rattle.std.specs.declared.cmp.Ordering.TheVariants.{Less}
-use Rattle.std.specs.Ordering.{nat_cmp}
 use Rattle.std.proofs.lemmas.Bool.{false≢true}
-use Rattle.std.proofs.lemmas.Bool.Decides.{nat_tests}
-use Rattle.std.proofs.lemmas.Cmp.{nat_cmp_total}
-use Rattle.uc_entry.proofs.Sorted.{sorted_by}
 use Rattle.std.proofs.lemmas.List.{take_more}
 use Rattle.uc_entry.specs.Run.{Contents}
 use Rattle.uc_stripe.specs.Inputs.{AreRuns, AreNewestFirst, low_of}
@@ -75,13 +69,6 @@ module _ {X : Type 0} (value : X → Contents) where
 pub have_ranges : {X : Type 0} (value : X → Contents) (xs : List X) → AreRuns (map value xs) → AllByRecursion (HasRange value) xs
 have_ranges value [] h = tt
 have_ranges value (x ∷ xs) h = (h.0.range, have_ranges value xs h.1)
-
--- numbers that rise
-tells_less : (a b : ℕ) → IsTrue (ltb a b) ↔ (nat_cmp a b ≡ Less)
-tells_less a b = ((λ t. grind (arith, nat_tests)), (λ e. grind (arith, nat_tests)))
-
-pub rising_by : (ns : List ℕ) (b : Bool) → IsAllAdjacentAnswer (λ x y r. r ≡ ltb x y) ns b → IsTrue b ↔ IsStrictlySortedBy nat_cmp ns
-rising_by ns b h = sorted_by nat_cmp nat_cmp_total (λ x y. ltb x y) tells_less ns b h
 
 -- the last run is the oldest
 pub low_of_last : {X : Type 0} (value : X → Contents) (xs : List X) (x : X) → 0 < length xs → ((d : X) → x ≡ get_or xs (length xs - 1) d) → (value x).low ≡ low_of (map value xs)

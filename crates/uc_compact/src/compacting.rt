@@ -52,7 +52,7 @@ fn output_of<O: Operator + Sync>(
 /// sequence. It fails only for want of memory.
 ///
 /// It goes once over the points. Of a key's points between two neighbouring keeps at most one is left, and many
-/// operands of one key are folded in several threads.
+/// operands of one key are folded in two threads.
 pub fn compact<O: Operator + Sync>(
     rt: &(impl Threads + Sync),
     alloc: Global,

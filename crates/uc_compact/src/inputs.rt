@@ -1,13 +1,12 @@
 //! Which runs may be compacted together.
 ghost use Rattle.std.specs.Prelude.{◌≡◌, ◌↔◌, IsTrue, IfOk, map};
 ghost use Rattle.std.specs.Arc.{arc_value};
-ghost use Rattle.std.specs.List.Sorted.{IsStrictlySortedBy};
-ghost use Rattle.std.specs.Ordering.{nat_cmp};
 ghost use Rattle.uc_stripe.specs.Inputs.{AreRuns, AreNewestFirst, Stand, low_of, high_of};
 
 use std::alloc::{AllocError, Global};
 use std::sync::Arc;
 use uc_block::Run;
+use uc_stripe::keeps_rise;
 
 /// Each is a run: a fact that costs a look at each.
 pub(crate) fn are_runs(inputs: &[Arc<Run>])
@@ -26,19 +25,12 @@ fn are_newest_first(inputs: &[Arc<Run>]) -> bool
     inputs.is_sorted_by(|newer, older| newer.low_seq() > older.high_seq())
 }
 
-/// Whether each number is below the next.
-fn do_rise(keeps: &[u64]) -> bool
-    ensures { IsTrue result ↔ IsStrictlySortedBy nat_cmp keeps.now }
-{
-    keeps.is_sorted_by(|keep, next| keep < next)
-}
-
 /// Whether runs may be compacted together: there is one or more, they stand newest first, the sequences of each are all
 /// above those of the runs behind it, and the keeps rise.
 pub fn inputs_stand(inputs: &[Arc<Run>], keeps: &[u64]) -> bool
     ensures { IsTrue result ↔ Stand (map arc_value inputs.now) keeps.now }
 {
-    !inputs.is_empty() && are_newest_first(inputs) && do_rise(keeps)
+    !inputs.is_empty() && are_newest_first(inputs) && keeps_rise(keeps)
 }
 
 /// The least sequence of the runs' range; 0 where there is no run.

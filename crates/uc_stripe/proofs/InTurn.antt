@@ -1,11 +1,10 @@
 -- What points do in turn, the newest first.
-use Rattle.std.proofs.Common.{◌≡◌, ℕ, zero, suc, ◌+◌, ◌-◌, ◌<◌, ◌≤◌, true, List, [], ◌∷◌, ◌++◌, length, get_or, map, fold, take, Some, None, refl, sym, ap, ◌∙◌, arith}
+use Rattle.std.proofs.Common.{◌≡◌, ℕ, zero, suc, ◌+◌, ◌-◌, ◌<◌, ◌≤◌, true, List, [], ◌∷◌, ◌++◌, length, get_or, map, take, drop, Some, None, refl, sym, ap, ◌∙◌, arith}
 use Rattle.std.specs.Prelude.{filter, nat_lt}
 use Rattle.std.specs.List.{slice_get, HoldsAt}
-use Rattle.std.proofs.lemmas.List.{take_more}
-use Rattle.std.proofs.lemmas.List.Sums.{fold-append}
+use Rattle.std.proofs.lemmas.List.{take_more, map-append, take-append-drop}
 use Rattle.std.proofs.lemmas.Bool.{false≢true}
-use Rattle.uc_oper.specs.Operation.{Operation}
+use Rattle.uc_oper.specs.Operation.{Operation, IsLawful}
 use Rattle.uc_oper.specs.Composition.{composed}
 use Rattle.uc_oper.specs.declared.effect.Effect.{Effect}
 use Rattle.uc_oper.specs.declared.effect.Effect.TheVariants.{Keep, Set}
@@ -14,7 +13,7 @@ use Rattle.uc_entry.specs.declared.entry.What.{What}
 use Rattle.uc_entry.specs.declared.entry.What.TheVariants.{Put, Delete, Merge}
 use Rattle.uc_entry.specs.Lookup.{what_effect, points_effect, above_newest}
 use Rattle.uc_stripe.specs.Overwriting.{sets, overwrites}
-use Rattle.uc_stripe.proofs.Effects.{points_effect-append}
+use Rattle.uc_stripe.proofs.Effects.{points_effect-append, continued}
 
 module _ (m : Operation) where
   set_after : (older other : Effect) (what : What) → sets what ≡ true → composed m older (what_effect what) ≡ composed m other (what_effect what)
@@ -52,9 +51,15 @@ module _ (m : Operation) where
         ∙ ap (λ (zs : List Y). points_effect m before (map f zs)) (sym split)
         ∙ left
 
-  -- an effect behind others
-  pub fold_one : (parts : List Effect) (effect : Effect) → fold (composed m) Keep (parts ++ effect ∷ []) ≡ composed m (fold (composed m) Keep parts) effect
-  fold_one parts effect = fold-append (composed m) Keep parts (effect ∷ [])
+    -- what the newer points do goes behind what the older ones do
+    pub halves_do : IsLawful m → (before older newer both : Effect) (n : ℕ) (ys : List Y) → older ≡ points_effect m before (map f (drop n ys)) → newer ≡ points_effect m Keep (map f (take n ys)) → both ≡ composed m older newer → both ≡ points_effect m before (map f ys)
+    halves_do laws before older newer both n ys old new made =
+        made
+        ∙ ap (composed m older) new
+        ∙ continued m laws older Keep (map f (take n ys))
+        ∙ ap (λ (effect : Effect). points_effect m effect (map f (take n ys))) old
+        ∙ sym (points_effect-append m before (map f (take n ys)) (map f (drop n ys)))
+        ∙ ap (points_effect m before) (sym (map-append f (take n ys) (drop n ys)) ∙ ap (map f) (take-append-drop n ys))
 
   -- by the first of the sequences, where there is one
   pub above_none : (points : List Entry) (seqs : List ℕ) → slice_get seqs 0 ≡ None → points_effect m Keep points ≡ above_newest m points seqs

@@ -13,3 +13,4 @@ pub mod Searched
 pub mod Stepping
 pub mod Onward
 pub mod InTurn
+pub mod Judged

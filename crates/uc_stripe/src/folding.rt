@@ -1,9 +1,8 @@
 //! What a key's points do, as one effect.
-ghost use Rattle.std.specs.Prelude.{◌≡◌, map, IfOk, fold};
+ghost use Rattle.std.specs.Prelude.{◌≡◌, map, IfOk};
 ghost use Rattle.uc_oper.specs.Operation.{Operation};
 ghost use Rattle.uc_oper.specs.Composition.{composed};
 ghost use Rattle.uc_oper.specs.declared.effect.Effect.{Effect as EffectOf};
-ghost use Rattle.uc_oper.specs.declared.effect.Effect.TheVariants.{Keep};
 ghost use Rattle.uc_entry.specs.Lookup as lookup;
 ghost use Rattle.uc_stripe.specs.Choice.{PointsFall};
 ghost use Rattle.uc_stripe.specs.Overwriting as overwriting;
@@ -11,13 +10,12 @@ ghost use Rattle.uc_stripe.specs.Overwriting as overwriting;
 use crate::parts::points_above;
 use std::alloc::{AllocError, Global};
 use std::marker::Sync;
-use std::thread::Threads;
+use std::thread::{Threads, join};
 use uc_entry::{Entry, What};
-use uc_fold::{Effects, fold_all};
 use uc_oper::{Effect, Operator};
 
-/// More points than this are folded in several threads.
-const MANY: usize = 1_000;
+/// More points than this are folded in two threads.
+const MANY: usize = 5_000;
 
 /// Whether a point overwrites what is older.
 fn overwrites(point: &Entry) -> bool
@@ -60,18 +58,6 @@ fn changed_by<O: Operator>(alloc: Global, effect: Effect, what: &What) -> Result
     }
 }
 
-/// An effect, and behind it what each of the points does, the oldest first.
-fn parts_of(alloc: Global, before: Effect, points: &[&Entry]) -> Result<Vec<Effect>, AllocError>
-    ensures { (m : Operation) → IfOk result (λ parts. fold (composed m) Keep parts.items ≡ lookup.points_effect m before (map (λ p. p.now) points.now)) }
-{
-    let mut parts = Vec::new(alloc);
-    parts.push(before)?;
-    for place in (0..points.len()).rev() {
-        parts.push(effect_of(&points[place].what)?)?;
-    }
-    Ok(parts)
-}
-
 /// An effect, and then the points, the newest first, in one thread. Want of memory loses the effect.
 fn folded_onto<O: Operator>(
     alloc: Global,
@@ -87,6 +73,25 @@ fn folded_onto<O: Operator>(
     Ok(effect)
 }
 
+/// An effect, and then the points, the newest first; the older and the newer half of them are folded side by side.
+/// Want of memory loses the effect.
+fn folded_by_halves<O: Operator + Sync>(
+    rt: &(impl Threads + Sync),
+    alloc: Global,
+    before: Effect,
+    points: &[&Entry],
+) -> Result<Effect, AllocError>
+    ensures { IfOk result (λ effect. effect ≡ lookup.points_effect O.meaning before (map (λ p. p.now) points.now)) }
+{
+    let (newer, older) = points.split_at(points.len() / 2);
+    let (older, newer) = join(
+        rt,
+        move || folded_onto::<O>(alloc, before, older),
+        || folded_onto::<O>(alloc, Effect::Keep, newer),
+    );
+    older?.then::<O>(alloc, newer?)
+}
+
 /// What points of one key, the newest first, do in turn to what an effect before them leaves. Want of memory
 /// loses that effect.
 fn points_effect<O: Operator + Sync>(
@@ -99,8 +104,7 @@ fn points_effect<O: Operator + Sync>(
 {
     let points = lasting(points);
     if points.len() > MANY {
-        let parts = parts_of(alloc, before, points)?;
-        fold_all::<Effects<O>>(rt, alloc, parts)
+        folded_by_halves::<O>(rt, alloc, before, points)
     } else {
         folded_onto::<O>(alloc, before, points)
     }

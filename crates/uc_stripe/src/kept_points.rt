@@ -101,7 +101,7 @@ fn push_some(kept: &mut Vec<Entry>, point: Option<Entry>) -> Result<(), AllocErr
 /// point there. The key's points and the sequences of the range deletions over it come the newest first.
 ///
 /// It takes time for the stripes that have points, and not for the others. Of the points of a stripe it reads those
-/// that no newer put, delete or range deletion hides; many of them are folded in several threads.
+/// that no newer put, delete or range deletion hides; many of them are folded by halves in two threads.
 pub fn push_kept_points<O: Operator + Sync>(
     rt: &(impl Threads + Sync),
     alloc: Global,

@@ -5,6 +5,7 @@
 //! stripe, and `laws.rt`, which says that reads see no difference.
 #![tactic(auto)]
 
+mod checking;
 mod folding;
 mod fragment_seqs;
 mod keeping;
@@ -13,6 +14,7 @@ mod laws;
 mod parts;
 mod stripe;
 
+pub use checking::{are_of_one_key, keeps_rise};
 pub use fragment_seqs::kept_seqs;
 pub use keeping::Keeping;
 pub use kept_points::push_kept_points;

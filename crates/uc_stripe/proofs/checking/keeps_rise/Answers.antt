@@ -1,7 +1,7 @@
 use Rattle.std.proofs.Common.{rules, ltb}
 use Rattle.std.proofs.lemmas.Fn.{always_returns_same}
-use Rattle.uc_compact.proofs.Together.{rising_by}
-use Rattle.uc_compact.proofs.inputs.do_rise.Goals as goal
+use Rattle.uc_stripe.proofs.Judged.{rising_by}
+use Rattle.uc_stripe.proofs.checking.keeps_rise.Goals as goal
 
 pub returns : goal.returns
 returns c =
