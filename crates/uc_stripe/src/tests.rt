@@ -1,7 +1,258 @@
-//! The laws, called.
+//! What is kept of one key's points and of one fragment's sequences, and the laws, called.
 use super::*;
+use std::alloc::Global;
 use std::test::Fail;
-use uc_oper::Counter;
+use std::thread::Threads;
+use uc_bytes::Bytes;
+use uc_entry::{Entry, What};
+use uc_oper::{Append, Counter};
+
+/// What a point of a test says.
+#[derive(Clone, Copy)]
+enum Says {
+    Put(&'static [u8]),
+    Delete,
+    Merge(&'static [u8]),
+}
+
+/// A point of a test: its sequence, and what it says.
+type Point = (u64, Says);
+
+/// Points of one key and the sequences of range deletions over it, what is kept, and the points that are wanted.
+#[derive(Clone, Copy)]
+struct OfKey {
+    points: &'static [Point],
+    seqs: &'static [u64],
+    keeps: &'static [u64],
+    bottom: Option<u64>,
+    wanted: &'static [Point],
+}
+
+/// Appends, which join with a comma; worked by hand.
+const POINTS: [OfKey; 13] = [
+    // Nothing comes of nothing, also under a range deletion.
+    OfKey {
+        points: &[],
+        seqs: &[4],
+        keeps: &[],
+        bottom: None,
+        wanted: &[],
+    },
+    // Operands of one stripe are joined, the older one first ...
+    OfKey {
+        points: &[(3, Says::Merge(b"c")), (2, Says::Merge(b"b"))],
+        seqs: &[],
+        keeps: &[3],
+        bottom: None,
+        wanted: &[(3, Says::Merge(b"b,c"))],
+    },
+    // ... and those of two aren't: a read at 2 sees one of them.
+    OfKey {
+        points: &[(3, Says::Merge(b"c")), (2, Says::Merge(b"b"))],
+        seqs: &[],
+        keeps: &[2],
+        bottom: None,
+        wanted: &[(3, Says::Merge(b"c")), (2, Says::Merge(b"b"))],
+    },
+    // At the bottom they are a value.
+    OfKey {
+        points: &[(3, Says::Merge(b"c")), (2, Says::Merge(b"b"))],
+        seqs: &[],
+        keeps: &[],
+        bottom: Some(1),
+        wanted: &[(3, Says::Put(b"b,c"))],
+    },
+    // Only the stripe at the bottom has nothing below it.
+    OfKey {
+        points: &[(3, Says::Merge(b"c")), (2, Says::Merge(b"b"))],
+        seqs: &[],
+        keeps: &[2],
+        bottom: Some(1),
+        wanted: &[(3, Says::Merge(b"c")), (2, Says::Put(b"b"))],
+    },
+    // A put hides what is older, and takes the operands that are newer.
+    OfKey {
+        points: &[
+            (5, Says::Merge(b"e")),
+            (4, Says::Put(b"d")),
+            (2, Says::Merge(b"b")),
+        ],
+        seqs: &[],
+        keeps: &[],
+        bottom: None,
+        wanted: &[(5, Says::Put(b"d,e"))],
+    },
+    // A delete stays where older runs may have the key ...
+    OfKey {
+        points: &[(5, Says::Delete), (4, Says::Put(b"d"))],
+        seqs: &[],
+        keeps: &[],
+        bottom: None,
+        wanted: &[(5, Says::Delete)],
+    },
+    // ... and goes at the bottom.
+    OfKey {
+        points: &[(5, Says::Delete), (4, Says::Put(b"d"))],
+        seqs: &[],
+        keeps: &[],
+        bottom: Some(3),
+        wanted: &[],
+    },
+    // A range deletion hides the points below it.
+    OfKey {
+        points: &[(5, Says::Merge(b"e")), (3, Says::Put(b"c"))],
+        seqs: &[4, 1],
+        keeps: &[],
+        bottom: None,
+        wanted: &[(5, Says::Put(b"e"))],
+    },
+    // Above all points of its stripe it says enough by itself ...
+    OfKey {
+        points: &[(3, Says::Put(b"c"))],
+        seqs: &[4],
+        keeps: &[],
+        bottom: None,
+        wanted: &[],
+    },
+    // ... but it says nothing of a stripe below it.
+    OfKey {
+        points: &[(3, Says::Put(b"c"))],
+        seqs: &[4],
+        keeps: &[3],
+        bottom: None,
+        wanted: &[(3, Says::Put(b"c"))],
+    },
+    // A delete above the range deletions of its stripe stays.
+    OfKey {
+        points: &[(5, Says::Put(b"e")), (2, Says::Delete)],
+        seqs: &[4, 1],
+        keeps: &[3],
+        bottom: None,
+        wanted: &[(5, Says::Put(b"e")), (2, Says::Delete)],
+    },
+    // Stripes without points give none, also those below all points and above them.
+    OfKey {
+        points: &[(6, Says::Merge(b"f")), (5, Says::Merge(b"e"))],
+        seqs: &[],
+        keeps: &[1, 2, 4, 7, 9],
+        bottom: Some(1),
+        wanted: &[(6, Says::Merge(b"e,f"))],
+    },
+];
+
+/// The points of the key `k`.
+fn points_of(alloc: Global, given: &[Point]) -> Result<Vec<Entry>, Fail> {
+    let mut points = Vec::new(alloc);
+    for &(seq, says) in given {
+        points.push(Entry {
+            key: Bytes::from_slice(alloc, b"k")?,
+            seq,
+            what: match says {
+                Says::Put(value) => What::Put(Bytes::from_slice(alloc, value)?),
+                Says::Delete => What::Delete,
+                Says::Merge(operand) => What::Merge(Bytes::from_slice(alloc, operand)?),
+            },
+        })?;
+    }
+    Ok(points)
+}
+
+/// What is pushed behind one point that stands there.
+fn kept_of(rt: &(impl Threads + Sync), alloc: Global, case: &OfKey) -> Result<Vec<Entry>, Fail> {
+    let points = points_of(alloc, case.points)?;
+    let points: Vec<&Entry> = points.iter().collect(alloc)?;
+    if !are_of_one_key(&points, case.seqs) || !keeps_rise(case.keeps) {
+        return Err(Fail::new("no points of one key"));
+    }
+    let keeping = Keeping::new(case.keeps, case.bottom);
+    let mut kept = points_of(alloc, &[(1, Says::Delete)])?;
+    push_kept_points::<Append<0x2C>>(rt, alloc, &mut kept, b"k", &points, case.seqs, &keeping)?;
+    Ok(kept)
+}
+
+#[test]
+fn points_that_are_kept(rt: HostRuntime) -> Result<(), Fail> {
+    let alloc = rt.alloc();
+    for (place, case) in POINTS.iter().enumerate() {
+        let kept = kept_of(&rt, alloc, case)?;
+        let mut wanted = points_of(alloc, &[(1, Says::Delete)])?;
+        for point in points_of(alloc, case.wanted)? {
+            wanted.push(point)?;
+        }
+        assert!(rt; kept == wanted, "case {place}");
+    }
+    Ok(())
+}
+
+/// Sequences of a fragment, what is kept, and the sequences that are wanted.
+#[derive(Clone, Copy)]
+struct OfFragment {
+    seqs: &'static [u64],
+    keeps: &'static [u64],
+    bottom: Option<u64>,
+    wanted: &'static [u64],
+}
+
+/// Worked by hand.
+const SEQS: [OfFragment; 6] = [
+    OfFragment {
+        seqs: &[],
+        keeps: &[3],
+        bottom: None,
+        wanted: &[],
+    },
+    // One stripe.
+    OfFragment {
+        seqs: &[9, 7, 4, 2],
+        keeps: &[],
+        bottom: None,
+        wanted: &[9],
+    },
+    // Three: a keep is the last sequence of its stripe.
+    OfFragment {
+        seqs: &[9, 7, 4, 2],
+        keeps: &[4, 7],
+        bottom: None,
+        wanted: &[9, 7, 4],
+    },
+    // Nothing is left at the bottom ...
+    OfFragment {
+        seqs: &[9, 7, 4, 2],
+        keeps: &[4, 7],
+        bottom: Some(1),
+        wanted: &[9, 7],
+    },
+    // ... also where that is the only stripe.
+    OfFragment {
+        seqs: &[9, 7, 4, 2],
+        keeps: &[],
+        bottom: Some(1),
+        wanted: &[],
+    },
+    // Stripes without sequences.
+    OfFragment {
+        seqs: &[9, 5],
+        keeps: &[1, 2, 3, 12],
+        bottom: Some(1),
+        wanted: &[9],
+    },
+];
+
+#[test]
+fn seqs_that_are_kept(rt: HostRuntime) -> Result<(), Fail> {
+    let alloc = rt.alloc();
+    for (place, case) in SEQS.iter().enumerate() {
+        if !checking::seqs_fall(case.seqs)
+            || !checking::seqs_are_from_one(case.seqs)
+            || !keeps_rise(case.keeps)
+        {
+            return Err(Fail::new("no sequences of a fragment"));
+        }
+        let kept = kept_seqs(alloc, case.seqs, &Keeping::new(case.keeps, case.bottom))?;
+        assert!(rt; kept.as_slice() == case.wanted, "case {place}");
+    }
+    Ok(())
+}
 
 #[test]
 fn laws_hold_under_an_operator() {
