@@ -1,5 +1,5 @@
 //! [`Groups`]: the points of several runs, key by key.
-ghost use Rattle.std.specs.Prelude.{◌≡◌, ◌++◌, map, option_map, take, drop, OnOk, IfOk};
+ghost use Rattle.std.specs.Prelude.{◌≡◌, ◌++◌, [], map, option_map, take, drop, OnOk, OnErr, IfOk};
 ghost use Rattle.std.specs.List.{AllByRecursion, flat_map};
 ghost use Rattle.std.specs.List.Sorted.{IsStrictlySortedBy};
 ghost use Rattle.uc_entry.specs.Order.{entry_cmp};
@@ -94,7 +94,8 @@ impl<'a> Groups<'a> {
         &mut self,
         points: &mut Vec<&'a Entry>,
     ) -> Result<Option<&'a Bytes>, AllocError>
-        ensures { IfOk result (λ key. Comes self.old (option_map (λ k. k.now) key) (map (λ p. p.now) points.new.items) self.new) }
+        ensures comes { IfOk result (λ key. Comes self.old (option_map (λ k. k.now) key) (map (λ p. p.now) points.new.items) self.new) }
+        ensures err { OnErr result (self.new ≡ []) }
     {
         points.clear();
         let Some(key) = least_key(&self.cursors) else {

@@ -9,8 +9,8 @@ use Rattle.std.specs.Prelude.{option_map}
 use Rattle.uc_merge.proofs.Merging.{joined, ends, steps, stays_sorted}
 use Rattle.uc_merge.proofs.groups.Groups.next_into.Goals as goal
 
-pub returns-in_default : goal.returns-in_default
-returns-in_default c =
+pub returns-in_default-clause-comes : goal.returns-in_default-clause-comes
+returns-in_default-clause-comes c =
     let none : c.args.self.now ≡ _ = ends c.args.self.now c.self.inside.cursors.items c.deref.result.now (option_map (λ k. k.now) c.least_key.result) c.self.invariant (sym c.self.view_is) c.deref.ensures.value c.least_key.ensures (ap (option_map (λ k. k.now)) c.in_default.is) in
     (none, ap (map (λ p. p.now)) c.clear.ensures.items, none)
 
@@ -23,8 +23,8 @@ back c =
     let same : length new ≡ cursors.len = ap length c.in_default-take_from_each.ensures.left ∙ length-map c.deref_mut.result.now (λ (ps : List Entry). drop (first_named c.in-Some.key.now ps) ps) ∙ ap length c.deref_mut.ensures.value ∙ long in
     take_at new (drop (length new) cursors.items) cursors.len same
 
-pub returns : goal.returns
-returns c =
+pub returns-clause-comes : goal.returns-clause-comes
+returns-clause-comes c =
     steps c.args.self.now c.self.inside.cursors.items c.deref.result.now c.deref_mut.result.now c.take_from_each.new.cursors (option_map (λ k. k.now) c.least_key.result) c.in-Some.key.now (map (λ p. p.now) c.clear.new.self.items) (map (λ p. p.now) c.take_from_each.new.points.items)
     c.self.invariant (sym c.self.view_is) c.deref.ensures.value c.deref_mut.ensures.value c.least_key.ensures (ap (option_map (λ k. k.now)) c.in-Some.is) (ap (map (λ p. p.now)) c.clear.ensures.items) c.in_default-take_from_each.ensures.taken c.in_default-take_from_each.ensures.left
     ∙ ap (λ (lists : List (List Entry)). (record { key = c.in-Some.key.now; points = map (λ p. p.now) c.take_from_each.new.points.items }) ∷ groups_of (joined lists)) (sym (back c))
