@@ -208,10 +208,15 @@ fn effect_of<O: Operator>(points: &[&Entry], deleted: Option<u64>) -> Effect {
     effect
 }
 
-/// The sequences of the range deletions over a key.
-fn seqs_over<'a>(fragments: &'a [Fragment], key: &[u8]) -> &'a [u64] {
-    let place = fragments.partition_point(|fragment| fragment.end.as_slice() <= key);
-    match fragments.get(place) {
+/// The sequences of the range deletions over a key, where keys rise from call to call.
+fn seqs_over<'a>(ahead: &mut &'a [Fragment], key: &[u8]) -> &'a [u64] {
+    while let [first, rest @ ..] = *ahead {
+        if key < first.end.as_slice() {
+            break;
+        }
+        *ahead = rest;
+    }
+    match ahead.first() {
         Some(fragment) if fragment.begin.as_slice() <= key => &fragment.seqs,
         _ => &[],
     }
@@ -232,8 +237,9 @@ fn compact<O: Operator>(inputs: &[Arc<Run>], keeping: Keeping<'_>) -> Run {
     };
     let mut kept = Vec::new();
     let mut points = Vec::new();
+    let mut ahead = fragments.as_slice();
     while let Some(key) = groups.next_into(&mut points) {
-        let seqs = seqs_over(&fragments, key);
+        let seqs = seqs_over(&mut ahead, key);
         keeping.push_kept::<O>(&mut kept, key, &points, seqs);
     }
     for fragment in &mut fragments {
