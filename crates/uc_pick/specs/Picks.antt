@@ -10,6 +10,10 @@ use Rattle.uc_pick.specs.declared.candidate.Candidate.{Candidate}
 abbrev pub total : List Candidate → ℕ
 total runs = sum_by (λ r. r.size) runs
 
+-- whether no run is claimed
+abbrev pub are_unclaimed : List Candidate → Bool
+are_unclaimed runs = list_all (λ r. not r.claimed) runs
+
 -- all runs but the oldest
 abbrev pub newer : List Candidate → List Candidate
 newer runs = take (length runs - 1) runs
@@ -26,7 +30,7 @@ is_amplified o runs = nat_lt (o.percent * total (oldest runs)) (100 * total (new
 -- for the oldest. It has no regard to how many runs a compaction may take.
 abbrev pub space_amplification : Options → List Candidate → Option Stretch
 space_amplification o runs =
-    if nat_le 2 (length runs) && list_all (λ r. not r.claimed) runs && is_amplified o runs
+    if nat_le 2 (length runs) && are_unclaimed runs && is_amplified o runs
     then Some (record { first = 0; count = length runs }) else None
 
 -- The first stretch that a rule picks. The rule says how many runs it picks from a place on, given the runs from there on:
@@ -36,15 +40,15 @@ first_picked rule above [] = None
 first_picked rule above (r ∷ runs) =
     if nat_lt 0 (rule (r ∷ runs)) then Some (record { first = above; count = rule (r ∷ runs) }) else first_picked rule (suc above) runs
 
--- whether a size isn't above a sum of sizes by more than `size_ratio` percent
-abbrev pub is_within_ratio : Options → ℕ → ℕ → Bool
-is_within_ratio o sum size = nat_le (100 * size) ((100 + o.ratio) * sum)
+-- whether a size isn't above a sum of sizes by more than so many percent
+abbrev pub is_within_ratio : ℕ → ℕ → ℕ → Bool
+is_within_ratio ratio sum size = nat_le (100 * size) ((100 + ratio) * sum)
 
 -- Whether a run is collected behind those before it, which are collected already: it isn't claimed, and it is the first,
 -- or there is room for it and it is within the ratio of those before it together.
 abbrev pub is_collected : Options → List Candidate → Candidate → Bool
 is_collected o before r =
-    not r.claimed && (nat_eq (length before) 0 || nat_lt (length before) o.greatest && is_within_ratio o (total before) r.size)
+    not r.claimed && (nat_eq (length before) 0 || nat_lt (length before) o.greatest && is_within_ratio o.ratio (total before) r.size)
 
 -- how many runs are collected behind those before them: as many as are collected one after the other
 abbrev pub collected_behind : Options → List Candidate → List Candidate → ℕ

@@ -25,8 +25,16 @@ fn is_amplified(options: &Options, candidates: &[Candidate]) -> bool
     requires few { length candidates.now ≤ 65536 }
     ensures { result ≡ picks.is_amplified options.now candidates.now }
 {
+    let percent = options.percent;
     let (newer, oldest) = candidates.split_at(candidates.len().saturating_sub(1));
-    u128::from(options.percent) * total(oldest) < 100 * total(newer)
+    u128::from(percent) * total(oldest) < 100 * total(newer)
+}
+
+/// Whether no run is claimed.
+fn are_unclaimed(candidates: &[Candidate]) -> bool
+    ensures { result ≡ picks.are_unclaimed candidates.now }
+{
+    candidates.iter().all(|candidate| !candidate.claimed)
 }
 
 /// Space amplification: all runs, where there are two or more, none is claimed, and the newer ones are too large.
@@ -34,8 +42,7 @@ fn space_amplification(options: &Options, candidates: &[Candidate]) -> Option<St
     requires few { length candidates.now ≤ 65536 }
     ensures { result ≡ picks.space_amplification options.now candidates.now }
 {
-    let are_unclaimed = candidates.iter().all(|candidate| !candidate.claimed);
-    if 2 <= candidates.len() && are_unclaimed && is_amplified(options, candidates) {
+    if 2 <= candidates.len() && are_unclaimed(candidates) && is_amplified(options, candidates) {
         Some(Stretch {
             first: 0,
             count: candidates.len(),
@@ -45,21 +52,22 @@ fn space_amplification(options: &Options, candidates: &[Candidate]) -> Option<St
     }
 }
 
-/// Whether a size isn't above a sum of sizes by more than `size_ratio` percent.
-fn is_within_ratio(options: &Options, sum: u128, size: u64) -> bool
+/// Whether a size isn't above a sum of sizes by more than `ratio` percent.
+fn is_within_ratio(ratio: u32, sum: u128, size: u64) -> bool
     requires { sum ≤ 2 ^ 80 }
-    ensures { result ≡ picks.is_within_ratio options.now sum size }
+    ensures { result ≡ picks.is_within_ratio ratio sum size }
 {
-    100 * u128::from(size) <= (100 + u128::from(options.ratio)) * sum
+    100 * u128::from(size) <= (100 + u128::from(ratio)) * sum
 }
 
 /// Whether a run is collected behind `count` others of this sum.
 fn is_collected(options: &Options, count: usize, sum: u128, candidate: &Candidate) -> bool
     requires { sum ≤ 2 ^ 80 }
-    ensures { result ≡ (not candidate.now.claimed && (nat_eq count 0 || nat_lt count options.now.greatest && picks.is_within_ratio options.now sum candidate.now.size)) }
+    ensures { result ≡ (not candidate.now.claimed && (nat_eq count 0 || nat_lt count options.now.greatest && picks.is_within_ratio options.now.ratio sum candidate.now.size)) }
 {
     let has_room = count < options.greatest as usize;
-    !candidate.claimed && (count == 0 || has_room && is_within_ratio(options, sum, candidate.size))
+    !candidate.claimed
+        && (count == 0 || has_room && is_within_ratio(options.ratio, sum, candidate.size))
 }
 
 /// How many runs are collected from the first of some on: a run is, while it is unclaimed and within the ratio of the sum
