@@ -1,1 +1,4 @@
 mod First
+mod Collected
+mod Unclaimed
+mod Picked
