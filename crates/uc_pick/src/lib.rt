@@ -21,3 +21,6 @@ pub use laws::{
 pub use options::Options;
 pub use picking::pick_among;
 pub use stretch::Stretch;
+
+#[cfg(test)]
+mod tests;
