@@ -13,11 +13,11 @@ fn total(candidates: &[Candidate]) -> u128
     ensures value { result ≡ picks.total candidates.now }
     ensures fits { result ≤ 2 ^ 80 }
 {
-    let mut sum = 0;
+    let mut all = 0;
     for candidate in candidates {
-        sum += u128::from(candidate.size);
+        all += u128::from(candidate.size);
     }
-    sum
+    all
 }
 
 /// Whether the newer runs are above `max_size_amplification_percent` of the oldest one's size.
@@ -176,7 +176,8 @@ fn number_of_runs(options: &Options, candidates: &[Candidate]) -> Option<Stretch
 /// 3. Number of runs: where n is above `trigger`, the first unclaimed neighbours: as many as bring n down to `trigger` when
 ///    they become one, and at most `greatest`. It has no regard to `least`.
 ///
-/// It takes no memory, and at most the square of n in time. With good options a pick has two runs or more, all of them
+/// It takes no memory, and at most the square of n in time. There are at most 65,536 candidates, so that every sum and
+/// product of sizes is exact. With good options a pick has two runs or more, all of them
 /// unclaimed (`picks_are_unclaimed_runs`).
 pub fn pick_among(options: &Options, candidates: &[Candidate]) -> Option<Stretch>
     requires few { length candidates.now ≤ 65536 }

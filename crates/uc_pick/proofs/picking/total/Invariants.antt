@@ -4,6 +4,6 @@ use Rattle.uc_pick.proofs.picking.total.Given as goal
 
 abbrev pub invariant-loop-candidate : goal.invariant-loop-candidate
 invariant-loop-candidate l = record {
-  so_far : l.sum ≡ picks.total (take l.candidate-index l.candidates);
-  bound : l.sum ≤ l.candidate-index * 2 ^ 64;
+  so_far : l.all ≡ picks.total (take l.candidate-index l.candidates);
+  bound : l.all ≤ l.candidate-index * 2 ^ 64;
 }
