@@ -8,10 +8,10 @@ use Rattle.uc_script.specs.Script.{script_of}
 use Rattle.uc_script.specs.declared.call.Call.{Call}
 use Rattle.uc_script.specs.declared.script.Script.{Script}
 use Rattle.uc_tool.specs.Ending.{IsWhole}
-use Rattle.uc_tool.specs.Options.{are_good}
+use Rattle.uc_pick.specs.Options.{are_good}
 use Rattle.uc_tool.specs.Play.{bad_option, unless_ahead, first_ahead, over_writes, played, play_of}
 use Rattle.uc_tool.specs.Output.{Output}
-use Rattle.uc_tool.specs.declared.options.Options.{Options}
+use Rattle.uc_pick.specs.declared.options.Options.{Options}
 
 ahead_whole : (m : Operation) (ws : List Write) (keeps : List ℕ) (last : ℕ) (calls : List Call) (ahead : Option ℕ) → IsWhole (unless_ahead m ws keeps last calls ahead).done
 ahead_whole m ws keeps last calls None = tt

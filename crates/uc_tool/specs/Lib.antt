@@ -3,7 +3,6 @@ pub mod Output
 pub mod Opening
 pub mod Writing
 pub mod Texts
-pub mod Options
 pub mod Play
 pub mod Prepared
 pub mod Ending

@@ -13,11 +13,11 @@ use Rattle.uc_script.specs.declared.call.Call.TheVariants.{Get, Scan}
 use Rattle.uc_script.specs.declared.script.Script.{Script}
 use Rattle.uc_script.specs.declared.seq.Seq.{Seq}
 use Rattle.uc_script.specs.declared.seq.Seq.TheVariants.{Number, Last}
-use Rattle.uc_tool.specs.Options.{are_good}
+use Rattle.uc_pick.specs.Options.{are_good}
 use Rattle.uc_tool.specs.Texts.{numbered_line, answer_lines}
 use Rattle.uc_tool.specs.Output.{Output}
 use Rattle.uc_tool.specs.declared.done.Done.TheVariants.{Fine, Refused}
-use Rattle.uc_tool.specs.declared.options.Options.{Options}
+use Rattle.uc_pick.specs.declared.options.Options.{Options}
 
 -- the sequence that a script names, where `last` is the last one at opening
 abbrev pub seq_at : ℕ → Seq → ℕ

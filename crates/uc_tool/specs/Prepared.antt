@@ -5,7 +5,7 @@ use Rattle.uc_batch.specs.Batch.{numbered}
 use Rattle.uc_script.specs.declared.script.Script.{Script}
 use Rattle.uc_tool.specs.Play.{reply_to, refused, opened, over_writes, play_of}
 use Rattle.uc_tool.specs.Output.{Output}
-use Rattle.uc_tool.specs.declared.options.Options.{Options}
+use Rattle.uc_pick.specs.declared.options.Options.{Options}
 use Rattle.uc_tool.specs.declared.playing.Opened.{Opened}
 use Rattle.uc_tool.specs.declared.playing.Prepared.{Prepared}
 use Rattle.uc_tool.specs.declared.playing.Prepared.TheVariants as prepared

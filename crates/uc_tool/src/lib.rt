@@ -11,7 +11,6 @@ mod ending;
 mod input;
 mod log_texts;
 mod opening;
-mod options;
 mod playing;
 mod run_error;
 mod texts;
@@ -19,8 +18,8 @@ mod writing;
 
 pub use done::Done;
 pub use dumping::dump;
-pub use options::Options;
 pub use playing::play;
+pub use uc_pick::Options;
 
 #[cfg(test)]
 mod tests;

@@ -13,7 +13,6 @@ use crate::done::Done;
 use crate::ending::{finish, finish_without_input};
 use crate::input::read_input;
 use crate::opening::open;
-use crate::options::Options;
 use crate::run_error::RunError;
 use crate::texts::{answer_lines, numbered_line};
 use crate::writing::write_bytes;
@@ -21,6 +20,7 @@ use std::alloc::{AllocError, Global};
 use std::io::{Read, Write};
 use uc_batch::Writes;
 use uc_oper::Operator;
+use uc_pick::Options;
 use uc_query::{Query, answer_writes};
 use uc_script::{Call, Script, ScriptError, Seq, a_script_names_no_more_than_it_has, read_script};
 
