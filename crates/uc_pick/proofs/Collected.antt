@@ -34,12 +34,12 @@ room_by o before r (inr more) u =
     let room : length before < o.greatest = ltb-true (length before) o.greatest parts.0 in
     record { unclaimed = u; room = omega (arith, room); within = λ l. leb-true (100 * r.size) ((100 + o.ratio) * total before) parts.1 }
 
-joins : (o : Options) (before : List Candidate) (r : Candidate) → is_collected o before r ≡ true → Joins o before r
+joins : (o : Options) (before : List Candidate) (r : Candidate) → is_collected o (length before) (total before) r ≡ true → Joins o before r
 joins o before r e =
     let parts = and_parts (not r.claimed) (eqb (length before) 0 || has_room o before r) e in
     room_by o before r (or_cases (eqb (length before) 0) (has_room o before r) parts.1) parts.0
 
-is_joined : (o : Options) (before : List Candidate) (r : Candidate) → Joins o before r → is_collected o before r ≡ true
+is_joined : (o : Options) (before : List Candidate) (r : Candidate) → Joins o before r → is_collected o (length before) (total before) r ≡ true
 is_joined o before r j = and_from (not r.claimed) (eqb (length before) 0 || has_room o before r) j.unclaimed (by (cases_eq (length before) 0))
   where
     by : (length before ≡ 0) ⊎ (length before ≡ 0 → ⊥) → (eqb (length before) 0 || has_room o before r) ≡ true
@@ -86,13 +86,13 @@ followed o before r runs n j m = record {
 none_follow : (o : Options) (before runs : List Candidate) → MayFollow o before runs 0
 none_follow o before runs = record { there = omega arith; unclaimed = refl; room = λ l. omega (arith, l); within = λ k d l b. omega (arith, b) }
 
-follow_by : (o : Options) (before : List Candidate) (r : Candidate) (runs : List Candidate) (b : Bool) → is_collected o before r ≡ b → MayFollow o (before ++ r ∷ []) runs (collected_behind o (before ++ r ∷ []) runs) → MayFollow o before (r ∷ runs) (cond b (suc (collected_behind o (before ++ r ∷ []) runs)) 0)
+follow_by : (o : Options) (before : List Candidate) (r : Candidate) (runs : List Candidate) (b : Bool) → is_collected o (length before) (total before) r ≡ b → MayFollow o (before ++ r ∷ []) runs (collected_behind o (before ++ r ∷ []) runs) → MayFollow o before (r ∷ runs) (cond b (suc (collected_behind o (before ++ r ∷ []) runs)) 0)
 follow_by o before r runs true e rest = followed o before r runs (collected_behind o (before ++ r ∷ []) runs) (joins o before r e) rest
 follow_by o before r runs false e rest = none_follow o before (r ∷ runs)
 
 follow : (o : Options) (before runs : List Candidate) → MayFollow o before runs (collected_behind o before runs)
 follow o before [] = none_follow o before []
-follow o before (r ∷ runs) = follow_by o before r runs (is_collected o before r) refl (follow o (before ++ r ∷ []) runs)
+follow o before (r ∷ runs) = follow_by o before r runs (is_collected o (length before) (total before) r) refl (follow o (before ++ r ∷ []) runs)
 
 -- ---- none more
 

@@ -44,16 +44,16 @@ first_picked rule above (r ∷ runs) =
 abbrev pub is_within_ratio : ℕ → ℕ → ℕ → Bool
 is_within_ratio ratio sum size = nat_le (100 * size) ((100 + ratio) * sum)
 
--- Whether a run is collected behind those before it, which are collected already: it isn't claimed, and it is the first,
--- or there is room for it and it is within the ratio of those before it together.
-abbrev pub is_collected : Options → List Candidate → Candidate → Bool
-is_collected o before r =
-    not r.claimed && (nat_eq (length before) 0 || nat_lt (length before) o.greatest && is_within_ratio o.ratio (total before) r.size)
+-- Whether a run is collected behind so many others of this sum, which are collected already: it isn't claimed, and it is the
+-- first, or there is room for it and it is within the ratio of the sum.
+abbrev pub is_collected : Options → ℕ → ℕ → Candidate → Bool
+is_collected o count sum r = not r.claimed && (nat_eq count 0 || nat_lt count o.greatest && is_within_ratio o.ratio sum r.size)
 
 -- how many runs are collected behind those before them: as many as are collected one after the other
 abbrev pub collected_behind : Options → List Candidate → List Candidate → ℕ
 collected_behind o before [] = 0
-collected_behind o before (r ∷ runs) = if is_collected o before r then suc (collected_behind o (before ++ r ∷ []) runs) else 0
+collected_behind o before (r ∷ runs) =
+    if is_collected o (length before) (total before) r then suc (collected_behind o (before ++ r ∷ []) runs) else 0
 
 -- how many runs are collected from the first of some on; none where it is claimed
 abbrev pub collected : Options → List Candidate → ℕ

@@ -1,5 +1,5 @@
 //! [`pick_among`]: which runs are compacted next.
-ghost use Rattle.std.specs.Prelude.{◌≡◌, ◌≤◌, ◌^◌, ◌&&◌, ◌||◌, not, nat_eq, nat_lt, length};
+ghost use Rattle.std.specs.Prelude.{◌≡◌, ◌≤◌, ◌^◌, length};
 ghost use Rattle.uc_pick.specs.Picks as picks;
 ghost use Rattle.uc_pick.specs.Picks.{picked, first_picked};
 
@@ -63,7 +63,7 @@ fn is_within_ratio(ratio: u32, sum: u128, size: u64) -> bool
 /// Whether a run is collected behind `count` others of this sum.
 fn is_collected(options: &Options, count: usize, sum: u128, candidate: &Candidate) -> bool
     requires { sum ≤ 2 ^ 80 }
-    ensures { result ≡ (not candidate.now.claimed && (nat_eq count 0 || nat_lt count options.now.greatest && picks.is_within_ratio options.now.ratio sum candidate.now.size)) }
+    ensures { result ≡ picks.is_collected options.now count sum candidate.now }
 {
     let has_room = count < options.greatest as usize;
     !candidate.claimed
