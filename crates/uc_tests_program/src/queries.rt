@@ -7,7 +7,7 @@ use uc_batch::{Mode, Writes, fits_batch, read_writes, write_batch};
 use uc_bytes::Bytes;
 use uc_logrec::LogWriter;
 use uc_oper::Append;
-use uc_query::{Answer, Query, answer_writes};
+use uc_answer::{Answer, Query, answer_writes};
 use uc_write::Op;
 
 /// A change, by its texts.

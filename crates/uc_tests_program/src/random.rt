@@ -6,7 +6,7 @@ use std::test::Fail;
 use uc_batch::Writes;
 use uc_bytes::Bytes;
 use uc_oper::{Append, Counter, Maximum, Operator};
-use uc_query::{Answer, Query, answer_writes};
+use uc_answer::{Answer, Query, answer_writes};
 use uc_tests_formats::lines::{field, op_line};
 use uc_tool::Done;
 use uc_write::{Op, Write};

@@ -4,9 +4,9 @@ use Rattle.uc_oper.specs.Operation.{Operation}
 use Rattle.uc_write.specs.declared.write.Write.{Write}
 use Rattle.uc_batch.specs.Batch.{numbered}
 use Rattle.uc_batch.specs.Rising.{last_of}
-use Rattle.uc_query.specs.Answers.{answer_of}
-use Rattle.uc_query.specs.declared.query.Query.{Query}
-use Rattle.uc_query.specs.declared.query.Query.TheVariants as query
+use Rattle.uc_answer.specs.Answers.{answer_of}
+use Rattle.uc_answer.specs.declared.query.Query.{Query}
+use Rattle.uc_answer.specs.declared.query.Query.TheVariants as query
 use Rattle.uc_script.specs.Script.{script_of}
 use Rattle.uc_script.specs.declared.call.Call.{Call}
 use Rattle.uc_script.specs.declared.call.Call.TheVariants.{Get, Scan}

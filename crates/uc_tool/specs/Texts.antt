@@ -3,8 +3,8 @@ use Rattle.std.specs.Prelude.{ℕ, List, [], ◌∷◌, ◌++◌, length, codes,
 use Rattle.std.specs.List.{flat_map}
 use Rattle.std.specs.Fmt.{decimal}
 use Rattle.uc_script.specs.Texts.{hex_text}
-use Rattle.uc_query.specs.declared.answer.Answer.{Answer}
-use Rattle.uc_query.specs.declared.answer.Answer.TheVariants.{Value, Rows, NotProtected}
+use Rattle.uc_answer.specs.declared.answer.Answer.{Answer}
+use Rattle.uc_answer.specs.declared.answer.Answer.TheVariants.{Value, Rows, NotProtected}
 
 -- what is printed where a run can't go on
 abbrev pub out_of_memory : List ℕ
