@@ -1,0 +1,37 @@
+-- A run put in place of others, in a list of runs.
+use Rattle.std.proofs.Common.{◌≡◌, ℕ, zero, suc, ◌+◌, ◌-◌, ◌<◌, ◌≤◌, List, [], ◌∷◌, ◌++◌, length, take, drop, get_or, set, refl, sym, ap, ◌∙◌, arith}
+use Rattle.std.proofs.lemmas.List.{append_assoc, take_more_set, drop-set-lt, drop-drop, take_at, take-append-drop, length-take-le}
+use Rattle.std.proofs.Math.Seq.{drop-append-add}
+use Rattle.uc_history.specs.Versions.{PlacedRun}
+use Rattle.uc_history.specs.Installs.{part_of, slot_of}
+
+-- one more is taken out
+pub one_out : (all old new : List PlacedRun) (first i : ℕ) → first + i < length all → old ≡ take first all ++ drop (first + i) all → new ≡ take first old ++ drop (first + 1) old → new ≡ take first all ++ drop (first + (i + 1)) all
+one_out all old new first i within is removed =
+    let len : length (take first all) ≡ first = length-take-le first all (omega (arith, within)) in
+    removed
+    ∙ ap (λ (ps : List PlacedRun). take first ps ++ drop (first + 1) ps) is
+    ∙ ap (λ (ps : List PlacedRun). ps ++ drop (first + 1) (take first all ++ drop (first + i) all)) (take_at (take first all) (drop (first + i) all) first len)
+    ∙ ap (λ (ps : List PlacedRun). take first all ++ ps)
+    (ap (λ n. drop (n + 1) (take first all ++ drop (first + i) all)) (sym len)
+    ∙ drop-append-add (take first all) (drop (first + i) all) 1
+    ∙ drop-drop 1 (first + i) all
+    ∙ ap (λ n. drop n all) (omega arith))
+
+pub put_in_place : (old : List PlacedRun) (first count : ℕ) (x : PlacedRun) → 0 < count → first + count ≤ length old → take (first + 1) (set old first x) ++ drop (first + 1 + (count - 1)) (set old first x) ≡ take first old ++ x ∷ drop (first + count) old
+put_in_place old first count x some within =
+    ap (λ (ps : List PlacedRun). ps ++ drop (first + 1 + (count - 1)) (set old first x)) (take_more_set old first x (omega (arith, some, within)))
+    ∙ append_assoc (take first old) (x ∷ []) (drop (first + 1 + (count - 1)) (set old first x))
+    ∙ ap (λ (ps : List PlacedRun). take first old ++ x ∷ ps) (drop-set-lt (first + 1 + (count - 1)) old first x (omega arith) ∙ ap (λ n. drop n old) (omega (arith, some)))
+
+pub slot_at : (old : List PlacedRun) (first count : ℕ) (d : PlacedRun) → 0 < count → first < length old → slot_of (part_of first count old) ≡ (get_or old first d).slot
+slot_at [] first count d some within = absurd (omega (arith, within))
+slot_at (p ∷ ps) zero zero d some within = absurd (omega (arith, some))
+slot_at (p ∷ ps) zero (suc count) d some within = refl
+slot_at (p ∷ ps) (suc first) count d some within = slot_at ps first count d some (omega (arith, within))
+
+pub none_out : (all : List PlacedRun) (first : ℕ) → all ≡ take first all ++ drop (first + 0) all
+none_out all first = sym (ap (λ n. take first all ++ drop n all) (omega arith) ∙ take-append-drop first all)
+
+pub ended : (left all : List PlacedRun) (first i count : ℕ) → i ≡ count → left ≡ take first all ++ drop (first + i) all → left ≡ take first all ++ drop (first + count) all
+ended left all first i count same is = is ∙ ap (λ n. take first all ++ drop (first + n) all) same

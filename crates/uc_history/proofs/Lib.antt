@@ -1,0 +1,9 @@
+pub mod Once
+pub mod Parts
+pub mod Replacing
+pub mod Installed
+pub mod Memtables
+pub mod Opened
+pub mod Along
+pub mod Ids
+pub mod InPlace

@@ -1,0 +1,6 @@
+pub mod Versions
+pub mod Openings
+pub mod Installs
+pub mod Histories
+pub mod Placing
+pub mod Held

@@ -1,0 +1,19 @@
+//! Versions: what a store holds at a moment, and what may become of it.
+//!
+//! A [`Version`] has sorted runs, the newest first, the sequences that snapshots keep, and the number of the next run. What
+//! may happen to it is an event; a history is an opening and the events behind it. Read `specs/Versions.antt` first,
+//! then `specs/Openings.antt`, `specs/Installs.antt` and `specs/Histories.antt`, and `laws.rt`, which says that no
+//! event changes what is read.
+#![tactic(auto)]
+
+mod laws;
+mod placed;
+mod replace;
+mod version;
+
+pub use laws::{
+    histories_keep_what_is_read, install_gives_a_version, install_keeps_what_is_read,
+    opening_gives_a_version, opening_keeps_every_effect, runs_are_replaced_once,
+};
+pub use placed::Placed;
+pub use version::Version;
