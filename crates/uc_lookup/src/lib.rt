@@ -1,0 +1,4 @@
+//! What is read of a version: lookups of keys and scans of ranges, at a sequence that is kept.
+#![tactic(auto)]
+
+mod lookup;
