@@ -1,3 +1,4 @@
 pub mod Effects
 pub mod LeastKeys
 pub mod Walking
+pub mod Shown

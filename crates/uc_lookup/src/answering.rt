@@ -1,0 +1,69 @@
+//! The answer to a query of a version.
+ghost use Rattle.std.specs.Prelude.{◌≡◌, IfOk};
+ghost use Rattle.std.specs.List.Sorted.{IsStrictlySortedBy};
+ghost use Rattle.std.specs.Ordering.{nat_cmp};
+ghost use Rattle.uc_answer.specs.Answers as answers;
+ghost use Rattle.uc_stripe.specs.Inputs.{writes_of};
+ghost use Rattle.uc_history.specs.Versions.{contents_of, writes_in};
+
+use crate::lookup::value_of_runs;
+use crate::scan::rows_of_runs;
+use std::alloc::{AllocError, Global};
+use uc_answer::{Answer, Query};
+use uc_history::{Placed, Version};
+use uc_oper::Operator;
+
+/// Whether a snapshot protects the sequence, by a search of the kept ones, which rise.
+fn is_protected(keeps: &[u64], at: u64) -> bool
+    requires { IsStrictlySortedBy nat_cmp keeps.now }
+    ensures { result ≡ answers.is_protected keeps.now at }
+{
+    keeps.binary_search_by(|keep| keep.cmp(&at)).is_ok()
+}
+
+/// What is read of runs, the newest first, at a sequence that is protected.
+fn reading<O: Operator>(
+    alloc: Global,
+    runs: &[Placed],
+    query: &Query,
+) -> Result<Answer, AllocError>
+    ensures { IfOk result (λ answer. answer ≡ answers.reading O.meaning (writes_of (contents_of runs.now)) query.now) }
+{
+    match query {
+        Query::Get { key, at } => {
+            let value = value_of_runs::<O>(alloc, runs, key.as_slice(), *at)?;
+            Ok(Answer::Value(value))
+        }
+        Query::Scan {
+            low,
+            high,
+            at,
+            limit,
+        } => {
+            let rows = rows_of_runs::<O>(alloc, runs, low.as_slice(), high, *at, *limit)?;
+            Ok(Answer::Rows(rows))
+        }
+    }
+}
+
+/// The answer to a query, from a version's runs. Each sequence but those that the version keeps is answered
+/// `NotProtected`.
+///
+/// A lookup goes from the newest run to the newest that sets the key's value, and costs in each what
+/// [`Run::effect`](uc_run::Run::effect) does. A scan costs for each key that a run has in its range, up to the last row's, a
+/// search in each run and a lookup. It fails only for want of memory.
+pub fn answer_one<O: Operator>(
+    alloc: Global,
+    version: &Version,
+    query: &Query,
+) -> Result<Answer, AllocError>
+    ensures { IfOk result (λ answer. answer ≡ answers.answer_of O.meaning (writes_in version.now) version.now.keeps query.now) }
+{
+    version.is_one();
+    let at = query.at();
+    if is_protected(version.keeps(), at) {
+        reading::<O>(alloc, version.runs(), query)
+    } else {
+        Ok(Answer::NotProtected(at))
+    }
+}
