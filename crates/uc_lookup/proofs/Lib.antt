@@ -2,3 +2,4 @@ pub mod Effects
 pub mod LeastKeys
 pub mod Walking
 pub mod Shown
+pub mod Protection

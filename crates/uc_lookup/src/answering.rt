@@ -18,7 +18,7 @@ fn is_protected(keeps: &[u64], at: u64) -> bool
     requires { IsStrictlySortedBy nat_cmp keeps.now }
     ensures { result ≡ answers.is_protected keeps.now at }
 {
-    keeps.binary_search_by(|keep| keep.cmp(&at)).is_ok()
+    keeps.binary_search(&at).is_ok()
 }
 
 /// What is read of runs, the newest first, at a sequence that is protected.
