@@ -77,8 +77,8 @@ module _ (low : List ℕ) (strict : Bool) where
       IsNextKey (points_in_runs (take (i + 1) runs)) low strict next
   least_step runs i r run least own next lt is same h k made =
       let more : points_in_runs (take (i + 1) runs) ≡ points_in_runs (take i runs) ++ run.points =
-          ap points_in_runs (take_more runs i r lt ∙ ap (λ (x : PlacedRun). take i runs ++ x ∷ []) (sym is))
-          ∙ points-more (take i runs) r
-          ∙ ap (λ (x : Contents). points_in_runs (take i runs) ++ x.points) (sym same) in
+      ap points_in_runs (take_more runs i r lt ∙ ap (λ (x : PlacedRun). take i runs ++ x ∷ []) (sym is))
+      ∙ points-more (take i runs) r
+      ∙ ap (λ (x : Contents). points_in_runs (take i runs) ++ x.points) (sym same) in
       subst (λ (ps : List Entry). IsNextKey ps low strict next) (sym more)
       (subst (IsNextKey (points_in_runs (take i runs) ++ run.points) low strict) (sym made) (least_of_both (points_in_runs (take i runs)) run.points least own h k))

@@ -1,5 +1,5 @@
 -- A scan shows the same rows whether it goes over the keys of all points or over those that a put or a merge names.
-use Rattle.std.proofs.Common.{◌≡◌, ℕ, ◌≤◌, Bool, true, false, cond, IsTrue, List, [], ◌∷◌, ◌++◌, map, take, filter, filter_map, Option, Some, None, option_map, Any, Contains, refl, sym, ap, ◌∙◌, subst}
+use Rattle.std.proofs.Common.{◌≡◌, ℕ, ◌≤◌, Bool, true, false, cond, List, [], ◌∷◌, map, take, filter, filter_map, Option, Some, None, option_map, Any, Contains, refl, sym, ap, ◌∙◌, subst}
 use Rattle.std.specs.Prelude.{◌↔◌, not, ◌&&◌}
 use Rattle.std.specs.List.{AllByRecursion, cons_option, flat_map}
 use Rattle.std.specs.List.Sorted.{IsStrictlySortedBy, IsPermutation}
@@ -27,11 +27,12 @@ use Rattle.uc_fragment.proofs.SameSets.{permutation_passes, same_sorted}
 use Rattle.uc_merge.specs.Groups.{keys_of}
 use Rattle.uc_merge.proofs.Lists.{all-front, all-back, all-unmapped}
 use Rattle.uc_answer.specs.Answers.{is_below, is_in_range, named_keys, rows_of, first_rows}
+use Rattle.uc_answer.specs.Rising.{KeysRise}
 use Rattle.uc_answer.specs.Scans.{IsNamed}
 use Rattle.uc_stripe.specs.Inputs.{writes_of, points_of}
 use Rattle.uc_stripe.proofs.Lists.{all-append, all-map, all-mapped, all-flat_map}
 use Rattle.uc_lookup.specs.Ahead.{is_ahead, keys_ahead}
-use Rattle.uc_lookup.proofs.Walking.{of_passing, to_passing, keys_sorted, all_keys, each_key}
+use Rattle.uc_lookup.proofs.Walking.{of_passing, to_passing, keys_sorted, each_key}
 
 -- ---- a key that a put or a merge names is the key of a point
 
@@ -122,11 +123,12 @@ each : {X : Type 0} (P : X → Type 0) → ((x : X) → P x) → (xs : List X) �
 each P h [] = tt
 each P h (x ∷ xs) = (h x, each P h xs)
 
-module _ (m : Operation) (runs : List Contents) (low : List ℕ) (high : Option (List ℕ)) (at : ℕ)
+module _ (m : Operation)
     (moved : (run : Contents) → IsPermutation (plain.writes_of run) (plain_list run))
-    (rise : IsStrictlySortedBy bytes_cmp (named_keys (writes_of runs) low high))
-    (named : (key : List ℕ) → Contains (named_keys (writes_of runs) low high) key ↔ IsNamed (writes_of runs) low high key)
-    (given : (key value : List ℕ) → value_of m (writes_of runs) key at ≡ Some value → Any (λ w. (w.seq ≤ at) × Gives key w.op) (writes_of runs)) where
+    (rise : (ws : List Write) (low : List ℕ) (high : Option (List ℕ)) → IsStrictlySortedBy bytes_cmp (named_keys ws low high))
+    (named : (ws : List Write) (low : List ℕ) (high : Option (List ℕ)) (key : List ℕ) → Contains (named_keys ws low high) key ↔ IsNamed ws low high key)
+    (given : (ws : List Write) (key value : List ℕ) (at : ℕ) → value_of m ws key at ≡ Some value → Any (λ w. (w.seq ≤ at) × Gives key w.op) ws)
+    (runs : List Contents) (low : List ℕ) (high : Option (List ℕ)) (at : ℕ) where
   abbrev writes : List Write
   writes = writes_of runs
 
@@ -149,18 +151,18 @@ module _ (m : Operation) (runs : List Contents) (low : List ℕ) (high : Option 
   to_named : (P : List ℕ → Type 0) → AllByRecursion P (filter has (filter ahead (keys_of points))) → AllByRecursion P (filter has names)
   to_named P h =
       let own = each_key (λ x. ahead x ≡ true → has x ≡ true → P x) points
-          (of_passing (λ x. has x ≡ true → P x) ahead (keys_of points) (of_passing P has (filter ahead (keys_of points)) h)) in
+      (of_passing (λ x. has x ≡ true → P x) ahead (keys_of points) (of_passing P has (filter ahead (keys_of points)) h)) in
       let one = λ (x : List ℕ) (c : Contains names x).
-          let n = (named x).0 c in
-          All-contains (λ y. ahead y ≡ true → has y ≡ true → P y) (keys points) x (All-from_recursion (λ y. ahead y ≡ true → has y ≡ true → P y) (keys points) own) (named_is_a_key moved runs x n.1) (sym (range_is_ahead low high x) ∙ n.0) in
+      let n = (named writes low high x).0 c in
+      All-contains (λ y. ahead y ≡ true → has y ≡ true → P y) (keys points) x (All-from_recursion (λ y. ahead y ≡ true → has y ≡ true → P y) (keys points) own) (named_is_a_key moved runs x n.1) (sym (range_is_ahead low high x) ∙ n.0) in
       to_passing P has names (all-map (Contains names) (λ x. has x ≡ true → P x) one names (recursion_from_All (Contains names) names (All-contains_itself names)))
 
   -- a key in the range that has a value is named
   is_named : (x : List ℕ) → ahead x ≡ true → has x ≡ true → Contains names x
   is_named x within valued =
       let there = value_there value x (value x) refl valued in
-      let some = given x there.0 there.1 in
-      (named x).1 (range_is_ahead low high x ∙ within, (some.0, some.1, some.2, some.3, some.4.1))
+      let some = given writes x there.0 at there.1 in
+      (named writes low high x).1 (range_is_ahead low high x ∙ within, (some.0, some.1, some.2, some.3, some.4.1))
 
   to_ahead : (P : List ℕ → Type 0) → AllByRecursion P (filter has names) → AllByRecursion P (filter has (filter ahead (keys_of points)))
   to_ahead P h =
@@ -173,11 +175,16 @@ module _ (m : Operation) (runs : List Contents) (low : List ℕ) (high : Option 
   same_valued =
       same_sorted bytes_cmp nat_list_cmp_total exact_bytes (filter has (filter ahead (keys_of points))) (filter has names)
       (IsStrictlySortedBy-filter bytes_cmp has (filter ahead (keys_of points)) (IsStrictlySortedBy-filter bytes_cmp ahead (keys_of points) (keys_sorted points)))
-      (IsStrictlySortedBy-filter bytes_cmp has names rise)
+      (IsStrictlySortedBy-filter bytes_cmp has names (rise writes low high))
       to_named to_ahead
 
-  pub same_rows : rows_of m writes at (keys_ahead points low false high) ≡ rows_of m writes at names
+  same_rows : rows_of m writes at (keys_ahead points low false high) ≡ rows_of m writes at names
   same_rows = sym (rows_of_valued value (filter ahead (keys_of points))) ∙ ap (filter_map (row_at value)) same_valued ∙ rows_of_valued value names
 
-  pub same_first : (limit : ℕ) → first_rows m writes at limit (keys_ahead points low false high) ≡ first_rows m writes at limit names
-  same_first limit = ap (take limit) same_rows
+  -- the first rows of the keys ahead are those of a scan
+  pub rows_shown : (limit : ℕ) (rows : List (List ℕ × List ℕ)) → rows ≡ first_rows m writes at limit (keys_ahead points low false high) → rows ≡ first_rows m writes at limit names
+  rows_shown limit rows made = made ∙ ap (take limit) same_rows
+
+  -- so their keys rise
+  pub rows_rise : (limit : ℕ) (rows : List (List ℕ × List ℕ)) → rows ≡ first_rows m writes at limit (keys_ahead points low false high) → KeysRise (first_rows m writes at limit names) → KeysRise rows
+  rows_rise limit rows made rise = subst KeysRise (sym (rows_shown limit rows made)) rise

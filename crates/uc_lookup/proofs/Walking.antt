@@ -1,5 +1,5 @@
 -- The keys ahead of a walk: the least comes first, and the others are ahead behind it.
-use Rattle.std.proofs.Common.{◌≡◌, ℕ, Bool, true, false, List, [], ◌∷◌, map, filter, cond, fold, Option, Some, None, Contains, ◌⊎◌, inl, inr, ⊎_elim, refl, sym, ap, ◌∙◌, subst}
+use Rattle.std.proofs.Common.{◌≡◌, ℕ, Bool, true, false, List, [], ◌∷◌, map, filter, cond, Option, Some, None, ◌⊎◌, inl, inr, ⊎_elim, refl, sym, ap, ◌∙◌, subst}
 use Rattle.std.specs.Prelude.{not, ◌&&◌}
 use Rattle.std.specs.List.{AllByRecursion}
 use Rattle.std.specs.List.Sorted.{IsStrictlySortedBy}
@@ -8,7 +8,7 @@ use Rattle.std.specs.declared.cmp.Ordering.TheVariants.{Less, Equal, Greater}
 use Rattle.std.specs.Ordering.{is_lt, is_le, ordering_reverse}
 use Rattle.std.specs.BTreeMap.Comparable.{le_lt_trans}
 use Rattle.std.proofs.lemmas.Bool.{false≢true}
-use Rattle.std.proofs.lemmas.Cmp.{nat_list_cmp_total, tied_itself}
+use Rattle.std.proofs.lemmas.Cmp.{nat_list_cmp_total}
 use Rattle.std.proofs.lemmas.List.Elements.{All-contains, All-from_recursion}
 use Rattle.std.proofs.lemmas.List.Kept.{IsStrictlySortedBy-filter}
 use Rattle.std.proofs.lemmas.Map.Lookups.{exact_bytes}
@@ -168,8 +168,8 @@ module _ (points : List Entry) (low : List ℕ) (strict : Bool) (high : Option (
         let each = each_key (λ x. behind x ≡ true → P x) points (of_passing P behind (keys_of points) h.1) in
         let from = all-mapped (λ (p : Entry). p.key) (λ x. is_passed low strict x ≡ false → is_le (bytes_cmp key x) ≡ true) points least.least in
         let taken = λ (x : List ℕ) (p : behind x ≡ true → P x) (le : is_passed low strict x ≡ false → is_le (bytes_cmp key x) ≡ true) (e : before x ≡ true).
-            ⊎_elim (λ same. subst P same h.0) p
-            (it_or_behind x (bytes_cmp key x) refl (le (not_true (is_passed low strict x) (and_left (not (is_passed low strict x)) (is_below x high) e))) e) in
+        ⊎_elim (λ same. subst P same h.0) p
+        (it_or_behind x (bytes_cmp key x) refl (le (not_true (is_passed low strict x) (and_left (not (is_passed low strict x)) (is_below x high) e))) e) in
         to_passing P before (keys_of points)
         (all_keys (λ x. before x ≡ true → P x) points
         (all_with (λ x. behind x ≡ true → P x) (λ x. is_passed low strict x ≡ false → is_le (bytes_cmp key x) ≡ true) (λ x. before x ≡ true → P x) taken (keys points) each from))

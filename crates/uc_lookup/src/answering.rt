@@ -22,11 +22,7 @@ fn is_protected(keeps: &[u64], at: u64) -> bool
 }
 
 /// What is read of runs, the newest first, at a sequence that is protected.
-fn reading<O: Operator>(
-    alloc: Global,
-    runs: &[Placed],
-    query: &Query,
-) -> Result<Answer, AllocError>
+fn reading<O: Operator>(alloc: Global, runs: &[Placed], query: &Query) -> Result<Answer, AllocError>
     ensures { IfOk result (λ answer. answer ≡ answers.reading O.meaning (writes_of (contents_of runs.now)) query.now) }
 {
     match query {
@@ -46,6 +42,24 @@ fn reading<O: Operator>(
     }
 }
 
+/// The answer to a query, from runs, the newest first, and the kept sequences, which rise.
+fn answer_of_runs<O: Operator>(
+    alloc: Global,
+    runs: &[Placed],
+    keeps: &[u64],
+    query: &Query,
+) -> Result<Answer, AllocError>
+    requires { IsStrictlySortedBy nat_cmp keeps.now }
+    ensures { IfOk result (λ answer. answer ≡ answers.answer_of O.meaning (writes_of (contents_of runs.now)) keeps.now query.now) }
+{
+    let at = query.at();
+    if is_protected(keeps, at) {
+        reading::<O>(alloc, runs, query)
+    } else {
+        Ok(Answer::NotProtected(at))
+    }
+}
+
 /// The answer to a query, from a version's runs. Each sequence but those that the version keeps is answered
 /// `NotProtected`.
 ///
@@ -60,10 +74,5 @@ pub fn answer_one<O: Operator>(
     ensures { IfOk result (λ answer. answer ≡ answers.answer_of O.meaning (writes_in version.now) version.now.keeps query.now) }
 {
     version.is_one();
-    let at = query.at();
-    if is_protected(version.keeps(), at) {
-        reading::<O>(alloc, version.runs(), query)
-    } else {
-        Ok(Answer::NotProtected(at))
-    }
+    answer_of_runs::<O>(alloc, version.runs(), version.keeps(), query)
 }

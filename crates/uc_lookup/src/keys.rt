@@ -84,11 +84,7 @@ fn first_ahead<'a>(
         (keys_behind (points_of (contents_of runs.now)) (option_map (λ k. k.now) result) high.now) }
 {
     let key = next_key_of(runs, low, strict)?;
-    if is_below(key, high) {
-        Some(key)
-    } else {
-        None
-    }
+    if is_below(key, high) { Some(key) } else { None }
 }
 
 impl<'a> Keys<'a> {

@@ -1,4 +1,4 @@
-use Rattle.std.proofs.Common.{List, ℕ, Option, option_map, Bor, None, sym, ◌∙◌, subst}
+use Rattle.std.proofs.Common.{List, ℕ, Option, option_map, Bor, sym, ◌∙◌, subst}
 use Rattle.uc_stripe.specs.Inputs.{points_of}
 use Rattle.uc_history.specs.Versions.{contents_of}
 use Rattle.uc_lookup.specs.Ahead.{keys_ahead, keys_behind, Comes}

@@ -1,9 +1,8 @@
-use Rattle.std.proofs.Common.{◌≡◌, option_map, sym, ap, ◌∙◌, subst}
+use Rattle.std.proofs.Common.{◌≡◌, option_map, sym, ◌∙◌, subst}
 use Rattle.std.specs.List.Sorted.{IsStrictlySortedBy}
 use Rattle.uc_entry.specs.Order.{entry_cmp}
 use Rattle.uc_entry.specs.Run.{Contents}
 use Rattle.uc_block.specs.NextKey.{IsNextKey}
-use Rattle.uc_merge.specs.Heads.{lesser_of}
 use Rattle.uc_lookup.proofs.LeastKeys.{least_step}
 use Rattle.uc_lookup.proofs.keys.next_key_of.Goals as goal
 
