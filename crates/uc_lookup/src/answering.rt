@@ -43,7 +43,7 @@ fn reading<O: Operator>(alloc: Global, runs: &[Placed], query: &Query) -> Result
 }
 
 /// The answer to a query, from runs, the newest first, and the kept sequences, which rise.
-fn answer_of_runs<O: Operator>(
+pub(crate) fn answer_of_runs<O: Operator>(
     alloc: Global,
     runs: &[Placed],
     keeps: &[u64],

@@ -10,3 +10,8 @@ mod lookup;
 mod scan;
 
 pub use answering::answer_one;
+
+#[cfg(test)]
+mod drawn_tests;
+#[cfg(test)]
+mod tests;

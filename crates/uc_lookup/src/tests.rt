@@ -1,0 +1,223 @@
+//! Lookups and scans of a few runs.
+use super::*;
+use crate::answering::answer_of_runs;
+use std::alloc::Global;
+use std::process::Abort;
+use std::sync::Arc;
+use std::test::Fail;
+use uc_answer::{Answer, Query, Rows};
+use uc_bytes::Bytes;
+use uc_history::{Placed, Version};
+use uc_oper::Append;
+use uc_run::{Memtable, Run};
+use uc_write::{MAX_SEQUENCE, Op, Write};
+
+fn bytes(alloc: Global, text: &[u8]) -> Result<Bytes, Fail> {
+    Ok(Bytes::from_slice(alloc, text)?)
+}
+
+/// One change to the store.
+enum Change {
+    Put(&'static [u8], &'static [u8]),
+    Merge(&'static [u8], &'static [u8]),
+    Range(&'static [u8], &'static [u8]),
+}
+
+fn op(alloc: Global, change: &Change) -> Result<Op, Fail> {
+    Ok(match change {
+        Change::Put(key, value) => Op::Put(bytes(alloc, key)?, bytes(alloc, value)?),
+        Change::Merge(key, operand) => Op::Merge(bytes(alloc, key)?, bytes(alloc, operand)?),
+        Change::Range(begin, end) => Op::DeleteRange(bytes(alloc, begin)?, bytes(alloc, end)?),
+    })
+}
+
+/// A key that a range deletion clears between merges, and another that it leaves.
+const CHANGES: [(u64, Change); 5] = [
+    (1, Change::Put(b"\x6b", b"\x61")),
+    (2, Change::Merge(b"\x6b", b"\x62")),
+    (3, Change::Put(b"\x6c", b"\x78")),
+    (4, Change::Range(b"\x6b", b"\x6c")),
+    (5, Change::Merge(b"\x6b", b"\x63")),
+];
+
+/// The run of some of the changes.
+fn run_of(
+    rt: &impl Abort,
+    alloc: Global,
+    changes: &[(u64, Change)],
+    slot: usize,
+) -> Result<Placed, Fail> {
+    let mut memtable = Memtable::new(alloc);
+    for (seq, change) in changes {
+        let seq = *seq;
+        assert!(rt; memtable.last() < seq);
+        assert!(rt; seq <= MAX_SEQUENCE);
+        let op = op(alloc, change)?;
+        memtable.insert(&Write { seq, op })?;
+    }
+    assert!(rt; !memtable.is_empty());
+    Ok(Placed {
+        id: slot as u64,
+        slot,
+        run: Arc::new(alloc, memtable.flush(alloc)?)?,
+    })
+}
+
+/// The changes in runs of as many of them, the newest first.
+fn runs_of(rt: &impl Abort, alloc: Global, size: usize) -> Result<Vec<Placed>, Fail> {
+    assert!(rt; size > 0);
+    let mut runs = Vec::new(alloc);
+    for changes in CHANGES.chunks(size) {
+        let slot = runs.len();
+        runs.push(run_of(rt, alloc, changes, slot)?)?;
+    }
+    runs.reverse();
+    Ok(runs)
+}
+
+fn get(alloc: Global, key: &[u8], at: u64) -> Result<Query, Fail> {
+    let key = bytes(alloc, key)?;
+    Ok(Query::Get { key, at })
+}
+
+/// A scan: from a key on, below another where there is one, at a sequence, and at most so many rows.
+type Range = (&'static [u8], Option<&'static [u8]>, u64, u64);
+
+fn scan(alloc: Global, range: &Range) -> Result<Query, Fail> {
+    let (low, high, at, limit) = *range;
+    let low = bytes(alloc, low)?;
+    let high = match high {
+        None => None,
+        Some(high) => Some(bytes(alloc, high)?),
+    };
+    Ok(Query::Scan {
+        low,
+        high,
+        at,
+        limit,
+    })
+}
+
+/// An answer that is wanted.
+enum Want {
+    Value(Option<&'static [u8]>),
+    Rows(&'static [(&'static [u8], &'static [u8])]),
+    NotProtected(u64),
+}
+
+fn rows(alloc: Global, pairs: &[(&[u8], &[u8])]) -> Result<Rows, Fail> {
+    let mut list = Vec::new(alloc);
+    for (key, value) in pairs {
+        list.push((bytes(alloc, key)?, bytes(alloc, value)?))?;
+    }
+    Ok(Rows::of(list).ok_or("the keys don't rise")?)
+}
+
+fn wanted(alloc: Global, want: &Want) -> Result<Answer, Fail> {
+    Ok(match want {
+        Want::Value(None) => Answer::Value(None),
+        Want::Value(Some(value)) => Answer::Value(Some(bytes(alloc, value)?)),
+        Want::Rows(pairs) => Answer::Rows(rows(alloc, pairs)?),
+        Want::NotProtected(seq) => Answer::NotProtected(*seq),
+    })
+}
+
+/// A key, the sequence at which it is read, and the answer.
+const GETS: [(&[u8], u64, Want); 6] = [
+    (b"\x6b", 5, Want::Value(Some(b"\x63"))),
+    (b"\x6b", 2, Want::Value(Some(b"\x61\x2c\x62"))),
+    (b"\x6c", 5, Want::Value(Some(b"\x78"))),
+    (b"\x6c", 2, Want::Value(None)),
+    (b"\x6a", 5, Want::Value(None)),
+    (b"\x6b", 3, Want::NotProtected(3)),
+];
+
+/// The sequences that are kept.
+const KEEPS: [u64; 2] = [2, 5];
+
+/// The answer from runs under these keeps.
+fn answer_of(alloc: Global, runs: &[Placed], query: &Query) -> Result<Answer, Fail> {
+    Ok(answer_of_runs::<Append<44>>(alloc, runs, &KEEPS, query)?)
+}
+
+#[test]
+fn lookups_go_over_runs(rt: HostRuntime) -> Result<(), Fail> {
+    let alloc = rt.alloc();
+    for size in 1..=5 {
+        let runs = runs_of(&rt, alloc, size)?;
+        for (key, at, want) in &GETS {
+            let query = get(alloc, key, *at)?;
+            let answer = answer_of(alloc, &runs, &query)?;
+            assert_eq!(rt; answer, wanted(alloc, want)?, "{key:?} at {at}");
+        }
+    }
+    Ok(())
+}
+
+/// Scans, and their rows.
+const SCANS: [(Range, Want); 7] = [
+    (
+        (b"", None, 5, 10),
+        Want::Rows(&[(b"\x6b", b"\x63"), (b"\x6c", b"\x78")]),
+    ),
+    ((b"", None, 5, 0), Want::Rows(&[])),
+    ((b"", None, 5, 1), Want::Rows(&[(b"\x6b", b"\x63")])),
+    (
+        (b"\x6b", Some(b"\x6c"), 2, 10),
+        Want::Rows(&[(b"\x6b", b"\x61\x2c\x62")]),
+    ),
+    (
+        (b"\x6b\x00", None, 5, 10),
+        Want::Rows(&[(b"\x6c", b"\x78")]),
+    ),
+    ((b"\x6c", Some(b"\x6b"), 5, 10), Want::Rows(&[])),
+    ((b"", None, 4, 10), Want::NotProtected(4)),
+];
+
+#[test]
+fn scans_go_over_runs(rt: HostRuntime) -> Result<(), Fail> {
+    let alloc = rt.alloc();
+    for size in 1..=5 {
+        let runs = runs_of(&rt, alloc, size)?;
+        for (range, want) in &SCANS {
+            let query = scan(alloc, range)?;
+            let answer = answer_of(alloc, &runs, &query)?;
+            assert_eq!(rt; answer, wanted(alloc, want)?, "{range:?}");
+        }
+    }
+    Ok(())
+}
+
+/// A version of one run, of sequences up to 5.
+fn version_of(alloc: Global, run: Arc<Run>) -> Result<Version, Fail> {
+    run.is_one();
+    if run.high_seq() > 5 {
+        return Err(Fail::new("a sequence is above 5"));
+    }
+    let placed = Placed {
+        id: 0,
+        slot: 0,
+        run,
+    };
+    let runs = vec![in alloc; placed]?;
+    let keeps = Vec::from_slice(alloc, &KEEPS)?;
+    Ok(Version::new(runs, keeps, 5, 1))
+}
+
+#[test]
+fn a_version_answers(rt: HostRuntime) -> Result<(), Fail> {
+    let alloc = rt.alloc();
+    let run = run_of(&rt, alloc, &CHANGES, 0)?.run;
+    let version = version_of(alloc, run)?;
+    for (key, at, want) in &GETS {
+        let query = get(alloc, key, *at)?;
+        let answer = answer_one::<Append<44>>(alloc, &version, &query)?;
+        assert_eq!(rt; answer, wanted(alloc, want)?, "{key:?} at {at}");
+    }
+    for (range, want) in &SCANS {
+        let query = scan(alloc, range)?;
+        let answer = answer_one::<Append<44>>(alloc, &version, &query)?;
+        assert_eq!(rt; answer, wanted(alloc, want)?, "{range:?}");
+    }
+    Ok(())
+}
