@@ -60,12 +60,12 @@ pub(crate) fn answer_of_runs<O: Operator>(
     }
 }
 
-/// The answer to a query, from a version's runs. Each sequence but those that the version keeps is answered
-/// `NotProtected`.
+/// The answer to a query, from a version's runs: what `uc_answer` answers from the plain writes that the version stands for.
+/// A sequence that the version doesn't keep is answered `NotProtected`.
 ///
-/// A lookup goes from the newest run to the newest that sets the key's value, and costs in each what
-/// [`Run::effect`](uc_run::Run::effect) does. A scan costs for each key that a run has in its range, up to the last row's, a
-/// search in each run and a lookup. It fails only for want of memory.
+/// A lookup costs in each run, from the newest on, what [`Run::effect`](uc_run::Run::effect) does, and looks no further than the
+/// first run that puts or deletes the key. A scan costs for each key of a point in its range, up to the last row's, a search
+/// in each run and a lookup. It fails only for want of memory.
 pub fn answer_one<O: Operator>(
     alloc: Global,
     version: &Version,

@@ -1,7 +1,7 @@
 //! What is read of a version: lookups of keys and scans of ranges, at a sequence that is kept.
 //!
-//! [`answer_one`] is the only public item. Its contract is the answer of `uc_answer` over the plain writes that the version
-//! stands for. Read `answering.rt` first, then `lookup.rt`, and for scans `specs/Ahead.antt`, `keys.rt` and `scan.rt`.
+//! [`answer_one`] answers a query from a version's runs as `uc_answer` does from the plain writes that they stand for. Read
+//! `answering.rt` first, then `lookup.rt`, and for scans `specs/Ahead.antt`, `keys.rt` and `scan.rt`.
 #![tactic(auto)]
 
 mod answering;

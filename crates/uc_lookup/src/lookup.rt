@@ -10,8 +10,8 @@ use uc_history::Placed;
 use uc_model::{effect_gives_value, effects_of_parts_compose};
 use uc_oper::{Effect, Operator};
 
-/// What the writes of runs, the newest first, at or below a sequence together do to a key. It looks at no run behind the
-/// newest that sets the key's value, and fails only for want of memory.
+/// What the writes of runs, the newest first, at or below a sequence together do to a key. It looks no further than the first
+/// run that puts or deletes the key: what is older is overwritten. It fails only for want of memory.
 fn effect_of_runs<O: Operator>(
     alloc: Global,
     runs: &[Placed],
@@ -32,7 +32,7 @@ fn effect_of_runs<O: Operator>(
     Ok(newer)
 }
 
-/// The value that a key has in runs, the newest first, at a sequence.
+/// The value that a key has in runs, the newest first, at a sequence. It fails only for want of memory.
 pub(crate) fn value_of_runs<O: Operator>(
     alloc: Global,
     runs: &[Placed],
