@@ -1,0 +1,5 @@
+pub mod Grown
+pub mod Newest
+pub mod Ended
+pub mod Refused
+pub mod Taken

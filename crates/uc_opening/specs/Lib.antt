@@ -1,0 +1,4 @@
+pub mod Refusal
+pub mod Progress
+pub mod Steps
+pub mod Held

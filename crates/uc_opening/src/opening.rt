@@ -1,0 +1,61 @@
+//! [`open_version`]: a store opened from a list of writes.
+ghost use Rattle.std.specs.Prelude.{◌≡◌, ◌≢◌, None, Some, IfOk, IfErr};
+ghost use Rattle.uc_batch.specs.Rising.{IsRising};
+ghost use Rattle.uc_history.specs.Openings.{Opening, opened};
+ghost use Rattle.uc_opening.specs.Progress.{progress_of};
+ghost use Rattle.uc_opening.specs.Refusal.{opening_refusal};
+ghost use Rattle.uc_opening.specs.declared.open_error.OpenError.TheVariants.{Memory};
+
+use crate::open_error::OpenError;
+use crate::opener::Opener;
+use std::alloc::{AllocError, Global};
+use uc_batch::Writes;
+use uc_history::Version;
+use uc_pick::Options;
+use uc_write::{Op, OpRef, Write, WriteRef};
+
+/// The change with its texts borrowed.
+fn borrowed(op: &Op) -> OpRef<'_>
+    ensures { result ≡ op.now }
+{
+    match op {
+        Op::Put(key, value) => OpRef::put(key.as_slice(), value.as_slice()),
+        Op::Delete(key) => OpRef::delete(key.as_slice()),
+        Op::Merge(key, operand) => OpRef::merge(key.as_slice(), operand.as_slice()),
+        Op::DeleteRange(begin, end) => OpRef::delete_range(begin.as_slice(), end.as_slice()),
+    }
+}
+
+/// The write with its texts borrowed.
+fn borrowed_write(write: &Write) -> WriteRef<'_>
+    ensures { result ≡ write.now }
+{
+    WriteRef::new(write.seq, borrowed(&write.op))
+}
+
+/// A store that is being opened, after these writes.
+fn opener_after(alloc: Global, options: Options, writes: &[Write]) -> Result<Opener, AllocError>
+    requires { IsRising 0 writes.now }
+    ensures { IfOk result (λ opener. opener ≡ progress_of options writes.now) }
+{
+    let mut opener = Opener::new(alloc, options);
+    for write in writes {
+        opener.insert(alloc, &borrowed_write(write))?;
+    }
+    Ok(opener)
+}
+
+/// The version that a store with these writes opens with, as [`Opener`] makes it of them one after the other.
+pub fn open_version(
+    alloc: Global,
+    writes: &Writes,
+    keeps: &[u64],
+    options: &Options,
+) -> Result<Version, OpenError>
+    ensures ok { let opening : Opening = record { writes = writes.now.list; keeps = keeps.now; options = options.now } in
+        IfOk result (λ version. (version ≡ opened opening) × (opening_refusal opening ≡ None)) }
+    ensures err { let opening : Opening = record { writes = writes.now.list; keeps = keeps.now; options = options.now } in
+        IfErr result (λ error. error ≢ Memory → opening_refusal opening ≡ Some error) }
+{
+    opener_after(alloc, *options, writes.list())?.finish(alloc, keeps)
+}
