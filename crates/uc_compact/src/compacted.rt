@@ -63,6 +63,13 @@ impl<O: Operator> Compacted<O> {
         &self.output
     }
 
+    /// The run alone, moved out.
+    pub fn into_output(self) -> Arc<Run>
+        ensures { arc_value result ≡ output_of O.meaning self }
+    {
+        self.output
+    }
+
     /// What holds of every value: the runs are runs, and they and the keeps may be compacted together. It does nothing.
     pub fn stands(&self)
         ensures runs { AreRuns self.now.inputs }

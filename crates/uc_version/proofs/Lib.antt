@@ -1,0 +1,9 @@
+pub mod Few
+pub mod HeldClaims
+pub mod Flags
+pub mod Inputs
+pub mod Taking
+pub mod ClaimMade
+pub mod Legal
+pub mod Moving
+pub mod Standing

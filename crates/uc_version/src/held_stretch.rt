@@ -1,0 +1,18 @@
+//! [`HeldStretch`]: the stretch of a claim that is held.
+use uc_claims::MOST_SLOTS;
+
+/// The most claims that are held at once: each has two slots or more.
+pub const MOST_CLAIMS: usize = MOST_SLOTS / 2;
+
+/// The stretch of a claim that is held: where it stands now, and the ids of its newest and its oldest run.
+#[derive(Clone, Copy, Debug, PartialEq, Eq)]
+pub struct HeldStretch {
+    /// How many runs stand above it, which are newer.
+    pub first: usize,
+    /// How many runs it has.
+    pub count: usize,
+    /// The id of its newest run.
+    pub newest: u64,
+    /// The id of its oldest run.
+    pub oldest: u64,
+}

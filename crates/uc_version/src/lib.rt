@@ -1,0 +1,35 @@
+//! The store in one owner's hands: which stretches of runs are compacted, and what is put in their place.
+//!
+//! An [`Owned`] has a version, and the claims of those who compact stretches of its runs. Read `specs/Owners.antt` first,
+//! then `specs/Claiming.antt` and `specs/Installing.antt`, and `owned.rt`. What a version is stands in `uc_history`, and
+//! the picker in `uc_pick`; their public items are given out here too.
+#![tactic(auto)]
+
+mod claim_error;
+mod claims;
+mod held_stretch;
+mod install_error;
+mod laws;
+mod opening;
+mod owned;
+mod owned_claim;
+mod picking;
+mod refusal;
+mod runs;
+mod slots;
+
+pub use claim_error::ClaimError;
+pub use held_stretch::{HeldStretch, MOST_CLAIMS};
+pub use install_error::InstallError;
+pub use laws::installs_are_events;
+pub use opening::open_plain;
+pub use owned::Owned;
+pub use owned_claim::OwnedClaim;
+pub use picking::pick;
+pub use uc_claims::MOST_SLOTS;
+pub use uc_history::{Placed, Version};
+pub use uc_opening::{OpenError, Opener, open_version};
+pub use uc_pick::{Candidate, Options, Stretch};
+
+#[cfg(test)]
+mod tests;

@@ -1,0 +1,32 @@
+//! [`open_plain`]: a store opened from a list of writes.
+ghost use Rattle.std.specs.Prelude.{◌≡◌, ◌≢◌, None, Some, IfOk, IfErr};
+ghost use Rattle.uc_history.specs.Openings.{Opening, opened};
+ghost use Rattle.uc_opening.specs.Refusal.{opening_refusal};
+ghost use Rattle.uc_opening.specs.declared.open_error.OpenError.TheVariants.{Memory};
+ghost use Rattle.uc_version.specs.Owners.{unclaimed};
+
+use crate::owned::Owned;
+use std::alloc::Global;
+use uc_batch::Writes;
+use uc_opening::{OpenError, no_refusal_is_leave_to_open, open_version};
+use uc_oper::Operator;
+use uc_pick::Options;
+
+/// A store of these writes, which keeps these sequences and the last one: each write is inserted into a memtable, which is
+/// flushed to a run as soon as it has `memtable` bytes, and at the end (RocksDB wiki, "MemTable"). It is refused for the
+/// first of these: an option out of its range, a sequence above the last one, more runs than slots; and for want of
+/// memory.
+pub fn open_plain<O: Operator>(
+    alloc: Global,
+    writes: &Writes,
+    keeps: &[u64],
+    options: Options,
+) -> Result<Owned<O>, OpenError>
+    ensures ok { let opening : Opening = record { writes = writes.now.list; keeps = keeps.now; options = options } in
+        IfOk result (λ owned. (owned ≡ unclaimed (opened opening) options) × (opening_refusal opening ≡ None)) }
+    ensures err { let opening : Opening = record { writes = writes.now.list; keeps = keeps.now; options = options } in
+        IfErr result (λ error. error ≢ Memory → opening_refusal opening ≡ Some error) }
+{
+    let version = open_version(alloc, writes, keeps, &options)?;
+    Ok(Owned::new(alloc, version, options)?)
+}

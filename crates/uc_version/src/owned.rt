@@ -1,0 +1,194 @@
+//! [`Owned`]: a store that one owner has.
+ghost use Rattle.std.specs.Prelude.{◌≡◌, ◌≢◌, ◌<◌, ℕ, Some, None, true, IfOk, IfErr, OnOk, OnErr};
+ghost use Rattle.uc_claims.specs.declared.table.TheConstants.{MOST_SLOTS};
+ghost use Rattle.uc_pick.specs.Picks.{picked};
+ghost use Rattle.uc_history.specs.Versions.{IsVersion};
+ghost use Rattle.uc_pick.specs.Options.{are_good};
+ghost use Rattle.uc_version.specs.Owners.{is_busy, unclaimed};
+ghost use Rattle.uc_version.specs.Picking.{candidates_of};
+ghost use Rattle.uc_version.specs.Claiming as claiming;
+ghost use Rattle.uc_version.specs.Installing as installing;
+
+use crate::claim_error::ClaimError;
+use crate::claims::{free_number, held_by, held_stretch, move_up};
+use crate::held_stretch::{HeldStretch, MOST_CLAIMS};
+use crate::install_error::InstallError;
+use crate::owned_claim::OwnedClaim;
+use crate::picking::pick;
+use crate::refusal::{has_oldest, install_refusal};
+use crate::runs::{held_runs, last_id, newest_id, runs_of, shared_runs};
+use crate::slots::{busy_slots, claim_slots, give_slots};
+use std::alloc::{AllocError, Global};
+use std::marker::{Model, PhantomData, Sync};
+use std::thread::Threads;
+use uc_claims::{ClaimTable, HeldSlots, MOST_SLOTS};
+use uc_compact::{Compacted, compact};
+use uc_history::{Version, install_gives_a_version};
+use uc_oper::Operator;
+use uc_pick::{Options, Stretch};
+
+/// A store that one owner has: a version, and the claims of stretches of its runs.
+#[derive(Drop)]
+pub struct Owned<O: Operator> {
+    version: Version,
+    options: Options,
+    table: ClaimTable,
+    held: HeldSlots,
+    claims: [Option<HeldStretch>; MOST_CLAIMS],
+    operator: PhantomData<O>,
+}
+
+impl<O: Operator> Model for Owned<O> {
+    ghost use Rattle.uc_version.specs.Owners.{Owner};
+    ghost use Rattle.uc_version.specs.Held.{owner, IsOwned};
+
+    ghost Value = { Owner };
+
+    ghost view = { owner };
+
+    ghost invariant = { IsOwned };
+}
+
+impl<O: Operator> Owned<O> {
+    /// A store with this version, of which nothing is claimed. It fails only for want of memory.
+    pub fn new(
+        alloc: Global,
+        version: Version,
+        options: Options,
+    ) -> Result<Owned<O>, AllocError>
+        requires { are_good options ≡ true }
+        ensures { IfOk result (λ owned. owned ≡ unclaimed version options) }
+    {
+        version.is_one();
+        let (table, seat) = ClaimTable::new(alloc, MOST_SLOTS)?;
+        let Ok(held) = table.take(seat, &[]) else {
+            unreachable!();
+        };
+        Ok(Owned {
+            version,
+            options,
+            table,
+            held,
+            claims: [None; MOST_CLAIMS],
+            operator: PhantomData,
+        })
+    }
+
+    /// What the store holds now.
+    pub fn version(&self) -> &Version
+        ensures { result.now ≡ self.now.version }
+    {
+        &self.version
+    }
+
+    /// Whether the run with a slot is claimed.
+    pub fn busy(&self, slot: usize) -> bool
+        requires { slot < MOST_SLOTS }
+        ensures { result ≡ is_busy self.now slot }
+    {
+        self.held.has(slot)
+    }
+
+    /// Which stretch is compacted next, of runs that aren't claimed (RocksDB wiki, "Universal Compaction"). It takes no
+    /// memory.
+    pub fn pick(&self) -> Option<Stretch>
+        ensures { result ≡ picked self.now.options (candidates_of self.now.version (is_busy self.now)) }
+    {
+        pick(&self.version, &self.options, &busy_slots(&self.held))
+    }
+
+    /// Whether this store holds the claim: one with its number and its ids.
+    pub fn holds(&self, claim: &OwnedClaim) -> bool
+        ensures { result ≡ claiming.is_held self.now claim.now }
+    {
+        match held_by(&self.claims, claim.number) {
+            None => false,
+            Some(held) => held.newest == claim.newest && held.oldest == claim.oldest,
+        }
+    }
+
+    /// Claims a stretch, so that it may be compacted. It is refused where the stretch isn't all there, has fewer than two
+    /// runs, or has a run that is claimed, the newest of which is named; the store is then as it was. It takes no memory.
+    pub fn claim(&mut self, stretch: Stretch) -> Result<OwnedClaim, ClaimError>
+        ensures ok { IfOk result (λ claim. (claiming.claim_refusal self.old stretch ≡ None) × (claim ≡ claiming.claim_of self.old stretch) × (self.new ≡ claiming.with_claim self.old claim stretch)) }
+        ensures err { IfErr result (λ error. (claiming.claim_refusal self.old stretch ≡ Some error) × (self.new ≡ self.old)) }
+    {
+        let runs = match runs_of(self.version.runs(), stretch) {
+            Ok(runs) => runs,
+            Err(error) => return Err(error),
+        };
+        let newest = newest_id(runs);
+        let oldest = last_id(runs);
+        if let Err(error) = claim_slots(&self.table, &mut self.held, runs) {
+            return Err(error);
+        }
+        let number = free_number(&self.claims);
+        self.claims[number] = Some(HeldStretch {
+            first: stretch.first,
+            count: stretch.count,
+            newest,
+            oldest,
+        });
+        Ok(OwnedClaim {
+            number,
+            newest,
+            oldest,
+        })
+    }
+
+    /// Gives a claim back without a change. It takes no memory.
+    pub fn abandon(&mut self, claim: OwnedClaim)
+        requires { claiming.is_held self.old claim ≡ true }
+        ensures { self.new ≡ claiming.without_claim self.old claim }
+    {
+        let held = held_stretch(&self.claims, &claim);
+        give_slots(&self.table, &mut self.held, held_runs(&self.version, &held));
+        self.claims[claim.number] = None;
+    }
+
+    /// Compacts the runs of a claim under the keeps of this moment, and with the oldest run exactly where it is the last
+    /// of them. It fails only for want of memory.
+    pub fn compact(
+        &self,
+        rt: &(impl Threads + Sync),
+        alloc: Global,
+        claim: &OwnedClaim,
+    ) -> Result<Compacted<O>, AllocError>
+    where
+        O: Sync,
+        requires { claiming.is_held self.now claim.now ≡ true }
+        ensures { IfOk result (λ made. made ≡ installing.compaction_of self.now.version (installing.stretch_of self.now claim.now)) }
+    {
+        let held = held_stretch(&self.claims, claim);
+        let runs = held_runs(&self.version, &held);
+        let inputs = shared_runs(alloc, runs)?;
+        let oldest = has_oldest(&self.version, &held);
+        compact::<O>(rt, alloc, &inputs, self.version.keeps(), oldest)
+    }
+
+    /// Puts what was compacted in place of the claim's runs, and gives the claim back. The answer is the id of the new run. It
+    /// copies no run and takes no memory. A refusal hands back both, and the store is as it was.
+    pub fn install(
+        &mut self,
+        claim: OwnedClaim,
+        made: Compacted<O>,
+    ) -> Result<u64, (OwnedClaim, Compacted<O>, InstallError)>
+        requires { claiming.is_held self.old claim ≡ true }
+        ensures ok { IfOk result (λ id. installing.MayReplace self.old.version (installing.stretch_of self.old claim) made × (id ≡ self.old.version.next_id) × (self.new ≡ installing.after_install O.meaning self.old claim made)) }
+        ensures err { IfErr result (λ refused. (refused.0 ≡ claim) × (refused.1 ≡ made) × installing.IsRefused self.old.version (installing.stretch_of self.old claim) made refused.2 × (self.new ≡ self.old)) }
+    {
+        made.stands();
+        install_gives_a_version::<O>();
+        let held = held_stretch(&self.claims, &claim);
+        if let Some(error) = install_refusal(&self.version, &held, &made) {
+            return Err((claim, made, error));
+        }
+        give_slots(&self.table, &mut self.held, held_runs(&self.version, &held));
+        self.claims[claim.number] = None;
+        move_up(&mut self.claims, held.first, held.count);
+        let id = self.version.next_id();
+        self.version
+            .replace(held.first, held.count, made.into_output());
+        Ok(id)
+    }
+}

@@ -1,0 +1,82 @@
+//! Stretches of runs.
+ghost use Rattle.std.specs.Prelude.{◌≡◌, ◌+◌, ◌≤◌, Some, None, IfOk, IfErr, length, map, take};
+ghost use Rattle.std.specs.Arc.{arc_value};
+ghost use Rattle.uc_claims.specs.declared.table.TheConstants.{MOST_SLOTS};
+ghost use Rattle.uc_history.specs.Versions as versions;
+ghost use Rattle.uc_history.specs.Versions.{contents_of, ids_of};
+ghost use Rattle.uc_history.specs.Installs as installs;
+ghost use Rattle.uc_history.specs.Installs.{part_of};
+ghost use Rattle.uc_version.specs.Claiming as claiming;
+ghost use Rattle.uc_version.specs.Claiming.{range_refusal};
+ghost use Rattle.uc_version.specs.Owners.{runs_held};
+
+use crate::claim_error::ClaimError;
+use crate::held_stretch::HeldStretch;
+use std::alloc::{AllocError, Global};
+use std::sync::Arc;
+use uc_claims::MOST_SLOTS;
+use uc_history::{Placed, Version};
+use uc_pick::Stretch;
+use uc_run::Run;
+
+/// The runs of a stretch that may be claimed, where they are two or more that are there.
+pub(crate) fn runs_of(runs: &[Placed], stretch: Stretch) -> Result<&[Placed], ClaimError>
+    ensures ok { IfOk result (λ part. (range_refusal (length runs.now) stretch ≡ None) × (part.now ≡ part_of stretch.first stretch.count runs.now)) }
+    ensures err { IfErr result (λ error. range_refusal (length runs.now) stretch ≡ Some error) }
+{
+    if runs.len() < stretch.first || runs.len() - stretch.first < stretch.count {
+        return Err(ClaimError::OutOfRange);
+    }
+    if stretch.count < 2 {
+        return Err(ClaimError::TooNarrow);
+    }
+    Ok(&runs[stretch.first..stretch.first + stretch.count])
+}
+
+/// The id of the newest of some runs; 0 where there is none.
+pub(crate) fn newest_id(runs: &[Placed]) -> u64
+    ensures { result ≡ installs.newest_id (ids_of runs.now) }
+{
+    runs.first().map_or(0, Placed::id)
+}
+
+/// The id of the oldest of some runs; 0 where there is none.
+pub(crate) fn last_id(runs: &[Placed]) -> u64
+    ensures { result ≡ claiming.last_id (ids_of runs.now) }
+{
+    match runs.last() {
+        None => 0,
+        Some(oldest) => oldest.id(),
+    }
+}
+
+/// The runs of a held claim.
+pub(crate) fn held_runs<'a>(version: &'a Version, held: &HeldStretch) -> &'a [Placed]
+    requires { held.now.first + held.now.count ≤ length version.now.runs }
+    ensures { result.now ≡ runs_held version.now held.now }
+{
+    &version.runs()[held.first..held.first + held.count]
+}
+
+/// The runs again, shared.
+pub(crate) fn shared_runs(alloc: Global, runs: &[Placed]) -> Result<Vec<Arc<Run>>, AllocError>
+    ensures { IfOk result (λ shared. map arc_value shared.items ≡ contents_of runs.now) }
+{
+    let mut shared = Vec::with_capacity(alloc, runs.len())?;
+    for placed in runs {
+        shared.push(placed.run().clone()?)?;
+    }
+    Ok(shared)
+}
+
+/// Their slots, in front of places that are of no account.
+pub(crate) fn slots_of(runs: &[Placed]) -> [usize; MOST_SLOTS]
+    requires { length runs.now ≤ MOST_SLOTS }
+    ensures { take (length runs.now) result ≡ versions.slots_of runs.now }
+{
+    let mut slots = [0; MOST_SLOTS];
+    for (place, placed) in runs.iter().enumerate() {
+        slots[place] = placed.slot();
+    }
+    slots
+}
