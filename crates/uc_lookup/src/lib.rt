@@ -6,10 +6,12 @@
 
 mod answering;
 mod keys;
+mod laws;
 mod lookup;
 mod scan;
 
 pub use answering::answer_one;
+pub use laws::histories_keep_answers;
 
 #[cfg(test)]
 mod drawn_tests;
