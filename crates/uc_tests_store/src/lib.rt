@@ -9,3 +9,5 @@
 mod compactions;
 #[cfg(test)]
 mod dice;
+#[cfg(test)]
+mod owned_stores;

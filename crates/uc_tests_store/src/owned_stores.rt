@@ -1,0 +1,199 @@
+//! Random stores in one owner's hands: claims, installs and picks in any order, and the same answers all along.
+use crate::dice::{Dice, KEYS};
+use std::alloc::Global;
+use std::marker::Sync;
+use std::process::Abort;
+use std::test::Fail;
+use std::thread::Threads;
+use uc_answer::{Query, answer_writes};
+use uc_batch::Writes;
+use uc_bytes::Bytes;
+use uc_lookup::answer_one;
+use uc_oper::{Append, Counter, Maximum, Operator};
+use uc_version::{Options, Owned, OwnedClaim, Stretch, open_plain};
+use uc_write::Write;
+
+/// Up to 40 drawn writes, with gaps between their sequences.
+fn drawn_writes(alloc: Global, dice: &mut Dice) -> Result<Writes, Fail> {
+    let mut writes = Vec::new(alloc);
+    let mut seq = 0_u64;
+    for _ in 0..dice.roll(41) {
+        seq = seq.wrapping_add(1 + (dice.roll(2) & 1));
+        writes.push(Write {
+            seq,
+            op: dice.op(alloc)?,
+        })?;
+    }
+    Ok(Writes::of(writes).ok_or("sequences don't rise")?)
+}
+
+/// Drawn options: memtables of one to six writes or so, and a trigger, a ratio and a percentage of any size.
+fn drawn_options(dice: &mut Dice) -> Options {
+    Options {
+        memtable: 1 + (dice.roll(60) & 63),
+        trigger: 1 + (dice.roll(6) & 7) as u32,
+        ratio: dice.roll(200) as u32,
+        percent: dice.roll(300) as u32,
+        ..Options::usual()
+    }
+}
+
+/// Up to three keeps at or below the last sequence, in any order.
+fn drawn_keeps(alloc: Global, dice: &mut Dice, last: u64) -> Result<Vec<u64>, Fail> {
+    let mut keeps = Vec::new(alloc);
+    for _ in 0..dice.roll(4) {
+        keeps.push(dice.roll(last.saturating_add(1)))?;
+    }
+    Ok(keeps)
+}
+
+/// Whether the store answers a query as the plain writes do.
+fn answers_alike<O: Operator>(
+    alloc: Global,
+    store: &Owned<O>,
+    writes: &Writes,
+    query: &Query,
+) -> Result<bool, Fail> {
+    let version = store.version();
+    let answer = answer_one::<O>(alloc, version, query)?;
+    Ok(answer == answer_writes::<O>(alloc, writes, version.keeps(), query)?)
+}
+
+/// Whether the store reads every key, and scans, as the plain writes do, at a sequence that may be kept or not.
+fn reads_alike<O: Operator>(
+    alloc: Global,
+    dice: &mut Dice,
+    store: &Owned<O>,
+    writes: &Writes,
+    at: u64,
+) -> Result<bool, Fail> {
+    for key in KEYS {
+        let key = Bytes::from_slice(alloc, key)?;
+        if !answers_alike(alloc, store, writes, &Query::Get { key, at })? {
+            return Ok(false);
+        }
+    }
+    let high = match KEYS.get(usize::try_from(dice.roll(5))?) {
+        None => None,
+        Some(high) => Some(Bytes::from_slice(alloc, high)?),
+    };
+    let scan = Query::Scan {
+        low: Bytes::from_slice(alloc, b"")?,
+        high,
+        at,
+        limit: dice.roll(6),
+    };
+    answers_alike(alloc, store, writes, &scan)
+}
+
+/// Compacts what a claim has and installs it, or gives the claim back where it is refused.
+fn install<O: Operator + Sync>(
+    rt: &(impl Threads + Sync),
+    alloc: Global,
+    store: &mut Owned<O>,
+    claim: OwnedClaim,
+) -> Result<(), Fail> {
+    if !store.holds(&claim) {
+        return Err("the claim isn't held")?;
+    }
+    let made = store.compact(rt, alloc, &claim)?;
+    match store.install(claim, made) {
+        Ok(_) => Ok(()),
+        Err(_) => Err("the install is refused")?,
+    }
+}
+
+/// Takes one of the claims out, if there is one.
+fn drawn_claim(dice: &mut Dice, claims: &mut Vec<OwnedClaim>) -> Option<OwnedClaim> {
+    let place = usize::try_from(dice.roll(claims.len() as u64)).ok()?;
+    if place < claims.len() {
+        Some(claims.swap_remove(place))
+    } else {
+        None
+    }
+}
+
+/// A claim of a drawn stretch, or of what is picked; one of the claims installed, or given back.
+fn step<O: Operator + Sync>(
+    rt: &(impl Threads + Sync),
+    alloc: Global,
+    dice: &mut Dice,
+    store: &mut Owned<O>,
+    claims: &mut Vec<OwnedClaim>,
+) -> Result<(), Fail> {
+    match dice.roll(8) {
+        0..3 => {
+            let stretch = Stretch {
+                first: usize::try_from(dice.roll(8))?,
+                count: usize::try_from(dice.roll(6))?,
+            };
+            if let Ok(claim) = store.claim(stretch) {
+                claims.push(claim)?;
+            }
+        }
+        3 => {
+            if let Some(stretch) = store.pick() {
+                match store.claim(stretch) {
+                    Ok(claim) => claims.push(claim)?,
+                    Err(_) => return Err("what is picked can't be claimed")?,
+                }
+            }
+        }
+        4 => {
+            if let Some(claim) = drawn_claim(dice, claims) {
+                if !store.holds(&claim) {
+                    return Err("the claim isn't held")?;
+                }
+                store.abandon(claim);
+            }
+        }
+        _ => {
+            if let Some(claim) = drawn_claim(dice, claims) {
+                install(rt, alloc, store, claim)?;
+            }
+        }
+    }
+    Ok(())
+}
+
+/// A drawn store, with which 30 drawn things are done; after each it reads as the plain writes do, at each of its keeps and
+/// at a drawn sequence.
+fn drawn_store_reads_alike<O: Operator + Sync>(
+    rt: &(impl Threads + Sync),
+    alloc: Global,
+    dice: &mut Dice,
+) -> Result<bool, Fail> {
+    let writes = drawn_writes(alloc, dice)?;
+    let keeps = drawn_keeps(alloc, dice, writes.last())?;
+    let Ok(mut store) = open_plain::<O>(alloc, &writes, &keeps, drawn_options(dice)) else {
+        return Ok(false);
+    };
+    let mut claims = Vec::new(alloc);
+    for _ in 0..30 {
+        step(rt, alloc, dice, &mut store, &mut claims)?;
+        for &at in &keeps {
+            if !reads_alike(alloc, dice, &store, &writes, at)? {
+                return Ok(false);
+            }
+        }
+        let drawn = dice.roll(writes.last().saturating_add(3));
+        if !reads_alike(alloc, dice, &store, &writes, drawn)?
+            || !reads_alike(alloc, dice, &store, &writes, writes.last())?
+        {
+            return Ok(false);
+        }
+    }
+    Ok(true)
+}
+
+#[test]
+fn owned_stores_read_alike(rt: HostRuntime) -> Result<(), Fail> {
+    let alloc = rt.alloc();
+    let mut dice = Dice(13);
+    for _ in 0..20 {
+        assert!(rt; drawn_store_reads_alike::<Append<0x2C>>(&rt, alloc, &mut dice)?);
+        assert!(rt; drawn_store_reads_alike::<Counter>(&rt, alloc, &mut dice)?);
+        assert!(rt; drawn_store_reads_alike::<Maximum>(&rt, alloc, &mut dice)?);
+    }
+    Ok(())
+}
