@@ -57,7 +57,7 @@ module _ (m : Operation) (laws : IsLawful m) (k : ℕ) where
         new = λ some. ⊎_elim
             (λ (same : (v.next_id ≡ k) × (times k (v.next_id ∷ []) ≡ 1)). let e = same.0 in (omega (arith, e), omega (arith, e)))
             (λ (other : times k (v.next_id ∷ []) ≡ 0). absurd (omega (arith, some, other)))
-            (alone k v.next_id)
+            (alone k v.next_id);
       }
 
   record ReplacedOnce (v : Stored) (es : List Event) : Type 0 where
@@ -67,7 +67,7 @@ module _ (m : Operation) (laws : IsLawful m) (k : ℕ) where
   joined_once : (v : Stored) (e : Event) (es : List Event) → IsVersion v → Moves v e → ReplacedOnce (after v e) es → ReplacedOnce v (e ∷ es)
   joined_once v e es is_version step rest = record {
     once = by_count (times k (ids_replaced e)) refl;
-    from = λ some. by_place (times k (ids_replaced e)) refl some
+    from = λ some. by_place (times k (ids_replaced e)) refl some;
   }
     where
       both : times k (flat_map ids_replaced (e ∷ es)) ≡ times k (ids_replaced e) + times k (flat_map ids_replaced es)
@@ -110,7 +110,7 @@ module _ (m : Operation) (laws : IsLawful m) (k : ℕ) where
   more_given : (v : Stored) (e : Event) (es : List Event) → Moves v e → GivenOnce (after v e) es → GivenOnce v (e ∷ es)
   more_given v e es step rest = record {
     once = by_count (times k (ids_given v e)) (times k (ids_given_from (after v e) es)) refl refl;
-    above = λ some. by_place (times k (ids_given v e)) refl some
+    above = λ some. by_place (times k (ids_given v e)) refl some;
   }
     where
       both : times k (ids_given_from v (e ∷ es)) ≡ times k (ids_given v e) + times k (ids_given_from (after v e) es)

@@ -78,9 +78,10 @@ module _ (m : Operation) (laws : IsLawful m) (v : Stored) (i : Install) (is_vers
   in_front =
       all-map (λ (x : Contents). AllByRecursion (λ (y : Contents). y.high < x.low) (contents_of stretch ++ contents_of older))
       (λ x. AllByRecursion (λ (y : Contents). y.high < x.low) (i.output ∷ contents_of older))
-      (λ x below.
-      (subst (λ n. n < x.low) (sym high_is) (of_newest (λ n. n < x.low) (contents_of stretch) some_inputs (all-front (λ (y : Contents). y.high < x.low) (contents_of stretch) (contents_of older) below)),
-      all-behind (λ (y : Contents). y.high < x.low) (contents_of stretch) (contents_of older) below))
+      (λ x below. (
+        subst (λ n. n < x.low) (sym high_is) (of_newest (λ n. n < x.low) (contents_of stretch) some_inputs (all-front (λ (y : Contents). y.high < x.low) (contents_of stretch) (contents_of older) below)),
+        all-behind (λ (y : Contents). y.high < x.low) (contents_of stretch) (contents_of older) below,
+      ))
       (contents_of newer) (apart (contents_of newer) (contents_of stretch ++ contents_of older) stand)
 
   newest_first : AreNewestFirst (contents_of (installed i v).runs)
@@ -156,5 +157,5 @@ module _ (m : Operation) (laws : IsLawful m) (v : Stored) (i : Install) (is_vers
     slots_below = stays (λ p. p.slot) (λ slot. slot < MOST_SLOTS) is_version.slots_below (slot_below stretch some_inputs slots_of_stretch);
     ids_apart = distinct-from_times (ids_of (installed i v).runs) ids_once;
     ids_given = stays (λ p. p.id) (λ id. id < v.next_id + 1) (all-map (λ id. id < v.next_id) (λ id. id < v.next_id + 1) (λ id lt. omega (arith, lt)) (ids_of v.runs) is_version.ids_given) (omega arith);
-    id_below = let lt = may.id_left in omega (arith, lt)
+    id_below = let lt = may.id_left in omega (arith, lt);
   }

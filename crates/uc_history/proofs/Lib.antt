@@ -3,6 +3,8 @@ pub mod Parts
 pub mod Replacing
 pub mod Installed
 pub mod Memtables
+pub mod Filling
+pub mod Kept
 pub mod Opened
 pub mod Along
 pub mod Ids

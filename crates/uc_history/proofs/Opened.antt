@@ -27,6 +27,7 @@ use Rattle.uc_pick.specs.declared.options.Options.{Options}
 use Rattle.uc_pick.specs.Options.{are_good}
 use Rattle.uc_history.specs.Versions.{PlacedRun, Stored, IsVersion, contents_of, ids_of, slots_of, writes_in}
 use Rattle.uc_history.specs.Openings.{Opening, MayOpen, with_flushed, flushed_runs, memtables, rising, opened}
+use Rattle.uc_history.proofs.Kept.{all_kept, in_order}
 use Rattle.uc_history.proofs.Memtables.{joined, joined_from, PartsRise, memtables_rise, last-joined, rising_from_any, last_of_some, last_above, last_limit}
 
 -- runs so far: they stand newest first up to the last sequence, with ids and slots in turn
@@ -58,7 +59,7 @@ module _ (is_run : (writes : List Write) → IsRising 0 writes → writes ≢ []
       slots_apart = (fresh (length runs) (slots_of runs) h.slots_below, h.slots_apart);
       slots_below = ((omega arith), all-map (λ slot. slot < length runs) (λ slot. slot < suc (length runs)) (λ slot lt. omega (arith, lt)) (slots_of runs) h.slots_below);
       ids_apart = (fresh (first_id + length runs) (ids_of runs) h.ids_given, h.ids_apart);
-      ids_given = ((omega arith), all-map (λ id. id < first_id + length runs) (λ id. id < first_id + suc (length runs)) (λ id lt. omega (arith, lt)) (ids_of runs) h.ids_given)
+      ids_given = ((omega arith), all-map (λ id. id < first_id + length runs) (λ id. id < first_id + suc (length runs)) (λ id lt. omega (arith, lt)) (ids_of runs) h.ids_given);
     }
 
     all_flushed : (ps : List (List Write)) (last : ℕ) (runs : List PlacedRun) → PartsRise last ps → AreSoFar first_id last runs → AreSoFar first_id (last_of last (joined ps)) (fold (with_flushed first_id) runs ps)
@@ -110,23 +111,19 @@ module _ (is_run : (writes : List Write) → IsRising 0 writes → writes ≢ []
         last_of_good : (p : Options) → are_good p ≡ true → p.first_id ≤ 2 ^ 64 - 65
         last_of_good p good = let le = and_last _ (leb p.first_id (2 ^ 64 - 65)) good in grind (arith, nat_tests)
 
-    all_kept : (P : ℕ → Type 0) (seqs kept : List ℕ) → AllByRecursion P seqs → AllByRecursion P kept → AllByRecursion P (fold (insert_key nat_cmp) kept seqs)
-    all_kept P [] kept h k = k
-    all_kept P (s ∷ seqs) kept h k = all_kept P seqs (insert_key nat_cmp kept s) h.1 (all-insert_key nat_cmp nat_cmp_total P s kept h.0 k)
-
     pub opened_is_version : IsVersion (opened o)
     opened_is_version = record {
       runs = so_far.runs_are;
       newest_first = so_far.newest_first;
       below = so_far.below;
-      keeps_rise = sorted_set nat_cmp nat_cmp_total (o.keeps ++ last_of 0 o.writes ∷ []);
+      keeps_rise = in_order o;
       keeps_below = all_kept (λ k. k ≤ last_of 0 o.writes) (o.keeps ++ last_of 0 o.writes ∷ []) [] (all-append (λ k. k ≤ last_of 0 o.writes) o.keeps (last_of 0 o.writes ∷ []) may.keeps_below (omega arith, tt)) tt;
       last_below = last_limit 0 o.writes (omega arith) may.rising;
       slots_apart = so_far.slots_apart;
       slots_below = all-map (λ slot. slot < length (flushed_runs o)) (λ slot. slot < MOST_SLOTS) (λ slot lt. let le = may.few in omega (arith, lt, le, count)) (slots_of (flushed_runs o)) so_far.slots_below;
       ids_apart = so_far.ids_apart;
       ids_given = all-map (λ id. id < o.options.first_id + length (flushed_runs o)) (λ id. id < o.options.first_id + length parts) (λ id lt. omega (arith, lt, count)) (ids_of (flushed_runs o)) so_far.ids_given;
-      id_below = let le = may.few in let limit = first_id_limit in omega (arith, le, limit)
+      id_below = let le = may.few in let limit = first_id_limit in omega (arith, le, limit);
     }
 
     module _ (m : Operation) (laws : IsLawful m) (keeps_effects : (writes : List Write) (key : List ℕ) (at : ℕ) → IsRising 0 writes → writes ≢ [] → effect_on m (plain_list (flushed writes)) key at ≡ effect_on m writes key at) where

@@ -64,7 +64,7 @@ module _ (m : Operation) (laws : IsLawful m) (v : Stored) (i : Install) (is_vers
   stand = record {
     some = some_inputs;
     newest_first = first-front (contents_of stretch) (contents_of older) (first-behind (contents_of newer) (contents_of stretch ++ contents_of older) in_order);
-    keeps_rise = may.keeps_rise
+    keeps_rise = may.keeps_rise;
   }
 
   -- a kept sequence is one that the compaction was made for, or isn't below its inputs

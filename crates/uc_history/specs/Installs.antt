@@ -35,7 +35,7 @@ slot_of (p ∷ ps) = p.slot
 abbrev pub replaced : ℕ → ℕ → Contents → Stored → Stored
 replaced first count run v = record v {
   runs = take first v.runs ++ record { id = v.next_id; slot = slot_of (part_of first count v.runs); run = run } ∷ drop (first + count) v.runs;
-  next_id = v.next_id + 1
+  next_id = v.next_id + 1;
 }
 
 abbrev pub newest_id : List ℕ → ℕ

@@ -51,7 +51,7 @@ opened o = record {
   runs = flushed_runs o;
   keeps = rising (o.keeps ++ last_of 0 o.writes ∷ []);
   last = last_of 0 o.writes;
-  next_id = o.options.first_id + length (memtables o.options.memtable o.writes)
+  next_id = o.options.first_id + length (memtables o.options.memtable o.writes);
 }
 
 -- options that are good, no snapshot above the last write, and no more runs than slots

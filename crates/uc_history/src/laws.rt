@@ -1,15 +1,37 @@
 //! What holds of versions and of what happens to them.
-ghost use Rattle.std.specs.Prelude.{◌≡◌, ◌≤◌, ◌<◌, ◌⊎◌, ◌↔◌, ◌++◌, ◌∷◌, [], ℕ, List, Contains, IsTrue};
+ghost use Rattle.std.specs.Prelude.{◌≡◌, ◌≢◌, ◌≤◌, ◌<◌, ◌⊎◌, ◌↔◌, ◌++◌, ◌∷◌, [], ℕ, List, Contains};
+ghost use Rattle.std.specs.List.{flat_map};
+ghost use Rattle.std.specs.List.Sorted.{IsStrictlySortedBy};
+ghost use Rattle.std.specs.Ordering.{nat_cmp};
 ghost use Rattle.uc_write.specs.declared.write.Write.{Write};
+ghost use Rattle.uc_batch.specs.Rising.{last_of};
 ghost use Rattle.uc_claims.specs.Holding.{AreDistinct};
 ghost use Rattle.uc_model.specs.Meaning.{effect_on, value_of};
+ghost use Rattle.uc_run.specs.Size.{memtable_size};
 ghost use Rattle.uc_history.specs.Versions.{Stored, IsVersion, writes_in};
-ghost use Rattle.uc_history.specs.Openings.{Opening, MayOpen, opened};
+ghost use Rattle.uc_history.specs.Openings.{Opening, MayOpen, memtables, opened};
 ghost use Rattle.uc_history.specs.Installs.{Install, MayInstall, installed};
 ghost use Rattle.uc_history.specs.Histories.{History, IsLegal, version_after, writes_given, all_ids_given, all_ids_replaced};
 
 use uc_oper::Operator;
 use uc_run::{flush_keeps_every_effect, flushed_writes_are_a_run};
+
+/// Memtables are filled one after the other: together they hold the writes, in order, and none is empty. All but the last
+/// have reached the limit, and none, where the limit is 1 byte or more, had reached it before its last write.
+pub fn memtables_are_filled_in_turn()
+    ensures joined { (limit : ℕ) (writes : List Write) → flat_map (λ (part : List Write). part) (memtables limit writes) ≡ writes }
+    ensures some { (limit : ℕ) (writes part : List Write) → Contains (memtables limit writes) part → part ≢ [] }
+    ensures full { (limit : ℕ) (writes : List Write) (front : List (List Write)) (part next : List Write) (behind : List (List Write)) →
+        memtables limit writes ≡ front ++ part ∷ next ∷ behind → limit ≤ memtable_size part }
+    ensures not_before { (limit : ℕ) (writes part front : List Write) (w : Write) → 1 ≤ limit →
+        Contains (memtables limit writes) part → part ≡ front ++ w ∷ [] → memtable_size front < limit }
+{}
+
+/// A store opens with the keeps that it was given and the last sequence, each once and in order.
+pub fn opened_keeps_are_those_given()
+    ensures given { (o : Opening) (seq : ℕ) → Contains (opened o).keeps seq ↔ (Contains o.keeps seq ⊎ (seq ≡ last_of 0 o.writes)) }
+    ensures in_order { (o : Opening) → IsStrictlySortedBy nat_cmp (opened o).keeps }
+{}
 
 /// What a store opens with is a version.
 pub fn opening_gives_a_version()

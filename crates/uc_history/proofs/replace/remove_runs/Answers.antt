@@ -11,7 +11,7 @@ loop-preserved c =
     let more = c.loop-test.true in
     record {
       left = one_out c.args.runs.now.items c.loop.runs.items _ c.args.first c.loop.counter (omega (arith, room, more)) c.loop.invariant.left c.remove.ensures.by_index.2;
-      fewer = search rules
+      fewer = search rules;
     }
 
 pub returns : goal.returns
