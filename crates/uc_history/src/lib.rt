@@ -18,3 +18,6 @@ pub use laws::{
 };
 pub use placed::Placed;
 pub use version::Version;
+
+#[cfg(test)]
+mod tests;

@@ -1,0 +1,146 @@
+//! A version's parts, and a run in place of others.
+ghost use Rattle.std.specs.Prelude.{◌≡◌, ◌∷◌, [], IfOk};
+ghost use Rattle.std.specs.Arc.{arc_value};
+
+use super::*;
+use std::alloc::Global;
+use std::process::Abort;
+use std::sync::Arc;
+use std::test::Fail;
+use uc_oper::Counter;
+use uc_run::{Memtable, Run};
+use uc_write::{MAX_SEQUENCE, OpRef, WriteRef};
+
+/// The run of a put at each of some sequences.
+fn run_of(rt: &impl Abort, alloc: Global, seqs: &[u64]) -> Result<Arc<Run>, Fail> {
+    let mut memtable = Memtable::new(alloc);
+    for seq in seqs {
+        let seq = *seq;
+        assert!(rt; memtable.last() < seq);
+        assert!(rt; seq <= MAX_SEQUENCE);
+        memtable.insert_ref(&WriteRef::new(seq, OpRef::put(b"\x6b", b"\x76")))?;
+    }
+    assert!(rt; !memtable.is_empty());
+    Ok(Arc::new(alloc, memtable.flush(alloc)?)?)
+}
+
+/// A version of three runs whose sequences go up to 5. Their ids have gaps, and their slots are in no order.
+fn three_runs(
+    alloc: Global,
+    newest: Arc<Run>,
+    middle: Arc<Run>,
+    oldest: Arc<Run>,
+) -> Result<Version, Fail>
+    ensures { IfOk result (λ version. version ≡ record { runs = record { id = 6; slot = 2; run = arc_value newest } ∷ record { id = 4; slot = 5; run = arc_value middle } ∷ record { id = 3; slot = 0; run = arc_value oldest } ∷ []; keeps = 2 ∷ 5 ∷ []; last = 5; next_id = 8 }) }
+{
+    newest.is_one();
+    middle.is_one();
+    oldest.is_one();
+    if newest.high_seq() > 5 {
+        return Err(Fail::new("a sequence is above 5"));
+    }
+    if middle.high_seq() >= newest.low_seq() || oldest.high_seq() >= middle.low_seq() {
+        return Err(Fail::new("the newest run doesn't come first"));
+    }
+    let first = Placed {
+        id: 6,
+        slot: 2,
+        run: newest,
+    };
+    let second = Placed {
+        id: 4,
+        slot: 5,
+        run: middle,
+    };
+    let third = Placed {
+        id: 3,
+        slot: 0,
+        run: oldest,
+    };
+    let runs = vec![in alloc; first, second, third]?;
+    let keeps = Vec::from_slice(alloc, &[2, 5])?;
+    Ok(Version::new(runs, keeps, 5, 8))
+}
+
+/// The version with a run in place of the older two.
+fn with_merged(
+    alloc: Global,
+    newest: Arc<Run>,
+    middle: Arc<Run>,
+    oldest: Arc<Run>,
+    merged: Arc<Run>,
+) -> Result<Version, Fail> {
+    merged.is_one();
+    if merged.high_seq() >= newest.low_seq() {
+        return Err(Fail::new("the newest run doesn't come first"));
+    }
+    let mut version = three_runs(alloc, newest, middle, oldest)?;
+    version.is_one();
+    version.replace(1, 2, merged);
+    Ok(version)
+}
+
+/// An id, a slot, and the range of sequences.
+type Row = (u64, usize, u64, u64);
+
+/// What is wanted of a version's runs.
+fn wants_runs(rt: &impl Abort, version: &Version, want: &[Row]) {
+    assert_eq!(rt; version.runs().len(), want.len());
+    for (placed, row) in version.runs().iter().zip(want) {
+        let run = placed.run();
+        let is = (placed.id(), placed.slot(), run.low_seq(), run.high_seq());
+        assert_eq!(rt; is, *row);
+    }
+}
+
+/// What is wanted of its keeps, its last sequence and its next id.
+fn wants_numbers(rt: &impl Abort, version: &Version, want: (&[u64], u64, u64)) {
+    assert_eq!(rt; (version.keeps(), version.last(), version.next_id()), want);
+}
+
+#[test]
+fn a_version_has_runs(rt: HostRuntime) -> Result<(), Fail> {
+    let alloc = rt.alloc();
+    let newest = run_of(&rt, alloc, &[5])?;
+    let middle = run_of(&rt, alloc, &[3, 4])?;
+    let oldest = run_of(&rt, alloc, &[1, 2])?;
+    let version = three_runs(alloc, newest, middle, oldest)?;
+    wants_runs(&rt, &version, &[(6, 2, 5, 5), (4, 5, 3, 4), (3, 0, 1, 2)]);
+    wants_numbers(&rt, &version, (&[2, 5], 5, 8));
+    Ok(())
+}
+
+#[test]
+fn a_run_is_put_in_place_of_two(rt: HostRuntime) -> Result<(), Fail> {
+    let alloc = rt.alloc();
+    let newest = run_of(&rt, alloc, &[5])?;
+    let middle = run_of(&rt, alloc, &[3, 4])?;
+    let oldest = run_of(&rt, alloc, &[1, 2])?;
+    let merged = run_of(&rt, alloc, &[1, 2, 3, 4])?;
+    let version = with_merged(alloc, newest, middle, oldest, merged)?;
+    wants_runs(&rt, &version, &[(6, 2, 5, 5), (8, 5, 1, 4)]);
+    wants_numbers(&rt, &version, (&[2, 5], 5, 9));
+    Ok(())
+}
+
+#[test]
+fn a_version_may_be_empty(rt: HostRuntime) -> Result<(), Fail> {
+    let alloc = rt.alloc();
+    let version = Version::new(Vec::new(alloc), Vec::new(alloc), 0, 7);
+    version.is_one();
+    wants_runs(&rt, &version, &[]);
+    wants_numbers(&rt, &version, (&[], 0, 7));
+    Ok(())
+}
+
+#[test]
+fn laws_hold_under_an_operator() {
+    memtables_are_filled_in_turn();
+    opened_keeps_are_those_given();
+    opening_gives_a_version();
+    opening_keeps_every_effect::<Counter>();
+    install_keeps_what_is_read::<Counter>();
+    install_gives_a_version::<Counter>();
+    histories_keep_what_is_read::<Counter>();
+    runs_are_replaced_once::<Counter>();
+}
