@@ -1,15 +1,14 @@
 -- What stays along a history.
-use Rattle.std.proofs.Common.{◌≡◌, ℕ, zero, suc, ◌+◌, ◌<◌, ◌≤◌, List, [], ◌∷◌, ◌++◌, Contains, ◌⊎◌, inl, inr, ⊎_elim, fold, refl, sym, ap, ◌∙◌, subst, arith, append-nil}
-use Rattle.std.specs.Prelude.{Option, None}
+use Rattle.std.proofs.Common.{◌≡◌, ℕ, List, [], ◌∷◌, ◌++◌, Contains, inl, fold, refl, sym, ap, ◌∙◌, subst, append-nil}
+use Rattle.std.specs.Prelude.{None}
 use Rattle.std.specs.List.{flat_map}
 use Rattle.uc_oper.specs.Operation.{Operation, IsLawful}
 use Rattle.uc_oper.specs.Composition.{applied}
 use Rattle.uc_write.specs.declared.write.Write.{Write}
 use Rattle.uc_model.specs.Meaning.{effect_on, value_of}
 use Rattle.uc_model.proofs.MeaningLaws.{effect_gives}
-use Rattle.uc_history.specs.Versions.{PlacedRun, Stored, IsVersion, writes_in}
-use Rattle.uc_history.specs.Openings.{Opening, MayOpen, opened}
-use Rattle.uc_history.specs.Installs.{Install, MayInstall, inputs_in, older_in, installed}
+use Rattle.uc_history.specs.Versions.{Stored, IsVersion, writes_in}
+use Rattle.uc_history.specs.Openings.{opened}
 use Rattle.uc_history.specs.Histories.{Event, Installed, MayHappen, after, writes_brought, History, MayFollow, IsLegal, version_after, writes_given}
 use Rattle.uc_history.proofs.Replacing as replacing
 use Rattle.uc_history.proofs.Installed.{installed_is_version}

@@ -1,13 +1,13 @@
 -- No id is given twice along a history, and no run is replaced twice.
-use Rattle.std.proofs.Common.{◌≡◌, ℕ, zero, suc, ◌+◌, ◌<◌, ◌≤◌, List, [], ◌∷◌, ◌++◌, ◌⊎◌, inl, inr, ⊎_elim, refl, sym, ap, ◌∙◌, arith}
+use Rattle.std.proofs.Common.{◌≡◌, ℕ, zero, suc, ◌+◌, ◌<◌, ◌≤◌, List, [], ◌∷◌, ◌⊎◌, inl, inr, ⊎_elim, refl, ap, arith}
 use Rattle.std.specs.List.{flat_map}
 use Rattle.uc_oper.specs.Operation.{Operation, IsLawful}
 use Rattle.uc_claims.specs.Claims.{times}
 use Rattle.uc_claims.specs.Holding.{AreDistinct}
 use Rattle.uc_claims.proofs.Times.{times-append, times-distinct}
-use Rattle.uc_history.specs.Versions.{PlacedRun, Stored, IsVersion, ids_of}
+use Rattle.uc_history.specs.Versions.{Stored, IsVersion, ids_of}
 use Rattle.uc_history.specs.Openings.{opened}
-use Rattle.uc_history.specs.Installs.{Install, MayInstall, inputs_in}
+use Rattle.uc_history.specs.Installs.{inputs_in}
 use Rattle.uc_history.specs.Histories.{Event, Installed, MayHappen, after, ids_replaced, History, MayFollow, IsLegal, ids_given, ids_given_from, all_ids_given, all_ids_replaced}
 use Rattle.uc_history.proofs.Once.{distinct-from_times, times_of_all, alone}
 use Rattle.uc_history.proofs.Installed.{times_before, times_after}

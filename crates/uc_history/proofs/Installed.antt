@@ -1,19 +1,17 @@
 -- What an install leaves is a version.
-use Rattle.std.proofs.Common.{◌≡◌, ◌≢◌, ℕ, zero, suc, ◌+◌, ◌<◌, ◌≤◌, List, [], ◌∷◌, ◌++◌, length, map, refl, sym, ap, ◌∙◌, subst, ⊎_elim, arith}
-use Rattle.std.specs.Prelude.{◌⊎◌, ◌^◌}
+use Rattle.std.proofs.Common.{◌≡◌, ◌≢◌, ℕ, zero, suc, ◌+◌, ◌<◌, ◌≤◌, List, [], ◌∷◌, ◌++◌, map, refl, sym, ap, ◌∙◌, subst, ⊎_elim, arith}
 use Rattle.std.specs.List.{AllByRecursion}
 use Rattle.std.proofs.lemmas.List.{map-append}
 use Rattle.uc_oper.specs.Operation.{Operation, IsLawful}
 use Rattle.uc_claims.specs.Claims.{times}
 use Rattle.uc_claims.specs.declared.table.TheConstants.{MOST_SLOTS}
-use Rattle.uc_claims.proofs.Times.{times-append, times-distinct, times-from_Contains}
+use Rattle.uc_claims.proofs.Times.{times-append, times-distinct}
 use Rattle.uc_entry.specs.Run.{Contents, IsRun}
-use Rattle.uc_stripe.specs.Inputs.{AreRuns, AreNewestFirst, high_of, low_of}
-use Rattle.uc_stripe.specs.Output.{output_of}
+use Rattle.uc_stripe.specs.Inputs.{AreNewestFirst, high_of, low_of}
 use Rattle.uc_stripe.proofs.Lists.{all-append, all-map}
 use Rattle.uc_stripe.proofs.OutputRun.{output_is_run}
 use Rattle.uc_history.specs.Versions.{PlacedRun, Stored, IsVersion, contents_of, ids_of, slots_of}
-use Rattle.uc_history.specs.Installs.{Install, MayInstall, place_in, inputs_in, older_in, compaction_in, slot_of, installed}
+use Rattle.uc_history.specs.Installs.{Install, MayInstall, inputs_in, older_in, compaction_in, slot_of, installed}
 use Rattle.uc_history.proofs.Once.{distinct-from_times, alone, times_of_all}
 use Rattle.uc_history.proofs.Parts.{all-front, all-behind, first-front, first-behind, first-append, apart, of_newest, of_oldest}
 use Rattle.uc_history.proofs.Replacing as replacing

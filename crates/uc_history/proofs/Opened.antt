@@ -1,12 +1,8 @@
 -- What an opening leaves is a version, which means its writes.
-use Rattle.std.proofs.Common.{◌≡◌, ◌≢◌, ℕ, zero, suc, ◌+◌, ◌<◌, ◌≤◌, Bool, true, false, cond, leb, eqb, ◌||◌, List, [], ◌∷◌, ◌++◌, length, map, fold, refl, sym, ap, ◌∙◌, subst, arith, ne_eqb, append-nil}
-use Rattle.std.specs.Prelude.{◌^◌, ◌-◌, ◌&&◌, ⊤}
-use Rattle.std.specs.List.{AllByRecursion, flat_map, list_any}
-use Rattle.std.specs.List.Sorted.{IsStrictlySortedBy}
-use Rattle.std.specs.Ordering.{nat_cmp}
-use Rattle.std.specs.BTreeSet.{insert_key}
+use Rattle.std.proofs.Common.{◌≡◌, ◌≢◌, ℕ, suc, ◌+◌, ◌<◌, ◌≤◌, Bool, true, false, leb, eqb, ◌||◌, List, [], ◌∷◌, ◌++◌, length, fold, refl, sym, ap, ◌∙◌, subst, arith, ne_eqb, append-nil}
+use Rattle.std.specs.Prelude.{◌^◌, ◌-◌, ◌&&◌}
+use Rattle.std.specs.List.{AllByRecursion, list_any}
 use Rattle.std.proofs.lemmas.Bool.Decides.{nat_tests}
-use Rattle.std.proofs.lemmas.Cmp.{nat_cmp_total}
 use Rattle.std.proofs.lemmas.List.{append_assoc}
 use Rattle.uc_oper.specs.Operation.{Operation, IsLawful}
 use Rattle.uc_oper.specs.Composition.{composed}
@@ -19,14 +15,13 @@ use Rattle.uc_claims.specs.Holding.{AreDistinct}
 use Rattle.uc_claims.specs.declared.table.TheConstants.{MOST_SLOTS}
 use Rattle.uc_entry.specs.Run.{Contents, IsRun}
 use Rattle.uc_entry.specs.PlainList.{plain_list}
-use Rattle.uc_fragment.proofs.Sets.{all-insert_key, sorted_set}
 use Rattle.uc_stripe.specs.Inputs.{AreRuns, AreNewestFirst, writes_of}
 use Rattle.uc_stripe.proofs.Lists.{all-append, all-map}
 use Rattle.uc_run.specs.Flush.{flushed, first_of}
 use Rattle.uc_pick.specs.declared.options.Options.{Options}
 use Rattle.uc_pick.specs.Options.{are_good}
-use Rattle.uc_history.specs.Versions.{PlacedRun, Stored, IsVersion, contents_of, ids_of, slots_of, writes_in}
-use Rattle.uc_history.specs.Openings.{Opening, MayOpen, with_flushed, flushed_runs, memtables, rising, opened}
+use Rattle.uc_history.specs.Versions.{PlacedRun, IsVersion, contents_of, ids_of, slots_of, writes_in}
+use Rattle.uc_history.specs.Openings.{Opening, MayOpen, with_flushed, flushed_runs, memtables, opened}
 use Rattle.uc_history.proofs.Kept.{all_kept, in_order}
 use Rattle.uc_history.proofs.Memtables.{joined, joined_from, PartsRise, memtables_rise, last-joined, rising_from_any, last_of_some, last_above, last_limit}
 

@@ -5,7 +5,7 @@ use Rattle.std.proofs.lemmas.List.{take-append-drop, append-nil, append_assoc, d
 use Rattle.uc_entry.specs.Run.{Contents}
 use Rattle.uc_entry.specs.PlainList.{plain_list}
 use Rattle.uc_write.specs.declared.write.Write.{Write}
-use Rattle.uc_stripe.specs.Inputs.{AreRuns, AreNewestFirst, low_of, high_of, writes_of}
+use Rattle.uc_stripe.specs.Inputs.{AreNewestFirst, low_of, high_of, writes_of}
 use Rattle.uc_stripe.proofs.Lists.{all-append}
 
 pub in_parts : {X : Type 0} (n m : ℕ) (xs : List X) → take n xs ++ (take m (drop n xs) ++ drop (n + m) xs) ≡ xs

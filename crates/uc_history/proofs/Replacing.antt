@@ -1,9 +1,9 @@
 -- An install puts a run in place of others, and reads see no difference.
-use Rattle.std.proofs.Common.{◌≡◌, ◌≢◌, ℕ, ◌+◌, ◌<◌, ◌≤◌, suc, Bool, true, false, leb, List, [], ◌∷◌, ◌++◌, Contains, ◌⊎◌, inl, inr, ⊎_elim, length, map, take, drop, refl, sym, ap, ◌∙◌, subst, arith}
-use Rattle.std.specs.Prelude.{Option, None}
+use Rattle.std.proofs.Common.{◌≡◌, ◌≢◌, ℕ, ◌≤◌, Bool, true, false, leb, List, [], ◌∷◌, ◌++◌, Contains, ◌⊎◌, inl, inr, length, take, refl, sym, ap, ◌∙◌, subst, arith}
+use Rattle.std.specs.Prelude.{None}
 use Rattle.std.specs.List.{AllByRecursion}
 use Rattle.std.proofs.lemmas.Bool.Decides.{nat_tests}
-use Rattle.std.proofs.lemmas.List.{map-append, append_assoc}
+use Rattle.std.proofs.lemmas.List.{map-append}
 use Rattle.uc_oper.specs.Operation.{Operation, IsLawful}
 use Rattle.uc_oper.specs.Composition.{applied}
 use Rattle.uc_write.specs.declared.write.Write.{Write}
@@ -11,7 +11,7 @@ use Rattle.uc_model.specs.Meaning.{effect_on, value_of}
 use Rattle.uc_model.proofs.MeaningLaws.{effect_continues}
 use Rattle.uc_entry.specs.Run.{Contents}
 use Rattle.uc_entry.specs.PlainList.{plain_list}
-use Rattle.uc_stripe.specs.Inputs.{Compaction, AreRuns, AreNewestFirst, Stand, writes_of, high_of}
+use Rattle.uc_stripe.specs.Inputs.{AreRuns, AreNewestFirst, Stand, writes_of, high_of}
 use Rattle.uc_stripe.specs.Output.{output_of}
 use Rattle.uc_stripe.proofs.Staying.{effects_stay, values_stay}
 use Rattle.uc_history.specs.Versions.{PlacedRun, Stored, IsVersion, contents_of, ids_of, writes_in}

@@ -1,4 +1,4 @@
-use Rattle.std.proofs.Common.{◌≡◌, ◌+◌, ◌++◌, ◌∙◌, sym, ap, take, drop, length, arith, rules}
+use Rattle.std.proofs.Common.{arith, rules}
 use Rattle.uc_history.proofs.InPlace.{none_out, one_out, ended}
 use Rattle.uc_history.proofs.replace.remove_runs.Goals as goal
 

@@ -1,7 +1,6 @@
-use Rattle.std.proofs.Common.{◌≡◌, ◌+◌, ◌++◌, ◌∷◌, List, take, drop, sym, ap, ◌∙◌, arith}
+use Rattle.std.proofs.Common.{◌+◌, ◌++◌, ◌∷◌, take, drop, sym, ap, ◌∙◌, arith}
 use Rattle.std.specs.Arc.{arc_value}
 use Rattle.uc_history.specs.Versions.{PlacedRun}
-use Rattle.uc_history.specs.Installs.{part_of, slot_of}
 use Rattle.uc_history.proofs.InPlace.{put_in_place, slot_at}
 use Rattle.uc_history.proofs.replace.replace_runs.Goals as goal
 

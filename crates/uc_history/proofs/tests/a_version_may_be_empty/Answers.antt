@@ -1,4 +1,4 @@
-use Rattle.std.proofs.Common.{◌≡◌, [], sym, subst, List, ℕ, arith}
+use Rattle.std.proofs.Common.{[], sym, subst, List, ℕ, arith}
 use Rattle.std.specs.List.Sorted.{IsStrictlySortedBy}
 use Rattle.uc_history.specs.Versions.{PlacedRun, IsVersion}
 use Rattle.uc_history.proofs.tests.a_version_may_be_empty.Goals as goal
