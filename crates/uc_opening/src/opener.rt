@@ -101,7 +101,7 @@ impl Opener {
 
     /// The version of the writes that came, which keeps these sequences and the last one. It is refused for the first of
     /// these: an option out of its range, a sequence above the last one, more memtables than slots; and
-    /// for want of memory.
+    /// for want of memory. For k sequences it takes k log k steps.
     pub fn finish(self, alloc: Global, keeps: &[u64]) -> Result<Version, OpenError>
         ensures ok { (options : OptionsOf) (writes : List WriteOf) → IsRising 0 writes → self ≡ progress_of options writes →
             let opening : OpeningOf = record { writes = writes; keeps = keeps.now; options = options } in

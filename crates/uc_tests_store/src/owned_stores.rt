@@ -28,14 +28,14 @@ fn drawn_writes(alloc: Global, dice: &mut Dice) -> Result<Writes, Fail> {
 }
 
 /// Drawn options: memtables of one to six writes or so, and a trigger, a ratio and a percentage of any size.
-fn drawn_options(dice: &mut Dice) -> Options {
-    Options {
+fn drawn_options(dice: &mut Dice) -> Result<Options, Fail> {
+    Ok(Options {
         memtable: 1 + (dice.roll(60) & 63),
         trigger: 1 + (dice.roll(6) & 7) as u32,
-        ratio: dice.roll(200) as u32,
-        percent: dice.roll(300) as u32,
+        ratio: u32::try_from(dice.roll(200))?,
+        percent: u32::try_from(dice.roll(300))?,
         ..Options::usual()
-    }
+    })
 }
 
 /// Up to three keeps at or below the last sequence, in any order.
@@ -165,7 +165,8 @@ fn drawn_store_reads_alike<O: Operator + Sync>(
 ) -> Result<bool, Fail> {
     let writes = drawn_writes(alloc, dice)?;
     let keeps = drawn_keeps(alloc, dice, writes.last())?;
-    let Ok(mut store) = open_plain::<O>(alloc, &writes, &keeps, drawn_options(dice)) else {
+    let options = drawn_options(dice)?;
+    let Ok(mut store) = open_plain::<O>(alloc, &writes, &keeps, options) else {
         return Ok(false);
     };
     let mut claims = Vec::new(alloc);

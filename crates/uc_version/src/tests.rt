@@ -159,20 +159,24 @@ fn opened(alloc: Global, merges: u64, first_id: u64) -> Result<Owned<Commas>, Fa
     }
 }
 
-/// Installs what the claim's runs become, or gives the claim back.
+/// Installs what the claim's runs become. A refused claim goes back to those that are kept.
 fn installed(
     rt: &(impl Threads + Sync),
     alloc: Global,
     store: &mut Owned<Commas>,
+    claims: &mut Vec<OwnedClaim>,
     claim: OwnedClaim,
-) -> Result<(Result<u64, InstallError>, Option<OwnedClaim>), Fail> {
+) -> Result<Result<u64, InstallError>, Fail> {
     if !store.holds(&claim) {
         return Err("the claim isn't held")?;
     }
     let made = store.compact(rt, alloc, &claim)?;
     match store.install(claim, made) {
-        Ok(id) => Ok((Ok(id), None)),
-        Err((claim, _, error)) => Ok((Err(error), Some(claim))),
+        Ok(id) => Ok(Ok(id)),
+        Err(refused) => {
+            claims.push(refused.0)?;
+            Ok(Err(refused.2))
+        }
     }
 }
 
@@ -217,11 +221,7 @@ fn stepped(
         }
         Install(number, wanted) => {
             let claim = taken(claims, number)?;
-            let (outcome, back) = installed(rt, alloc, store, claim)?;
-            assert_eq!(rt; outcome, wanted);
-            if let Some(claim) = back {
-                claims.push(claim)?;
-            }
+            assert_eq!(rt; installed(rt, alloc, store, claims, claim)?, wanted);
         }
         Busy(slot, wanted) => {
             if slot >= MOST_SLOTS {
