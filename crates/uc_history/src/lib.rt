@@ -2,8 +2,8 @@
 //!
 //! A [`Version`] has sorted runs, the newest first, the sequences that snapshots keep, and the number of the next run. What
 //! may happen to it is an event; a history is an opening and the events behind it. Read `specs/Versions.antt` first,
-//! then `specs/Openings.antt`, `specs/Installs.antt` and `specs/Histories.antt`, and `laws.rt`, which says that no
-//! event changes what is read.
+//! then `specs/Openings.antt`, `specs/Installs.antt` and `specs/Histories.antt`, and `laws.rt`, which says what a store
+//! opens with, and that no event changes what is read.
 #![tactic(auto)]
 
 mod laws;
