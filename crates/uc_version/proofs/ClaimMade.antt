@@ -1,5 +1,5 @@
 -- A claim that is made, or refused.
-use Rattle.std.proofs.Common.{◌≡◌, ℕ, ◌+◌, ◌<◌, ◌≤◌, ◌++◌, List, length, get_or, set, refl, sym, ap, ◌∙◌, subst, arith}
+use Rattle.std.proofs.Common.{◌≡◌, ℕ, ◌+◌, ◌<◌, ◌≤◌, ◌++◌, List, length, get_or, set, sym, ap, ◌∙◌, subst, arith}
 use Rattle.std.specs.Prelude.{Option, Some, None, option_map}
 use Rattle.std.specs.Option.{option_or}
 use Rattle.std.specs.List.{flat_map}
@@ -12,7 +12,7 @@ use Rattle.uc_version.specs.declared.held_stretch.HeldStretch.{HeldStretch}
 use Rattle.uc_version.specs.declared.claim_error.ClaimError.{ClaimError}
 use Rattle.uc_version.specs.declared.claim_error.ClaimError.TheVariants.{Busy}
 use Rattle.uc_version.specs.Owners.{Owner, IsOwner, slots_held, claimed_slots}
-use Rattle.uc_version.specs.Claiming.{Claim, claim_refusal, range_refusal, first_busy, last_id, free_number, claim_of}
+use Rattle.uc_version.specs.Claiming.{claim_refusal, range_refusal, first_busy, last_id, free_number, claim_of}
 use Rattle.uc_version.proofs.HeldClaims.{free_none}
 use Rattle.uc_version.proofs.Flags.{same_first}
 use Rattle.uc_version.proofs.Taking.{range_holds, number_is_free, same_more, with_one_more}

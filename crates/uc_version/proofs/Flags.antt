@@ -1,12 +1,11 @@
 -- What is read of slots, whichever list of them is looked at.
-use Rattle.std.proofs.Common.{◌≡◌, ℕ, zero, suc, ◌+◌, ◌<◌, ◌≤◌, Bool, true, false, cond, eqb, ltb, ◌||◌, List, [], ◌∷◌, ◌++◌, length, get_or, set, take, drop, refl, sym, ap, ◌∙◌, subst, inl, inr, ⊎_elim, get_or-set_same, get_or-set_other, arith}
-use Rattle.std.specs.Prelude.{◌⊎◌, ◌↔◌, IsTrue, Option, Some, None, Contains, All, map}
+use Rattle.std.proofs.Common.{◌≡◌, ℕ, zero, suc, ◌+◌, ◌<◌, Bool, true, false, cond, eqb, ltb, List, [], ◌∷◌, ◌++◌, length, get_or, set, take, drop, refl, sym, ap, ◌∙◌, subst, ⊎_elim, get_or-set_same, get_or-set_other, arith}
+use Rattle.std.specs.Prelude.{◌↔◌, IsTrue, Option, Some, None, Contains, map}
 use Rattle.std.specs.List.{AllByRecursion, list_any}
 use Rattle.std.proofs.lemmas.Bool.{cases_eq, false≢true}
 use Rattle.std.proofs.lemmas.Bool.Decides.{nat_tests}
-use Rattle.std.proofs.lemmas.List.Elements.{All-contains}
 use Rattle.uc_claims.specs.Claims.{times}
-use Rattle.uc_claims.specs.Holding.{NoneHeld, IsFirstHeld}
+use Rattle.uc_claims.specs.Holding.{IsFirstHeld}
 use Rattle.uc_claims.proofs.Times.{times-append, times-from_Contains, Contains-from_times, list_any-times}
 use Rattle.uc_history.specs.Versions.{PlacedRun, slots_of}
 use Rattle.uc_version.specs.Claiming.{first_busy}

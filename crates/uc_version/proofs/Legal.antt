@@ -1,9 +1,8 @@
 -- An install for a claim is an event that may happen.
-use Rattle.std.proofs.Common.{◌≡◌, ◌≢◌, ℕ, zero, suc, ◌+◌, ◌-◌, ◌<◌, ◌≤◌, Bool, true, false, not, cond, eqb, ltb, ◌&&◌, List, [], ◌∷◌, ◌++◌, length, set, take, drop, map, refl, sym, ap, ◌∙◌, subst, eq-eqb, ne_eqb, ⊎_elim, arith}
+use Rattle.std.proofs.Common.{◌≡◌, ◌≢◌, ℕ, zero, suc, ◌+◌, ◌-◌, ◌<◌, ◌≤◌, Bool, true, false, not, cond, eqb, ltb, ◌&&◌, List, [], ◌∷◌, length, set, drop, map, refl, sym, ap, ◌∙◌, subst, eq-eqb, ne_eqb, ⊎_elim, arith}
 use Rattle.std.specs.Prelude.{◌^◌, Option, Some, None, Contains}
 use Rattle.std.specs.List.{AllByRecursion, list_any}
 use Rattle.std.proofs.lemmas.Bool.Decides.{nat_tests}
-use Rattle.std.proofs.lemmas.Bool.{cases_eq}
 use Rattle.std.proofs.lemmas.List.{length-map, drop_all}
 use Rattle.uc_oper.specs.Operation.{Operation}
 use Rattle.uc_claims.specs.Claims.{times}
@@ -17,7 +16,7 @@ use Rattle.uc_history.proofs.Once.{alone, times_of_all}
 use Rattle.uc_version.specs.declared.held_stretch.HeldStretch.{HeldStretch}
 use Rattle.uc_version.specs.Owners.{Owner, runs_held}
 use Rattle.uc_version.specs.Claiming.{Claim}
-use Rattle.uc_version.specs.Installing.{stretch_of, has_oldest, Fits, is_unknown, first_unknown, IdLeft, MayReplace, moved_up, after_install, install_of}
+use Rattle.uc_version.specs.Installing.{stretch_of, has_oldest, is_unknown, first_unknown, MayReplace, moved_up, after_install, install_of}
 use Rattle.uc_version.proofs.HeldClaims.{part_length}
 
 one_itself : (x : ℕ) → times x (x ∷ []) ≡ 1
@@ -106,7 +105,7 @@ module _ (m : Operation) (v : Stored) (is_version : IsVersion v) (h : HeldStretc
         (subst (λ (rs : List Contents). keep < high_of rs) (ap contents_of inputs ∙ sym may.fits.inputs) lt);
     oldest_last = λ e. older ∙ at_end (may.fits.oldest e);
     output_made = ap (λ (rs : List Contents). output_of m (record { inputs = rs; keeps = made.keeps; oldest = made.oldest })) (may.fits.inputs ∙ ap contents_of (sym inputs));
-    id_left = let below = is_version.id_below in let left = may.left in below_last v.next_id below left
+    id_left = let below = is_version.id_below in let left = may.left in below_last v.next_id below left;
   }
     where
       below_last : (n : ℕ) → n < 2 ^ 64 → n ≢ 2 ^ 64 - 1 → n < 2 ^ 64 - 1

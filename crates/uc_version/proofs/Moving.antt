@@ -17,7 +17,7 @@ use Rattle.uc_version.specs.declared.held_stretch.HeldStretch.{HeldStretch}
 use Rattle.uc_version.specs.Owners.{Owner, IsOwner, Stands, runs_held, slots_held, claimed_slots}
 use Rattle.uc_version.specs.Installing.{moved_up}
 use Rattle.uc_version.proofs.HeldClaims.{claimed_once, all-set}
-use Rattle.uc_version.proofs.Taking.{fewer, stands, less_claimed, same_less, with_one_less}
+use Rattle.uc_version.proofs.Taking.{stands, less_claimed, same_less}
 
 -- a run of a stretch has its slot among the stretch's
 slot_in : (runs : List PlacedRun) (first count p : ℕ) (d : PlacedRun) → first ≤ p → p < first + count → p < length runs → 0 < times (get_or runs p d).slot (slots_of (part_of first count runs))
@@ -121,13 +121,13 @@ module _ (v : Stored) (h : HeldStretch) (two : 2 ≤ h.count) (within : h.first 
       let same : moved_up h.first h.count (Some g) ≡ Some g = stays_there (ltb h.first g.first) (not_behind le) in
       record {
         slots = ap (slots_held v') same ∙ ap slots_of (part_before g.first g.count le);
-        stands_on = subst (Stands v') (sym same) (stand.0, (let l = length_after in omega (arith, l, le, two, within)))
+        stands_on = subst (Stands v') (sym same) (stand.0, (let l = length_after in omega (arith, l, le, two, within)));
       })
       (λ (le : h.first + h.count ≤ g.first).
       let same : moved_up h.first h.count (Some g) ≡ Some (record g { first = g.first - (h.count - 1) }) = moves (ltb h.first g.first) (is_behind le) in
       record {
         slots = ap (slots_held v') same ∙ ap slots_of (part_after g.first g.count le);
-        stands_on = subst (Stands v') (sym same) (stand.0, (let l = length_after in let w = stand.1 in omega (arith, l, le, two, w)))
+        stands_on = subst (Stands v') (sym same) (stand.0, (let l = length_after in let w = stand.1 in omega (arith, l, le, two, w)));
       })
       (lie_apart v g h stand.0 stand.1 two within once)
     where
@@ -147,9 +147,10 @@ module _ (v : Stored) (h : HeldStretch) (two : 2 ≤ h.count) (within : h.first 
 
   all_stay : (cs : List (Option HeldStretch)) → AllByRecursion (Stands v) cs → ((k : ℕ) → times k (flat_map (slots_held v) cs) + times k (slots_of (runs_held v h)) ≤ 1) → AllByRecursion Stays cs
   all_stay [] stand once = tt
-  all_stay (c ∷ cs) stand once =
-      (stays c stand.0 (λ k. let e = times-append k (slots_held v c) (flat_map (slots_held v) cs) in let le = once k in omega (arith, e, le)),
-      all_stay cs stand.1 (λ k. let e = times-append k (slots_held v c) (flat_map (slots_held v) cs) in let le = once k in omega (arith, e, le)))
+  all_stay (c ∷ cs) stand once = (
+    stays c stand.0 (λ k. let e = times-append k (slots_held v c) (flat_map (slots_held v) cs) in let le = once k in omega (arith, e, le)),
+    all_stay cs stand.1 (λ k. let e = times-append k (slots_held v c) (flat_map (slots_held v) cs) in let le = once k in omega (arith, e, le)),
+  )
 
   slots_stay : (cs : List (Option HeldStretch)) → AllByRecursion Stays cs → flat_map (slots_held v') (map (moved_up h.first h.count) cs) ≡ flat_map (slots_held v) cs
   slots_stay [] all = refl
@@ -182,5 +183,5 @@ module _ (o : Owner) (is_owner : IsOwner o) (held : List ℕ) (same : (k : ℕ) 
     options_good = is_owner.options_good;
     numbers = length-map (set o.claims n None) (moved_up h.first h.count) ∙ length-set o.claims n None ∙ is_owner.numbers;
     stand = stand_on o.version h is_there.0 is_there.1 run (set o.claims n None) all;
-    apart = distinct-from_times (claimed_slots after) (λ k. let e = ap (times k) (slots_stay o.version h is_there.0 is_there.1 run (set o.claims n None) all) in let le = once k in omega (arith, e, le))
+    apart = distinct-from_times (claimed_slots after) (λ k. let e = ap (times k) (slots_stay o.version h is_there.0 is_there.1 run (set o.claims n None) all) in let le = once k in omega (arith, e, le));
   }

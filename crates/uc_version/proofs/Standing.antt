@@ -1,5 +1,5 @@
 -- Neighbouring runs of a version may be compacted together.
-use Rattle.std.proofs.Common.{◌≡◌, ◌≢◌, ℕ, ◌+◌, ◌<◌, ◌≤◌, Bool, List, [], ◌∷◌, ◌++◌, length, take, drop, map, refl, sym, ap, ◌∙◌, subst, arith}
+use Rattle.std.proofs.Common.{◌≡◌, ℕ, ◌+◌, ◌≤◌, Bool, List, [], ◌∷◌, ◌++◌, length, take, drop, map, refl, sym, ap, ◌∙◌, subst, arith}
 use Rattle.std.specs.List.{AllByRecursion}
 use Rattle.std.proofs.lemmas.List.{map-append}
 use Rattle.uc_entry.specs.Run.{Contents}
@@ -17,7 +17,7 @@ part_stands v is_version first count two within = record {
       first-front (contents_of (part_of first count v.runs)) (contents_of (drop (first + count) v.runs))
       (first-behind (contents_of (take first v.runs)) (contents_of (part_of first count v.runs) ++ contents_of (drop (first + count) v.runs))
       (subst AreNewestFirst (sym whole) is_version.newest_first));
-  keeps_rise = is_version.keeps_rise
+  keeps_rise = is_version.keeps_rise;
 }
   where
     no_runs : (ps : List PlacedRun) → 2 ≤ length ps → contents_of ps ≡ [] → ⊥

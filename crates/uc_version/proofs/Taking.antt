@@ -1,24 +1,22 @@
 -- Claims that are taken and given back.
-use Rattle.std.proofs.Common.{◌≡◌, ℕ, zero, suc, ◌+◌, ◌<◌, ◌≤◌, Bool, true, false, not, cond, ltb, List, [], ◌∷◌, ◌++◌, length, get_or, set, refl, sym, ap, ◌∙◌, subst, arith}
+use Rattle.std.proofs.Common.{◌≡◌, ℕ, zero, suc, ◌+◌, ◌<◌, ◌≤◌, Bool, true, false, not, cond, ltb, List, ◌++◌, length, get_or, set, refl, sym, ap, ◌∙◌, subst, arith}
 use Rattle.std.specs.Prelude.{Option, Some, None, Contains, All, ◌||◌, ◌-◌}
-use Rattle.std.specs.List.{AllByRecursion, flat_map}
+use Rattle.std.specs.List.{flat_map}
 use Rattle.std.proofs.lemmas.Bool.Decides.{nat_tests}
 use Rattle.std.proofs.lemmas.List.{length-set}
 use Rattle.std.proofs.lemmas.List.Elements.{All-from_recursion}
 use Rattle.uc_claims.specs.Claims.{times}
-use Rattle.uc_claims.specs.Holding.{AreDistinct, NoneHeld, without}
+use Rattle.uc_claims.specs.Holding.{NoneHeld, without}
 use Rattle.uc_claims.proofs.Times.{times-append, times-filter, list_any-times, Contains-from_times}
 use Rattle.uc_pick.specs.declared.stretch.Stretch.{Stretch}
-use Rattle.uc_history.specs.Versions.{PlacedRun, Stored, IsVersion, slots_of}
-use Rattle.uc_history.specs.Installs.{part_of}
+use Rattle.uc_history.specs.Versions.{slots_of}
 use Rattle.uc_history.proofs.Once.{distinct-from_times, all-from_times}
 use Rattle.uc_version.specs.declared.held_stretch.HeldStretch.{HeldStretch}
-use Rattle.uc_version.specs.declared.claim_error.ClaimError.{ClaimError}
 use Rattle.uc_version.specs.declared.claim_error.ClaimError.TheVariants.{OutOfRange, TooNarrow}
 use Rattle.uc_version.specs.Owners.{Owner, IsOwner, Stands, runs_held, slots_held, claimed_slots}
 use Rattle.uc_version.specs.Claiming.{Claim, range_refusal, free_number, has_ids, is_held}
 use Rattle.uc_version.specs.Installing.{stretch_in, stretch_of}
-use Rattle.uc_version.proofs.HeldClaims.{part_once, times-set, free_none, all-set, all_at, held_below, none_held, claimed_once, number_free}
+use Rattle.uc_version.proofs.HeldClaims.{part_once, times-set, all-set, all_at, held_below, none_held, claimed_once, number_free}
 
 -- a stretch that isn't refused for its range
 pub range_holds : (n : ℕ) (s : Stretch) → range_refusal n s ≡ None → (2 ≤ s.count) × (s.first + s.count ≤ n)
@@ -86,7 +84,7 @@ module _ (o : Owner) (is_owner : IsOwner o) (held : List ℕ) (same : (k : ℕ) 
         options_good = is_owner.options_good;
         numbers = length-set o.claims n (Some h) ∙ is_owner.numbers;
         stand = all-set o.version (Stands o.version) o.claims n (Some h) is_owner.stand (two, within);
-        apart = distinct-from_times (flat_map (slots_held o.version) (set o.claims n (Some h))) once_more
+        apart = distinct-from_times (flat_map (slots_held o.version) (set o.claims n (Some h))) once_more;
       }
 
   -- a claim less
@@ -125,7 +123,7 @@ module _ (o : Owner) (is_owner : IsOwner o) (held : List ℕ) (same : (k : ℕ) 
       options_good = is_owner.options_good;
       numbers = length-set o.claims n None ∙ is_owner.numbers;
       stand = all-set o.version (Stands o.version) o.claims n None is_owner.stand tt;
-      apart = distinct-from_times (flat_map (slots_held o.version) fewer) (λ k. let l = less_claimed k in let le = claimed_once o is_owner k in omega (arith, l, le))
+      apart = distinct-from_times (flat_map (slots_held o.version) fewer) (λ k. let l = less_claimed k in let le = claimed_once o is_owner k in omega (arith, l, le));
     }
 
 -- the stretch of a claim that is held is there

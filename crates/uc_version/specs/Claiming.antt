@@ -1,9 +1,9 @@
 -- Claims of stretches.
-use Rattle.std.specs.Prelude.{◌≡◌, ℕ, ◌+◌, ◌-◌, suc, ◌==◌, Bool, false, ◌&&◌, ◌||◌, List, [], ◌∷◌, Option, Some, None, option_map, length, nat_lt, slice_set, slice_index_or, if◌then◌else◌}
+use Rattle.std.specs.Prelude.{ℕ, ◌-◌, suc, ◌==◌, Bool, false, ◌&&◌, ◌||◌, List, [], ◌∷◌, Option, Some, None, option_map, length, nat_lt, slice_set, slice_index_or, if◌then◌else◌}
 use Rattle.std.specs.List.{list_any}
 use Rattle.std.specs.Option.{option_or}
 use Rattle.uc_pick.specs.declared.stretch.Stretch.{Stretch}
-use Rattle.uc_history.specs.Versions.{PlacedRun, ids_of, slots_of}
+use Rattle.uc_history.specs.Versions.{ids_of, slots_of}
 use Rattle.uc_history.specs.Installs.{part_of, newest_id}
 use Rattle.uc_version.specs.declared.held_stretch.HeldStretch.{HeldStretch}
 use Rattle.uc_version.specs.declared.claim_error.ClaimError.{ClaimError}
@@ -55,7 +55,7 @@ claim_of o s = record { number = free_number o.claims; newest = newest_id (stret
 -- the owner with a claim that is held
 abbrev pub with_claim : Owner → Claim → Stretch → Owner
 with_claim o c s = record o {
-  claims = slice_set o.claims c.number (Some (record { first = s.first; count = s.count; newest = c.newest; oldest = c.oldest }))
+  claims = slice_set o.claims c.number (Some (record { first = s.first; count = s.count; newest = c.newest; oldest = c.oldest }));
 }
 
 -- the claim that has a number

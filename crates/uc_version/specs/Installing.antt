@@ -1,10 +1,10 @@
 -- Installs of what was compacted of claimed stretches.
-use Rattle.std.specs.Prelude.{◌≡◌, ◌≢◌, ℕ, ◌+◌, ◌-◌, ◌^◌, Bool, true, false, not, ◌&&◌, ◌==◌, List, [], ◌∷◌, Option, Some, None, length, map, nat_lt, if◌then◌else◌}
+use Rattle.std.specs.Prelude.{◌≡◌, ◌≢◌, ℕ, ◌+◌, ◌-◌, ◌^◌, Bool, true, not, ◌&&◌, ◌==◌, List, [], ◌∷◌, Option, Some, None, length, map, nat_lt, if◌then◌else◌}
 use Rattle.std.specs.List.{list_any}
 use Rattle.uc_oper.specs.Operation.{Operation}
 use Rattle.uc_stripe.specs.Inputs.{Compaction, high_of}
 use Rattle.uc_stripe.specs.Output.{output_of}
-use Rattle.uc_history.specs.Versions.{PlacedRun, Stored, contents_of, ids_of}
+use Rattle.uc_history.specs.Versions.{Stored, contents_of, ids_of}
 use Rattle.uc_history.specs.Installs.{Install, replaced}
 use Rattle.uc_version.specs.declared.held_stretch.HeldStretch.{HeldStretch}
 use Rattle.uc_version.specs.declared.install_error.InstallError.{InstallError}
@@ -70,7 +70,7 @@ moved_up first count (Some h) =
 abbrev pub after_install : Operation → Owner → Claim → Compaction → Owner
 after_install m o c made = record o {
   version = replaced (stretch_of o c).first (stretch_of o c).count (output_of m made) o.version;
-  claims = map (moved_up (stretch_of o c).first (stretch_of o c).count) (without_claim o c).claims
+  claims = map (moved_up (stretch_of o c).first (stretch_of o c).count) (without_claim o c).claims;
 }
 
 -- the event that it is

@@ -51,11 +51,7 @@ impl<O: Operator> Model for Owned<O> {
 
 impl<O: Operator> Owned<O> {
     /// A store with this version, of which nothing is claimed. It fails only for want of memory.
-    pub fn new(
-        alloc: Global,
-        version: Version,
-        options: Options,
-    ) -> Result<Owned<O>, AllocError>
+    pub fn new(alloc: Global, version: Version, options: Options) -> Result<Owned<O>, AllocError>
         requires { are_good options ≡ true }
         ensures { IfOk result (λ owned. owned ≡ unclaimed version options) }
     {

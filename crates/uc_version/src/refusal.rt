@@ -43,8 +43,7 @@ fn fits<O: Operator>(version: &Version, held: &HeldStretch, made: &Compacted<O>)
     requires { held.now.first + held.now.count ≤ length version.now.runs }
     ensures { IsTrue result ↔ Fits version.now held.now made.now }
 {
-    are_inputs(made, held_runs(version, held))
-        && (!made.oldest() || has_oldest(version, held))
+    are_inputs(made, held_runs(version, held)) && (!made.oldest() || has_oldest(version, held))
 }
 
 /// Whether a compaction wasn't made for a keep below the greatest sequence of its inputs.

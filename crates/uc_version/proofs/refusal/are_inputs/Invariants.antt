@@ -1,4 +1,4 @@
-use Rattle.std.proofs.Common.{◌≡◌, length, map, take}
+use Rattle.std.proofs.Common.{◌≡◌, map, take}
 use Rattle.std.specs.Arc.{arc_value}
 use Rattle.uc_history.specs.Versions.{contents_of}
 use Rattle.uc_version.proofs.refusal.are_inputs.Given as goal

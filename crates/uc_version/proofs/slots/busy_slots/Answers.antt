@@ -1,4 +1,4 @@
-use Rattle.std.proofs.Common.{◌≡◌, ◌∙◌, length-set, arith}
+use Rattle.std.proofs.Common.{◌∙◌, length-set, arith}
 use Rattle.uc_version.proofs.Flags.{flag_is, flag_set}
 use Rattle.uc_version.proofs.slots.busy_slots.Goals as goal
 

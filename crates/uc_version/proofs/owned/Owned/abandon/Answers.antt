@@ -43,5 +43,5 @@ invariant_of-self g c =
       count = i.count;
       table = i.table;
       whole = i.whole;
-      slots = subst (λ (ps : List PlacedRun). (k : ℕ) → times k (without (slots_of ps) slots) ≡ times k (claimed_slots (record (owner c.self.inside) { claims = slice_set c.self.inside.claims number None }))) (sym c.held_runs.ensures) same
+      slots = subst (λ (ps : List PlacedRun). (k : ℕ) → times k (without (slots_of ps) slots) ≡ times k (claimed_slots (record (owner c.self.inside) { claims = slice_set c.self.inside.claims number None }))) (sym c.held_runs.ensures) same;
     })

@@ -1,4 +1,4 @@
-use Rattle.std.proofs.Common.{◌≡◌, ◌∙◌, sym, ap}
+use Rattle.std.proofs.Common.{◌∙◌, ap}
 use Rattle.uc_version.specs.Owners.{Owner, is_busy, claimed_slots}
 use Rattle.uc_version.specs.Held.{owner}
 use Rattle.uc_version.proofs.Flags.{flag_is, same_any}

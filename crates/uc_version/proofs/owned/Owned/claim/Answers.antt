@@ -1,16 +1,11 @@
-use Rattle.std.proofs.Common.{◌≡◌, ◌≤◌, ◌<◌, ◌+◌, ◌++◌, ◌∙◌, ℕ, List, length, refl, sym, ap, subst, arith}
-use Rattle.std.specs.Prelude.{Some, None, option_map, slice_set}
-use Rattle.std.specs.Option.{option_or}
+use Rattle.std.proofs.Common.{◌≡◌, ◌≤◌, ◌<◌, ◌∙◌, List, length, refl, sym, ap, subst, arith}
+use Rattle.std.specs.Prelude.{Some, None, slice_set}
 use Rattle.std.specs.List.{AllByRecursion}
-use Rattle.uc_claims.specs.Claims.{times}
-use Rattle.uc_claims.specs.Holding.{Holding, AreDistinct, NoneHeld}
+use Rattle.uc_claims.specs.Holding.{Holding, AreDistinct}
 use Rattle.uc_claims.specs.declared.table.TheConstants.{MOST_SLOTS}
-use Rattle.uc_history.specs.Versions.{PlacedRun, slots_of, ids_of}
-use Rattle.uc_history.specs.Installs.{part_of, newest_id}
-use Rattle.uc_version.specs.declared.held_stretch.HeldStretch.{HeldStretch}
-use Rattle.uc_version.specs.declared.claim_error.ClaimError.{ClaimError}
-use Rattle.uc_version.specs.declared.claim_error.ClaimError.TheVariants.{Busy}
-use Rattle.uc_version.specs.Owners.{Owner, claimed_slots}
+use Rattle.uc_history.specs.Versions.{PlacedRun, slots_of}
+use Rattle.uc_history.specs.Installs.{part_of}
+use Rattle.uc_version.specs.Owners.{Owner}
 use Rattle.uc_version.specs.Claiming.{claim_refusal, claim_of, with_claim}
 use Rattle.uc_version.specs.Held.{owner, IsOwned}
 use Rattle.uc_version.proofs.Few.{few_part}
@@ -42,10 +37,11 @@ invariant_of-self g c =
 
 pub returns-in-Err-claim_slots-clause-err : goal.returns-in-Err-claim_slots-clause-err
 returns-in-Err-claim_slots-clause-err g c =
-    let i = c.self.invariant in
-    (ap (λ (o : Owner). claim_refusal o c.args.stretch) (sym c.self.view_is)
-    ∙ refused (owner c.self.inside) i.owner_is c.self.inside.held.slots i.slots c.args.stretch c.runs.result.now c.in-Ok.runs.now c.runs.ensures c.in-Ok.ensures.ok.0 c.in-Ok.ensures.ok.1 c.in-Err-claim_slots.error c.in-Err-claim_slots.ensures.err.1,
-    c.self.view_is)
+    let i = c.self.invariant in (
+      ap (λ (o : Owner). claim_refusal o c.args.stretch) (sym c.self.view_is)
+          ∙ refused (owner c.self.inside) i.owner_is c.self.inside.held.slots i.slots c.args.stretch c.runs.result.now c.in-Ok.runs.now c.runs.ensures c.in-Ok.ensures.ok.0 c.in-Ok.ensures.ok.1 c.in-Err-claim_slots.error c.in-Err-claim_slots.ensures.err.1,
+      c.self.view_is,
+    )
 
 pub bounds-self-inside-number : goal.bounds-self-inside-number
 bounds-self-inside-number g c =
@@ -75,7 +71,7 @@ invariant_of-self-2 g c =
       count = i.count;
       table = i.table;
       whole = i.whole;
-      slots = slots_after (owner c.self.inside) i.owner_is slots i.slots s c.runs.result.now c.in-Ok.runs.now c.runs.ensures c.in-Ok.ensures.ok.0 c.in-Ok.ensures.ok.1 newest oldest c.in_default.ensures.apart n c.free_number-number.ensures
+      slots = slots_after (owner c.self.inside) i.owner_is slots i.slots s c.runs.result.now c.in-Ok.runs.now c.runs.ensures c.in-Ok.ensures.ok.0 c.in-Ok.ensures.ok.1 newest oldest c.in_default.ensures.apart n c.free_number-number.ensures;
     })
 
 pub returns-clause-ok : goal.returns-clause-ok

@@ -5,7 +5,6 @@ use Rattle.uc_claims.specs.Claims.{times}
 use Rattle.uc_claims.specs.Holding.{Holding, AreDistinct, without}
 use Rattle.uc_claims.specs.declared.table.TheConstants.{MOST_SLOTS}
 use Rattle.uc_entry.specs.Run.{Contents}
-use Rattle.uc_stripe.specs.Output.{output_of}
 use Rattle.uc_history.specs.Versions.{PlacedRun, Stored, IsVersion, slots_of}
 use Rattle.uc_history.specs.Installs.{replaced}
 use Rattle.uc_version.specs.declared.held_stretch.HeldStretch.{HeldStretch}
@@ -77,7 +76,7 @@ invariant_of-self g c =
       count = i.count;
       table = i.table;
       whole = i.whole;
-      slots = subst (λ (ps : List PlacedRun). (k : ℕ) → times k (without (slots_of ps) slots) ≡ times k (claimed_slots (after o i.owner_is slots i.slots number h held_is run))) (sym c.held_runs.ensures) (slots_after o i.owner_is slots i.slots number h held_is run)
+      slots = subst (λ (ps : List PlacedRun). (k : ℕ) → times k (without (slots_of ps) slots) ≡ times k (claimed_slots (after o i.owner_is slots i.slots number h held_is run))) (sym c.held_runs.ensures) (slots_after o i.owner_is slots i.slots number h held_is run);
     })))
 
 pub returns-clause-ok : goal.returns-clause-ok
