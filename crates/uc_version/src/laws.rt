@@ -1,12 +1,9 @@
 //! What holds of owners.
-ghost use Rattle.std.specs.Prelude.{◌≡◌, ◌≤◌, Some, None, true};
-ghost use Rattle.uc_pick.specs.declared.stretch.Stretch.{Stretch};
-ghost use Rattle.uc_pick.specs.Picks.{picked};
+ghost use Rattle.std.specs.Prelude.{◌≡◌, true};
 ghost use Rattle.uc_stripe.specs.Inputs.{Compaction, Stand};
 ghost use Rattle.uc_history.specs.Installs.{MayInstall, installed};
-ghost use Rattle.uc_version.specs.Owners.{Owner, IsOwner, is_busy};
-ghost use Rattle.uc_version.specs.Picking.{candidates_of};
-ghost use Rattle.uc_version.specs.Claiming.{Claim, is_held, claim_refusal};
+ghost use Rattle.uc_version.specs.Owners.{Owner, IsOwner};
+ghost use Rattle.uc_version.specs.Claiming.{Claim, is_held};
 ghost use Rattle.uc_version.specs.Installing.{stretch_of, MayReplace, after_install, install_of};
 
 use uc_oper::Operator;

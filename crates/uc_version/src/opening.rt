@@ -8,7 +8,7 @@ ghost use Rattle.uc_version.specs.Owners.{unclaimed};
 use crate::owned::Owned;
 use std::alloc::Global;
 use uc_batch::Writes;
-use uc_opening::{OpenError, no_refusal_is_leave_to_open, open_version};
+use uc_opening::{OpenError, open_version};
 use uc_oper::Operator;
 use uc_pick::Options;
 

@@ -1,8 +1,7 @@
 //! [`Owned`]: a store that one owner has.
-ghost use Rattle.std.specs.Prelude.{◌≡◌, ◌≢◌, ◌<◌, ℕ, Some, None, true, IfOk, IfErr, OnOk, OnErr};
+ghost use Rattle.std.specs.Prelude.{◌≡◌, ◌<◌, Some, None, true, IfOk, IfErr};
 ghost use Rattle.uc_claims.specs.declared.table.TheConstants.{MOST_SLOTS};
 ghost use Rattle.uc_pick.specs.Picks.{picked};
-ghost use Rattle.uc_history.specs.Versions.{IsVersion};
 ghost use Rattle.uc_pick.specs.Options.{are_good};
 ghost use Rattle.uc_version.specs.Owners.{is_busy, unclaimed};
 ghost use Rattle.uc_version.specs.Picking.{candidates_of};

@@ -1,7 +1,5 @@
 //! Why a compaction isn't installed.
 ghost use Rattle.std.specs.Prelude.{◌≡◌, ◌+◌, ◌≤◌, ◌↔◌, IsTrue, IfSome, IfNone, length};
-ghost use Rattle.std.specs.List.Sorted.{IsStrictlySortedBy};
-ghost use Rattle.std.specs.Ordering.{nat_cmp};
 ghost use Rattle.uc_history.specs.Versions.{contents_of};
 ghost use Rattle.uc_version.specs.Installing as installing;
 ghost use Rattle.uc_version.specs.Installing.{Fits, MayReplace, IsRefused};
