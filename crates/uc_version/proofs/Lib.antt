@@ -7,3 +7,4 @@ pub mod ClaimMade
 pub mod Legal
 pub mod Moving
 pub mod Standing
+pub mod PickedClaims

@@ -21,7 +21,7 @@ mod slots;
 pub use claim_error::ClaimError;
 pub use held_stretch::{HeldStretch, MOST_CLAIMS};
 pub use install_error::InstallError;
-pub use laws::installs_are_events;
+pub use laws::{installs_are_events, picks_can_be_claimed};
 pub use opening::open_plain;
 pub use owned::Owned;
 pub use owned_claim::OwnedClaim;
