@@ -9,3 +9,4 @@ pub mod Opened
 pub mod Along
 pub mod Ids
 pub mod InPlace
+pub mod Growing

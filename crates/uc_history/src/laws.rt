@@ -11,7 +11,7 @@ ghost use Rattle.uc_run.specs.Size.{memtable_size};
 ghost use Rattle.uc_history.specs.Versions.{Stored, IsVersion, writes_in};
 ghost use Rattle.uc_history.specs.Openings.{Opening, MayOpen, memtables, opened};
 ghost use Rattle.uc_history.specs.Installs.{Install, MayInstall, installed};
-ghost use Rattle.uc_history.specs.Histories.{History, IsLegal, version_after, writes_given, all_ids_given, all_ids_replaced};
+ghost use Rattle.uc_history.specs.Histories.{Event, MayHappen, after, History, IsLegal, version_after, writes_given, all_ids_given, all_ids_replaced};
 
 use uc_oper::Operator;
 use uc_run::{flush_keeps_every_effect, flushed_writes_are_a_run};
@@ -80,3 +80,11 @@ pub fn runs_are_replaced_once<O: Operator>()
 {
     opening_gives_a_version();
 }
+
+/// What may happen to the version after a history goes behind it: the longer history is legal too, and the version after
+/// it is the one after that event.
+pub fn histories_grow_by_events<O: Operator>()
+    ensures legal { (h : History) (e : Event) → IsLegal O.meaning h → MayHappen O.meaning (version_after h) e →
+        IsLegal O.meaning (record h { events = h.events ++ e ∷ [] }) }
+    ensures after { (h : History) (e : Event) → version_after (record h { events = h.events ++ e ∷ [] }) ≡ after (version_after h) e }
+{}

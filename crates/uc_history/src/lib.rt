@@ -12,9 +12,9 @@ mod replace;
 mod version;
 
 pub use laws::{
-    histories_keep_what_is_read, install_gives_a_version, install_keeps_what_is_read,
-    memtables_are_filled_in_turn, opened_keeps_are_those_given, opening_gives_a_version,
-    opening_keeps_every_effect, runs_are_replaced_once,
+    histories_grow_by_events, histories_keep_what_is_read, install_gives_a_version,
+    install_keeps_what_is_read, memtables_are_filled_in_turn, opened_keeps_are_those_given,
+    opening_gives_a_version, opening_keeps_every_effect, runs_are_replaced_once,
 };
 pub use placed::Placed;
 pub use version::Version;

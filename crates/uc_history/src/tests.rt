@@ -142,5 +142,6 @@ fn laws_hold_under_an_operator() {
     install_keeps_what_is_read::<Counter>();
     install_gives_a_version::<Counter>();
     histories_keep_what_is_read::<Counter>();
+    histories_grow_by_events::<Counter>();
     runs_are_replaced_once::<Counter>();
 }

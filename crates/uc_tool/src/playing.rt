@@ -18,10 +18,10 @@ use crate::texts::{answer_lines, numbered_line};
 use crate::writing::write_bytes;
 use std::alloc::{AllocError, Global};
 use std::io::{Read, Write};
+use uc_answer::{Query, answer_writes};
 use uc_batch::Writes;
 use uc_oper::Operator;
 use uc_pick::Options;
-use uc_answer::{Query, answer_writes};
 use uc_script::{Call, Script, ScriptError, Seq, a_script_names_no_more_than_it_has, read_script};
 
 /// A store that was opened, and what is asked of it.

@@ -6,8 +6,8 @@ ghost use Rattle.uc_tool.specs.Texts as texts;
 ghost use Rattle.uc_tool.specs.Texts.{row_line};
 
 use std::alloc::{AllocError, Global};
-use uc_bytes::Bytes;
 use uc_answer::Answer;
+use uc_bytes::Bytes;
 use uc_script::{push_hex, push_number};
 
 /// A line of words and a number.
