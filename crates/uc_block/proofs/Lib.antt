@@ -8,3 +8,6 @@ pub mod Fronts
 pub mod Decided
 pub mod LeastKey
 pub mod Equal
+pub mod Passing
+pub mod NearPlace
+pub mod FoundThere

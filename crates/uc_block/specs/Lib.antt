@@ -5,3 +5,4 @@ pub mod Places
 pub mod Overwriting
 pub mod Prefixes
 pub mod NextKey
+pub mod Cursors

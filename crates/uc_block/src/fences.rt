@@ -1,5 +1,6 @@
 //! [`Fences`]: the first keys of blocks of points, and searches by them.
-ghost use Rattle.std.specs.Prelude.{◌≡◌, ◌≤◌, true, false, length, IfOk};
+ghost use Rattle.std.specs.Prelude.{◌≡◌, ◌<◌, ◌≤◌, true, false, max, length, IfOk, IfSome};
+ghost use Rattle.std.specs.List.{AllWithin, HoldsAt};
 ghost use Rattle.std.specs.List.Sorted.{IsStrictlySortedBy, IsPartitionPoint, IsPartitionedBy};
 ghost use Rattle.uc_entry.specs.Order.{entry_cmp};
 ghost use Rattle.uc_entry.specs.Seek as seek;
@@ -14,6 +15,9 @@ use uc_entry::Entry;
 
 /// How many points a block has, but the last one, which may have fewer.
 const BLOCK_POINTS: usize = 16;
+
+/// How many points are passed one by one before the fences are searched.
+const FEW_POINTS: usize = 8;
 
 /// The key of the first point of each block, apart from the points, so that few lines of memory are looked at.
 /// A contract sees it as these keys.
@@ -94,6 +98,17 @@ fn place_in(points: &[Entry], low: &[u8], strict: bool) -> usize
     points.partition_point(|point| is_passed(low, strict, point.key.as_slice()))
 }
 
+/// The place of the first of the points that isn't passed over by who looks behind the key.
+fn first_behind(points: &[Entry], key: &[u8]) -> Option<usize>
+    ensures { IfSome result (λ n. (n < length points.now)
+        × AllWithin (λ p. seek.is_passed key.now true p.key ≡ true) points.now 0 n
+        × HoldsAt (λ p. seek.is_passed key.now true p.key ≡ false) points.now n) }
+{
+    points
+        .iter()
+        .position(|point| !is_passed(key, true, point.key.as_slice()))
+}
+
 /// How many fences are passed over.
 fn fences_passed(points: &[Entry], fences: &Fences, low: &[u8], strict: bool) -> usize
     requires sorted { IsStrictlySortedBy entry_cmp points.now }
@@ -124,4 +139,19 @@ pub(crate) fn seek_by_fences(points: &[Entry], fences: &Fences, low: &[u8], stri
     let begin = (passed - 1) * BLOCK_POINTS;
     let end = points.len().min(passed * BLOCK_POINTS);
     begin + place_in(&points[begin..end], low, strict)
+}
+
+/// The place, from one on, of the first point that isn't passed over by who looks behind the key. A few points are looked
+/// at one by one; the fences are searched where none of them is it.
+pub(crate) fn passed_from(points: &[Entry], fences: &Fences, place: usize, key: &[u8]) -> usize
+    requires sorted { IsStrictlySortedBy entry_cmp points.now }
+    requires fenced { IsFenced points.now fences.now }
+    requires within { place ≤ length points.now }
+    ensures { result ≡ max place (seek.seek_place points.now key.now true) }
+{
+    let few = FEW_POINTS.min(points.len() - place);
+    match first_behind(&points[place..place + few], key) {
+        Some(count) => place + count,
+        None => place.max(seek_by_fences(points, fences, key, true)),
+    }
 }

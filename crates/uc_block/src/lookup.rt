@@ -1,18 +1,16 @@
 //! What a lookup of a key finds among points and fragments.
 ghost use Rattle.std.specs.Prelude.{◌≡◌, filter, IfOk, nat_le};
 ghost use Rattle.std.specs.List.{AllByRecursion, flat_map, slice_get};
-ghost use Rattle.std.specs.List.Sorted.{IsStrictlySortedBy};
 ghost use Rattle.uc_oper.specs.Operation.{Operation};
 ghost use Rattle.uc_oper.specs.Composition.{composed};
 ghost use Rattle.uc_oper.specs.declared.effect.Effect.{Effect as EffectOf};
-ghost use Rattle.uc_entry.specs.Order.{entry_cmp, IsFalling, AreInOrder};
+ghost use Rattle.uc_entry.specs.Order.{IsFalling, AreInOrder};
 ghost use Rattle.uc_entry.specs.Run.{covers};
 ghost use Rattle.uc_entry.specs.Lookup as lookup;
-ghost use Rattle.uc_block.specs.Fences.{IsFenced};
+ghost use Rattle.uc_block.specs.Places.{PointsFall};
 ghost use Rattle.uc_block.specs.Overwriting as overwriting;
 
-use crate::fences::Fences;
-use crate::places::{greatest_at, newer_than, points_on};
+use crate::places::{greatest_at, newer_than};
 use std::alloc::{AllocError, Global};
 use uc_entry::{Entry, Fragment, What, covering_fragment};
 use uc_oper::{Effect, Operator};
@@ -76,22 +74,21 @@ fn newest_over(fragments: &[Fragment], key: &[u8], at: u64) -> Option<u64>
     greatest_at(fragment.seqs.as_slice(), at)
 }
 
-/// What a lookup of the key at the sequence finds.
+/// What the key's points at or below the sequence do above the newest range deletion over it, which is that of one of the
+/// fragments: what a lookup of the key at the sequence finds.
 pub(crate) fn effect_found<O: Operator>(
     alloc: Global,
-    points: &[Entry],
-    fences: &Fences,
+    on: &[Entry],
     fragments: &[Fragment],
     key: &[u8],
     at: u64,
 ) -> Result<Effect, AllocError>
-    requires sorted { IsStrictlySortedBy entry_cmp points.now }
-    requires fenced { IsFenced points.now fences.now }
+    requires fall { PointsFall on.now }
     requires order { AreInOrder fragments.now }
     requires falling { AllByRecursion (λ f. IsFalling f.seqs) fragments.now }
-    ensures { IfOk result (λ effect. effect ≡ lookup.effect_found O.meaning (record { low = 0; high = 0; points = points.now; fragments = fragments.now }) key.now at) }
+    ensures { IfOk result (λ effect. effect ≡ lookup.above_newest O.meaning on.now
+        (filter (λ seq. nat_le seq at) (flat_map (λ f. f.seqs) (filter (λ f. covers f key.now) fragments.now)))) }
 {
-    let on = points_on(points, fences, key, at);
     match newest_over(fragments, key, at) {
         None => points_effect::<O>(alloc, Effect::Keep, on),
         Some(newest) => points_effect::<O>(alloc, Effect::Set(None), newer_than(on, newest)),

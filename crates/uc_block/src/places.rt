@@ -46,6 +46,24 @@ fn newer_in(points: &[Entry], key: &[u8], at: u64) -> usize
     points.partition_point(|point| is_newer(point, key, at))
 }
 
+/// Of the points of the key, which stand between two places, those at or below the sequence, the newest first.
+pub(crate) fn points_between<'a>(
+    points: &'a [Entry],
+    begin: usize,
+    end: usize,
+    key: &[u8],
+    at: u64,
+) -> &'a [Entry]
+    requires sorted { IsStrictlySortedBy entry_cmp points.now }
+    requires first { begin ≡ seek.seek_place points.now key.now false }
+    requires last { end ≡ seek.seek_place points.now key.now true }
+    ensures points { result.now ≡ filter (lookup.is_visible key.now at) points.now }
+    ensures fall { PointsFall result.now }
+{
+    let newer = newer_in(&points[begin..end], key, at);
+    &points[begin + newer..end]
+}
+
 /// The points of the key at or below the sequence, the newest first.
 pub(crate) fn points_on<'a>(
     points: &'a [Entry],
@@ -60,8 +78,7 @@ pub(crate) fn points_on<'a>(
 {
     let end = seek_by_fences(points, fences, key, true);
     let begin = seek_by_fences(points, fences, key, false);
-    let newer = newer_in(&points[begin..end], key, at);
-    &points[begin + newer..end]
+    points_between(points, begin, end, key, at)
 }
 
 /// Those of a key's points that are newer than a sequence.

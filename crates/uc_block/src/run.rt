@@ -1,5 +1,5 @@
 //! [`Run`]: points and range deletions, sorted by key.
-ghost use Rattle.std.specs.Prelude.{◌≡◌, ◌↔◌, IsTrue, length, IfOk, option_map};
+ghost use Rattle.std.specs.Prelude.{◌≡◌, ◌≤◌, ◌↔◌, false, IsTrue, length, IfOk, option_map};
 ghost use Rattle.std.specs.List.{slice_get};
 ghost use Rattle.uc_entry.specs.Run.{IsRun};
 ghost use Rattle.uc_entry.specs.Size as size;
@@ -7,9 +7,12 @@ ghost use Rattle.uc_entry.specs.Seek as seek;
 ghost use Rattle.uc_entry.specs.PlainList.{plain_list};
 ghost use Rattle.uc_model.specs.Meaning.{effect_on};
 ghost use Rattle.uc_block.specs.Blocks.{blocks_of, fence_of};
+ghost use Rattle.uc_block.specs.Fences.{IsFenced};
 
+use crate::cursor::Cursor;
 use crate::fences::{Fences, fences_of, seek_by_fences};
 use crate::lookup::effect_found;
+use crate::places::points_on;
 use crate::same::{same_fragments, same_points};
 use crate::size::size_of;
 use std::alloc::{AllocError, Global};
@@ -137,6 +140,29 @@ impl Run {
         seek_by_fences(&self.points, &self.fences, low, strict) as u64
     }
 
+    /// The place of the first point whose key is at or above `low`.
+    pub(crate) fn place_of(&self, low: &[u8]) -> usize
+        ensures bound { result ≤ length self.now.points }
+        ensures place { result ≡ seek.seek_place self.now.points low.now false }
+    {
+        seek_by_fences(&self.points, &self.fences, low, false)
+    }
+
+    /// The fences of its points.
+    pub(crate) fn fences(&self) -> &Fences
+        ensures { IsFenced self.now.points result.now }
+    {
+        &self.fences
+    }
+
+    /// A walk over the run in order of key, before the first point whose key is at or above `low`. It costs the logarithm of
+    /// the number of points.
+    pub fn cursor(&self, low: &[u8]) -> Cursor<'_>
+        ensures { result ≡ record { run = self.now; place = seek.seek_place self.now.points low.now false } }
+    {
+        Cursor::before(self, low)
+    }
+
     /// The least key of a point that is at or above `low` or, where strict, above it.
     pub fn next_key(&self, low: &[u8], strict: bool) -> Option<&[u8]>
         ensures { option_map (λ key. key.now) result ≡ option_map (λ p. p.key) (slice_get self.now.points (seek.seek_place self.now.points low.now strict)) }
@@ -158,7 +184,8 @@ impl Run {
         ensures { IfOk result (λ effect. effect ≡ effect_on O.meaning (plain_list self.now) key.now at) }
     {
         plain_list_does_what_is_found::<O>();
-        effect_found::<O>(alloc, &self.points, &self.fences, &self.fragments, key, at)
+        let on = points_on(&self.points, &self.fences, key, at);
+        effect_found::<O>(alloc, on, &self.fragments, key, at)
     }
 
     /// Whether the runs have equal points, fragments and ranges.

@@ -14,15 +14,6 @@ use Rattle.uc_merge.specs.Heads.{lesser_of}
 use Rattle.uc_merge.proofs.Keys.{lt_of, le_of_not, le_trans, le_of_lt}
 use Rattle.uc_stripe.specs.Inputs.{points_of}
 use Rattle.uc_stripe.proofs.Lists.{all-append, all-map}
-use Rattle.uc_history.specs.Versions.{PlacedRun, contents_of}
-
-abbrev pub points_in_runs : List PlacedRun → List Entry
-points_in_runs runs = points_of (contents_of runs)
-
-points-more : (runs : List PlacedRun) (r : PlacedRun) → points_in_runs (runs ++ r ∷ []) ≡ points_in_runs runs ++ r.run.points
-points-more [] r = append-nil r.run.points
-points-more (x ∷ xs) r =
-    ap (λ (ps : List Entry). x.run.points ++ ps) (points-more xs r) ∙ sym (append_assoc x.run.points (points_in_runs xs) r.run.points)
 
 module _ (low : List ℕ) (strict : Bool) where
   abbrev keys : List Entry → List (List ℕ)
@@ -72,13 +63,21 @@ module _ (low : List ℕ) (strict : Bool) where
   }
   least_of_both ps qs (Some key) (Some other) h k = least_by ps qs key other (is_lt (bytes_cmp other key)) refl h k
 
-  -- one run more
-  pub least_step : (runs : List PlacedRun) (i : ℕ) (r : PlacedRun) (run : Contents) (least own next : Option (List ℕ)) → i < length runs → r ≡ get_or runs i r → run ≡ r.run → IsNextKey (points_in_runs (take i runs)) low strict least → IsNextKey run.points low strict own → next ≡ lesser_of least own →
-      IsNextKey (points_in_runs (take (i + 1) runs)) low strict next
-  least_step runs i r run least own next lt is same h k made =
-      let more : points_in_runs (take (i + 1) runs) ≡ points_in_runs (take i runs) ++ run.points =
-      ap points_in_runs (take_more runs i r lt ∙ ap (λ (x : PlacedRun). take i runs ++ x ∷ []) (sym is))
-      ∙ points-more (take i runs) r
-      ∙ ap (λ (x : Contents). points_in_runs (take i runs) ++ x.points) (sym same) in
-      subst (λ (ps : List Entry). IsNextKey ps low strict next) (sym more)
-      (subst (IsNextKey (points_in_runs (take i runs) ++ run.points) low strict) (sym made) (least_of_both (points_in_runs (take i runs)) run.points least own h k))
+  module _ {X : Type 0} (run_of : X → Contents) where
+    abbrev points_in : List X → List Entry
+    points_in runs = points_of (map run_of runs)
+
+    points-more : (runs : List X) (r : X) → points_in (runs ++ r ∷ []) ≡ points_in runs ++ (run_of r).points
+    points-more [] r = append-nil (run_of r).points
+    points-more (x ∷ xs) r =
+        ap (λ (ps : List Entry). (run_of x).points ++ ps) (points-more xs r) ∙ sym (append_assoc (run_of x).points (points_in xs) (run_of r).points)
+
+    -- one run more
+    pub least_step : (runs : List X) (i : ℕ) (r : X) (least own next : Option (List ℕ)) → i < length runs → r ≡ get_or runs i r → IsNextKey (points_in (take i runs)) low strict least → IsNextKey (run_of r).points low strict own → next ≡ lesser_of least own →
+        IsNextKey (points_in (take (i + 1) runs)) low strict next
+    least_step runs i r least own next lt is h k made =
+        let more : points_in (take (i + 1) runs) ≡ points_in (take i runs) ++ (run_of r).points =
+        ap points_in (take_more runs i r lt ∙ ap (λ (x : X). take i runs ++ x ∷ []) (sym is))
+        ∙ points-more (take i runs) r in
+        subst (λ (ps : List Entry). IsNextKey ps low strict next) (sym more)
+        (subst (IsNextKey (points_in (take i runs) ++ (run_of r).points) low strict) (sym made) (least_of_both (points_in (take i runs)) (run_of r).points least own h k))

@@ -1,5 +1,6 @@
 pub mod Effects
 pub mod LeastKeys
 pub mod Walking
+pub mod Standing
 pub mod Shown
 pub mod Protection

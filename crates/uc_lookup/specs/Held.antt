@@ -1,10 +1,12 @@
--- How a walk over the keys of runs is held.
-use Rattle.std.specs.Prelude.{ℕ, List}
-use Rattle.uc_stripe.specs.Inputs.{points_of}
-use Rattle.uc_history.specs.Versions.{contents_of}
-use Rattle.uc_lookup.specs.Ahead.{keys_ahead}
-use Rattle.uc_lookup.specs.declared.keys.Keys.TheInside.{Inside}
+-- How a walk over the points of several runs is held.
+use Rattle.std.specs.List.{AllByRecursion}
+use Rattle.uc_lookup.specs.Walks.{Walk, walk_at, runs_of, StandsAt}
+use Rattle.uc_lookup.specs.declared.cursors.Cursors.TheInside.{Inside}
 
 -- the keys of the runs' points that are still ahead
-abbrev pub ahead : Inside → List (List ℕ)
-ahead k = keys_ahead (points_of (contents_of k.runs.now)) k.low.now k.strict k.high.now
+abbrev pub walk : Inside → Walk
+walk k = walk_at k.low.now k.strict k.high.now (runs_of k.cursors.items)
+
+-- the cursors stand before the points of these keys
+abbrev pub AreThere : Inside → Type 0
+AreThere k = AllByRecursion (StandsAt k.low.now k.strict) k.cursors.items

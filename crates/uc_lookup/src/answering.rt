@@ -64,8 +64,9 @@ pub(crate) fn answer_of_runs<O: Operator>(
 /// A sequence that the version doesn't keep is answered `NotProtected`.
 ///
 /// A lookup costs in each run, from the newest on, what [`Run::effect`](uc_run::Run::effect) does, and looks no further than the
-/// first run that puts or deletes the key. A scan costs for each key of a point in its range, up to the last row's, a search
-/// in each run and a lookup. It fails only for want of memory.
+/// first run that puts or deletes the key. A scan costs a search in each run at its start, and then for each key of a point in
+/// its range, up to the last row's, a step in each run and what [`Cursor::effect`](uc_block::Cursor::effect) does. It fails only
+/// for want of memory.
 pub fn answer_one<O: Operator>(
     alloc: Global,
     version: &Version,

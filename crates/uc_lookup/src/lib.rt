@@ -1,11 +1,11 @@
 //! What is read of a version: lookups of keys and scans of ranges, at a sequence that is kept.
 //!
 //! [`answer_one`] answers a query from a version's runs as `uc_answer` does from the plain writes that they stand for. Read
-//! `answering.rt` first, then `lookup.rt`, and for scans `specs/Ahead.antt`, `keys.rt` and `scan.rt`.
+//! `answering.rt` first, then `lookup.rt`, and for scans `specs/Ahead.antt`, `specs/Walks.antt`, `cursors.rt` and `scan.rt`.
 #![tactic(auto)]
 
 mod answering;
-mod keys;
+mod cursors;
 mod laws;
 mod lookup;
 mod scan;

@@ -6,8 +6,7 @@ ghost use Rattle.uc_stripe.specs.Inputs.{writes_of, points_of};
 ghost use Rattle.uc_history.specs.Versions.{contents_of};
 ghost use Rattle.uc_lookup.specs.Ahead.{keys_ahead};
 
-use crate::keys::Keys;
-use crate::lookup::value_of_runs;
+use crate::cursors::Cursors;
 use std::alloc::{AllocError, Global};
 use uc_answer::{Rows, scan_keys_are_named, scan_keys_rise, scan_rows_are_first};
 use uc_bytes::Bytes;
@@ -30,12 +29,12 @@ fn first_rows<O: Operator>(
         (keys_ahead (points_of (contents_of runs.now)) low.now false high.now)) }
 {
     let mut rows = Vec::new(alloc);
-    let mut keys = Keys::from(runs, low, high);
+    let mut cursors = Cursors::from(alloc, runs, low, high)?;
     while (rows.len() as u64) < limit {
-        let Some(key) = keys.next() else {
+        let Some((key, value)) = cursors.next::<O>(alloc, at)? else {
             break;
         };
-        if let Some(value) = value_of_runs::<O>(alloc, runs, key, at)? {
+        if let Some(value) = value {
             rows.push((Bytes::from_slice(alloc, key)?, value))?;
         }
     }

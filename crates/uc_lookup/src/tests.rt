@@ -1,6 +1,7 @@
 //! Lookups and scans of a few runs.
 use super::*;
 use crate::answering::answer_of_runs;
+use crate::scan::rows_of_runs;
 use std::alloc::Global;
 use std::process::Abort;
 use std::sync::Arc;
@@ -184,6 +185,84 @@ fn scans_go_over_runs(rt: HostRuntime) -> Result<(), Fail> {
             let answer = answer_of(alloc, &runs, &query)?;
             assert_eq!(rt; answer, wanted(alloc, want)?, "{range:?}");
         }
+    }
+    Ok(())
+}
+
+/// Puts of five keys.
+const OLDEST: [(u64, Change); 5] = [
+    (1, Change::Put(b"\x61", b"\x01")),
+    (2, Change::Put(b"\x62", b"\x02")),
+    (3, Change::Put(b"\x63", b"\x03")),
+    (4, Change::Put(b"\x64", b"\x04")),
+    (5, Change::Put(b"\x65", b"\x05")),
+];
+
+/// A range deletion that hides the second of them, and a merge of the last.
+const NEWEST: [(u64, Change); 2] = [
+    (46, Change::Range(b"\x62", b"\x63")),
+    (47, Change::Merge(b"\x65", b"\x78")),
+];
+
+/// The run of puts of the third key at each sequence from 6 to 45, whose value is the sequence.
+fn hot_run(rt: &impl Abort, alloc: Global) -> Result<Placed, Fail> {
+    let mut memtable = Memtable::new(alloc);
+    for number in 6..=45_u8 {
+        let seq = u64::from(number);
+        assert!(rt; memtable.last() < seq);
+        assert!(rt; seq <= MAX_SEQUENCE);
+        let op = Op::Put(bytes(alloc, b"\x63")?, bytes(alloc, &[number])?);
+        memtable.insert(&Write { seq, op })?;
+    }
+    assert!(rt; !memtable.is_empty());
+    Ok(Placed {
+        id: 1,
+        slot: 1,
+        run: Arc::new(alloc, memtable.flush(alloc)?)?,
+    })
+}
+
+/// Scans of these runs, and their rows.
+const HOT_SCANS: [(Range, &[(&[u8], &[u8])]); 5] = [
+    (
+        (b"", None, 47, 9),
+        &[
+            (b"\x61", b"\x01"),
+            (b"\x63", b"\x2d"),
+            (b"\x64", b"\x04"),
+            (b"\x65", b"\x05\x2c\x78"),
+        ],
+    ),
+    (
+        (b"", None, 47, 2),
+        &[(b"\x61", b"\x01"), (b"\x63", b"\x2d")],
+    ),
+    (
+        (b"\x62", Some(b"\x64"), 45, 9),
+        &[(b"\x62", b"\x02"), (b"\x63", b"\x2d")],
+    ),
+    (
+        (b"\x62", Some(b"\x65"), 20, 9),
+        &[(b"\x62", b"\x02"), (b"\x63", b"\x14"), (b"\x64", b"\x04")],
+    ),
+    ((b"\x62", None, 46, 1), &[(b"\x63", b"\x2d")]),
+];
+
+#[test]
+fn scans_go_over_hot_and_hidden_keys(rt: HostRuntime) -> Result<(), Fail> {
+    let alloc = rt.alloc();
+    let mut runs = Vec::new(alloc);
+    runs.push(run_of(&rt, alloc, &NEWEST, 2)?)?;
+    runs.push(hot_run(&rt, alloc)?)?;
+    runs.push(run_of(&rt, alloc, &OLDEST, 0)?)?;
+    for (range, want) in &HOT_SCANS {
+        let (low, high, at, limit) = *range;
+        let high = match high {
+            None => None,
+            Some(high) => Some(bytes(alloc, high)?),
+        };
+        let found = rows_of_runs::<Append<44>>(alloc, &runs, low, &high, at, limit)?;
+        assert_eq!(rt; found, rows(alloc, want)?, "{range:?}");
     }
     Ok(())
 }

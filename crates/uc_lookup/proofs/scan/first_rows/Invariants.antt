@@ -6,14 +6,15 @@ use Rattle.uc_lookup.specs.Ahead.{keys_ahead}
 use Rattle.uc_lookup.proofs.scan.first_rows.Given as goal
 
 -- the rows so far, and then those of the keys that are ahead
-abbrev pub invariant-loop-keys : goal.invariant-loop-keys
-invariant-loop-keys g l =
+abbrev pub invariant-loop-alloc : goal.invariant-loop-alloc
+invariant-loop-alloc g l =
     let m = g.O.Operator.meaning in
     let ws = writes_of (contents_of l.runs) in
     record {
       few : length l.rows.items ≤ l.limit;
-      whole : take l.limit (l.rows.items ++ rows_of m ws l.at l.keys) ≡ take l.limit (rows_of m ws l.at (keys_ahead (points_of (contents_of l.runs)) l.low false l.high));
+      runs : l.cursors.runs ≡ contents_of l.runs;
+      whole : take l.limit (l.rows.items ++ rows_of m ws l.at l.cursors.keys) ≡ take l.limit (rows_of m ws l.at (keys_ahead (points_of (contents_of l.runs)) l.low false l.high));
     }
 
-abbrev pub decreases-loop-keys : goal.decreases-loop-keys
-decreases-loop-keys g l = length l.keys
+abbrev pub decreases-loop-alloc : goal.decreases-loop-alloc
+decreases-loop-alloc g l = length l.cursors.keys

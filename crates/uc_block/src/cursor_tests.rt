@@ -1,0 +1,114 @@
+//! A walk over a run finds what searches of it find.
+use super::*;
+use std::alloc::Global;
+use std::process::Abort;
+use std::test::Fail;
+use uc_bytes::{Bytes, Items};
+use uc_entry::{Entry, Fragment, What, is_run};
+use uc_oper::Append;
+
+fn bytes(alloc: Global, text: &[u8]) -> Result<Bytes, Fail> {
+    Ok(Bytes::from_slice(alloc, text)?)
+}
+
+/// A point of a key, with a sequence that no fragment has: of four one put, two merges and a delete.
+fn point(alloc: Global, key: u8, number: u8) -> Result<Entry, Fail> {
+    let text = bytes(alloc, &[number])?;
+    Ok(Entry {
+        key: bytes(alloc, &[key])?,
+        seq: u64::from(number) * 3 + 1,
+        what: match number & 3 {
+            0 => What::Put(text),
+            3 => What::Delete,
+            _ => What::Merge(text),
+        },
+    })
+}
+
+/// How many points keys have, the others of five after each other.
+const COUNTS: [u8; 5] = [30, 1, 2, 9, 4];
+
+/// The points of 40 keys, of which each has another between it and the next.
+fn points(alloc: Global) -> Result<Vec<Entry>, Fail> {
+    let mut points = Vec::new(alloc);
+    for group in 0..8_u8 {
+        for (place, count) in COUNTS.iter().enumerate() {
+            let key = (group * 5).wrapping_add(place as u8).wrapping_mul(2);
+            for number in (0..*count).rev() {
+                points.push(point(alloc, key, number)?)?;
+            }
+        }
+    }
+    Ok(points)
+}
+
+/// Fragments: between two keys, over one, over some, and behind all points.
+const FRAGMENTS: [(u8, u8, &[u64]); 6] = [
+    (1, 2, &[60]),
+    (2, 3, &[60, 30]),
+    (3, 18, &[45]),
+    (30, 41, &[84, 3]),
+    (41, 43, &[9]),
+    (90, 91, &[60]),
+];
+
+fn fragments(alloc: Global) -> Result<Vec<Fragment>, Fail> {
+    let mut fragments = Vec::new(alloc);
+    for (begin, end, seqs) in &FRAGMENTS {
+        fragments.push(Fragment {
+            begin: bytes(alloc, &[*begin])?,
+            end: bytes(alloc, &[*end])?,
+            seqs: Items::from(Vec::from_slice(alloc, seqs)?),
+        })?;
+    }
+    Ok(fragments)
+}
+
+/// Sequences at which keys are read.
+const ATS: [u64; 6] = [0, 3, 30, 44, 60, 100];
+
+/// At each sequence the cursor wants the effect that a search finds.
+fn wants_effects(
+    rt: &impl Abort,
+    alloc: Global,
+    run: &Run,
+    cursor: &Cursor<'_>,
+    key: &[u8],
+) -> Result<(), Fail> {
+    if !cursor.is_before(key) {
+        return Err(Fail::new("the cursor doesn't stand before the key"));
+    }
+    for at in ATS {
+        let want = run.effect::<Append<44>>(alloc, key, at)?;
+        let effect = cursor.effect::<Append<44>>(alloc, key, at)?;
+        assert_eq!(rt; effect, want, "{key:?} at {at}");
+    }
+    Ok(())
+}
+
+#[test]
+fn a_walk_finds_what_searches_find(rt: HostRuntime) -> Result<(), Fail> {
+    let alloc = rt.alloc();
+    let points = points(alloc)?;
+    let fragments = fragments(alloc)?;
+    if !is_run(1, 100, &points, &fragments) {
+        return Err(Fail::new("no run"));
+    }
+    let run = Run::build(alloc, 1, 100, points, fragments)?;
+    for low in 0..100_u8 {
+        let mut cursor = run.cursor(&[low]);
+        cursor.is_of_run();
+        for key in low..100 {
+            let key = [key];
+            assert_eq!(rt;
+                cursor.key(),
+                run.next_key(&key, false),
+                "from {low} at {key:?}"
+            );
+            wants_effects(&rt, alloc, &run, &cursor, &key)?;
+            cursor.pass(&key);
+        }
+        assert_eq!(rt; cursor.key(), None);
+    }
+    Ok(())
+}

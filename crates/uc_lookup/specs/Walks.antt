@@ -1,0 +1,30 @@
+-- Where a walk over the points of several runs stands.
+use Rattle.std.specs.Prelude.{◌≡◌, ℕ, Bool, true, List, Option, map, max}
+use Rattle.uc_entry.specs.Run.{Contents}
+use Rattle.uc_entry.specs.Seek.{seek_place}
+use Rattle.uc_block.specs.Cursors.{Standing}
+use Rattle.uc_stripe.specs.Inputs.{points_of}
+use Rattle.uc_lookup.specs.Ahead.{keys_ahead}
+
+-- runs, the newest first, and the keys of their points that are still ahead
+pub record Walk : Type 0 where
+  pub runs : List Contents
+  pub keys : List (List ℕ)
+
+-- those of the keys from `low` on or, where strict, behind it, and below `high` where there is one
+abbrev pub walk_at : List ℕ → Bool → Option (List ℕ) → List Contents → Walk
+walk_at low strict high runs = record { runs = runs; keys = keys_ahead (points_of runs) low strict high }
+
+abbrev pub runs_of : List Standing → List Contents
+runs_of cursors = map (λ c. c.run) cursors
+
+-- before a run's points from `low` on or, where strict, behind it
+abbrev pub standing_at : List ℕ → Bool → Contents → Standing
+standing_at low strict run = record { run = run; place = seek_place run.points low strict }
+
+abbrev pub StandsAt : List ℕ → Bool → Standing → Type 0
+StandsAt low strict c = c.place ≡ seek_place c.run.points low strict
+
+-- behind the points at and below a key
+abbrev pub passed : List ℕ → Standing → Standing
+passed key c = record { run = c.run; place = max c.place (seek_place c.run.points key true) }
