@@ -92,6 +92,7 @@ impl Opener {
         requires below { write.now.seq < 2 ^ 56 }
         ensures ok { (options : OptionsOf) (writes : List WriteOf) → self.old ≡ progress_of options writes →
             OnOk result (self.new ≡ progress_of options (writes ++ write.now ∷ [])) }
+        ensures last { OnOk result (self.new.last ≡ write.now.seq) }
         ensures err { OnErr result (self.new ≡ self.old) }
     {
         hold_write(alloc, self.options.memtable, &mut self.memtables, write)?;

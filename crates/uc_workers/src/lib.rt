@@ -1,0 +1,17 @@
+//! Batches of queries, answered by workers over one version.
+//!
+//! A batch is cut into pieces, which workers draw as they come free: a slow piece holds up nobody. Whatever they do in
+//! whichever order, the answers are those of one thread that goes through the queries. Read `specs/Asking.antt` first,
+//! then `batch.rt`.
+#![tactic(auto)]
+
+mod ask_error;
+mod batch;
+mod drawing;
+mod gathering;
+mod piece;
+#[cfg(test)]
+mod tests;
+
+pub use ask_error::{AskError, MOST_WORKERS};
+pub use batch::answer_plain;
