@@ -8,3 +8,4 @@ pub mod Legal
 pub mod Moving
 pub mod Standing
 pub mod PickedClaims
+pub mod Staying

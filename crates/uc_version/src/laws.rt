@@ -6,9 +6,12 @@ ghost use Rattle.uc_stripe.specs.Inputs.{Compaction, Stand};
 ghost use Rattle.uc_history.specs.Installs.{MayInstall, installed};
 ghost use Rattle.uc_version.specs.Owners.{Owner, IsOwner, is_busy};
 ghost use Rattle.uc_version.specs.Picking.{candidates_of};
-ghost use Rattle.uc_version.specs.Claiming.{Claim, is_held, claim_refusal};
-ghost use Rattle.uc_version.specs.Installing.{stretch_of, MayReplace, after_install, install_of};
+ghost use Rattle.uc_version.specs.Claiming.{Claim, is_held, claim_refusal, claim_of, with_claim, without_claim};
+ghost use Rattle.uc_version.specs.Installing.{stretch_of, compaction_of, IdLeft, MayReplace, IsRefused, after_install, install_of};
+ghost use Rattle.uc_version.specs.declared.install_error.InstallError.{InstallError};
+ghost use Rattle.uc_version.specs.declared.install_error.InstallError.TheVariants.{IdsSpent};
 
+use uc_history::install_gives_a_version;
 use uc_oper::Operator;
 use uc_pick::picks_are_unclaimed_runs;
 
@@ -28,3 +31,29 @@ pub fn picks_can_be_claimed()
 {
     picks_are_unclaimed_runs();
 }
+
+/// What an owner is left by claims, by giving them back and by installs is an owner again.
+pub fn owners_stay_owners<O: Operator>()
+    ensures claimed { (o : Owner) (s : Stretch) → IsOwner o → claim_refusal o s ≡ None → IsOwner (with_claim o (claim_of o s) s) }
+    ensures given_back { (o : Owner) (c : Claim) → IsOwner o → is_held o c ≡ true → IsOwner (without_claim o c) }
+    ensures installed { (o : Owner) (c : Claim) (made : Compaction) → IsOwner o → is_held o c ≡ true → Stand made.inputs made.keeps →
+        MayReplace o.version (stretch_of o c) made → IsOwner (after_install O.meaning o c made) }
+{
+    install_gives_a_version::<O>();
+}
+
+/// A claim that isn't refused is held from then on.
+pub fn claims_are_held()
+    ensures { (o : Owner) (s : Stretch) → IsOwner o → claim_refusal o s ≡ None → is_held (with_claim o (claim_of o s) s) (claim_of o s) ≡ true }
+{}
+
+/// What is claimed can be compacted under the keeps of the moment, and be installed where an id is left. For nothing else is it
+/// refused.
+pub fn claims_can_be_compacted()
+    ensures stand { (o : Owner) (c : Claim) → IsOwner o → is_held o c ≡ true →
+        Stand (compaction_of o.version (stretch_of o c)).inputs (compaction_of o.version (stretch_of o c)).keeps }
+    ensures may { (o : Owner) (c : Claim) → IsOwner o → is_held o c ≡ true → IdLeft o.version →
+        MayReplace o.version (stretch_of o c) (compaction_of o.version (stretch_of o c)) }
+    ensures refused { (o : Owner) (c : Claim) (error : InstallError) →
+        IsRefused o.version (stretch_of o c) (compaction_of o.version (stretch_of o c)) error → (error ≡ IdsSpent) × ¬ IdLeft o.version }
+{}

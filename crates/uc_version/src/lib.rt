@@ -21,7 +21,10 @@ mod slots;
 pub use claim_error::ClaimError;
 pub use held_stretch::{HeldStretch, MOST_CLAIMS};
 pub use install_error::InstallError;
-pub use laws::{installs_are_events, picks_can_be_claimed};
+pub use laws::{
+    claims_are_held, claims_can_be_compacted, installs_are_events, owners_stay_owners,
+    picks_can_be_claimed,
+};
 pub use opening::open_plain;
 pub use owned::Owned;
 pub use owned_claim::OwnedClaim;

@@ -1,0 +1,7 @@
+pub mod NamesHeld
+pub mod EmptyNames
+pub mod Undone
+pub mod Along
+pub mod Released
+pub mod Turning
+pub mod Extending

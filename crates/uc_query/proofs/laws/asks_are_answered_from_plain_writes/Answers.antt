@@ -1,0 +1,18 @@
+use Rattle.uc_query.proofs.Turning.{Known}
+use Rattle.uc_query.proofs.Extending.{Grows, answered}
+use Rattle.uc_query.proofs.laws.asks_are_answered_from_plain_writes.Goals as goal
+
+pub returns : goal.returns
+returns g c = λ h s calls legal is_owner are version.
+    let known : Known g.O.Operator.meaning = record {
+      claimed_stays = c.owners_stay_owners.ensures.claimed;
+      back_stays = c.owners_stay_owners.ensures.given_back;
+      installed_stays = c.owners_stay_owners.ensures.installed;
+      is_held_then = c.claims_are_held.ensures;
+      stand = c.claims_can_be_compacted.ensures.stand;
+      may = c.claims_can_be_compacted.ensures.may;
+      event_may = c.installs_are_events.ensures.may;
+      event_after = c.installs_are_events.ensures.after;
+    } in
+    let grows : Grows g.O.Operator.meaning = record { legal = c.histories_grow_by_events.ensures.legal; then_after = c.histories_grow_by_events.ensures.after } in
+    answered g.O.Operator.meaning known grows c.histories_keep_answers.ensures calls h s legal is_owner are version

@@ -1,0 +1,5 @@
+pub mod Names
+pub mod Turns
+pub mod Running
+pub mod Answered
+pub mod Stepping

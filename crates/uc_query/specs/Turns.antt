@@ -1,0 +1,103 @@
+-- What a call does: its reply, and what the store and the names are then.
+use Rattle.std.specs.Prelude.{ℕ, ◌-◌, ◌^◌, ◌<◌, Bool, ⊤, List, Option, Some, None, Result, Ok, Err, nat_lt, if◌then◌else◌}
+use Rattle.uc_oper.specs.Operation.{Operation}
+use Rattle.uc_answer.specs.declared.query.Query.{Query}
+use Rattle.uc_pick.specs.declared.stretch.Stretch.{Stretch}
+use Rattle.uc_pick.specs.Picks.{picked}
+use Rattle.uc_history.specs.Versions.{Stored}
+use Rattle.uc_version.specs.declared.held_stretch.TheConstants.{MOST_CLAIMS}
+use Rattle.uc_version.specs.declared.claim_error.ClaimError.{ClaimError}
+use Rattle.uc_version.specs.declared.install_error.InstallError.TheVariants.{IdsSpent}
+use Rattle.uc_version.specs.Owners.{Owner, is_busy}
+use Rattle.uc_version.specs.Picking.{candidates_of}
+use Rattle.uc_version.specs.Claiming.{Claim, claim_refusal, claim_of, with_claim, without_claim}
+use Rattle.uc_version.specs.Installing.{stretch_of, compaction_of, after_install}
+use Rattle.uc_report.specs.Reports.{report_of}
+use Rattle.uc_workers.specs.declared.ask_error.AskError.{AskError}
+use Rattle.uc_workers.specs.Asking.{ask_refusal, answers_of}
+use Rattle.uc_query.specs.declared.call.Call.{Call}
+use Rattle.uc_query.specs.declared.call.Call.TheVariants as call
+use Rattle.uc_query.specs.declared.reply.Reply.{Reply}
+use Rattle.uc_query.specs.declared.reply.Reply.TheVariants.{Claimed, Refused, Installed, NotInstalled, Abandoned, NoClaim, NameHeld, Compacted, Picked, Reported, Answers}
+use Rattle.uc_query.specs.Names.{State, claim_named, with_name}
+
+-- a call's name is one of those that there are
+abbrev pub HasName : Call → Type 0
+HasName (call.Claim name stretch) = name < MOST_CLAIMS
+HasName (call.Install name) = name < MOST_CLAIMS
+HasName (call.Abandon name) = name < MOST_CLAIMS
+HasName (call.Compact stretch) = ⊤
+HasName call.Pick = ⊤
+HasName call.Report = ⊤
+HasName (call.Ask queries workers piece) = ⊤
+
+-- a reply, and what is then
+pub record Turn : Type 0 where
+  pub reply : Reply
+  pub state : State
+
+-- a reply that changes nothing
+abbrev pub replied : State → Reply → Turn
+replied s reply = record { reply = reply; state = s }
+
+-- an id is left for one run more
+abbrev pub has_id : Stored → Bool
+has_id v = nat_lt v.next_id (2 ^ 64 - 1)
+
+-- the owner once the stretch of a claim was compacted, under the keeps of this moment, and installed
+abbrev pub compacted : Operation → Owner → Claim → Owner
+compacted m o c = after_install m o c (compaction_of o.version (stretch_of o c))
+
+-- the owner with a claim of the stretch
+abbrev pub claimed : Owner → Stretch → Owner
+claimed o stretch = with_claim o (claim_of o stretch) stretch
+
+-- ---- a claim under a name: a name that is held is refused before the stretch is looked at
+
+abbrev pub claimed_unless : State → ℕ → Stretch → Option ClaimError → Turn
+claimed_unless s name stretch (Some error) = replied s (Refused error)
+claimed_unless s name stretch None =
+    record { reply = Claimed name; state = with_name s (claimed s.owner stretch) name (Some (claim_of s.owner stretch)) }
+
+abbrev pub claim_turn : State → ℕ → Stretch → Option Claim → Turn
+claim_turn s name stretch (Some held) = replied s (NameHeld name)
+claim_turn s name stretch None = claimed_unless s name stretch (claim_refusal s.owner stretch)
+
+-- ---- what stands under a name, compacted and installed
+
+abbrev pub install_turn : Operation → State → ℕ → Option Claim → Turn
+install_turn m s name None = replied s (NoClaim name)
+install_turn m s name (Some c) =
+    if has_id s.owner.version then record { reply = Installed s.owner.version.next_id; state = with_name s (compacted m s.owner c) name None }
+    else replied s (NotInstalled IdsSpent)
+
+-- ---- what stands under a name, given back
+
+abbrev pub abandon_turn : State → ℕ → Option Claim → Turn
+abandon_turn s name None = replied s (NoClaim name)
+abandon_turn s name (Some c) = record { reply = Abandoned name; state = with_name s (without_claim s.owner c) name None }
+
+-- ---- a stretch claimed, compacted and installed at once; its claim is given back where it isn't installed
+
+abbrev pub compact_turn : Operation → State → Stretch → Option ClaimError → Turn
+compact_turn m s stretch (Some error) = replied s (Refused error)
+compact_turn m s stretch None =
+    if has_id s.owner.version then
+    record { reply = Compacted s.owner.version.next_id; state = record s { owner = compacted m (claimed s.owner stretch) (claim_of s.owner stretch) } }
+    else replied s (NotInstalled IdsSpent)
+
+-- ---- queries
+
+abbrev pub ask_turn : Operation → State → List Query → Option AskError → Result Turn AskError
+ask_turn m s queries (Some error) = Err error
+ask_turn m s queries None = Ok (replied s (Answers (answers_of m s.owner.version queries)))
+
+-- what a call does; an error where its queries can't be asked so
+abbrev pub turn_of : Operation → State → Call → Result Turn AskError
+turn_of m s (call.Claim name stretch) = Ok (claim_turn s name stretch (claim_named s name))
+turn_of m s (call.Install name) = Ok (install_turn m s name (claim_named s name))
+turn_of m s (call.Abandon name) = Ok (abandon_turn s name (claim_named s name))
+turn_of m s (call.Compact stretch) = Ok (compact_turn m s stretch (claim_refusal s.owner stretch))
+turn_of m s call.Pick = Ok (replied s (Picked (picked s.owner.options (candidates_of s.owner.version (is_busy s.owner)))))
+turn_of m s call.Report = Ok (replied s (Reported (report_of s.owner.version)))
+turn_of m s (call.Ask queries workers piece) = ask_turn m s queries (ask_refusal workers piece)

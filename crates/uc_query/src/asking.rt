@@ -1,0 +1,41 @@
+//! What is asked of a store, which changes nothing.
+ghost use Rattle.std.specs.Prelude.{◌≡◌, ◌⊎◌, Ok, Err, IfOk, IfErr, IsOk, List, Option};
+ghost use Rattle.uc_version.specs.Claiming.{Claim};
+ghost use Rattle.uc_workers.specs.Asking.{ask_refusal};
+ghost use Rattle.uc_workers.specs.declared.ask_error.AskError.TheVariants.{Memory};
+ghost use Rattle.uc_query.specs.Turns.{ask_turn};
+
+use crate::reply::Reply;
+use std::alloc::Global;
+use std::marker::Sync;
+use std::thread::Threads;
+use uc_answer::Query;
+use uc_bytes::Items;
+use uc_oper::Operator;
+use uc_version::Owned;
+use uc_workers::{AskError, answer_plain};
+
+/// Answers queries, by so many workers, in pieces of so many queries.
+pub(crate) fn answer_batch<O: Operator + Sync>(
+    rt: &(impl Threads + Sync),
+    alloc: Global,
+    owned: &Owned<O>,
+    queries: &Items<Query>,
+    workers: usize,
+    piece: usize,
+) -> Result<Reply, AskError>
+    ensures ok { (names : List (Option Claim)) → IfOk result (λ reply. ask_turn O.meaning (record { owner = owned.now; names = names }) queries.now (ask_refusal workers piece) ≡ Ok (record { reply = reply; state = record { owner = owned.now; names = names } })) }
+    ensures err { (names : List (Option Claim)) → IfErr result (λ error. (ask_turn O.meaning (record { owner = owned.now; names = names }) queries.now (ask_refusal workers piece) ≡ Err error) ⊎ ((error ≡ Memory) × IsOk (ask_turn O.meaning (record { owner = owned.now; names = names }) queries.now (ask_refusal workers piece)))) }
+{
+    match answer_plain::<O>(
+        rt,
+        alloc,
+        owned.version(),
+        queries.as_slice(),
+        workers,
+        piece,
+    ) {
+        Ok(answers) => Ok(Reply::Answers(Items::from(answers))),
+        Err(error) => Err(error),
+    }
+}

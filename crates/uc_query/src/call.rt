@@ -1,0 +1,24 @@
+//! [`Call`]: what is asked of a store.
+use uc_answer::Query;
+use uc_bytes::Items;
+use uc_version::Stretch;
+
+/// What is asked of a store in one owner's hands. Claims are held under names, which are numbers below
+/// [`MOST_CLAIMS`](uc_version::MOST_CLAIMS).
+#[derive(Debug, Drop)]
+pub enum Call {
+    /// Claim a stretch of runs under a name.
+    Claim(u8, Stretch),
+    /// Compact what is claimed under a name, and put it in place.
+    Install(u8),
+    /// Give back what is claimed under a name.
+    Abandon(u8),
+    /// Claim a stretch, compact it and put it in place.
+    Compact(Stretch),
+    /// Which stretch would be compacted next.
+    Pick,
+    /// What the store holds, in numbers.
+    Report,
+    /// Answer these queries, by so many workers, in pieces of so many queries.
+    Ask(Items<Query>, usize, usize),
+}

@@ -1,0 +1,46 @@
+//! What holds of lists of calls.
+ghost use Rattle.std.specs.Prelude.{◌≡◌, ◌++◌, List, length, take};
+ghost use Rattle.std.specs.List.{AllZip};
+ghost use Rattle.uc_history.specs.Histories.{Event, History, IsLegal, version_after, writes_given};
+ghost use Rattle.uc_version.specs.Owners.{IsOwner};
+ghost use Rattle.uc_query.specs.declared.call.Call.{Call};
+ghost use Rattle.uc_query.specs.Names.{State, AreHeld};
+ghost use Rattle.uc_query.specs.Running.{run_of};
+ghost use Rattle.uc_query.specs.Answered.{IsAnswered};
+
+use uc_history::histories_grow_by_events;
+use uc_lookup::histories_keep_answers;
+use uc_oper::Operator;
+use uc_version::{
+    claims_are_held, claims_can_be_compacted, installs_are_events, owners_stay_owners,
+};
+
+/// Whatever calls are made to a store, its version is the one after its history so far and some legal events more.
+pub fn calls_extend_histories<O: Operator>()
+    ensures { (h : History) (s : State) (calls : List Call) → IsLegal O.meaning h → IsOwner s.owner → AreHeld s.owner s.names →
+        s.owner.version ≡ version_after h →
+        (events : List Event) × IsLegal O.meaning (record h { events = h.events ++ events }) ×
+        ((run_of O.meaning s calls).state.owner.version ≡ version_after (record h { events = h.events ++ events })) }
+{
+    owners_stay_owners::<O>();
+    claims_are_held();
+    claims_can_be_compacted();
+    installs_are_events::<O>();
+    histories_grow_by_events::<O>();
+}
+
+/// Wherever queries are asked between claims, installs and compactions, they are answered as from the plain writes that the
+/// store was given, and the sequences that it keeps.
+pub fn asks_are_answered_from_plain_writes<O: Operator>()
+    ensures { (h : History) (s : State) (calls : List Call) → IsLegal O.meaning h → IsOwner s.owner → AreHeld s.owner s.names →
+        s.owner.version ≡ version_after h →
+        AllZip (IsAnswered O.meaning (writes_given h) (version_after h).keeps)
+        (take (length (run_of O.meaning s calls).replies) calls) (run_of O.meaning s calls).replies }
+{
+    owners_stay_owners::<O>();
+    claims_are_held();
+    claims_can_be_compacted();
+    installs_are_events::<O>();
+    histories_grow_by_events::<O>();
+    histories_keep_answers::<O>();
+}

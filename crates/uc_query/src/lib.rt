@@ -1,0 +1,29 @@
+//! Queries of a store, and lists of calls.
+//!
+//! [`run_calls`] goes through a list of calls to a store in one owner's hands: claims under names, installs, compactions,
+//! picks, reports and batches of queries. Its replies are those of a small machine, a function of what the store holds and of
+//! the calls: read `specs/Turns.antt` first, then `specs/Running.antt`, `named_claims.rt` and `calls.rt`. What a query asks
+//! and what answers it stand in `uc_answer`, `uc_lookup` and `uc_workers`, and reports in `uc_report`; their public items are given out here too.
+#![tactic(auto)]
+
+mod asking;
+mod call;
+mod calls;
+mod claiming;
+mod installing;
+mod laws;
+mod named_claims;
+mod reply;
+
+pub use call::Call;
+pub use calls::run_calls;
+pub use laws::{asks_are_answered_from_plain_writes, calls_extend_histories};
+pub use named_claims::NamedClaims;
+pub use reply::Reply;
+pub use uc_answer::{Answer, Query, Rows, answer_writes};
+pub use uc_lookup::answer_one;
+pub use uc_report::{Report, RunLine, Totals, report};
+pub use uc_workers::{AskError, MOST_WORKERS, answer_plain};
+
+#[cfg(test)]
+mod tests;

@@ -1,0 +1,85 @@
+//! [`NamedClaims`]: claims under names, and what calls do with them.
+ghost use Rattle.std.specs.Prelude.{◌≡◌, ◌≢◌, ◌⊎◌, Ok, Err, None, IfOk, IfErr, IsOk, replicate};
+ghost use Rattle.uc_version.specs.declared.held_stretch.TheConstants.{MOST_CLAIMS as MOST};
+ghost use Rattle.uc_workers.specs.declared.ask_error.AskError.TheVariants.{Memory};
+ghost use Rattle.uc_query.specs.Names.{AreHeld, released};
+ghost use Rattle.uc_query.specs.Turns.{HasName, turn_of};
+
+use crate::asking::answer_batch;
+use crate::call::Call;
+use crate::claiming::{abandon_under, claim_under, give_all_back};
+use crate::installing::{compact_at_once, install_under};
+use crate::reply::Reply;
+use std::alloc::Global;
+use std::marker::{Model, Sync};
+use std::thread::Threads;
+use uc_oper::Operator;
+use uc_report::report;
+use uc_version::{MOST_CLAIMS, Owned, OwnedClaim};
+use uc_workers::AskError;
+
+/// Claims of a store under names, from 0 to below [`MOST_CLAIMS`]. A contract sees them as a list, for each name the claim
+/// that it stands for, if it stands for one.
+#[derive(Debug, Drop)]
+pub struct NamedClaims {
+    claims: [Option<OwnedClaim>; MOST_CLAIMS],
+}
+
+impl Model for NamedClaims {
+    ghost use Rattle.std.specs.Prelude.{List, Option};
+    ghost use Rattle.uc_version.specs.Claiming.{Claim};
+
+    ghost Value = { List (Option Claim) };
+
+    ghost view = { λ n. n.claims };
+}
+
+impl NamedClaims {
+    /// Nothing is claimed. It takes no memory.
+    pub fn new() -> NamedClaims
+        ensures { result ≡ replicate MOST None }
+    {
+        NamedClaims {
+            claims: Default::default(),
+        }
+    }
+
+    /// Carries a call out, and gives its reply. A name that is held is refused before its stretch is looked at. It fails for a
+    /// batch's wrong number of workers or piece of no query, and for want of memory, and then nothing is changed.
+    pub fn call<O: Operator + Sync>(
+        &mut self,
+        rt: &(impl Threads + Sync),
+        alloc: Global,
+        owned: &mut Owned<O>,
+        call: &Call,
+    ) -> Result<Reply, AskError>
+        requires name { HasName call.now }
+        requires held { AreHeld owned.old self.old }
+        ensures held { AreHeld owned.new self.new }
+        ensures ok { IfOk result (λ reply. turn_of O.meaning (record { owner = owned.old; names = self.old }) call.now ≡ Ok (record { reply = reply; state = record { owner = owned.new; names = self.new } })) }
+        ensures err { IfErr result (λ error. (turn_of O.meaning (record { owner = owned.old; names = self.old }) call.now ≡ Err error) ⊎ ((error ≡ Memory) × IsOk (turn_of O.meaning (record { owner = owned.old; names = self.old }) call.now))) }
+        ensures unchanged { IfErr result (λ error. (owned.new ≡ owned.old) × (self.new ≡ self.old)) }
+    {
+        match call {
+            Call::Claim(name, stretch) => {
+                Ok(claim_under(&mut self.claims, owned, *name, *stretch))
+            }
+            Call::Install(name) => { Ok(install_under(rt, alloc, &mut self.claims, owned, *name)?) }
+            Call::Abandon(name) => Ok(abandon_under(&mut self.claims, owned, *name)),
+            Call::Compact(stretch) => Ok(compact_at_once(rt, alloc, owned, *stretch)?),
+            Call::Pick => Ok(Reply::Picked(owned.pick())),
+            Call::Report => Ok(Reply::Reported(report(rt, alloc, owned.version())?)),
+            Call::Ask(queries, workers, piece) => {
+                answer_batch(rt, alloc, owned, queries, *workers, *piece)
+            }
+        }
+    }
+
+    /// Gives all claims back. It takes no memory.
+    pub fn release<O: Operator>(self, owned: &mut Owned<O>)
+        requires { AreHeld owned.old self }
+        ensures { owned.new ≡ released (record { owner = owned.old; names = self }) }
+    {
+        give_all_back(self.claims, owned);
+    }
+}

@@ -1,0 +1,32 @@
+//! [`Reply`]: what comes of a call.
+use uc_answer::Answer;
+use uc_bytes::Items;
+use uc_report::Report;
+use uc_version::{ClaimError, InstallError, Stretch};
+
+/// What comes of a [`Call`](crate::Call).
+#[derive(Debug, Drop)]
+pub enum Reply {
+    /// A stretch is claimed under this name.
+    Claimed(u8),
+    /// The stretch can't be claimed.
+    Refused(ClaimError),
+    /// What was claimed is compacted, and is the run with this id now.
+    Installed(u64),
+    /// The compaction isn't put in place, since no id is left; what was claimed under a name still is.
+    NotInstalled(InstallError),
+    /// What was claimed under this name is given back.
+    Abandoned(u8),
+    /// Nothing is claimed under this name.
+    NoClaim(u8),
+    /// Something is claimed under this name already. The stretch wasn't looked at.
+    NameHeld(u8),
+    /// The stretch is compacted, and is the run with this id now.
+    Compacted(u64),
+    /// What would be compacted next, if anything.
+    Picked(Option<Stretch>),
+    /// What the store holds.
+    Reported(Report),
+    /// The answers, in the order of the queries.
+    Answers(Items<Answer>),
+}
