@@ -10,11 +10,6 @@ use crate::reply::Reply;
 use uc_oper::Operator;
 use uc_version::{MOST_CLAIMS, Owned, OwnedClaim, Stretch, claims_are_held};
 
-/// What a store in one owner's hands is seen as is an owner.
-pub(crate) fn is_owner<O: Operator>(owned: &Owned<O>)
-    ensures { IsOwner owned.now }
-{}
-
 /// Claims a stretch under a name that is free. One that is held is refused before the stretch is looked at.
 pub(crate) fn claim_under<O: Operator>(
     claims: &mut [Option<OwnedClaim>],
@@ -27,7 +22,7 @@ pub(crate) fn claim_under<O: Operator>(
     ensures held { AreHeld owned.new claims.new }
     ensures turn { claim_turn (record { owner = owned.old; names = claims.old }) name stretch (slice_index_or claims.old name None) ≡ record { reply = result; state = record { owner = owned.new; names = claims.new } } }
 {
-    is_owner(owned);
+    owned.is_one();
     claims_are_held();
     let place = usize::from(name);
     if claims[place].is_some() {

@@ -8,7 +8,6 @@ ghost use Rattle.uc_version.specs.Installing.{stretch_of, compaction_of};
 ghost use Rattle.uc_query.specs.Names.{AreHeld};
 ghost use Rattle.uc_query.specs.Turns.{has_id, compacted, install_turn, compact_turn};
 
-use crate::claiming::is_owner;
 use crate::reply::Reply;
 use std::alloc::{AllocError, Global};
 use std::marker::Sync;
@@ -96,7 +95,7 @@ pub(crate) fn compact_at_once<O: Operator + Sync>(
     ensures turn { (names : List (Option Claim)) → IfOk result (λ reply. compact_turn O.meaning (record { owner = owned.old; names = names }) stretch (claiming.claim_refusal owned.old stretch) ≡ record { reply = reply; state = record { owner = owned.new; names = names } }) }
     ensures unchanged { OnErr result (owned.new ≡ owned.old) }
 {
-    is_owner(owned);
+    owned.is_one();
     claims_are_held();
     let claim = match owned.claim(stretch) {
         Err(error) => return Ok(Reply::Refused(error)),

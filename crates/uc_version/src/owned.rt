@@ -3,7 +3,7 @@ ghost use Rattle.std.specs.Prelude.{◌≡◌, ◌<◌, Some, None, true, IfOk, 
 ghost use Rattle.uc_claims.specs.declared.table.TheConstants.{MOST_SLOTS};
 ghost use Rattle.uc_pick.specs.Picks.{picked};
 ghost use Rattle.uc_pick.specs.Options.{are_good};
-ghost use Rattle.uc_version.specs.Owners.{is_busy, unclaimed};
+ghost use Rattle.uc_version.specs.Owners.{IsOwner, is_busy, unclaimed};
 ghost use Rattle.uc_version.specs.Picking.{candidates_of};
 ghost use Rattle.uc_version.specs.Claiming as claiming;
 ghost use Rattle.uc_version.specs.Installing as installing;
@@ -67,6 +67,13 @@ impl<O: Operator> Owned<O> {
             claims: [None; MOST_CLAIMS],
             operator: PhantomData,
         })
+    }
+
+    /// What holds of every owner. It does nothing.
+    pub fn is_one(&self)
+        ensures { IsOwner self.now }
+    {
+        let _ = &self.version;
     }
 
     /// What the store holds now.
