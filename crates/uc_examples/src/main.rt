@@ -7,7 +7,9 @@
 use anyhow::{Result, ensure};
 use std::alloc::Global;
 use std::fs;
+use std::marker::Sync;
 use std::rt::Files;
+use std::thread::Threads;
 use uc_oper::{Append, Counter, Operator};
 use uc_tool::{Done, Options, dump, play};
 
@@ -53,11 +55,15 @@ fn check_log<R: Files + AllocGlobal>(rt: &R, name: &str) -> Result<()> {
 }
 
 /// Plays an example of a script.
-fn check_script<O: Operator, R: Files + AllocGlobal>(rt: &R, name: &str) -> Result<()> {
+fn check_script<O: Operator + Sync, R: Files + AllocGlobal + Threads + Sync>(
+    rt: &R,
+    name: &str,
+) -> Result<()> {
     let alloc = rt.alloc();
     let script = fs::read(rt, path_of(alloc, name, ".script")?)?;
     let mut printed = Vec::new(alloc);
     let done = play::<O, &[u8], Vec<u8>>(
+        rt,
         alloc,
         &mut script.as_slice(),
         &mut printed,

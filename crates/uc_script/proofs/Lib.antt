@@ -7,3 +7,4 @@ pub mod Numbers
 pub mod Printed
 pub mod Whole
 pub mod Short
+pub mod Names

@@ -5,3 +5,4 @@ pub mod Script
 pub mod Reading
 pub mod Cases
 pub mod Short
+pub mod Names

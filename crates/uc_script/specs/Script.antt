@@ -3,9 +3,9 @@ use Rattle.std.specs.Prelude.{ℕ, ◌+◌, ◌==◌, Bool, true, false, List, [
 use Rattle.std.specs.List.{before_first, after_first, filter_map}
 use Rattle.std.specs.Option.{option_map, option_or}
 use Rattle.uc_script.specs.Lines.{lines_of, fields_of, is_skipped, says}
-use Rattle.uc_script.specs.Texts.{◌>>=◌, number_of, text_of, seq_of, high_of}
+use Rattle.uc_script.specs.Texts.{◌>>=◌, number_of, name_of, text_of, seq_of, high_of}
 use Rattle.uc_script.specs.declared.call.Call.{Call}
-use Rattle.uc_script.specs.declared.call.Call.TheVariants.{Get, Scan}
+use Rattle.uc_script.specs.declared.call.Call.TheVariants.{Get, Scan, Claim, Install, Abandon, Compact, Pick, Report}
 use Rattle.uc_script.specs.declared.setup_line.SetupLine.{SetupLine}
 use Rattle.uc_script.specs.declared.setup_line.SetupLine.TheVariants as setup
 use Rattle.uc_script.specs.declared.call_line.CallLine.{CallLine}
@@ -66,9 +66,49 @@ scan_of low high limit at = do
   s ← seq_of at
   Some (Scan l h n s)
 
+-- `claim N FIRST COUNT`
+unfoldable pub claim_of : List ℕ → List ℕ → List ℕ → Option Call
+claim_of name first count = do
+  n ← name_of name
+  f ← number_of first
+  c ← number_of count
+  Some (Claim n f c)
+
+-- `compact FIRST COUNT`
+unfoldable pub compact_of : List ℕ → List ℕ → Option Call
+compact_of first count = do
+  f ← number_of first
+  c ← number_of count
+  Some (Compact f c)
+
+-- `pick` and `report`
+unfoldable pub call_alone : List ℕ → Option Call
+call_alone word =
+    if says word (codes "pick") then Some Pick
+    else if says word (codes "report") then Some Report
+    else None
+
+-- `install N` and `abandon N`
+unfoldable pub call_with_one : List ℕ → List ℕ → Option Call
+call_with_one word name = do
+  n ← name_of name
+  if says word (codes "install") then Some (Install n)
+      else if says word (codes "abandon") then Some (Abandon n)
+      else None
+
+-- `get K S` and `compact FIRST COUNT`
+unfoldable pub call_with_two : List ℕ → List ℕ → List ℕ → Option Call
+call_with_two word first second =
+    if says word (codes "get") then get_of first second
+    else if says word (codes "compact") then compact_of first second
+    else None
+
 -- What a line after the first `open` says by its fields.
 unfoldable pub call_of : List (List ℕ) → Option Call
-call_of (word ∷ key ∷ at ∷ []) = if says word (codes "get") then get_of key at else None
+call_of (word ∷ []) = call_alone word
+call_of (word ∷ name ∷ []) = call_with_one word name
+call_of (word ∷ first ∷ second ∷ []) = call_with_two word first second
+call_of (word ∷ name ∷ first ∷ count ∷ []) = if says word (codes "claim") then claim_of name first count else None
 call_of (word ∷ low ∷ high ∷ limit ∷ at ∷ []) = if says word (codes "scan") then scan_of low high limit at else None
 call_of _ = None
 
@@ -101,7 +141,7 @@ abbrev kept : Option SetupLine → Option ℕ
 kept (Some (setup.Keep number)) = Some number
 kept _ = None
 
-abbrev asked : Option CallLine → Option Call
+abbrev pub asked : Option CallLine → Option Call
 asked (Some (asking.Ask call)) = Some call
 asked _ = None
 

@@ -24,6 +24,12 @@ is_numeral (digit ∷ next ∷ rest) = not (digit == 48) && list_all is_ascii_di
 unfoldable pub number_of : List ℕ → Option ℕ
 number_of field = if is_numeral field && nat_lt (digits_value 10 field) (2 ^ 64) then Some (digits_value 10 field) else None
 
+-- The name of a claim: a number below 32.
+unfoldable pub name_of : List ℕ → Option ℕ
+name_of field = do
+  name ← number_of field
+  if nat_lt name 32 then Some name else None
+
 -- A key or a value: `.` for no bytes, else two hexadecimal digits, in either case, for each byte.
 unfoldable pub text_of : List ℕ → Option (List ℕ)
 text_of [] = None

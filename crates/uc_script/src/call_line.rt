@@ -1,10 +1,10 @@
 //! Lines after `open`.
 
 ghost use Rattle.std.specs.Prelude.{◌≡◌, IfOk};
-ghost use Rattle.uc_script.specs.Script.{get_of, scan_of, call_line};
+ghost use Rattle.uc_script.specs.Script as script;
 
 use crate::call::Call;
-use crate::field::{high, number, seq, text};
+use crate::field::{self, high, number, seq, text};
 use crate::lines::{Fields, is_skipped, split_line};
 use std::alloc::{AllocError, Global};
 
@@ -20,13 +20,18 @@ pub(crate) enum CallLine {
 /// What a line says, or `None` where it is not as it should be.
 #[tactic(auto, unfolding(crate::specs::Script::call_line, crate::specs::Script::call_of))]
 pub(crate) fn read_call_line(alloc: Global, line: &[u8]) -> Result<Option<CallLine>, AllocError>
-    ensures { IfOk result (λ said. said ≡ call_line line.now) }
+    ensures { IfOk result (λ said. said ≡ script.call_line line.now) }
 {
     if is_skipped(line) {
         return Ok(Some(CallLine::Skipped));
     }
     let call = match split_line(line) {
-        Fields::Three(word, key, at) if word == b"get".as_slice() => get(alloc, key, at)?,
+        Fields::One(word) => call_alone(word),
+        Fields::Two(word, name) => call_with_one(word, name),
+        Fields::Three(word, first, second) => call_with_two(alloc, word, first, second)?,
+        Fields::Four(word, name, first, count) if word == b"claim".as_slice() => {
+            claim(name, first, count)
+        }
         Fields::Five(word, low, end, limit, at) if word == b"scan".as_slice() => {
             scan(alloc, low, end, limit, at)?
         }
@@ -35,10 +40,58 @@ pub(crate) fn read_call_line(alloc: Global, line: &[u8]) -> Result<Option<CallLi
     Ok(call.map(CallLine::Ask))
 }
 
+/// `pick` or `report`.
+#[tactic(auto, unfolding(crate::specs::Script::call_alone))]
+fn call_alone(word: &[u8]) -> Option<Call>
+    ensures { result ≡ script.call_alone word.now }
+{
+    if word == b"pick".as_slice() {
+        Some(Call::Pick)
+    } else if word == b"report".as_slice() {
+        Some(Call::Report)
+    } else {
+        None
+    }
+}
+
+/// `install N` or `abandon N`.
+#[tactic(auto, unfolding(crate::specs::Script::call_with_one))]
+fn call_with_one(word: &[u8], name: &[u8]) -> Option<Call>
+    ensures { result ≡ script.call_with_one word.now name.now }
+{
+    let name = field::name(name)?;
+    if word == b"install".as_slice() {
+        Some(Call::Install { name })
+    } else if word == b"abandon".as_slice() {
+        Some(Call::Abandon { name })
+    } else {
+        None
+    }
+}
+
+/// `get K S` or `compact FIRST COUNT`.
+#[tactic(auto, unfolding(crate::specs::Script::call_with_two))]
+fn call_with_two(
+    alloc: Global,
+    word: &[u8],
+    first: &[u8],
+    second: &[u8],
+) -> Result<Option<Call>, AllocError>
+    ensures { IfOk result (λ call. call ≡ script.call_with_two word.now first.now second.now) }
+{
+    if word == b"get".as_slice() {
+        return get(alloc, first, second);
+    }
+    if word == b"compact".as_slice() {
+        return Ok(compact(first, second));
+    }
+    Ok(None)
+}
+
 /// The arguments of `get K S`.
 #[tactic(auto, unfolding(crate::specs::Script::get_of))]
 fn get(alloc: Global, key: &[u8], at: &[u8]) -> Result<Option<Call>, AllocError>
-    ensures { IfOk result (λ call. call ≡ get_of key.now at.now) }
+    ensures { IfOk result (λ call. call ≡ script.get_of key.now at.now) }
 {
     let Some(key) = text(alloc, key)? else {
         return Ok(None);
@@ -58,7 +111,7 @@ fn scan(
     limit: &[u8],
     at: &[u8],
 ) -> Result<Option<Call>, AllocError>
-    ensures { IfOk result (λ call. call ≡ scan_of low.now end.now limit.now at.now) }
+    ensures { IfOk result (λ call. call ≡ script.scan_of low.now end.now limit.now at.now) }
 {
     let Some(low) = text(alloc, low)? else {
         return Ok(None);
@@ -78,4 +131,25 @@ fn scan(
         limit,
         at,
     }))
+}
+
+/// The arguments of `claim N FIRST COUNT`.
+#[tactic(auto, unfolding(crate::specs::Script::claim_of))]
+fn claim(name: &[u8], first: &[u8], count: &[u8]) -> Option<Call>
+    ensures { result ≡ script.claim_of name.now first.now count.now }
+{
+    let name = field::name(name)?;
+    let first = field::count(first)?;
+    let count = field::count(count)?;
+    Some(Call::Claim { name, first, count })
+}
+
+/// The arguments of `compact FIRST COUNT`.
+#[tactic(auto, unfolding(crate::specs::Script::compact_of))]
+fn compact(first: &[u8], count: &[u8]) -> Option<Call>
+    ensures { result ≡ script.compact_of first.now count.now }
+{
+    let first = field::count(first)?;
+    let count = field::count(count)?;
+    Some(Call::Compact { first, count })
 }

@@ -4,8 +4,9 @@ ghost use Rattle.std.specs.Prelude.{◌≡◌, ◌^◌, ◌&&◌, nat_lt, Some, 
 ghost use Rattle.std.specs.Char.{is_ascii_digit};
 ghost use Rattle.std.specs.List.{list_all};
 ghost use Rattle.std.specs.Str.Parse.{digits_value};
-ghost use Rattle.uc_script.specs.Texts.{number_of, text_of, seq_of, high_of};
+ghost use Rattle.uc_script.specs.Texts.{number_of, name_of, text_of, seq_of, high_of};
 
+use crate::call::NAMES;
 use crate::seq::Seq;
 use hex::FromHexError;
 use std::alloc::{AllocError, Global};
@@ -36,6 +37,26 @@ pub(crate) fn number(field: &[u8]) -> Option<u64>
     match field {
         [] | [b'0', _, ..] => None,
         _ => value(field),
+    }
+}
+
+/// A position or a count of runs: a number.
+pub(crate) fn count(field: &[u8]) -> Option<usize>
+    ensures { result ≡ number_of field.now }
+{
+    Some(number(field)? as usize)
+}
+
+/// The name of a claim: a number below [`NAMES`].
+#[tactic(auto, unfolding(crate::specs::Texts::name_of))]
+pub(crate) fn name(field: &[u8]) -> Option<u8>
+    ensures { result ≡ name_of field.now }
+{
+    let name = number(field)?;
+    if name < NAMES as u64 {
+        Some(name as u8)
+    } else {
+        None
     }
 }
 

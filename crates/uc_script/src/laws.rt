@@ -5,6 +5,7 @@ ghost use Rattle.std.specs.Prelude.{◌≡◌, ℕ, ◌<◌, ◌^◌, List, leng
 ghost use Rattle.std.specs.Fmt.{decimal};
 ghost use Rattle.uc_script.specs.Cases.{ComesTo};
 ghost use Rattle.uc_script.specs.Lines.{lines_of};
+ghost use Rattle.uc_script.specs.Names.{NameIsGood};
 ghost use Rattle.uc_script.specs.Script.{script_of};
 ghost use Rattle.uc_script.specs.Short.{AreNoLonger};
 ghost use Rattle.uc_script.specs.Texts.{number_of, text_of, hex_text};
@@ -23,6 +24,12 @@ pub fn a_script_is_its_lines()
 pub fn a_script_names_no_more_than_it_has()
     ensures { (text : List ℕ) (script : Script) → script_of text ≡ Ok script
         → AreNoLonger (length text) script.ops }
+{}
+
+/// Every name of a claim in a script that is read is below 32.
+pub fn names_are_in_range()
+    ensures { (text : List ℕ) (script : Script) → script_of text ≡ Ok script
+        → All NameIsGood script.calls }
 {}
 
 /// What is printed for bytes is read as these bytes.

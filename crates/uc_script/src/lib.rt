@@ -22,12 +22,12 @@ mod script;
 mod seq;
 mod setup_line;
 
-pub use call::Call;
+pub use call::{Call, NAMES};
 pub use digits::{push_hex, push_number};
 pub use error::ScriptError;
 pub use laws::{
-    a_script_is_its_lines, a_script_names_no_more_than_it_has, printed_bytes_are_read,
-    printed_numbers_are_read,
+    a_script_is_its_lines, a_script_names_no_more_than_it_has, names_are_in_range,
+    printed_bytes_are_read, printed_numbers_are_read,
 };
 pub use reading::read_script;
 pub use script::{Calls, Keeps, Ops, Script};

@@ -30,10 +30,11 @@ struct Opened<'a> {
 ///
 /// Its lines end with LF, and the last may lack it. Fields are separated by one space. Empty lines
 /// and lines that begin with `#` are skipped and counted. Before the one `open` stand `put K V`,
-/// `delete K`, `merge K V`, `range B E` and `keep S`, where S is a number; after it `get K S` and
-/// `scan LOW HIGH LIMIT S`, where S may be `last` and HIGH may be `-`. Keys and values are
-/// hexadecimal in either case, or `.` for no bytes. Numbers are decimal without sign or needless
-/// zeros, at most 2^64 - 1.
+/// `delete K`, `merge K V`, `range B E` and `keep S`, where S is a number. After it stand `get K S`
+/// and `scan LOW HIGH LIMIT S`, where S may be `last` and HIGH may be `-`; `claim N FIRST COUNT`,
+/// `install N` and `abandon N`, where the name N is below [`NAMES`](crate::NAMES); and
+/// `compact FIRST COUNT`, `pick` and `report`. Keys and values are hexadecimal in either case, or
+/// `.` for no bytes. Numbers are decimal without sign or needless zeros, at most 2^64 - 1.
 ///
 /// It fails with the number of the first line that is not so, from 1, which is one past the last
 /// line where only `open` is missing; and for want of memory.

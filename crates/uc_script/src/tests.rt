@@ -50,7 +50,7 @@ fn the_first_faulty_line_comes_first(rt: HostRuntime) {
 /// Each is put before an `open`, and is a fault there.
 #[test]
 fn faulty_lines_before_open(rt: HostRuntime) -> Result<(), Fail> {
-    let table: [&[u8]; 34] = [
+    let table: [&[u8]; 38] = [
         b"put 61",
         b"put 61 62 63",
         b"put  61 62",
@@ -83,6 +83,10 @@ fn faulty_lines_before_open(rt: HostRuntime) -> Result<(), Fail> {
         b"keep ",
         b"get 61 1",
         b"scan 61 62 1 1",
+        b"claim 0 0 1",
+        b"install 0",
+        b"compact 0 1",
+        b"pick",
         b"open ",
         b"open open",
     ];
@@ -97,7 +101,7 @@ fn faulty_lines_before_open(rt: HostRuntime) -> Result<(), Fail> {
 /// Each is put behind an `open` and a comment, and is a fault there.
 #[test]
 fn faulty_lines_after_open(rt: HostRuntime) -> Result<(), Fail> {
-    let table: [&[u8]; 27] = [
+    let table: [&[u8]; 21] = [
         b"open",
         b"put 61 62",
         b"keep 1",
@@ -116,23 +120,66 @@ fn faulty_lines_after_open(rt: HostRuntime) -> Result<(), Fail> {
         b"scan - 62 1 1",
         b"scan 61 -- 1 1",
         b"scan 61 62 1 18446744073709551616",
-        b"claim 0 0 1",
-        b"install 0",
-        b"abandon 0",
-        b"compact 0 1",
-        b"pick",
-        b"report",
         b"scan 61 62 1 1 ",
         b" ",
         b"a b c d e f g h",
     ];
     for line in table {
-        let mut text = b"open\n# two\n".to_vec(rt.alloc())?;
-        text.extend_from_slice(line)?;
-        assert_eq!(rt; fault(&rt, rt.alloc(), text.as_slice()), Some(3));
-        text.push(b'\n')?;
-        assert_eq!(rt; fault(&rt, rt.alloc(), text.as_slice()), Some(3));
+        is_fault_after_open(&rt, rt.alloc(), line)?;
     }
+    Ok(())
+}
+
+/// Each is put behind an `open` and a comment, and is a fault there.
+#[test]
+fn faulty_lines_on_compactions(rt: HostRuntime) -> Result<(), Fail> {
+    let table: [&[u8]; 32] = [
+        b"claim",
+        b"claim 0",
+        b"claim 0 0",
+        b"claim 0 0 1 1",
+        b"claim 32 0 1",
+        b"claim 256 0 1",
+        b"claim 00 0 1",
+        b"claim a 0 1",
+        b"claim - 0 1",
+        b"claim 0 last 1",
+        b"claim 0 00 1",
+        b"claim 0 0 01",
+        b"claim 0 0 18446744073709551616",
+        b"claim 0 18446744073709551616 0",
+        b"claim 0 0 1 ",
+        b"Claim 0 0 1",
+        b"install",
+        b"install 32",
+        b"install 01",
+        b"install 0 0",
+        b"abandon",
+        b"abandon x",
+        b"abandon 32",
+        b"abandon 18446744073709551616",
+        b"compact",
+        b"compact 0",
+        b"compact 0 1 2",
+        b"compact 0 -1",
+        b"compact 01 1",
+        b"pick 1",
+        b"report 1",
+        b"report\r",
+    ];
+    for line in table {
+        is_fault_after_open(&rt, rt.alloc(), line)?;
+    }
+    Ok(())
+}
+
+/// The line is put behind an `open` and a comment, and is a fault there.
+fn is_fault_after_open(rt: &impl Abort, alloc: Global, line: &[u8]) -> Result<(), Fail> {
+    let mut text = b"open\n# two\n".to_vec(alloc)?;
+    text.extend_from_slice(line)?;
+    assert_eq!(rt; fault(rt, alloc, text.as_slice()), Some(3));
+    text.push(b'\n')?;
+    assert_eq!(rt; fault(rt, alloc, text.as_slice()), Some(3));
     Ok(())
 }
 
@@ -180,12 +227,12 @@ fn the_keeps_in_order(rt: HostRuntime) -> Result<(), Fail> {
     Ok(())
 }
 
-/// A call by its first key, the end and the limit of a scan, and its sequence.
-type Asked<'a> = (&'a [u8], Option<&'a [u8]>, Option<u64>, Seq);
+/// A call by its first key, the end and the limit of a scan, and its sequence, where it has them.
+type Asked<'a> = (Option<&'a [u8]>, Option<&'a [u8]>, Option<u64>, Option<Seq>);
 
 fn asked(call: &Call) -> Asked<'_> {
     match call {
-        Call::Get { key, at } => (key.as_slice(), None, None, *at),
+        Call::Get { key, at } => (Some(key.as_slice()), None, None, Some(*at)),
         Call::Scan {
             low,
             high,
@@ -193,29 +240,84 @@ fn asked(call: &Call) -> Asked<'_> {
             at,
         } => {
             let high = high.as_ref().map(Bytes::as_slice);
-            (low.as_slice(), high, Some(*limit), *at)
+            (Some(low.as_slice()), high, Some(*limit), Some(*at))
         }
+        _ => (None, None, None, None),
     }
 }
 
 /// What a script asks.
-const ASKED: [Asked<'static>; 4] = [
-    (b"a", None, None, Seq::Last),
-    (b"", None, Some(0), Seq::Number(0)),
-    (b"a", Some(b""), Some(u64::MAX), Seq::Last),
-    (b"", None, None, Seq::Number(10)),
+const ASKED: [Asked<'static>; 5] = [
+    (Some(b"a"), None, None, Some(Seq::Last)),
+    (Some(b""), None, Some(0), Some(Seq::Number(0))),
+    (None, None, None, None),
+    (Some(b"a"), Some(b""), Some(u64::MAX), Some(Seq::Last)),
+    (Some(b""), None, None, Some(Seq::Number(10))),
 ];
 
 #[test]
 fn the_calls_in_order(rt: HostRuntime) -> Result<(), Fail> {
     let text =
-        b"open\nget 61 last\n# then\n\nscan . - 0 0\nscan 61 . 18446744073709551615 last\nget . 10";
+        b"open\nget 61 last\n# then\n\nscan . - 0 0\npick\nscan 61 . 18446744073709551615 last\nget . 10";
     let read = read_script(rt.alloc(), text)?;
     assert!(rt; read.ops.as_slice().is_empty());
     let calls = read.calls.as_slice();
     assert_eq!(rt; calls.len(), ASKED.len());
     for (call, wanted) in calls.iter().zip(ASKED) {
         assert_eq!(rt; asked(call), wanted);
+    }
+    Ok(())
+}
+
+/// Lines on compactions, and what each asks.
+const ON_COMPACTIONS: [(&[u8], Call); 11] = [
+    (
+        b"claim 0 0 0",
+        Call::Claim {
+            name: 0,
+            first: 0,
+            count: 0,
+        },
+    ),
+    (
+        b"claim 31 2 5",
+        Call::Claim {
+            name: 31,
+            first: 2,
+            count: 5,
+        },
+    ),
+    (
+        b"claim 7 18446744073709551615 18446744073709551614",
+        Call::Claim {
+            name: 7,
+            first: usize::MAX,
+            count: usize::MAX - 1,
+        },
+    ),
+    (b"install 0", Call::Install { name: 0 }),
+    (b"install 31", Call::Install { name: 31 }),
+    (b"abandon 0", Call::Abandon { name: 0 }),
+    (b"abandon 31", Call::Abandon { name: 31 }),
+    (b"compact 0 1", Call::Compact { first: 0, count: 1 }),
+    (
+        b"compact 10 18446744073709551615",
+        Call::Compact {
+            first: 10,
+            count: usize::MAX,
+        },
+    ),
+    (b"pick", Call::Pick),
+    (b"report", Call::Report),
+];
+
+#[test]
+fn lines_on_compactions(rt: HostRuntime) -> Result<(), Fail> {
+    for (line, wanted) in ON_COMPACTIONS {
+        let mut text = b"open\n".to_vec(rt.alloc())?;
+        text.extend_from_slice(line)?;
+        let read = read_script(rt.alloc(), text.as_slice())?;
+        assert_eq!(rt; read.calls.as_slice(), [wanted].as_slice());
     }
     Ok(())
 }

@@ -3,7 +3,9 @@ use crate::plays::small;
 use std::alloc::Global;
 use std::io;
 use std::io::{ErrorKind, Read, Write};
+use std::marker::Sync;
 use std::process::Abort;
+use std::thread::Threads;
 use uc_oper::Counter;
 use uc_tool::{Done, dump, play};
 
@@ -38,13 +40,14 @@ const RUNS: [Run; 2] = [
 
 /// Runs a program.
 fn runs<R: Read, W: Write>(
+    rt: &(impl Threads + Sync),
     alloc: Global,
     program: Program,
     reader: &mut R,
     writer: &mut W,
 ) -> Done {
     match program {
-        Program::Play => play::<Counter, R, W>(alloc, reader, writer, &small()),
+        Program::Play => play::<Counter, R, W>(rt, alloc, reader, writer, &small()),
         Program::Dump => dump(alloc, reader, writer),
     }
 }
@@ -140,14 +143,14 @@ impl Write for Sink {
 
 /// Runs a program from a reader into a vector, and asserts what is written and how it ends.
 fn reads<R: Read>(
-    rt: &impl Abort,
+    rt: &(impl Abort + Threads + Sync),
     alloc: Global,
     program: Program,
     reader: &mut R,
     (want, ended): (&[u8], Done),
 ) {
     let mut text = Vec::new(alloc);
-    let done = runs(alloc, program, reader, &mut text);
+    let done = runs(rt, alloc, program, reader, &mut text);
     assert_eq!(rt; text.as_slice(), want);
     assert_eq!(rt; done, ended);
 }
@@ -222,14 +225,14 @@ fn inputs_above_the_limit(rt: HostRuntime) {
 /// Runs a program into a writer that fails, and asserts that these bytes of its text went out and nothing
 /// was written behind the failure.
 fn writes<R: Read>(
-    rt: &impl Abort,
+    rt: &(impl Abort + Threads + Sync),
     alloc: Global,
     program: Program,
     reader: &mut R,
     (sink, want): (Sink, &[u8]),
 ) {
     let mut writer = sink;
-    let done = runs(alloc, program, reader, &mut writer);
+    let done = runs(rt, alloc, program, reader, &mut writer);
     assert_eq!(rt; writer.text.as_slice(), want);
     assert_eq!(rt; done, Done::Device);
     assert_eq!(rt; writer.late, 0);

@@ -1,8 +1,10 @@
 //! Scripts that are drawn by lot, run by `play` and answered from their plain writes beside it.
 use crate::plays::{plays, small};
 use std::alloc::Global;
+use std::marker::Sync;
 use std::process::Abort;
 use std::test::Fail;
+use std::thread::Threads;
 use uc_answer::{Answer, Query, answer_writes};
 use uc_batch::Writes;
 use uc_bytes::Bytes;
@@ -212,11 +214,15 @@ fn told<O: Operator>(alloc: Global, draft: Draft) -> Result<(String, Done), Fail
 }
 
 /// Compares the two ways on 200 scripts.
-fn agree<O: Operator>(rt: &impl Abort, alloc: Global, seed: u64) -> Result<(), Fail> {
+fn agree<O: Operator + Sync>(
+    rt: &(impl Abort + Threads + Sync),
+    alloc: Global,
+    seed: u64,
+) -> Result<(), Fail> {
     let mut dice = Dice(seed);
     for number in 0..200 {
         let draft = draw(alloc, &mut dice)?;
-        let (text, done) = plays::<O>(alloc, &small(), draft.script.as_bytes());
+        let (text, done) = plays::<O>(rt, alloc, &small(), draft.script.as_bytes());
         let (want, ended) = told::<O>(alloc, draft)?;
         assert_eq!(rt;
             text.as_slice(),

@@ -1,7 +1,9 @@
 //! Scripts and options that are refused: what is printed, which refusal comes first, and the status.
 use crate::plays::{Row, shows, small};
 use std::alloc::Global;
+use std::marker::Sync;
 use std::process::Abort;
+use std::thread::Threads;
 use uc_oper::{Append, Counter};
 use uc_tool::{Done, Options};
 
@@ -99,7 +101,7 @@ const BEHIND: [Fault; 20] = [
 ];
 
 /// Asserts that each script is refused, and what it prints.
-fn all_refused(rt: &impl Abort, alloc: Global, options: &Options, rows: &[Row]) {
+fn all_refused(rt: &(impl Abort + Threads + Sync), alloc: Global, options: &Options, rows: &[Row]) {
     for row in rows {
         shows::<Append<0x2C>>(rt, alloc, options, *row, Done::Refused);
     }

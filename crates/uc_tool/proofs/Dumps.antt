@@ -13,7 +13,8 @@ use Rattle.uc_batch.specs.WriteLog.{WriteLog}
 use Rattle.uc_tool.specs.Writing.{AppendsFront}
 use Rattle.uc_tool.specs.Output.{joined, Stops, Prints}
 use Rattle.uc_tool.specs.Ending.{IsWhole}
-use Rattle.uc_tool.specs.Dump.{write_line, done_of, dump_of}
+use Rattle.uc_lines.specs.LogLines.{write_line}
+use Rattle.uc_tool.specs.Dump.{done_of, dump_of}
 use Rattle.uc_tool.specs.declared.run_error.RunError.{RunError}
 use Rattle.uc_tool.specs.declared.run_error.RunError.TheVariants as run_error
 use Rattle.uc_tool.proofs.Known.{appends_none, appends_more}

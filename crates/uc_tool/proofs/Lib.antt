@@ -4,3 +4,5 @@ pub mod Printing
 pub mod Written
 pub mod Plays
 pub mod Dumps
+pub mod Calls
+pub mod Opened

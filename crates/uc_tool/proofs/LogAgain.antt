@@ -1,20 +1,14 @@
 -- The log of a script's writes gives them back.
-use Rattle.std.proofs.Common.{◌≡◌, ℕ, ◌+◌, ◌^◌, ◌<◌, ◌≤◌, List, [], ◌∷◌, ◌++◌, length, get_or, drop, None, Result, Ok, Err, refl, ap, sym, ◌∙◌, subst, append_assoc, arith}
+use Rattle.std.proofs.Common.{◌≡◌, ℕ, ◌+◌, ◌^◌, ◌<◌, ◌≤◌, List, [], ◌∷◌, ◌++◌, length, get_or, drop, None, Ok, refl, ap, sym, ◌∙◌, subst, append_assoc, arith}
 use Rattle.std.specs.List.{AllByRecursion}
 use Rattle.std.proofs.lemmas.List.Elements.{recursion_from_All, All-cons, All-nil}
 use Rattle.std.proofs.lemmas.List.{drop_more}
 use Rattle.uc_write.specs.declared.op.Op.{Op}
-use Rattle.uc_write.specs.declared.write.Write.{Write}
 use Rattle.uc_logrec.specs.Log.{ending_of, log_text, IsReadAgain}
 use Rattle.uc_logrec.specs.declared.ending.Ending.TheVariants.{Clean}
-use Rattle.uc_batch.specs.declared.error.BatchError.{BatchError}
-use Rattle.uc_batch.specs.declared.mode.Mode.TheVariants.{TornTail}
-use Rattle.uc_batch.specs.declared.read_error.ReadError.{ReadError}
-use Rattle.uc_batch.specs.declared.read_error.ReadError.TheVariants as errors
-use Rattle.uc_logrec.specs.declared.fault.LogFault.{LogFault}
 use Rattle.uc_batch.specs.declared.ended.Ended.TheVariants as ended
 use Rattle.uc_batch.specs.Batch.{numbered, batch_of}
-use Rattle.uc_batch.specs.Log.{Batches, after_batch, batches_of, accepted, writes_of, Refuses}
+use Rattle.uc_batch.specs.Log.{Batches, after_batch, batches_of, kept, log_writes}
 use Rattle.uc_batch.specs.Spelling.{batch_text, FitsOp, FitsBatch}
 use Rattle.uc_batch.specs.WriteLog.{WriteLog}
 use Rattle.uc_tool.specs.Opening.{batch_texts, FitsLog}
@@ -44,14 +38,14 @@ abbrev pub clean_log : List Op → WriteLog
 clean_log ops = record { list = numbered 1 ops; ended = ended.Clean }
 
 -- the log is read as the writes, to its clean end
-pub log_again : BatchLaw → ((payloads : List (List ℕ)) → IsReadAgain payloads) → (ops : List Op) → FitsLog ops → writes_of TornTail (log_text (batch_texts 1 ops)) ≡ Ok (clean_log ops)
+pub log_again : BatchLaw → ((payloads : List (List ℕ)) → IsReadAgain payloads) → (ops : List Op) → FitsLog ops → log_writes (log_text (batch_texts 1 ops)) ≡ clean_log ops
 log_again law again ops fits =
     let texts = batch_texts 1 ops in
     let r = again texts in
     let all : batches_of 0 1 texts ≡ record { writes = numbered 1 ops; refused = None } = batches_again law 0 1 ops (omega (arith, fits.few)) (recursion_from_All FitsOp ops fits.strings) in
-    ap (λ (ps : List (List ℕ)). accepted TornTail (batches_of 0 1 ps) (ending_of (log_text texts))) r.same
-    ∙ ap (accepted TornTail (batches_of 0 1 texts)) r.clean
-    ∙ ap (λ (b : Batches). accepted TornTail b Clean) all
+    ap (λ (ps : List (List ℕ)). kept (batches_of 0 1 ps) (ending_of (log_text texts))) r.same
+    ∙ ap (kept (batches_of 0 1 texts)) r.clean
+    ∙ ap (λ (b : Batches). kept b Clean) all
 
 -- one batch more
 pub batch_more : (log : List (List ℕ)) (seq i : ℕ) (ops : List Op) (op : Op) (whole : List (List ℕ)) → i < length ops → op ≡ get_or ops i op → log ++ batch_texts seq (drop i ops) ≡ whole → (log ++ batch_text seq (op ∷ []) ∷ []) ++ batch_texts (seq + 1) (drop (i + 1) ops) ≡ whole
@@ -62,23 +56,3 @@ batch_more log seq i ops op whole lt e so_far =
 
 pub fits_at : (i : ℕ) (ops : List Op) (op : Op) → i < length ops → op ≡ get_or ops i op → FitsLog ops → FitsBatch (i + 1) (op ∷ [])
 fits_at i ops op lt e fits = fits_alone (i + 1) op (omega arith) (omega (arith, fits.few)) (subst FitsOp (sym e) (fits.strings i op lt))
-
-abbrev done : WriteLog → Result WriteLog ReadError
-done w = Ok w
-
-ok_is : (v w : WriteLog) → done v ≡ done w → v ≡ w
-ok_is v w e = cc
-
--- two answers of one reading are one
-pub same_list : (r : Result WriteLog ReadError) (w : WriteLog) (ws : List Write) → r ≡ Ok w → r ≡ Ok (record { list = ws; ended = ended.Clean }) → w.list ≡ ws
-same_list r w ws p q = let same : w ≡ record { list = ws; ended = ended.Clean } = ok_is w (record { list = ws; ended = ended.Clean }) (sym p ∙ q) in ap (λ (v : WriteLog). v.list) same
-
-differs : (r : Result WriteLog ReadError) (w : WriteLog) (e : ReadError) → r ≡ Err e → r ≡ Ok w → ⊥
-differs r w e p q = cc
-
--- a log that has its writes isn't refused
-pub never_batch : (r : Result WriteLog ReadError) (w : WriteLog) (e : ReadError) (number : ℕ) (fault : BatchError) → e ≡ errors.Batch number fault → Refuses e r → r ≡ Ok w → ⊥
-never_batch r w e number fault is refuses good = differs r w (errors.Batch number fault) (subst (λ (x : ReadError). Refuses x r) is refuses) good
-
-pub never_log : (r : Result WriteLog ReadError) (w : WriteLog) (e : ReadError) (fault : LogFault) (offset : ℕ) → e ≡ errors.Log fault offset → Refuses e r → r ≡ Ok w → ⊥
-never_log r w e fault offset is refuses good = differs r w (errors.Log fault offset) (subst (λ (x : ReadError). Refuses x r) is refuses) good

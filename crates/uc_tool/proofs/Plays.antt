@@ -1,31 +1,23 @@
 -- A run of a script prints all of its output.
-use Rattle.std.proofs.Common.{ℕ, Bool, true, false, cond, List, Option, Some, None, Result, Ok, Err}
+use Rattle.std.proofs.Common.{ℕ, List, Option, Some, None, Result, Ok, Err}
 use Rattle.uc_oper.specs.Operation.{Operation}
-use Rattle.uc_write.specs.declared.write.Write.{Write}
-use Rattle.uc_batch.specs.Batch.{numbered}
-use Rattle.uc_batch.specs.Rising.{last_of}
 use Rattle.uc_script.specs.Script.{script_of}
 use Rattle.uc_script.specs.declared.call.Call.{Call}
 use Rattle.uc_script.specs.declared.script.Script.{Script}
-use Rattle.uc_tool.specs.Ending.{IsWhole}
-use Rattle.uc_pick.specs.Options.{are_good}
-use Rattle.uc_tool.specs.Play.{bad_option, unless_ahead, first_ahead, over_writes, played, play_of}
-use Rattle.uc_tool.specs.Output.{Output}
+use Rattle.uc_history.specs.Openings.{Opening}
+use Rattle.uc_opening.specs.Refusal.{opening_refusal}
+use Rattle.uc_opening.specs.declared.open_error.OpenError.{OpenError}
 use Rattle.uc_pick.specs.declared.options.Options.{Options}
+use Rattle.uc_tool.specs.Ending.{IsWhole}
+use Rattle.uc_tool.specs.Play.{opening_of, unless_refused, played, play_of}
 
-ahead_whole : (m : Operation) (ws : List Write) (keeps : List ℕ) (last : ℕ) (calls : List Call) (ahead : Option ℕ) → IsWhole (unless_ahead m ws keeps last calls ahead).done
-ahead_whole m ws keeps last calls None = tt
-ahead_whole m ws keeps last calls (Some keep) = tt
-
-good_whole : (b : Bool) (output : Output) → IsWhole output.done → IsWhole (cond b output bad_option).done
-good_whole true output w = w
-good_whole false output w = tt
+opening_whole : (m : Operation) (o : Opening) (calls : List Call) (refusal : Option OpenError) → IsWhole (unless_refused m o calls refusal).done
+opening_whole m o calls None = tt
+opening_whole m o calls (Some error) = tt
 
 played_whole : (m : Operation) (o : Options) (r : Result Script ℕ) → IsWhole (played m o r).done
 played_whole m o (Err line) = tt
-played_whole m o (Ok script) =
-    let ws = numbered 1 script.ops in
-    good_whole (are_good o) (over_writes m ws script) (ahead_whole m ws script.keeps (last_of 0 ws) script.calls (first_ahead (last_of 0 ws) script.keeps))
+played_whole m o (Ok script) = opening_whole m (opening_of o script) script.calls (opening_refusal (opening_of o script))
 
 pub play_whole : (m : Operation) (o : Options) (input : List ℕ) → IsWhole (play_of m o input).done
 play_whole m o input = played_whole m o (script_of input)

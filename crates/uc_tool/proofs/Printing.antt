@@ -1,7 +1,6 @@
 -- Replies that go out one after the other.
-use Rattle.std.proofs.Common.{◌≡◌, ℕ, suc, ◌+◌, ◌<◌, ◌≤◌, List, ◌∷◌, ◌++◌, length, get_or, take, drop, map, Option, Result, Ok, Err, ap, sym, ◌∙◌, subst, append_assoc}
+use Rattle.std.proofs.Common.{◌≡◌, ℕ, suc, List, [], ◌∷◌, ◌++◌, take, Option, Result, Ok, Err, ap, sym, ◌∙◌, subst, append_assoc}
 use Rattle.std.specs.Io.KnownBytes.{Appends}
-use Rattle.std.proofs.lemmas.List.{drop_more, drop_all}
 use Rattle.uc_tool.specs.Writing.{AppendsFront}
 use Rattle.uc_tool.specs.Output.{joined, Stops, Prints}
 use Rattle.uc_tool.specs.declared.run_error.RunError.{RunError}
@@ -30,22 +29,24 @@ prints_more first rest a b c (Err e) p q = stops_more first rest a b c e p q
 abbrev pub GoesOn : List (List ℕ) → List (List ℕ) → Option (List ℕ) → Option (List ℕ) → Type 0
 GoesOn all rest old here = (new : Option (List ℕ)) (r : Result (Unit {0}) RunError) → Prints rest here new r → Prints all old new r
 
-module _ {X : Type 0} (f : X → List ℕ) (xs : List X) (i : ℕ) (x : X) (old here : Option (List ℕ)) (within : i < length xs) (at : x ≡ get_or xs i x) (goes : GoesOn (map f xs) (map f (drop i xs)) old here) where
-  next_is : map f (drop i xs) ≡ f x ∷ map f (drop (i + 1) xs)
-  next_is = ap (map f) (drop_more xs i x within ∙ ap (λ (y : X). y ∷ drop (i + 1) xs) (sym at))
-
-  -- the next reply went out
-  pub goes_next : (after : Option (List ℕ)) → Appends here after (f x) → GoesOn (map f xs) (map f (drop (i + 1) xs)) old after
-  goes_next after p new r q = goes new r (subst (λ (ys : List (List ℕ)). Prints ys here new r) (sym next_is) (prints_more (f x) (map f (drop (i + 1) xs)) here after new r p q))
-
-  -- the next reply went out in part
-  pub stops_next : (after : Option (List ℕ)) → AppendsFront here after (f x) → Stops (map f xs) old after run_error.Device
-  stops_next after p = goes after (Err run_error.Device) (subst (λ (ys : List (List ℕ)). Stops ys here after run_error.Device) (sym next_is) (front_of_first here after (f x) (joined (map f (drop (i + 1) xs))) p))
-
+module _ (all pending : List (List ℕ)) (old here : Option (List ℕ)) (goes : GoesOn all pending old here) where
   -- memory ran out before the next reply
-  pub no_memory : Stops (map f xs) old here run_error.Memory
+  pub no_memory : Stops all old here run_error.Memory
   no_memory = goes here (Err run_error.Memory) (0, appends_none here)
 
--- all went out
-pub all_printed : {X : Type 0} (f : X → List ℕ) (xs : List X) (i : ℕ) (old here : Option (List ℕ)) → length xs ≤ i → GoesOn (map f xs) (map f (drop i xs)) old here → Appends old here (joined (map f xs))
-all_printed f xs i old here past goes = goes here (Ok tt) (subst (λ (ys : List (List ℕ)). Appends here here (joined ys)) (sym (ap (map f) (drop_all i xs past))) (appends_none here))
+  -- nothing is to come
+  pub all_printed : pending ≡ [] → Appends old here (joined all)
+  all_printed none = goes here (Ok tt) (subst (λ (ys : List (List ℕ)). Appends here here (joined ys)) (sym none) (appends_none here))
+
+  module _ (reply : List ℕ) (rest : List (List ℕ)) (next : pending ≡ reply ∷ rest) where
+    -- the next reply went out
+    pub goes_next : (after : Option (List ℕ)) → Appends here after reply → GoesOn all rest old after
+    goes_next after p new r q = goes new r (subst (λ (ys : List (List ℕ)). Prints ys here new r) (sym next) (prints_more reply rest here after new r p q))
+
+    -- the next reply went out in part
+    pub stops_next : (after : Option (List ℕ)) → AppendsFront here after reply → Stops all old after run_error.Device
+    stops_next after p = goes after (Err run_error.Device) (subst (λ (ys : List (List ℕ)). Stops ys here after run_error.Device) (sym next) (front_of_first here after reply (joined rest) p))
+
+-- nothing was printed yet
+pub begins : (all : List (List ℕ)) (old : Option (List ℕ)) → GoesOn all all old old
+begins all old new r p = p

@@ -4,7 +4,7 @@ pub mod Opening
 pub mod Writing
 pub mod Texts
 pub mod Play
-pub mod Prepared
+pub mod Turn
 pub mod Ending
 pub mod Status
 pub mod Dump

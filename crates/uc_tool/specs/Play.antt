@@ -1,64 +1,82 @@
 -- What a script's run prints.
-use Rattle.std.specs.Prelude.{ℕ, List, [], ◌∷◌, ◌++◌, map, find, codes, nat_lt, Option, Some, None, Result, Ok, Err, if◌then◌else◌}
+use Rattle.std.specs.Prelude.{ℕ, List, [], ◌∷◌, map, codes, Option, Some, None, Result, Ok, Err}
 use Rattle.uc_oper.specs.Operation.{Operation}
-use Rattle.uc_write.specs.declared.write.Write.{Write}
 use Rattle.uc_batch.specs.Batch.{numbered}
-use Rattle.uc_batch.specs.Rising.{last_of}
-use Rattle.uc_answer.specs.Answers.{answer_of}
 use Rattle.uc_answer.specs.declared.query.Query.{Query}
 use Rattle.uc_answer.specs.declared.query.Query.TheVariants as query
 use Rattle.uc_script.specs.Script.{script_of}
 use Rattle.uc_script.specs.declared.call.Call.{Call}
-use Rattle.uc_script.specs.declared.call.Call.TheVariants.{Get, Scan}
+use Rattle.uc_script.specs.declared.call.Call.TheVariants.{Get, Scan, Claim, Install, Abandon, Compact, Pick, Report}
 use Rattle.uc_script.specs.declared.script.Script.{Script}
 use Rattle.uc_script.specs.declared.seq.Seq.{Seq}
 use Rattle.uc_script.specs.declared.seq.Seq.TheVariants.{Number, Last}
-use Rattle.uc_pick.specs.Options.{are_good}
-use Rattle.uc_tool.specs.Texts.{numbered_line, answer_lines}
+use Rattle.uc_pick.specs.declared.options.Options.{Options}
+use Rattle.uc_history.specs.Versions.{Stored}
+use Rattle.uc_history.specs.Openings.{Opening, opened}
+use Rattle.uc_opening.specs.Refusal.{opening_refusal}
+use Rattle.uc_opening.specs.declared.open_error.OpenError.{OpenError}
+use Rattle.uc_version.specs.Owners.{unclaimed}
+use Rattle.uc_query.specs.Names.{State}
+use Rattle.uc_query.specs.Running.{run_of, unnamed}
+use Rattle.uc_query.specs.declared.call.Call.{Call as StoreCall}
+use Rattle.uc_query.specs.declared.call.Call.TheVariants as store
+use Rattle.uc_lines.specs.Line.{numbered_line}
+use Rattle.uc_lines.specs.RefusalLines.{opening_refusal_line}
+use Rattle.uc_lines.specs.ReplyLines.{reply_lines}
 use Rattle.uc_tool.specs.Output.{Output}
 use Rattle.uc_tool.specs.declared.done.Done.TheVariants.{Fine, Refused}
-use Rattle.uc_pick.specs.declared.options.Options.{Options}
 
 -- the sequence that a script names, where `last` is the last one at opening
 abbrev pub seq_at : ℕ → Seq → ℕ
 seq_at last (Number number) = number
 seq_at last Last = last
 
-abbrev pub query_of : ℕ → Call → Query
-query_of last (Get key at) = query.Get key (seq_at last at)
-query_of last (Scan low high limit at) = query.Scan low high (seq_at last at) limit
+-- a query alone, for one worker
+abbrev pub asked_alone : Query → StoreCall
+asked_alone q = store.Ask (q ∷ []) 1 1
 
--- the reply to a query, over the writes and the protected sequences of an opening
-abbrev pub reply_to : Operation → List Write → List ℕ → Query → List ℕ
-reply_to m writes keeps query = answer_lines (answer_of m writes keeps query)
+-- what a script's call asks of the store, where `last` is the last sequence at opening
+abbrev pub call_of : ℕ → Call → StoreCall
+call_of last (Get key at) = asked_alone (query.Get key (seq_at last at))
+call_of last (Scan low high limit at) = asked_alone (query.Scan low high (seq_at last at) limit)
+call_of last (Claim name first count) = store.Claim name (record { first = first; count = count })
+call_of last (Install name) = store.Install name
+call_of last (Abandon name) = store.Abandon name
+call_of last (Compact first count) = store.Compact (record { first = first; count = count })
+call_of last Pick = store.Pick
+call_of last Report = store.Report
+
+-- the opening that a script asks for
+abbrev pub opening_of : Options → Script → Opening
+opening_of options script = record { writes = numbered 1 script.ops; keeps = script.keeps; options = options }
+
+-- the lines of each reply to a script's calls, from a store in this state
+abbrev pub replies_of : Operation → State → ℕ → List Call → List (List ℕ)
+replies_of m s last calls = map reply_lines (run_of m s (map (call_of last) calls)).replies
 
 -- a run that was refused with one line
 abbrev pub refused : List ℕ → Output
 refused line = record { replies = line ∷ []; done = Refused }
 
--- a run that opened these writes, whose last sequence is `last`, and answered these queries
-abbrev pub opened : Operation → List Write → List ℕ → ℕ → List Query → Output
-opened m writes keeps last queries = record { replies = numbered_line (codes "opened ") last ∷ map (reply_to m writes keeps) queries; done = Fine }
+-- a run that opened with this version, of which nothing is claimed, and its replies to these calls
+abbrev pub output_of : Operation → Stored → Options → List Call → Output
+output_of m version options calls = record {
+  replies = numbered_line (codes "opened ") version.last ∷ replies_of m (unnamed (unclaimed version options)) version.last calls;
+  done = Fine;
+}
 
--- an opening is refused for a snapshot above the last write; else the last sequence is protected too
-abbrev pub unless_ahead : Operation → List Write → List ℕ → ℕ → List Call → Option ℕ → Output
-unless_ahead m writes keeps last calls (Some keep) = refused (numbered_line (codes "refused snapshot ahead ") keep)
-unless_ahead m writes keeps last calls None = opened m writes (keeps ++ last ∷ []) last (map (query_of last) calls)
+-- what is printed of an opening and calls, by why it is refused, if it is
+abbrev pub unless_refused : Operation → Opening → List Call → Option OpenError → Output
+unless_refused m o calls (Some error) = refused (opening_refusal_line error)
+unless_refused m o calls None = output_of m (opened o) o.options calls
 
--- an opening is refused for an option out of its range
-abbrev pub bad_option : Output
-bad_option = refused (codes "refused bad option\n")
-
--- the first kept sequence above the last one
-abbrev pub first_ahead : ℕ → List ℕ → Option ℕ
-first_ahead last keeps = find (λ keep. nat_lt last keep) keeps
-
-abbrev pub over_writes : Operation → List Write → Script → Output
-over_writes m writes script = unless_ahead m writes script.keeps (last_of 0 writes) script.calls (first_ahead (last_of 0 writes) script.keeps)
+-- what the run of a script prints
+abbrev pub script_output : Operation → Options → Script → Output
+script_output m options script = unless_refused m (opening_of options script) script.calls (opening_refusal (opening_of options script))
 
 abbrev pub played : Operation → Options → Result Script ℕ → Output
 played m options (Err line) = refused (numbered_line (codes "fault line ") line)
-played m options (Ok script) = if are_good options then over_writes m (numbered 1 script.ops) script else bad_option
+played m options (Ok script) = script_output m options script
 
 -- what a run of a script's bytes prints, under an operator and options
 abbrev pub play_of : Operation → Options → List ℕ → Output

@@ -3,19 +3,20 @@
 ghost use Rattle.std.specs.Prelude.{◌≡◌, ◌≤◌, length, map, IfOk, IfSome};
 ghost use Rattle.uc_batch.specs.Log.{log_writes};
 ghost use Rattle.uc_tool.specs.Dump as dumps;
-ghost use Rattle.uc_tool.specs.Dump.{write_line, dump_of};
+ghost use Rattle.uc_lines.specs.LogLines.{write_line};
+ghost use Rattle.uc_tool.specs.Dump.{dump_of};
 ghost use Rattle.uc_tool.specs.Output.{Prints, HasWritten};
 
 use crate::done::Done;
 use crate::ending::{finish, finish_without_input};
 use crate::input::read_input;
-use crate::log_texts::{ended_line, push_writes};
 use crate::run_error::RunError;
 use crate::writing::write_bytes;
 use std::alloc::Global;
 use std::io;
 use std::io::Read;
 use uc_batch::{Advance, BatchReader, BatchWrites, Ended};
+use uc_lines::{ended_line, push_writes};
 
 /// Prints the writes of a batch, a line each. The lines are put together in a buffer first, whose bytes
 /// are of no use before or after.

@@ -8,7 +8,7 @@ use uc_tool::Options;
 const ABOUT: &str = "A log-structured merge store in memory, proved.";
 
 const PLAY_ABOUT: &str =
-    "Run a script: write its changes as a log, read them back, and answer its calls";
+    "Run a script: write its changes as a log, open a store from it, and carry out its calls";
 
 const PLAY_HELP: &str = "\
 Reads a script on standard input, at most 64 MiB, and checks all of it before it does anything.
@@ -18,11 +18,12 @@ lines that begin with # are skipped. Keys and values are hexadecimal, . for the 
   before open:  put KEY VALUE   delete KEY   merge KEY OPERAND   range BEGIN END   keep SEQUENCE
                 open
   after it:     get KEY SEQUENCE   scan LOW HIGH LIMIT SEQUENCE
+                claim NAME FIRST COUNT   install NAME   abandon NAME
+                compact FIRST COUNT   pick   report
 
 Change number i has the sequence i. SEQUENCE is a number, or `last` after open; it has to be kept or
-the last one. HIGH is a key or - for none.
-
-Options without effect yet are checked as they will be: numbers that no store opens with are refused.
+the last one. HIGH is a key or - for none. NAME is a number below 32; FIRST counts runs from 0, the
+newest.
 
 Status: 0 done, 2 a refused command line, script or opening, 4 out of memory, 5 a read or write fault
 or too long an input.";
@@ -82,39 +83,39 @@ fn play<'a>(alloc: Global, shown: &'a Shown) -> Result<Command<'a>, AllocError> 
         alloc,
         "memtable",
         shown.memtable.as_str(),
-        "Flush a memtable once it holds this many bytes (write_buffer_size); no effect yet",
+        "Flush a memtable once it holds this many bytes (write_buffer_size)",
     );
     let trigger = number(
         alloc,
         "trigger",
         shown.trigger.as_str(),
-        "Compact once there are this many runs (level0_file_num_compaction_trigger); no effect yet",
+        "Compact once there are this many runs (level0_file_num_compaction_trigger)",
     );
     let ratio = number(
         alloc,
         "ratio",
         shown.ratio.as_str(),
         "Take the next run too while it is at most this many percent larger than the newer ones \
-         together (size_ratio); no effect yet",
+         together (size_ratio)",
     );
     let percent = number(
         alloc,
         "percent",
         shown.percent.as_str(),
         "Compact everything once the newer runs together exceed this percentage of the oldest run's \
-         size (max_size_amplification_percent); no effect yet",
+         size (max_size_amplification_percent)",
     );
     let least = number(
         alloc,
         "least",
         shown.least.as_str(),
-        "Compact at least this many runs at once (min_merge_width); no effect yet",
+        "Compact at least this many runs at once (min_merge_width)",
     );
     let greatest = number(
         alloc,
         "greatest",
         shown.greatest.as_str(),
-        "Compact at most this many runs at once (max_merge_width); no effect yet",
+        "Compact at most this many runs at once (max_merge_width)",
     );
     Command::new(alloc, "play")
         .about(PLAY_ABOUT)

@@ -17,8 +17,10 @@ use std::alloc::Global;
 use std::convert::AsStr;
 use std::env;
 use std::io::{self, BufWriter, Read, Write};
+use std::marker::Sync;
 use std::process::ExitCode;
 use std::rt::Env;
+use std::thread::Threads;
 use uc_oper::{Append, Counter, Maximum};
 use uc_tool::{Done, dump, play};
 
@@ -27,6 +29,7 @@ const COMMA: u8 = b',';
 
 /// Plays a script under the operator that the words name.
 fn play_script<R: Read, W: Write>(
+    rt: &(impl Threads + Sync),
     alloc: Global,
     matches: &ArgMatches<'_>,
     reader: &mut R,
@@ -34,9 +37,11 @@ fn play_script<R: Read, W: Write>(
 ) -> Done {
     let options = command::options(matches);
     match command::operator_name(matches) {
-        Some(OperatorName::Counter) => play::<Counter, R, W>(alloc, reader, writer, &options),
-        Some(OperatorName::Append) => play::<Append<COMMA>, R, W>(alloc, reader, writer, &options),
-        Some(OperatorName::Maximum) => play::<Maximum, R, W>(alloc, reader, writer, &options),
+        Some(OperatorName::Counter) => play::<Counter, R, W>(rt, alloc, reader, writer, &options),
+        Some(OperatorName::Append) => play::<Append<COMMA>, R, W>(
+            rt, alloc, reader, writer, &options,
+        ),
+        Some(OperatorName::Maximum) => play::<Maximum, R, W>(rt, alloc, reader, writer, &options),
         // The parser lets no other name through.
         None => Done::Refused,
     }
@@ -53,7 +58,7 @@ fn explain(rt: &(impl Print + Eprint), error: &Error) -> Done {
 }
 
 /// Runs what the words name, from standard input to standard output.
-fn run<R: Print + Eprint + Input + AllocGlobal, S: AsStr>(
+fn run<R: Print + Eprint + Input + AllocGlobal + Threads + Sync, S: AsStr>(
     rt: &R,
     words: &[S],
 ) -> Result<Done, Refusal> {
@@ -67,7 +72,7 @@ fn run<R: Print + Eprint + Input + AllocGlobal, S: AsStr>(
         return Err(Refusal::Memory);
     };
     Ok(match matches.subcommand() {
-        Some(("play", play)) => play_script(alloc, play, &mut rt.reader(), &mut writer),
+        Some(("play", play)) => play_script(rt, alloc, play, &mut rt.reader(), &mut writer),
         Some(("dump", _)) => dump(alloc, &mut rt.reader(), &mut writer),
         // The parser requires a subcommand, and lets no other name through.
         _ => Done::Refused,

@@ -1,5 +1,5 @@
 use Rattle.std.proofs.Common.{map, ◌∙◌}
-use Rattle.uc_tool.specs.Dump.{write_line}
+use Rattle.uc_lines.specs.LogLines.{write_line}
 use Rattle.uc_tool.proofs.Dumps.{joined_map, prints_at_once}
 use Rattle.uc_tool.proofs.dumping.print_writes.Goals as goal
 

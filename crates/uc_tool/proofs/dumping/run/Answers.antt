@@ -1,7 +1,7 @@
 use Rattle.std.proofs.Common.{map, [], ◌∷◌}
 use Rattle.std.proofs.lemmas.Result.{err_from_is_err_and}
 use Rattle.uc_batch.specs.Log.{log_writes}
-use Rattle.uc_tool.specs.Dump.{write_line, ended_line}
+use Rattle.uc_lines.specs.LogLines.{write_line, ended_line}
 use Rattle.uc_tool.proofs.Dumps.{stops_within, no_last, stops_at_last}
 use Rattle.uc_tool.proofs.dumping.run.Goals as goal
 

@@ -12,9 +12,7 @@ returns-in-Ok g c =
     let contents = g.W.Write.contents in
     let input = c.in-Ok.input in
     let short : length input.items ≤ INPUT_LIMIT = omega (arith, input.ok.0, c.in-Ok.ensures.short) in
-    let printed = rw c.deref.ensures.value at c.run-outcome.ensures.printed in
-    let done = rw c.deref.ensures.value at c.run-outcome.ensures.done in
-    of_input (play_of m o) (play_whole m o) (g.R.Read.remaining c.args.reader.now) input.items (contents c.args.writer.now) (contents c.run-outcome.new.writer) (contents c.finish.new.writer) c.run-outcome.result c.finish.result c.in-Ok.ensures.whole short printed done c.finish.ensures
+    of_input (play_of m o) (play_whole m o) (g.R.Read.remaining c.args.reader.now) input.items (contents c.args.writer.now) (contents c.run-outcome.new.writer) (contents c.finish.new.writer) c.run-outcome.result c.finish.result c.in-Ok.ensures.whole short c.run-outcome.ensures.printed c.run-outcome.ensures.done c.finish.ensures
 
 pub returns-in-Err : goal.returns-in-Err
 returns-in-Err g c =

@@ -1,0 +1,23 @@
+//! The lines that the program prints.
+//!
+//! Each line is a stated function of what it prints, ends with LF, and has bytes in hexadecimal and numbers in decimal.
+//! Read `specs/Line.antt` first, then `specs/ReplyLines.antt` and `replies.rt`: a reply is printed as one line or several
+//! whole ones.
+#![tactic(auto)]
+
+mod answers;
+mod line;
+mod logs;
+mod refusals;
+mod replies;
+mod reports;
+
+pub use answers::push_answer_lines;
+pub use line::{numbered_line, push_numbered_line};
+pub use logs::{ended_line, push_writes};
+pub use refusals::{claim_refusal_line, install_refusal_line, opening_refusal_line};
+pub use replies::{compacted_line, reply_lines};
+pub use reports::report_lines;
+
+#[cfg(test)]
+mod tests;

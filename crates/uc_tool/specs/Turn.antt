@@ -1,0 +1,14 @@
+-- What one call to a store comes to, as lines.
+use Rattle.std.specs.Prelude.{◌≡◌, ℕ, List, Ok}
+use Rattle.uc_oper.specs.Operation.{Operation}
+use Rattle.uc_query.specs.Names.{State}
+use Rattle.uc_query.specs.Turns.{turn_of}
+use Rattle.uc_query.specs.declared.call.Call.{Call}
+use Rattle.uc_query.specs.declared.reply.Reply.{Reply}
+use Rattle.uc_lines.specs.ReplyLines.{reply_lines}
+
+-- the lines are those of the reply to the call, and the store is left as the call leaves it
+pub record Turns (m : Operation) (old : State) (call : Call) (lines : List ℕ) (new : State) : Type 0 where
+  pub reply : Reply
+  pub turn : turn_of m old call ≡ Ok (record { reply = reply; state = new })
+  pub lines_are : lines ≡ reply_lines reply
