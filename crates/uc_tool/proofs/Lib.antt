@@ -6,3 +6,4 @@ pub mod Plays
 pub mod Dumps
 pub mod Calls
 pub mod Opened
+pub mod ReadAnswers

@@ -8,3 +8,4 @@ pub mod Turn
 pub mod Ending
 pub mod Status
 pub mod Dump
+pub mod Reading

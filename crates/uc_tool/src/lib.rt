@@ -10,6 +10,7 @@ mod done;
 mod dumping;
 mod ending;
 mod input;
+mod laws;
 mod opening;
 mod playing;
 mod refusing;
@@ -18,6 +19,7 @@ mod writing;
 
 pub use done::Done;
 pub use dumping::dump;
+pub use laws::reads_are_answered_from_plain_writes;
 pub use playing::play;
 pub use uc_pick::Options;
 
