@@ -54,21 +54,20 @@ fn check_log<R: Files + AllocGlobal>(rt: &R, name: &str) -> Result<()> {
     )
 }
 
-/// Plays an example of a script.
+/// Plays an example of a script, with memtables of so many bytes.
 fn check_script<O: Operator + Sync, R: Files + AllocGlobal + Threads + Sync>(
     rt: &R,
     name: &str,
+    memtable: u64,
 ) -> Result<()> {
     let alloc = rt.alloc();
+    let options = Options {
+        memtable,
+        ..Options::usual()
+    };
     let script = fs::read(rt, path_of(alloc, name, ".script")?)?;
     let mut printed = Vec::new(alloc);
-    let done = play::<O, &[u8], Vec<u8>>(
-        rt,
-        alloc,
-        &mut script.as_slice(),
-        &mut printed,
-        &Options::usual(),
-    );
+    let done = play::<O, &[u8], Vec<u8>>(rt, alloc, &mut script.as_slice(), &mut printed, &options);
     check(
         rt,
         path_of(alloc, name, ".expected")?.as_str(),
@@ -86,8 +85,10 @@ fn main(rt: HostRuntime) -> Result<()> {
             logs = logs.saturating_add(1);
         }
     }
-    check_script::<Counter, _>(&rt, "first")?;
-    check_script::<Append<COMMA>, _>(&rt, "merge")?;
-    println!(rt; "{logs} logs and 2 scripts print what stands beside them")?;
+    let usual = Options::usual().memtable;
+    check_script::<Counter, _>(&rt, "first", usual)?;
+    check_script::<Append<COMMA>, _>(&rt, "merge", usual)?;
+    check_script::<Counter, _>(&rt, "compaction", 1)?;
+    println!(rt; "{logs} logs and 3 scripts print what stands beside them")?;
     Ok(())
 }
