@@ -3,6 +3,7 @@
 //! Each store has a few small runs of drawn writes. Every stretch of them is compacted under drawn keeps, and what the
 //! output does to each key at every kept sequence, at the greatest of the inputs and above, is compared with what the
 //! plain program of `uc_model` makes of the stretch's writes.
+//! `owned_stores.rt` has stores whose stretches are claimed and installed in any order, and `workers.rt` batches of queries.
 #![tactic(auto)]
 
 #[cfg(test)]
@@ -11,3 +12,5 @@ mod compactions;
 mod dice;
 #[cfg(test)]
 mod owned_stores;
+#[cfg(test)]
+mod workers;

@@ -14,7 +14,7 @@ use uc_version::{Options, Owned, OwnedClaim, Stretch, open_plain};
 use uc_write::Write;
 
 /// Up to 40 drawn writes, with gaps between their sequences.
-fn drawn_writes(alloc: Global, dice: &mut Dice) -> Result<Writes, Fail> {
+pub(crate) fn drawn_writes(alloc: Global, dice: &mut Dice) -> Result<Writes, Fail> {
     let mut writes = Vec::new(alloc);
     let mut seq = 0_u64;
     for _ in 0..dice.roll(41) {
