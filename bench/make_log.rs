@@ -1,14 +1,20 @@
 //! Writes a write-ahead log as LevelDB and RocksDB have them to standard output, for measurements.
 //!
-//!     make_log small|large MIB
+//!     make_log small|large|counters MIB
+//!     make_log lines
 //!
 //! `small`: batches of one put, with a key of 16 bytes and a value of 100. `large`: batches of 40 puts
-//! with values of 2,000 bytes, each of which spans three or four blocks. The log has as many whole
+//! with values of 2,000 bytes, each of which spans three or four blocks. `counters`: batches of one write to
+//! one of 300,000 keys of 16 bytes, by lot: 50 percent merges and 45 percent puts of 8 bytes, 5 percent
+//! deletions, and of 10,000 writes one deletes the range of 30 neighbouring keys. The log has as many whole
 //! batches as fit the given size.
+//!
+//! `lines` reads lines from standard input, `put KEY VALUE`, `delete KEY`, `merge KEY OPERAND` and
+//! `range BEGIN END` in hexadecimal, and makes a batch of each.
 
 mod crc32c;
 
-use std::io::{self, BufWriter, Write};
+use std::io::{self, BufRead, BufWriter, Write};
 
 const BLOCK: usize = 32_768;
 const HEADER: usize = 7;
@@ -17,6 +23,16 @@ const FULL: u8 = 1;
 const FIRST: u8 = 2;
 const MIDDLE: u8 = 3;
 const LAST: u8 = 4;
+
+const DELETE: u8 = 0;
+const PUT: u8 = 1;
+const MERGE: u8 = 2;
+const RANGE: u8 = 15;
+
+/// How many keys the counters have.
+const KEYS: u64 = 300_000;
+/// How many keys a range of the counters spans.
+const SPAN: u64 = 30;
 
 /// The masked checksum of a record's type and data.
 fn checksum(kind: u8, data: &[u8]) -> u32 {
@@ -84,7 +100,8 @@ impl Lot {
     }
 }
 
-/// What a kind of log holds.
+/// What a log of puts holds.
+#[derive(Clone, Copy)]
 struct Shape {
     /// How many puts a batch has.
     puts: u32,
@@ -92,59 +109,157 @@ struct Shape {
     value: usize,
 }
 
-fn batch(lot: &mut Lot, seq: u64, shape: &Shape) -> Vec<u8> {
-    let mut out = Vec::new();
-    out.extend_from_slice(&seq.to_le_bytes());
-    out.extend_from_slice(&shape.puts.to_le_bytes());
-    for _ in 0..shape.puts {
-        out.push(1);
-        lot.push_string(&mut out, 16);
-        lot.push_string(&mut out, shape.value);
+/// What a log holds.
+#[derive(Clone, Copy)]
+enum Kind {
+    Puts(Shape),
+    Counters,
+}
+
+impl Kind {
+    /// How many writes a batch has.
+    fn writes(self) -> u32 {
+        match self {
+            Kind::Puts(shape) => shape.puts,
+            Kind::Counters => 1,
+        }
     }
+
+    fn push_writes(self, lot: &mut Lot, out: &mut Vec<u8>) {
+        match self {
+            Kind::Puts(shape) => {
+                for _ in 0..shape.puts {
+                    out.push(PUT);
+                    lot.push_string(out, 16);
+                    lot.push_string(out, shape.value);
+                }
+            }
+            Kind::Counters => push_counter_write(lot, out),
+        }
+    }
+}
+
+fn counter_key(number: u64) -> String {
+    format!("account/{number:08}")
+}
+
+/// A merge, a put, a deletion or a range deletion of counters.
+fn push_counter_write(lot: &mut Lot, out: &mut Vec<u8>) {
+    let percents = lot.next() % 10_000;
+    let place = lot.next() % KEYS;
+    let key = counter_key(place);
+    let texts = |tag, second: &[u8]| [&[tag], string(key.as_bytes()).as_slice(), second].concat();
+    let write = match percents {
+        0 => texts(RANGE, &string(counter_key(place + SPAN).as_bytes())),
+        1..=500 => texts(DELETE, &[]),
+        501..=5_500 => texts(MERGE, &string(&lot.next().to_le_bytes())),
+        _ => texts(PUT, &string(&lot.next().to_le_bytes())),
+    };
+    out.extend(write);
+}
+
+/// A text behind its length.
+fn string(bytes: &[u8]) -> Vec<u8> {
+    let mut out = Vec::new();
+    push_varint(&mut out, bytes.len());
+    out.extend_from_slice(bytes);
     out
 }
 
+/// The head of a batch.
+fn head(seq: u64, writes: u32) -> Vec<u8> {
+    [&seq.to_le_bytes()[..], &writes.to_le_bytes()].concat()
+}
+
 /// As many batches as fit so many bytes.
-fn make_log(shape: &Shape, size: usize) -> Vec<u8> {
+fn make_log(kind: Kind, size: usize) -> Vec<u8> {
     let mut log = Vec::with_capacity(size);
     let mut lot = Lot(0x2545_f491_4f6c_dd1d);
     let mut seq = 1;
     loop {
         let before = log.len();
-        push_payload(&mut log, &batch(&mut lot, seq, shape));
+        let mut batch = head(seq, kind.writes());
+        kind.push_writes(&mut lot, &mut batch);
+        push_payload(&mut log, &batch);
         if log.len() > size {
             log.truncate(before);
             return log;
         }
-        seq += u64::from(shape.puts);
+        seq += u64::from(kind.writes());
     }
 }
 
+/// The bytes that hexadecimal digits stand for.
+fn bytes_of(digits: &str) -> Option<Vec<u8>> {
+    let pairs = (0..digits.len()).step_by(2);
+    pairs
+        .map(|at| u8::from_str_radix(digits.get(at..at + 2)?, 16).ok())
+        .collect()
+}
+
+/// The write that a line says.
+fn write_of(line: &str) -> Option<Vec<u8>> {
+    let words: Vec<&str> = line.split(' ').collect();
+    let (tag, texts) = match words.as_slice() {
+        ["delete", texts @ ..] if texts.len() == 1 => (DELETE, texts),
+        ["put", texts @ ..] if texts.len() == 2 => (PUT, texts),
+        ["merge", texts @ ..] if texts.len() == 2 => (MERGE, texts),
+        ["range", texts @ ..] if texts.len() == 2 => (RANGE, texts),
+        _ => return None,
+    };
+    let mut write = vec![tag];
+    for text in texts {
+        write.extend(string(&bytes_of(text)?));
+    }
+    Some(write)
+}
+
+/// A log of a batch for each line.
+fn log_of_lines(lines: impl BufRead) -> io::Result<Vec<u8>> {
+    let mut log = Vec::new();
+    for (line, seq) in lines.lines().zip(1..) {
+        let write = write_of(&line?).ok_or(io::ErrorKind::InvalidData)?;
+        push_payload(&mut log, &[head(seq, 1), write].concat());
+    }
+    Ok(log)
+}
+
 fn usage() -> ! {
-    eprintln!("usage: make_log small|large MIB");
+    eprintln!("usage: make_log small|large|counters MIB, or make_log lines");
     std::process::exit(2)
+}
+
+/// The kind of log that a word names.
+fn kind_named(word: &str) -> Option<Kind> {
+    Some(match word {
+        "small" => Kind::Puts(Shape {
+            puts: 1,
+            value: 100,
+        }),
+        "large" => Kind::Puts(Shape {
+            puts: 40,
+            value: 2_000,
+        }),
+        "counters" => Kind::Counters,
+        _ => return None,
+    })
+}
+
+/// The log that the words ask for.
+fn log_asked_for(words: &[String]) -> io::Result<Vec<u8>> {
+    match words {
+        [word] if word == "lines" => log_of_lines(io::stdin().lock()),
+        [word, size] => match (kind_named(word), size.parse::<usize>()) {
+            (Some(kind), Ok(size)) => Ok(make_log(kind, size << 20)),
+            _ => usage(),
+        },
+        _ => usage(),
+    }
 }
 
 fn main() -> io::Result<()> {
     let words: Vec<String> = std::env::args().skip(1).collect();
-    let [kind, size] = words.as_slice() else {
-        usage()
-    };
-    let shape = match kind.as_str() {
-        "small" => Shape {
-            puts: 1,
-            value: 100,
-        },
-        "large" => Shape {
-            puts: 40,
-            value: 2_000,
-        },
-        _ => usage(),
-    };
-    let Ok(size) = size.parse::<usize>() else {
-        usage()
-    };
     let mut out = BufWriter::new(io::stdout().lock());
-    out.write_all(&make_log(&shape, size << 20))?;
+    out.write_all(&log_asked_for(&words)?)?;
     out.flush()
 }

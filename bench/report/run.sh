@@ -1,0 +1,275 @@
+#!/bin/bash
+# Measures `ucstore report --operator counter` against the same work in plain Rust, and against RocksDB.
+#
+#     bench/report/run.sh
+#
+# A report opens a write-ahead log, flushes its writes to runs, compacts as universal compaction does until nothing is
+# picked, and says what the store holds before and after. It measures the built program itself
+# (crates/ucstore/out/ucstore, or OURS; OURS=none leaves it out). baseline.rs and ../make_log.rs are built by `rustc -O`
+# in a temporary folder, and rocksdb.cc by `g++ -O2` where RocksDB's headers are installed (Debian's librocksdb-dev);
+# where they aren't, it is left out. RocksDB recovers the same log in its memory environment.
+#
+# First the reports of small logs are compared with ones worked by hand, those of large and of damaged logs with each
+# other, and the values of all keys after the compactions with those that RocksDB has. Then each program runs TURNS
+# times (5) over logs of SIZES MiB (16 30 60), in turn and each time in a process of its own: the least seconds from
+# start to end and the most memory are printed. The logs have batches of one write: half merges of counters, 45 percent
+# puts, 5 percent deletions, and now and then a range deletion (`make_log counters`).
+set -u -o pipefail
+
+here=$(cd "$(dirname "${BASH_SOURCE[0]}")" && pwd) || exit 1
+ours=${OURS:-$here/../../crates/ucstore/out/ucstore}
+turns=${TURNS:-5}
+read -ra sizes <<< "${SIZES:-16 30 60}"
+folder=$(mktemp -d) || exit 1
+trap 'rm -rf "$folder"' EXIT
+
+fail() {
+    echo "run.sh: $*" >&2
+    exit 1
+}
+
+build() { # SOURCE
+    rustc --edition 2021 -O -o "$folder/$(basename "$1" .rs)" "$1" || fail "$1 doesn't build"
+}
+
+# Builds what there is, and says which programs print reports, and which are measured.
+build_all() {
+    build "$here/../make_log.rs"
+    build "$here/baseline.rs"
+    reporting=(baseline)
+    if [ "$ours" != none ]; then
+        ours=$(realpath -e "$ours") || exit 2
+        reporting=(ucstore baseline)
+    fi
+    measured=("${reporting[@]}")
+    if echo '#include <rocksdb/db.h>' | g++ -std=c++17 -fsyntax-only -x c++ - 2> "$folder/said"; then
+        g++ -O2 -std=c++17 -o "$folder/rocksdb" "$here/rocksdb.cc" -lrocksdb || fail "rocksdb.cc doesn't build"
+        measured+=(rocksdb)
+    else
+        echo "run.sh: RocksDB is left out: its headers (librocksdb-dev) or g++ aren't there" >&2
+    fi
+}
+
+run() { # PROGRAM WORDS: runs it over standard input
+    local program=$1
+    shift
+    case $program in
+        ucstore) "$ours" report --operator counter "$@" ;;
+        *) "$folder/$program" "$@" ;;
+    esac
+}
+
+# The programs that print reports print the same of a log, with the same status.
+check_same() { # LOG WHAT WORDS
+    local log=$1 what=$2
+    shift 2
+    if [ "${reporting[0]}" != ucstore ]; then return; fi
+    run ucstore "$@" < "$log" > "$folder/left"; local left=$?
+    run baseline "$@" < "$log" > "$folder/right"; local right=$?
+    [ $left -eq $right ] || fail "$what $*: status $left and $right"
+    cmp -s "$folder/left" "$folder/right" || fail "$what $*: the reports differ"
+}
+
+# They print this text, with this status.
+check_text() { # LOG STATUS TEXT WORDS
+    local log=$1 status=$2 text=$3 program
+    shift 3
+    for program in "${reporting[@]}"; do
+        run "$program" "$@" < "$log" > "$folder/left"
+        [ $? -eq "$status" ] || fail "$program $*: another status than $status"
+        [ "$(< "$folder/left")" = "$text" ] || fail "$program $*: another text than $text"
+    done
+}
+
+# They print this report of a log of these lines, each in a memtable of its own.
+check_report() { # LINES REPORT WORDS
+    local lines=$1 report=$2
+    shift 2
+    "$folder/make_log" lines <<< "$lines" > "$folder/vector" || fail "no log of $lines"
+    check_text "$folder/vector" 0 "$report" --memtable 1 "$@"
+}
+
+one=0100000000000000
+merged="put 6b 0a00000000000000
+merge 6b $one
+range 6a 6c
+merge 6b 0400000000000000"
+merged_before="run 4 slot 3 points 1 fragments 0 size 17 seqs 4 4
+run 3 slot 2 points 0 fragments 1 size 10 seqs 3 3
+run 2 slot 1 points 1 fragments 0 size 17 seqs 2 2
+run 1 slot 0 points 1 fragments 0 size 17 seqs 1 1
+total runs 4 points 3 fragments 1 size 61
+keeps 4
+last 4"
+nothing="total runs 0 points 0 fragments 0 size 0
+keeps 0
+last 0"
+nothing_twice="$nothing
+$nothing"
+
+# All runs by space amplification, and the newest by size ratio.
+check_merges() {
+    check_report "$merged" "$merged_before
+compacted 0 4 5
+run 5 slot 3 points 1 fragments 0 size 17 seqs 1 4
+total runs 1 points 1 fragments 0 size 17
+keeps 4
+last 4"
+    check_report "$merged" "$merged_before
+compacted 0 3 5
+run 5 slot 3 points 1 fragments 1 size 27 seqs 2 4
+run 1 slot 0 points 1 fragments 0 size 17 seqs 1 1
+total runs 2 points 2 fragments 1 size 44
+keeps 4
+last 4" --percent 400 --greatest 3
+}
+
+# A deletion stays above older runs, but where a newer range deletion covers its key.
+check_deletion() { # END POINTS SIZE: the range's end, and what the compacted run has
+    check_report "put 6a $one
+put 6b $one
+delete 6b
+range 6a $1" "run 4 slot 3 points 0 fragments 1 size 10 seqs 4 4
+run 3 slot 2 points 1 fragments 0 size 9 seqs 3 3
+run 2 slot 1 points 1 fragments 0 size 17 seqs 2 2
+run 1 slot 0 points 1 fragments 0 size 17 seqs 1 1
+total runs 4 points 3 fragments 1 size 53
+keeps 4
+last 4
+compacted 0 3 5
+run 5 slot 3 points $2 fragments 1 size $3 seqs 2 4
+run 1 slot 0 points 1 fragments 0 size 17 seqs 1 1
+total runs 2 points $(($2 + 1)) fragments 1 size $(($3 + 17))
+keeps 4
+last 4" --percent 400 --greatest 3
+}
+
+# Runs that are each larger than the newer ones together: the two newest of five.
+check_number_of_runs() {
+    check_report "put 61 $(printf '%0382d' 0)
+put 62 $(printf '%0182d' 0)
+put 63 $(printf '%062d' 0)
+merge 6b $one
+delete 6b" "run 5 slot 4 points 1 fragments 0 size 9 seqs 5 5
+run 4 slot 3 points 1 fragments 0 size 17 seqs 4 4
+run 3 slot 2 points 1 fragments 0 size 40 seqs 3 3
+run 2 slot 1 points 1 fragments 0 size 100 seqs 2 2
+run 1 slot 0 points 1 fragments 0 size 200 seqs 1 1
+total runs 5 points 5 fragments 0 size 366
+keeps 5
+last 5
+compacted 0 2 6
+run 6 slot 4 points 1 fragments 0 size 9 seqs 4 5
+run 3 slot 2 points 1 fragments 0 size 40 seqs 3 3
+run 2 slot 1 points 1 fragments 0 size 100 seqs 2 2
+run 1 slot 0 points 1 fragments 0 size 200 seqs 1 1
+total runs 4 points 4 fragments 0 size 349
+keeps 5
+last 5"
+}
+
+# Logs that aren't whole, and stores that aren't opened.
+check_refused() {
+    : > "$folder/vector"
+    check_text "$folder/vector" 0 "$nothing_twice"
+    "$folder/make_log" lines <<< "put 61 $one" > "$folder/vector" || fail "no log"
+    check_text "$folder/vector" 2 "refused bad option" --memtable 0
+    truncate -s -1 "$folder/vector"
+    check_text "$folder/vector" 0 "$nothing_twice"
+    printf 'x' >> "$folder/vector"
+    check_text "$folder/vector" 3 "log fault bad checksum 0"
+    yes "put 61 $one" | head -n 65 | "$folder/make_log" lines > "$folder/vector"
+    check_text "$folder/vector" 2 "refused too many runs" --memtable 1
+}
+
+# After any compactions each key has the value that it has in RocksDB.
+check_values() { # LOG
+    local log=$1 words values
+    values=$("$folder/baseline" --values < "$log") || fail "no values"
+    for words in "--memtable 1048576 --trigger 2 --percent 100000 --greatest 3" \
+        "--memtable 333333 --trigger 8 --percent 100000 --greatest 5 --ratio 0"; do
+        # shellcheck disable=SC2086
+        check_same "$log" "$log" $words
+        # shellcheck disable=SC2086
+        [ "$("$folder/baseline" --values $words < "$log")" = "$values" ] || fail "$words: other values"
+    done
+    if [ "${measured[-1]}" = rocksdb ]; then
+        [ "$("$folder/rocksdb" --values < "$log")" = "$values" ] || fail "RocksDB has other values"
+    fi
+}
+
+# Logs that end early, and logs with another byte in their middle.
+check_damaged() { # LOG
+    local place
+    for place in 1 6 7 32767 32768 100000 5000000; do
+        head -c "$place" "$1" > "$folder/damaged"
+        check_same "$folder/damaged" "the first $place bytes"
+        { head -c "$place" "$1"; printf '\377'; tail -c +$((place + 2)) "$1"; } > "$folder/damaged"
+        check_same "$folder/damaged" "another byte at $place"
+    done
+}
+
+# Appends the seconds and the most memory in KiB of one run.
+run_once() { # PROGRAM LOG
+    local start end
+    case $1 in
+        ucstore) local words=("$ours" report --operator counter) ;;
+        *) local words=("$folder/$1") ;;
+    esac
+    start=${EPOCHREALTIME/[.,]/}
+    /usr/bin/time -f %M -o "$folder/memory" "${words[@]}" < "$2" > "$folder/text" || fail "$1 fails"
+    end=${EPOCHREALTIME/[.,]/}
+    echo "$((end - start)) $(tail -n 1 "$folder/memory")" >> "$folder/figures.$1"
+}
+
+measure() { # MIB: a line for each program with its microseconds and KiB
+    local log=$folder/log program
+    "$folder/make_log" counters "$1" > "$log" || fail "no log"
+    check_same "$log" "$1 MiB"
+    if [ "$1" -eq "${sizes[0]}" ]; then
+        check_values "$log"
+        check_damaged "$log"
+    fi
+    for _ in $(seq "$turns"); do
+        for program in "${measured[@]}"; do run_once "$program" "$log" || exit 1; done
+    done
+    for program in "${measured[@]}"; do
+        echo "$program $1 $(cut -d ' ' -f 1 "$folder/figures.$program" | sort -n | head -n 1)" \
+            "$(cut -d ' ' -f 2 "$folder/figures.$program" | sort -n | tail -n 1)"
+        rm "$folder/figures.$program"
+    done
+}
+
+table() {
+    awk '{
+        names[++count] = $1; size[count] = $2
+        time[$1, $2] = $3; memory[$1, $2] = $4
+    }
+    function ratio(one, other) {
+        return other ? sprintf("%6.2f", one / other) : "     -"
+    }
+    END {
+        word["ucstore"] = "ucstore"; word["baseline"] = "plain Rust"; word["rocksdb"] = "RocksDB"
+        print "                                          time against                     memory against"
+        print "log     program     seconds  memory MiB  plain Rust  RocksDB  half a log  plain Rust  RocksDB"
+        for (line = 1; line <= count; line++) {
+            n = names[line]; s = size[line]
+            t = time[n, s]; m = memory[n, s]
+            printf "%2d MiB  %-10s  %7.3f  %10.1f  %10s  %7s  %10s  %10s  %7s\n", s, word[n], t / 1e6, m / 1024,
+                ratio(t, time["baseline", s]), ratio(t, time["rocksdb", s]), ratio(t, time[n, s / 2]),
+                ratio(m, memory["baseline", s]), ratio(m, memory["rocksdb", s])
+        }
+    }'
+}
+
+build_all
+check_merges
+check_deletion 6b 1 19
+check_deletion 6c 0 10
+check_number_of_runs
+check_refused
+grep -m1 'model name' /proc/cpuinfo
+echo "load: $(cut -d ' ' -f 1-3 /proc/loadavg)"
+for size in "${sizes[@]}"; do
+    measure "$size" || exit 1
+done | table
