@@ -4,5 +4,7 @@ pub mod Printing
 pub mod Written
 pub mod Plays
 pub mod Dumps
+pub mod Compactions
+pub mod Reports
 pub mod Calls
 pub mod Opened
