@@ -26,7 +26,7 @@ pub begins : (m : Operation) (o : Owner) (left : ℕ) (here : State) (old : Opti
     → CompactsOn m (compactions_of m o) left here old old
 begins m o left here old count is =
     let same : compactions_of m o ≡ compactions m left here =
-        sym (ap (λ (n : ℕ). compactions m n here) count ∙ ap (λ (s : State). compactions m (length o.version.runs) s) is) in
+    sym (ap (λ (n : ℕ). compactions m n here) count ∙ ap (λ (s : State). compactions m (length o.version.runs) s) is) in
     subst (λ (all : Compactions). CompactsOn m all left here old old) (sym same) (record { state = refl; lines = λ new r p. p })
 
 -- what was written of a line, by its answer

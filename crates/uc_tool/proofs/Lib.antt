@@ -6,5 +6,6 @@ pub mod Plays
 pub mod Dumps
 pub mod Compactions
 pub mod Reports
+pub mod Reported
 pub mod Calls
 pub mod Opened

@@ -15,12 +15,14 @@ mod input;
 mod opening;
 mod playing;
 mod refusing;
+mod reporting;
 mod run_error;
 mod writing;
 
 pub use done::Done;
 pub use dumping::dump;
 pub use playing::play;
+pub use reporting::report_log;
 pub use uc_pick::Options;
 
 #[cfg(test)]
