@@ -4,6 +4,9 @@ pub mod Printing
 pub mod Written
 pub mod Plays
 pub mod Dumps
+pub mod Compactions
+pub mod Reports
+pub mod Reported
 pub mod Calls
 pub mod Opened
 pub mod ReadAnswers

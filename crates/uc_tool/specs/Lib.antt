@@ -5,6 +5,8 @@ pub mod Writing
 pub mod Texts
 pub mod Play
 pub mod Turn
+pub mod Report
+pub mod Compacting
 pub mod Ending
 pub mod Status
 pub mod Dump

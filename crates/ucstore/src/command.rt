@@ -77,8 +77,12 @@ fn operator<'a>(alloc: Global, shown: &'a Shown) -> Arg<'a> {
         )
 }
 
-/// `ucstore play`.
-fn play<'a>(alloc: Global, shown: &'a Shown) -> Result<Command<'a>, AllocError> {
+/// A subcommand that opens a store, with the store's operator and options.
+fn over_a_store<'a>(
+    alloc: Global,
+    command: Command<'a>,
+    shown: &'a Shown,
+) -> Result<Command<'a>, AllocError> {
     let memtable = number(
         alloc,
         "memtable",
@@ -117,9 +121,7 @@ fn play<'a>(alloc: Global, shown: &'a Shown) -> Result<Command<'a>, AllocError> 
         shown.greatest.as_str(),
         "Compact at most this many runs at once (max_merge_width)",
     );
-    Command::new(alloc, "play")
-        .about(PLAY_ABOUT)
-        .after_help(PLAY_HELP)
+    command
         .arg(operator(alloc, shown))?
         .arg(memtable.value_parser(value_parser!(u64)))?
         .arg(trigger.value_parser(value_parser!(u32)))?
@@ -127,6 +129,43 @@ fn play<'a>(alloc: Global, shown: &'a Shown) -> Result<Command<'a>, AllocError> 
         .arg(percent.value_parser(value_parser!(u32)))?
         .arg(least.value_parser(value_parser!(u32)))?
         .arg(greatest.value_parser(value_parser!(u32)))
+}
+
+/// `ucstore play`.
+fn play<'a>(alloc: Global, shown: &'a Shown) -> Result<Command<'a>, AllocError> {
+    let play = Command::new(alloc, "play")
+        .about(PLAY_ABOUT)
+        .after_help(PLAY_HELP);
+    over_a_store(alloc, play, shown)
+}
+
+const REPORT_ABOUT: &str = "Open a write-ahead log, report what the store holds, compact it as \
+    universal compaction would, and report again";
+
+const REPORT_HELP: &str = "\
+Reads a write-ahead log of LevelDB or RocksDB on standard input, at most 64 MiB, of the kinds that dump
+reads, and opens a store from it. A log that ends inside a payload is read up to there. Prints
+
+  run ID slot S points P fragments F size Z seqs LOW HIGH    for each run, the newest first
+  total runs R points P fragments F size Z
+  keeps SEQUENCE ...
+  last SEQUENCE
+
+then a line for each compaction, as long as one is due,
+
+  compacted FIRST COUNT ID    of so many runs from FIRST on, 0 for the newest, into run ID
+
+and what the store holds then.
+
+Status: 0 done, 2 a refused command line or opening, 3 a log with a fault, 4 out of memory, 5 a read or
+write fault or too long an input.";
+
+/// `ucstore report`.
+fn report<'a>(alloc: Global, shown: &'a Shown) -> Result<Command<'a>, AllocError> {
+    let report = Command::new(alloc, "report")
+        .about(REPORT_ABOUT)
+        .after_help(REPORT_HELP);
+    over_a_store(alloc, report, shown)
 }
 
 const DUMP_ABOUT: &str = "Print what a write-ahead log holds, and where it breaks";
@@ -160,24 +199,25 @@ pub fn ucstore<'a>(alloc: Global, shown: &'a Shown) -> Result<Command<'a>, Alloc
         .version("0.1.0")
         .subcommand_required(true)
         .subcommand(play(alloc, shown)?)?
+        .subcommand(report(alloc, shown)?)?
         .subcommand(dump(alloc))
 }
 
-/// The options of `ucstore play` that the words set.
-pub fn options(play: &ArgMatches<'_>) -> Options {
+/// The options of `ucstore play` or `ucstore report` that the words set.
+pub fn options(matches: &ArgMatches<'_>) -> Options {
     let usual = Options::usual();
     Options {
-        memtable: play.get_one::<u64>("memtable").unwrap_or(usual.memtable),
-        trigger: play.get_one::<u32>("trigger").unwrap_or(usual.trigger),
-        ratio: play.get_one::<u32>("ratio").unwrap_or(usual.ratio),
-        percent: play.get_one::<u32>("percent").unwrap_or(usual.percent),
-        least: play.get_one::<u32>("least").unwrap_or(usual.least),
-        greatest: play.get_one::<u32>("greatest").unwrap_or(usual.greatest),
+        memtable: matches.get_one::<u64>("memtable").unwrap_or(usual.memtable),
+        trigger: matches.get_one::<u32>("trigger").unwrap_or(usual.trigger),
+        ratio: matches.get_one::<u32>("ratio").unwrap_or(usual.ratio),
+        percent: matches.get_one::<u32>("percent").unwrap_or(usual.percent),
+        least: matches.get_one::<u32>("least").unwrap_or(usual.least),
+        greatest: matches.get_one::<u32>("greatest").unwrap_or(usual.greatest),
         first_id: usual.first_id,
     }
 }
 
-/// The operator of `ucstore play`. The parser requires one of the names that there are.
-pub fn operator_name(play: &ArgMatches<'_>) -> Option<OperatorName> {
-    play.get_str("operator").and_then(OperatorName::named)
+/// The operator of `ucstore play` or `ucstore report`. The parser requires one of the names that there are.
+pub fn operator_name(matches: &ArgMatches<'_>) -> Option<OperatorName> {
+    matches.get_str("operator").and_then(OperatorName::named)
 }

@@ -22,7 +22,7 @@ use std::process::ExitCode;
 use std::rt::Env;
 use std::thread::Threads;
 use uc_oper::{Append, Counter, Maximum};
-use uc_tool::{Done, dump, play};
+use uc_tool::{Done, dump, play, report_log};
 
 /// The delimiter of `--operator append`.
 const COMMA: u8 = b',';
@@ -42,6 +42,30 @@ fn play_script<R: Read, W: Write>(
             rt, alloc, reader, writer, &options,
         ),
         Some(OperatorName::Maximum) => play::<Maximum, R, W>(rt, alloc, reader, writer, &options),
+        // The parser lets no other name through.
+        None => Done::Refused,
+    }
+}
+
+/// Reports on a log under the operator that the words name.
+fn report<R: Read, W: Write>(
+    rt: &(impl Threads + Sync),
+    alloc: Global,
+    matches: &ArgMatches<'_>,
+    reader: &mut R,
+    writer: &mut W,
+) -> Done {
+    let options = command::options(matches);
+    match command::operator_name(matches) {
+        Some(OperatorName::Counter) => {
+            report_log::<Counter, R, W>(rt, alloc, reader, writer, &options)
+        }
+        Some(OperatorName::Append) => report_log::<Append<COMMA>, R, W>(
+            rt, alloc, reader, writer, &options,
+        ),
+        Some(OperatorName::Maximum) => {
+            report_log::<Maximum, R, W>(rt, alloc, reader, writer, &options)
+        }
         // The parser lets no other name through.
         None => Done::Refused,
     }
@@ -73,6 +97,7 @@ fn run<R: Print + Eprint + Input + AllocGlobal + Threads + Sync, S: AsStr>(
     };
     Ok(match matches.subcommand() {
         Some(("play", play)) => play_script(rt, alloc, play, &mut rt.reader(), &mut writer),
+        Some(("report", words)) => report(rt, alloc, words, &mut rt.reader(), &mut writer),
         Some(("dump", _)) => dump(alloc, &mut rt.reader(), &mut writer),
         // The parser requires a subcommand, and lets no other name through.
         _ => Done::Refused,

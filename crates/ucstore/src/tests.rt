@@ -11,23 +11,28 @@ fn words_of<'a>(alloc: Global, line: &'a str) -> Result<Vec<&'a str>, AllocError
     line.split(' ').collect(alloc)
 }
 
-/// What the words of a line that plays set.
+/// What the words of a line that opens a store set.
 fn options_of(alloc: Global, line: &str) -> Result<(Option<OperatorName>, Options), Fail> {
     let shown = Shown::new(alloc)?;
     let words = words_of(alloc, line)?;
     let matches = command::ucstore(alloc, &shown)?.try_get_matches_from(words.as_slice())?;
-    match matches.subcommand_matches("play") {
-        Some(play) => Ok((command::operator_name(play), command::options(play))),
+    match matches.subcommand() {
+        Some((_, words)) => Ok((command::operator_name(words), command::options(words))),
         None => Err(Fail::from(AllocError)),
     }
 }
 
+/// Lines that set each option.
+const ALL_SET: [&str; 2] = [
+    "ucstore play --operator append --memtable 11 --trigger 12 --ratio 13 --percent 14 --least 15 \
+     --greatest 16",
+    "ucstore report --operator append --memtable 11 --trigger 12 --ratio 13 --percent 14 --least 15 \
+     --greatest 16",
+];
+
 /// Each option sets its own field.
 #[test]
 fn each_option_sets_its_field(rt: HostRuntime) -> Result<(), Fail> {
-    let line = "ucstore play --operator append --memtable 11 --trigger 12 --ratio 13 --percent 14 \
-        --least 15 --greatest 16";
-    let (operator, options) = options_of(rt.alloc(), line)?;
     let wanted = Options {
         memtable: 11,
         trigger: 12,
@@ -37,16 +42,20 @@ fn each_option_sets_its_field(rt: HostRuntime) -> Result<(), Fail> {
         greatest: 16,
         first_id: 1,
     };
-    assert_eq!(rt; operator, Some(OperatorName::Append));
-    assert_eq!(rt; options, wanted);
+    for line in ALL_SET {
+        let (operator, options) = options_of(rt.alloc(), line)?;
+        assert_eq!(rt; operator, Some(OperatorName::Append), "{line}");
+        assert_eq!(rt; options, wanted, "{line}");
+    }
     Ok(())
 }
 
 /// The operators by their names.
-const OPERATORS: [(&str, OperatorName); 3] = [
+const OPERATORS: [(&str, OperatorName); 4] = [
     ("ucstore play --operator counter", OperatorName::Counter),
     ("ucstore play --operator=append", OperatorName::Append),
     ("ucstore play --operator maximum", OperatorName::Maximum),
+    ("ucstore report --operator counter", OperatorName::Counter),
 ];
 
 /// Without words for them the options are the usual ones.
@@ -61,7 +70,7 @@ fn operators_and_usual_options(rt: HostRuntime) -> Result<(), Fail> {
 }
 
 /// Command lines, and why they are refused.
-const REFUSED: [(&str, ErrorKind); 13] = [
+const REFUSED: [(&str, ErrorKind); 15] = [
     ("ucstore", ErrorKind::MissingSubcommand),
     ("ucstore pley", ErrorKind::InvalidSubcommand),
     ("ucstore dump log", ErrorKind::UnknownArgument),
@@ -70,6 +79,11 @@ const REFUSED: [(&str, ErrorKind); 13] = [
         ErrorKind::UnknownArgument,
     ),
     ("ucstore play", ErrorKind::MissingRequiredArgument),
+    ("ucstore report", ErrorKind::MissingRequiredArgument),
+    (
+        "ucstore report log --operator counter",
+        ErrorKind::UnknownArgument,
+    ),
     ("ucstore play --operator", ErrorKind::InvalidValue),
     ("ucstore play --operator minimum", ErrorKind::InvalidValue),
     (
