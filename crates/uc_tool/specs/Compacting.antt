@@ -1,5 +1,5 @@
 -- What one compaction of a log's store comes to.
-use Rattle.std.specs.Prelude.{◌≡◌, List}
+use Rattle.std.specs.Prelude.{◌≡◌}
 use Rattle.uc_oper.specs.Operation.{Operation}
 use Rattle.uc_query.specs.Names.{State}
 use Rattle.uc_tool.specs.Report.{Compactions, no_more, last_line, behind_line, after_pick, pick_of}

@@ -1,5 +1,5 @@
 -- What the report on a log prints.
-use Rattle.std.specs.Prelude.{◌≡◌, ℕ, zero, suc, List, [], ◌∷◌, ◌++◌, length, Option, Some, None}
+use Rattle.std.specs.Prelude.{ℕ, zero, suc, List, [], ◌∷◌, ◌++◌, length, Option, Some, None}
 use Rattle.uc_oper.specs.Operation.{Operation}
 use Rattle.uc_write.specs.declared.write.Write.{Write}
 use Rattle.uc_batch.specs.Log.{log_writes}

@@ -1,4 +1,4 @@
-use Rattle.std.proofs.Common.{◌≤◌, ◌-◌, length}
+use Rattle.std.proofs.Common.{◌-◌}
 use Rattle.uc_query.specs.Names.{AreHeld}
 use Rattle.uc_tool.specs.Report.{compactions_of}
 use Rattle.uc_tool.proofs.Compactions.{CompactsOn}
