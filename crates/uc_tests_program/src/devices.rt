@@ -7,13 +7,14 @@ use std::marker::Sync;
 use std::process::Abort;
 use std::thread::Threads;
 use uc_oper::Counter;
-use uc_tool::{Done, dump, play};
+use uc_tool::{Done, dump, play, report_log};
 
 /// What is run.
 #[derive(Clone, Copy)]
 enum Program {
     Play,
     Dump,
+    Report,
 }
 
 /// A script of 72 bytes.
@@ -30,12 +31,19 @@ const LOG: &[u8] = b"\xe9\x9f\x78\x19\x11\x00\x01\
 /// What its dump prints.
 const DUMPED: &[u8] = b"1 put 61 31\ntorn 24\n";
 
+/// What the report on it prints.
+const REPORTED: &[u8] = b"run 1 slot 0 points 1 fragments 0 size 10 seqs 1 1\n\
+    total runs 1 points 1 fragments 0 size 10\nkeeps 1\nlast 1\n\
+    run 1 slot 0 points 1 fragments 0 size 10 seqs 1 1\n\
+    total runs 1 points 1 fragments 0 size 10\nkeeps 1\nlast 1\n";
+
 /// A program, what it reads, and what it prints.
 type Run = (Program, &'static [u8], &'static [u8]);
 
-const RUNS: [Run; 2] = [
+const RUNS: [Run; 3] = [
     (Program::Play, SCRIPT, PRINTED),
     (Program::Dump, LOG, DUMPED),
+    (Program::Report, LOG, REPORTED),
 ];
 
 /// Runs a program.
@@ -49,6 +57,7 @@ fn runs<R: Read, W: Write>(
     match program {
         Program::Play => play::<Counter, R, W>(rt, alloc, reader, writer, &small()),
         Program::Dump => dump(alloc, reader, writer),
+        Program::Report => report_log::<Counter, R, W>(rt, alloc, reader, writer, &small()),
     }
 }
 
@@ -212,7 +221,7 @@ fn input_byte_by_byte(rt: HostRuntime) {
 /// An input of a byte more isn't judged.
 #[test]
 fn inputs_above_the_limit(rt: HostRuntime) {
-    for program in [Program::Play, Program::Dump] {
+    for program in [Program::Play, Program::Dump, Program::Report] {
         let told = (b"input too long\n".as_slice(), Done::Device);
         let mut reader = Untouched {
             left: 67_108_865,

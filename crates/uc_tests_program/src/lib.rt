@@ -2,9 +2,9 @@
 //!
 //! Everything here runs the calls of other crates as their users do, over scripts and answers that were worked
 //! out by hand. Read `plays.rt` first: it runs a script over memory. `scripts.rt` has scripts and what they
-//! print, `compactions.rt` scripts that claim and compact runs, `refusals.rt` scripts and options that are
-//! refused, `queries.rt` answers to queries, `random.rt` compares the two ways to an answer on scripts that are
-//! drawn by lot, and `devices.rt` has readers and writers that fail, for scripts and for logs.
+//! print, `compactions.rt` scripts that claim and compact runs, `reports.rt` reports on logs, `refusals.rt` scripts
+//! and options that are refused, `queries.rt` answers to queries, `random.rt` compares the two ways to an answer on
+//! scripts that are drawn by lot, and `devices.rt` has readers and writers that fail, for scripts and for logs.
 #![tactic(auto)]
 
 #[cfg(test)]
@@ -19,5 +19,7 @@ mod queries;
 mod random;
 #[cfg(test)]
 mod refusals;
+#[cfg(test)]
+mod reports;
 #[cfg(test)]
 mod scripts;
