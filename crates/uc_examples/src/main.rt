@@ -11,7 +11,7 @@ use std::marker::Sync;
 use std::rt::Files;
 use std::thread::Threads;
 use uc_oper::{Append, Counter, Operator};
-use uc_tool::{Done, Options, dump, play};
+use uc_tool::{Done, Options, dump, play, report_log};
 
 /// The delimiter of `--operator append`.
 const COMMA: u8 = b',';
@@ -76,6 +76,26 @@ fn check_script<O: Operator + Sync, R: Files + AllocGlobal + Threads + Sync>(
     )
 }
 
+/// Reports on the example of a log, whose three writes are a run each, and which is compacted at once.
+fn check_report<R: Files + AllocGlobal + Threads + Sync>(rt: &R) -> Result<()> {
+    let alloc = rt.alloc();
+    let log = fs::read(rt, "report.log")?;
+    let options = Options {
+        memtable: 1,
+        trigger: 2,
+        ..Options::usual()
+    };
+    let mut printed = Vec::new(alloc);
+    let done = report_log::<Append<COMMA>, &[u8], Vec<u8>>(
+        rt,
+        alloc,
+        &mut log.as_slice(),
+        &mut printed,
+        &options,
+    );
+    check(rt, "report.expected", &printed, done)
+}
+
 fn main(rt: HostRuntime) -> Result<()> {
     let mut logs = 0u64;
     for entry in fs::read_dir(&rt, "logs")? {
@@ -89,6 +109,7 @@ fn main(rt: HostRuntime) -> Result<()> {
     check_script::<Counter, _>(&rt, "first", usual)?;
     check_script::<Append<COMMA>, _>(&rt, "merge", usual)?;
     check_script::<Counter, _>(&rt, "compaction", 1)?;
-    println!(rt; "{logs} logs and 3 scripts print what stands beside them")?;
+    check_report(&rt)?;
+    println!(rt; "{logs} logs, 3 scripts and a report print what stands beside them")?;
     Ok(())
 }
