@@ -48,8 +48,8 @@ fn replies_to<O: Operator + Sync>(
 
 /// The replies to a list of calls, in their order. At the end the claims that are still held under names are given back.
 ///
-/// The first batch of queries that can't be asked so, or the first want of memory, ends the list: the calls before it stand, that call changes nothing, and the
-/// claims are given back too.
+/// The first batch of queries that can't be asked so, or the first want of memory, ends the list: the calls before it stand,
+/// that call changes nothing, and the claims are given back too.
 pub fn run_calls<O: Operator + Sync>(
     rt: &(impl Threads + Sync),
     alloc: Global,

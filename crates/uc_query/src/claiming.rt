@@ -1,6 +1,5 @@
 //! Claims that are taken under names and given back.
 ghost use Rattle.std.specs.Prelude.{◌≡◌, ◌<◌, Option, List, None, slice_index_or};
-ghost use Rattle.uc_version.specs.Owners.{IsOwner};
 ghost use Rattle.uc_version.specs.Claiming.{Claim};
 ghost use Rattle.uc_version.specs.declared.held_stretch.TheConstants.{MOST_CLAIMS as MOST};
 ghost use Rattle.uc_query.specs.Names.{AreHeld, IsNamedHeld, given_back, released};

@@ -3,7 +3,8 @@
 //! [`run_calls`] goes through a list of calls to a store in one owner's hands: claims under names, installs, compactions,
 //! picks, reports and batches of queries. Its replies are those of a small machine, a function of what the store holds and of
 //! the calls: read `specs/Turns.antt` first, then `specs/Running.antt`, `named_claims.rt` and `calls.rt`. What a query asks
-//! and what answers it stand in `uc_answer`, `uc_lookup` and `uc_workers`, and reports in `uc_report`; their public items are given out here too.
+//! and what answers it stand in `uc_answer`, `uc_lookup` and `uc_workers`, and reports in `uc_report`; their public items are
+//! given out here too.
 #![tactic(auto)]
 
 mod asking;
