@@ -1,0 +1,95 @@
+//! Points of each kind, with texts that fit and texts that don't.
+use super::*;
+use std::alloc::Global;
+use std::test::Fail;
+use uc_bytes::Bytes;
+use uc_entry::{Entry, What};
+
+/// Keys and texts: empty, as long as fit together, and longer.
+const TEXTS: [(&[u8], &[u8]); 6] = [
+    (b"", b""),
+    (b"k", b""),
+    (b"", b"value"),
+    (b"a key of 16 bytes", b"7 bytes"),
+    (b"a key of 16 bytes", b"8 bytes."),
+    (
+        b"a key that is longer than the bytes inside",
+        b"and its value",
+    ),
+];
+
+/// Sequences, up to the greatest.
+const SEQS: [u64; 3] = [1, 255, (1 << 56) - 1];
+
+fn says(alloc: Global, entry: Entry) -> Result<bool, Fail> {
+    if entry.seq > SEQS[2] {
+        return Ok(false);
+    }
+    let point = Point::of(alloc, &entry)?;
+    Ok(
+        point.key() == entry.key.as_slice()
+            && point.seq() == entry.seq
+            && point.what() == WhatRef::of(&entry.what)
+            && point.to_entry(alloc)? == entry,
+    )
+}
+
+fn said_each_way(alloc: Global, key: &[u8], seq: u64, text: &[u8]) -> Result<bool, Fail> {
+    let put = What::Put(Bytes::from_slice(alloc, text)?);
+    let merge = What::Merge(Bytes::from_slice(alloc, text)?);
+    let mut all = true;
+    for what in [put, What::Delete, merge] {
+        let key = Bytes::from_slice(alloc, key)?;
+        all &= says(alloc, Entry { key, seq, what })?;
+    }
+    Ok(all)
+}
+
+#[test]
+fn points_say_what_entries_say(rt: HostRuntime) -> Result<(), Fail> {
+    for (key, text) in &TEXTS {
+        for seq in SEQS {
+            assert!(rt; said_each_way(rt.alloc(), key, seq, text)?);
+        }
+    }
+    Ok(())
+}
+
+#[test]
+fn points_are_the_same_by_all_they_say(rt: HostRuntime) -> Result<(), Fail> {
+    let alloc = rt.alloc();
+    let point = Point::new(alloc, b"k", 7, WhatRef::Put(b"v"))?;
+    assert!(rt; point.same(&Point::new(alloc, b"k", 7, WhatRef::Put(b"v"))?));
+    let others = [
+        Point::new(alloc, b"kv", 7, WhatRef::Put(b""))?,
+        Point::new(alloc, b"k", 8, WhatRef::Put(b"v"))?,
+        Point::new(alloc, b"k", 7, WhatRef::Merge(b"v"))?,
+        Point::new(alloc, b"k", 7, WhatRef::Delete)?,
+    ];
+    for other in &others {
+        assert!(rt; !point.same(other));
+    }
+    Ok(())
+}
+
+#[test]
+fn points_are_small(rt: HostRuntime) -> Result<(), Fail> {
+    assert_eq!(rt; size_of::<Point>(), 56);
+    Ok(())
+}
+
+#[test]
+fn entries_are_packed_in_order(rt: HostRuntime) -> Result<(), Fail> {
+    let alloc = rt.alloc();
+    let mut entries = Vec::new(alloc);
+    for seq in SEQS {
+        entries.push(Entry {
+            key: Bytes::from_slice(alloc, b"k")?,
+            seq,
+            what: What::Delete,
+        })?;
+    }
+    let points = points_of(alloc, &entries)?;
+    assert!(rt; points.iter().map(|point| point.seq()).eq(SEQS));
+    Ok(())
+}
