@@ -81,15 +81,23 @@ fn points_are_small(rt: HostRuntime) -> Result<(), Fail> {
 #[test]
 fn entries_are_packed_in_order(rt: HostRuntime) -> Result<(), Fail> {
     let alloc = rt.alloc();
-    let mut entries = Vec::new(alloc);
-    for seq in SEQS {
-        entries.push(Entry {
-            key: Bytes::from_slice(alloc, b"k")?,
-            seq,
+    let entries = [
+        Entry {
+            key: Bytes::from_slice(alloc, b"b")?,
+            seq: 7,
             what: What::Delete,
-        })?;
-    }
+        },
+        Entry {
+            key: Bytes::from_slice(alloc, b"a")?,
+            seq: 9,
+            what: What::Delete,
+        },
+    ];
     let points = points_of(alloc, &entries)?;
-    assert!(rt; points.iter().map(|point| point.seq()).eq(SEQS));
+    assert_eq!(rt; points.len(), 2);
+    for (point, entry) in points.iter().zip(&entries) {
+        assert_eq!(rt; point.key(), entry.key.as_slice());
+        assert_eq!(rt; point.seq(), entry.seq);
+    }
     Ok(())
 }
