@@ -10,3 +10,4 @@ pub mod Reported
 pub mod Calls
 pub mod Opened
 pub mod ReadAnswers
+pub mod NoMorePicks

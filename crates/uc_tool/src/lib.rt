@@ -22,7 +22,7 @@ mod writing;
 
 pub use done::Done;
 pub use dumping::dump;
-pub use laws::reads_are_answered_from_plain_writes;
+pub use laws::{compactions_end_where_nothing_is_picked, reads_are_answered_from_plain_writes};
 pub use playing::play;
 pub use reporting::report_log;
 pub use uc_pick::Options;
