@@ -60,7 +60,7 @@ impl<'a> Cursor<'a> {
         ensures { option_map (λ key. key.now) result ≡ option_map (λ p. p.key) (slice_get self.now.run.points self.now.place) }
     {
         let point = self.run.entries().get(self.place)?;
-        Some(point.key.as_slice())
+        Some(point.key())
     }
 
     /// Whether the points before the key are passed and its own aren't. It costs a search by the fences.

@@ -11,7 +11,7 @@ use crate::prefixes::{prefixes_of, shared_front, undecided};
 use std::alloc::{AllocError, Global};
 use std::marker::Model;
 use uc_bytes::Bytes;
-use uc_entry::Entry;
+use uc_point::Point;
 
 /// How many points a block has, but the last one, which may have fewer.
 const BLOCK_POINTS: usize = 16;
@@ -53,18 +53,19 @@ impl Fences {
 }
 
 /// The key of the first point of each block.
-fn first_keys(alloc: Global, points: &[Entry]) -> Result<Vec<Bytes>, AllocError>
+fn first_keys(alloc: Global, points: &[Point]) -> Result<Vec<Bytes>, AllocError>
     ensures { IfOk result (λ keys. IsFenced points.now keys.items) }
 {
     let mut keys = Vec::new(alloc);
     for block in 0..points.len().div_ceil(BLOCK_POINTS) {
-        keys.push(points[block * BLOCK_POINTS].key.clone()?)?;
+        let key = points[block * BLOCK_POINTS].key();
+        keys.push(Bytes::from_slice(alloc, key)?)?;
     }
     Ok(keys)
 }
 
 /// The fences of points.
-pub(crate) fn fences_of(alloc: Global, points: &[Entry]) -> Result<Fences, AllocError>
+pub(crate) fn fences_of(alloc: Global, points: &[Point]) -> Result<Fences, AllocError>
     requires { IsStrictlySortedBy entry_cmp points.now }
     ensures { IfOk result (λ fences. IsFenced points.now fences) }
 {
@@ -89,28 +90,28 @@ fn keys_passed(keys: &[Bytes], low: &[u8], strict: bool) -> usize
 }
 
 /// How many of the points are passed over, where those that are stand first.
-fn place_in(points: &[Entry], low: &[u8], strict: bool) -> usize
+fn place_in(points: &[Point], low: &[u8], strict: bool) -> usize
     requires { IsPartitionedBy (λ p. seek.is_passed low.now strict p.key) points.now }
     ensures bound { result ≤ length points.now }
     ensures place { IsPartitionPoint (λ p. seek.is_passed low.now strict p.key ≡ true)
         (λ p. seek.is_passed low.now strict p.key ≡ false) points.now result }
 {
-    points.partition_point(|point| is_passed(low, strict, point.key.as_slice()))
+    points.partition_point(|point| is_passed(low, strict, point.key()))
 }
 
 /// The place of the first of the points that isn't passed over by who looks behind the key.
-fn first_behind(points: &[Entry], key: &[u8]) -> Option<usize>
+fn first_behind(points: &[Point], key: &[u8]) -> Option<usize>
     ensures { IfSome result (λ n. (n < length points.now)
         × AllWithin (λ p. seek.is_passed key.now true p.key ≡ true) points.now 0 n
         × HoldsAt (λ p. seek.is_passed key.now true p.key ≡ false) points.now n) }
 {
     points
         .iter()
-        .position(|point| !is_passed(key, true, point.key.as_slice()))
+        .position(|point| !is_passed(key, true, point.key()))
 }
 
 /// How many fences are passed over.
-fn fences_passed(points: &[Entry], fences: &Fences, low: &[u8], strict: bool) -> usize
+fn fences_passed(points: &[Point], fences: &Fences, low: &[u8], strict: bool) -> usize
     requires sorted { IsStrictlySortedBy entry_cmp points.now }
     requires fenced { IsFenced points.now fences.now }
     ensures bound { result ≤ length fences.now }
@@ -124,7 +125,7 @@ fn fences_passed(points: &[Entry], fences: &Fences, low: &[u8], strict: bool) ->
 }
 
 /// How many points are passed over: all before the last block whose fence is, and some of that block.
-pub(crate) fn seek_by_fences(points: &[Entry], fences: &Fences, low: &[u8], strict: bool) -> usize
+pub(crate) fn seek_by_fences(points: &[Point], fences: &Fences, low: &[u8], strict: bool) -> usize
     requires sorted { IsStrictlySortedBy entry_cmp points.now }
     requires fenced { IsFenced points.now fences.now }
     ensures bound { result ≤ length points.now }
@@ -143,7 +144,7 @@ pub(crate) fn seek_by_fences(points: &[Entry], fences: &Fences, low: &[u8], stri
 
 /// The place, from one on, of the first point that isn't passed over by who looks behind the key. A few points are looked
 /// at one by one; the fences are searched where none of them is it.
-pub(crate) fn passed_from(points: &[Entry], fences: &Fences, place: usize, key: &[u8]) -> usize
+pub(crate) fn passed_from(points: &[Point], fences: &Fences, place: usize, key: &[u8]) -> usize
     requires sorted { IsStrictlySortedBy entry_cmp points.now }
     requires fenced { IsFenced points.now fences.now }
     requires within { place ≤ length points.now }

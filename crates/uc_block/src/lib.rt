@@ -1,8 +1,8 @@
 //! Runs: immutable tables of points and range deletions, sorted by key, in memory.
 //!
-//! A [`Run`] keeps its points in blocks of 16 in order of key. A contract sees it as its contents (`uc_entry`'s
-//! `specs/Run.antt`): none but those of [`Run::blocks`] and [`Run::fence`] speaks of blocks. A [`Cursor`] walks over a run
-//! in order of key. Read `run.rt` first, then `cursor.rt`.
+//! A [`Run`] keeps its points, packed (`uc_point`), in blocks of 16 in order of key. A contract sees it as its contents
+//! (`uc_entry`'s `specs/Run.antt`): none but those of [`Run::blocks`] and [`Run::fence`] speaks of blocks. A [`Cursor`] walks
+//! over a run in order of key. Read `run.rt` first, then `cursor.rt`.
 #![tactic(auto)]
 
 mod cursor;

@@ -7,26 +7,30 @@ ghost use Rattle.uc_oper.specs.declared.effect.Effect.{Effect as EffectOf};
 ghost use Rattle.uc_entry.specs.Order.{IsFalling, AreInOrder};
 ghost use Rattle.uc_entry.specs.Run.{covers};
 ghost use Rattle.uc_entry.specs.Lookup as lookup;
+ghost use Rattle.uc_point.specs.Packed as packed;
 ghost use Rattle.uc_block.specs.Places.{PointsFall};
 ghost use Rattle.uc_block.specs.Overwriting as overwriting;
 
 use crate::places::{greatest_at, newer_than};
 use std::alloc::{AllocError, Global};
-use uc_entry::{Entry, Fragment, What, covering_fragment};
+use uc_bytes::Bytes;
+use uc_entry::{Fragment, covering_fragment};
 use uc_oper::{Effect, Operator};
+use uc_point::{Point, WhatRef};
 
 /// Whether a point overwrites what is older.
-fn overwrites(point: &Entry) -> bool
+#[inline]
+fn overwrites(point: &Point) -> bool
     ensures { result ≡ overwriting.overwrites point.now }
 {
-    match point.what {
-        What::Put(_) | What::Delete => true,
-        What::Merge(_) => false,
+    match point.what() {
+        WhatRef::Put(_) | WhatRef::Delete => true,
+        WhatRef::Merge(_) => false,
     }
 }
 
 /// The points, the newest first, but those that a newer one overwrites.
-fn lasting(points: &[Entry]) -> &[Entry]
+fn lasting(points: &[Point]) -> &[Point]
     ensures { (m : Operation) (before : EffectOf) → lookup.points_effect m before result.now ≡ lookup.points_effect m before points.now }
 {
     match points.iter().position(overwrites) {
@@ -37,13 +41,17 @@ fn lasting(points: &[Entry]) -> &[Entry]
 
 /// An effect, and then a point. Its operand is written into the effect's text, and only a text that is kept
 /// is copied. Want of memory loses the effect.
-fn changed_by<O: Operator>(alloc: Global, effect: Effect, what: &What) -> Result<Effect, AllocError>
-    ensures { IfOk result (λ both. both ≡ composed O.meaning effect (lookup.what_effect what.now)) }
+fn changed_by<O: Operator>(
+    alloc: Global,
+    effect: Effect,
+    what: WhatRef<'_>,
+) -> Result<Effect, AllocError>
+    ensures { IfOk result (λ both. both ≡ composed O.meaning effect (lookup.what_effect (packed.what_of what.entry))) }
 {
     match what {
-        What::Put(value) => Ok(Effect::Set(Some(value.clone()?))),
-        What::Delete => Ok(Effect::Set(None)),
-        What::Merge(operand) => effect.folded::<O>(alloc, operand.as_slice()),
+        WhatRef::Put(value) => Ok(Effect::Set(Some(Bytes::from_slice(alloc, value)?))),
+        WhatRef::Delete => Ok(Effect::Set(None)),
+        WhatRef::Merge(operand) => effect.folded::<O>(alloc, operand),
     }
 }
 
@@ -52,14 +60,14 @@ fn changed_by<O: Operator>(alloc: Global, effect: Effect, what: &What) -> Result
 fn points_effect<O: Operator>(
     alloc: Global,
     before: Effect,
-    points: &[Entry],
+    points: &[Point],
 ) -> Result<Effect, AllocError>
     ensures { IfOk result (λ effect. effect ≡ lookup.points_effect O.meaning before points.now) }
 {
     let points = lasting(points);
     let mut effect = before;
     for place in (0..points.len()).rev() {
-        effect = changed_by::<O>(alloc, effect, &points[place].what)?;
+        effect = changed_by::<O>(alloc, effect, points[place].what())?;
     }
     Ok(effect)
 }
@@ -78,7 +86,7 @@ fn newest_over(fragments: &[Fragment], key: &[u8], at: u64) -> Option<u64>
 /// fragments: what a lookup of the key at the sequence finds.
 pub(crate) fn effect_found<O: Operator>(
     alloc: Global,
-    on: &[Entry],
+    on: &[Point],
     fragments: &[Fragment],
     key: &[u8],
     at: u64,

@@ -11,7 +11,7 @@ ghost use Rattle.uc_block.specs.Places.{PointsFall};
 
 use crate::fences::{Fences, seek_by_fences};
 use std::cmp::Ordering;
-use uc_entry::Entry;
+use uc_point::Point;
 
 /// Whether who looks for the keys from `low` on or, where strict, behind `low`, passes over a key.
 #[inline]
@@ -26,18 +26,19 @@ pub(crate) fn is_passed(low: &[u8], strict: bool, key: &[u8]) -> bool
 }
 
 /// Whether a point stands before those of the key at or below the sequence.
-fn is_newer(point: &Entry, key: &[u8], at: u64) -> bool
+#[inline]
+fn is_newer(point: &Point, key: &[u8], at: u64) -> bool
     ensures { result ≡ places.is_newer key.now at point.now }
 {
-    match point.key.as_slice().cmp(&key) {
+    match point.key().cmp(&key) {
         Ordering::Less => true,
-        Ordering::Equal => at < point.seq,
+        Ordering::Equal => at < point.seq(),
         Ordering::Greater => false,
     }
 }
 
 /// How many of the points stand before those of the key at or below the sequence, where those that do stand first.
-fn newer_in(points: &[Entry], key: &[u8], at: u64) -> usize
+fn newer_in(points: &[Point], key: &[u8], at: u64) -> usize
     requires { IsPartitionedBy (places.is_newer key.now at) points.now }
     ensures bound { result ≤ length points.now }
     ensures place { IsPartitionPoint (λ p. places.is_newer key.now at p ≡ true)
@@ -48,12 +49,12 @@ fn newer_in(points: &[Entry], key: &[u8], at: u64) -> usize
 
 /// Of the points of the key, which stand between two places, those at or below the sequence, the newest first.
 pub(crate) fn points_between<'a>(
-    points: &'a [Entry],
+    points: &'a [Point],
     begin: usize,
     end: usize,
     key: &[u8],
     at: u64,
-) -> &'a [Entry]
+) -> &'a [Point]
     requires sorted { IsStrictlySortedBy entry_cmp points.now }
     requires first { begin ≡ seek.seek_place points.now key.now false }
     requires last { end ≡ seek.seek_place points.now key.now true }
@@ -66,11 +67,11 @@ pub(crate) fn points_between<'a>(
 
 /// The points of the key at or below the sequence, the newest first.
 pub(crate) fn points_on<'a>(
-    points: &'a [Entry],
+    points: &'a [Point],
     fences: &Fences,
     key: &[u8],
     at: u64,
-) -> &'a [Entry]
+) -> &'a [Point]
     requires sorted { IsStrictlySortedBy entry_cmp points.now }
     requires fenced { IsFenced points.now fences.now }
     ensures points { result.now ≡ filter (lookup.is_visible key.now at) points.now }
@@ -82,11 +83,11 @@ pub(crate) fn points_on<'a>(
 }
 
 /// Those of a key's points that are newer than a sequence.
-pub(crate) fn newer_than<'a>(points: &'a [Entry], seq: u64) -> &'a [Entry]
+pub(crate) fn newer_than<'a>(points: &'a [Point], seq: u64) -> &'a [Point]
     requires { PointsFall points.now }
     ensures { result.now ≡ filter (λ p. nat_lt seq p.seq) points.now }
 {
-    let count = points.partition_point(|point| seq < point.seq);
+    let count = points.partition_point(|point| seq < point.seq());
     &points[..count]
 }
 

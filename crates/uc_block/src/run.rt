@@ -6,6 +6,7 @@ ghost use Rattle.uc_entry.specs.Size as size;
 ghost use Rattle.uc_entry.specs.Seek as seek;
 ghost use Rattle.uc_entry.specs.PlainList.{plain_list};
 ghost use Rattle.uc_model.specs.Meaning.{effect_on};
+ghost use Rattle.uc_point.specs.Packed as packed;
 ghost use Rattle.uc_block.specs.Blocks.{blocks_of, fence_of};
 ghost use Rattle.uc_block.specs.Fences.{IsFenced};
 
@@ -17,8 +18,9 @@ use crate::same::{same_fragments, same_points};
 use crate::size::size_of;
 use std::alloc::{AllocError, Global};
 use std::marker::Model;
-use uc_entry::{Entry, Fragment, What, plain_list_does_what_is_found};
+use uc_entry::{Entry, Fragment, plain_list_does_what_is_found};
 use uc_oper::{Effect, Operator};
+use uc_point::{Point, WhatRef, points_of};
 
 /// An immutable sorted table (LevelDB `table_format.md`, in memory): points in order of key, fragments of range
 /// deletions, and the range of their sequences. A contract sees it as these.
@@ -26,7 +28,7 @@ use uc_oper::{Effect, Operator};
 pub struct Run {
     low: u64,
     high: u64,
-    points: Vec<Entry>,
+    points: Vec<Point>,
     fences: Fences,
     fragments: Vec<Fragment>,
     size: u64,
@@ -45,12 +47,27 @@ impl Model for Run {
 }
 
 impl Run {
-    /// The run of these points and fragments. Want of memory loses them.
+    /// The run of these points, which are packed, and fragments. Want of memory loses them.
     pub fn build(
         alloc: Global,
         low: u64,
         high: u64,
         points: Vec<Entry>,
+        fragments: Vec<Fragment>,
+    ) -> Result<Run, AllocError>
+        requires { IsRun low high points.items fragments.items }
+        ensures { IfOk result (λ run. run ≡ record { low = low; high = high; points = points.items; fragments = fragments.items }) }
+    {
+        let points = points_of(alloc, &points)?;
+        Run::from_points(alloc, low, high, points, fragments)
+    }
+
+    /// The run of points that are packed already, and fragments. Want of memory loses them.
+    pub fn from_points(
+        alloc: Global,
+        low: u64,
+        high: u64,
+        points: Vec<Point>,
         fragments: Vec<Fragment>,
     ) -> Result<Run, AllocError>
         requires { IsRun low high points.items fragments.items }
@@ -97,7 +114,7 @@ impl Run {
     }
 
     /// The points, in order of key, the newest of a key first.
-    pub fn entries(&self) -> &[Entry]
+    pub fn entries(&self) -> &[Point]
         ensures { result.now ≡ self.now.points }
     {
         &self.points
@@ -111,11 +128,11 @@ impl Run {
     }
 
     /// The point at a place in the order of key, the newest of a key first: its key, its sequence, and what it says.
-    pub fn point(&self, place: u64) -> Option<(&[u8], u64, &What)>
-        ensures { option_map (λ p. record { key = p.0.now; seq = p.1; what = p.2.now }) result ≡ slice_get self.now.points place }
+    pub fn point(&self, place: u64) -> Option<(&[u8], u64, WhatRef<'_>)>
+        ensures { option_map (λ p. record { key = p.0.now; seq = p.1; what = packed.what_of p.2 }) result ≡ slice_get self.now.points place }
     {
         let point = self.points.get(usize::try_from(place).ok()?)?;
-        Some((point.key.as_slice(), point.seq, &point.what))
+        Some((point.key(), point.seq(), point.what()))
     }
 
     /// How many blocks its points fill.
@@ -170,7 +187,7 @@ impl Run {
         let point = self
             .points
             .get(seek_by_fences(&self.points, &self.fences, low, strict))?;
-        Some(point.key.as_slice())
+        Some(point.key())
     }
 
     /// What the run's writes at or below a sequence together do to a key. It costs the logarithms of the numbers of

@@ -1,13 +1,18 @@
 //! Whether points and fragments are equal.
 ghost use Rattle.std.specs.Prelude.{◌≡◌, ◌↔◌, IsTrue};
 
-use uc_entry::{Entry, Fragment};
+use uc_entry::Fragment;
+use uc_point::Point;
 
 /// Whether points are equal.
-pub(crate) fn same_points(points: &[Entry], others: &[Entry]) -> bool
+pub(crate) fn same_points(points: &[Point], others: &[Point]) -> bool
     ensures { IsTrue result ↔ (points.now ≡ others.now) }
 {
-    points == others
+    points.len() == others.len()
+        && points
+            .iter()
+            .zip(others)
+            .all(|(point, other)| point.same(other))
 }
 
 /// Whether fragments are equal.

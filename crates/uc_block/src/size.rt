@@ -2,26 +2,30 @@
 ghost use Rattle.std.specs.Prelude.{◌≡◌, ◌+◌, ◌-◌, ◌^◌, min};
 ghost use Rattle.std.specs.List.{sum_by};
 ghost use Rattle.uc_entry.specs.Size as size;
+ghost use Rattle.uc_point.specs.Packed as packed;
 
-use uc_entry::{Entry, Fragment, What};
+use uc_entry::Fragment;
+use uc_point::{Point, WhatRef};
 
 /// The length of a point's value or operand.
-fn what_size(what: &What) -> u64
-    ensures { result ≡ size.what_size what.now }
+#[inline]
+fn what_size(what: WhatRef<'_>) -> u64
+    ensures { result ≡ size.what_size (packed.what_of what.entry) }
 {
     match what {
-        What::Put(value) => value.len() as u64,
-        What::Delete => 0,
-        What::Merge(operand) => operand.len() as u64,
+        WhatRef::Put(value) => value.len() as u64,
+        WhatRef::Delete => 0,
+        WhatRef::Merge(operand) => operand.len() as u64,
     }
 }
 
 /// The length of a point's key and of its value or operand, and 8, held at the greatest number.
-fn entry_size(point: &Entry) -> u64
+#[inline]
+fn entry_size(point: &Point) -> u64
     ensures { result ≡ min (size.entry_size point.now) (2 ^ 64 - 1) }
 {
-    (point.key.len() as u64)
-        .saturating_add(what_size(&point.what))
+    (point.key().len() as u64)
+        .saturating_add(what_size(point.what()))
         .saturating_add(8)
 }
 
@@ -34,7 +38,7 @@ fn fragment_size(fragment: &Fragment) -> u64
 }
 
 /// The size of all points, held at the greatest number.
-fn points_size(points: &[Entry]) -> u64
+fn points_size(points: &[Point]) -> u64
     ensures { result ≡ min (sum_by size.entry_size points.now) (2 ^ 64 - 1) }
 {
     let mut sum = 0_u64;
@@ -56,7 +60,7 @@ fn fragments_size(fragments: &[Fragment]) -> u64
 }
 
 /// The size of points and fragments, held at the greatest number.
-pub(crate) fn size_of(points: &[Entry], fragments: &[Fragment]) -> u64
+pub(crate) fn size_of(points: &[Point], fragments: &[Fragment]) -> u64
     ensures { result ≡ min (sum_by size.entry_size points.now + sum_by size.fragment_size fragments.now) (2 ^ 64 - 1) }
 {
     points_size(points).saturating_add(fragments_size(fragments))

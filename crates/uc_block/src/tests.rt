@@ -5,6 +5,7 @@ use std::test::Fail;
 use uc_bytes::{Bytes, Items};
 use uc_entry::{Entry, Fragment, What, is_run};
 use uc_oper::{Append, Effect};
+use uc_point::WhatRef;
 
 fn bytes(alloc: Global, text: &[u8]) -> Result<Bytes, Fail> {
     Ok(Bytes::from_slice(alloc, text)?)
@@ -59,6 +60,11 @@ const FENCES: [(u64, Option<&[u8]>); 4] = [
     (3, None),
 ];
 
+/// Whether the point at a place puts a key at 1, with the key as its value.
+fn puts_at(run: &Run, place: u64, key: &[u8]) -> bool {
+    run.point(place) == Some((key, 1, WhatRef::Put(key)))
+}
+
 /// Keys, whether they are looked for strictly, their place, and the key there.
 const PLACES: [(&[u8], bool, u64, Option<&[u8]>); 6] = [
     (b"", false, 0, Some(b"\x00")),
@@ -80,8 +86,7 @@ fn keys_have_places(rt: HostRuntime) -> Result<(), Fail> {
         assert_eq!(rt; run.seek(low, strict), place);
         assert_eq!(rt; run.next_key(low, strict), key);
     }
-    let what = What::Put(bytes(alloc, b"\x11")?);
-    assert_eq!(rt; run.point(17), Some((b"\x11".as_slice(), 1, &what)));
+    assert!(rt; puts_at(&run, 17, b"\x11"));
     assert_eq!(rt; run.point(33), None);
     assert_eq!(rt; run.low_seq(), 1);
     assert_eq!(rt; run.high_seq(), 40);

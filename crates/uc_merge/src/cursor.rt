@@ -4,13 +4,12 @@ ghost use Rattle.uc_merge.specs.Heads as heads;
 
 use std::alloc::AllocError;
 use std::marker::Model;
-use uc_bytes::Bytes;
-use uc_entry::Entry;
+use uc_point::Point;
 
 /// The points of a run that are still ahead. A contract sees it as their list.
 #[derive(Debug, Drop)]
 pub(crate) struct Cursor<'a> {
-    ahead: &'a [Entry],
+    ahead: &'a [Point],
 }
 
 impl<'a> Model for Cursor<'a> {
@@ -23,19 +22,19 @@ impl<'a> Model for Cursor<'a> {
 }
 
 /// How many of the first points are of the key.
-fn first_named(points: &[Entry], key: &Bytes) -> usize
+fn first_named(points: &[Point], key: &[u8]) -> usize
     ensures bound { result ≤ length points.now }
     ensures count { result ≡ heads.first_named key.now points.now }
 {
     let mut count = 0;
-    while count < points.len() && points[count].key == *key {
+    while count < points.len() && points[count].key() == key {
         count += 1;
     }
     count
 }
 
 /// Pushes each point.
-fn push_each<'a>(points: &mut Vec<&'a Entry>, named: &'a [Entry]) -> Result<(), AllocError>
+fn push_each<'a>(points: &mut Vec<&'a Point>, named: &'a [Point]) -> Result<(), AllocError>
     ensures { OnOk result (map (λ p. p.now) points.new.items ≡ map (λ p. p.now) points.old.items ++ named.now) }
 {
     for point in named {
@@ -46,19 +45,19 @@ fn push_each<'a>(points: &mut Vec<&'a Entry>, named: &'a [Entry]) -> Result<(), 
 
 impl<'a> Cursor<'a> {
     /// Before the first of the points.
-    pub(crate) fn new(points: &'a [Entry]) -> Cursor<'a>
+    pub(crate) fn new(points: &'a [Point]) -> Cursor<'a>
         ensures { result ≡ points.now }
     {
         Cursor { ahead: points }
     }
 
     /// The key of the next point.
-    pub(crate) fn key(&self) -> Option<&'a Bytes>
+    pub(crate) fn key(&self) -> Option<&'a [u8]>
         ensures { option_map (λ key. key.now) result ≡ heads.first_key self.now }
     {
         match self.ahead.first() {
             None => None,
-            Some(point) => Some(&point.key),
+            Some(point) => Some(point.key()),
         }
     }
 
@@ -66,8 +65,8 @@ impl<'a> Cursor<'a> {
     /// stands where it stood.
     pub(crate) fn take_named(
         &mut self,
-        key: &Bytes,
-        points: &mut Vec<&'a Entry>,
+        key: &[u8],
+        points: &mut Vec<&'a Point>,
     ) -> Result<(), AllocError>
         ensures taken { OnOk result (map (λ p. p.now) points.new.items ≡ map (λ p. p.now) points.old.items ++ take (heads.first_named key.now self.old) self.old) }
         ensures left { OnOk result (self.new ≡ drop (heads.first_named key.now self.old) self.old) }

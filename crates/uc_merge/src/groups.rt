@@ -10,8 +10,7 @@ ghost use Rattle.uc_merge.specs.Heads.{IsLeast};
 use crate::cursor::Cursor;
 use std::alloc::{AllocError, Global};
 use std::marker::Model;
-use uc_bytes::Bytes;
-use uc_entry::Entry;
+use uc_point::Point;
 
 /// Where a merge stands in several runs. A contract sees it as the groups that are still ahead: for each key its points,
 /// those of the first run first.
@@ -33,7 +32,7 @@ impl<'a> Model for Groups<'a> {
 }
 
 /// The lesser of two keys, where there are two.
-fn lesser<'a>(key: Option<&'a Bytes>, other: Option<&'a Bytes>) -> Option<&'a Bytes>
+fn lesser<'a>(key: Option<&'a [u8]>, other: Option<&'a [u8]>) -> Option<&'a [u8]>
     ensures { option_map (λ k. k.now) result ≡ heads.lesser_of (option_map (λ k. k.now) key.entry) (option_map (λ k. k.now) other.entry) }
 {
     match (key, other) {
@@ -50,7 +49,7 @@ fn lesser<'a>(key: Option<&'a Bytes>, other: Option<&'a Bytes>) -> Option<&'a By
 }
 
 /// The least key that is ahead of any cursor.
-fn least_key<'a>(cursors: &[Cursor<'a>]) -> Option<&'a Bytes>
+fn least_key<'a>(cursors: &[Cursor<'a>]) -> Option<&'a [u8]>
     ensures { IsLeast cursors.now (option_map (λ k. k.now) result) }
 {
     let mut least = None;
@@ -63,8 +62,8 @@ fn least_key<'a>(cursors: &[Cursor<'a>]) -> Option<&'a Bytes>
 /// Takes the points of the key from each cursor, in order.
 fn take_from_each<'a>(
     cursors: &mut [Cursor<'a>],
-    key: &Bytes,
-    points: &mut Vec<&'a Entry>,
+    key: &[u8],
+    points: &mut Vec<&'a Point>,
 ) -> Result<(), AllocError>
     ensures taken { OnOk result (map (λ p. p.now) points.new.items ≡ map (λ p. p.now) points.old.items ++ flat_map (λ ps. take (heads.first_named key.now ps) ps) cursors.old) }
     ensures left { OnOk result (cursors.new ≡ map (λ ps. drop (heads.first_named key.now ps) ps) cursors.old) }
@@ -77,7 +76,7 @@ fn take_from_each<'a>(
 
 impl<'a> Groups<'a> {
     /// All groups of runs, each of which has its points in order.
-    pub fn over(alloc: Global, runs: &[&'a [Entry]]) -> Result<Groups<'a>, AllocError>
+    pub fn over(alloc: Global, runs: &[&'a [Point]]) -> Result<Groups<'a>, AllocError>
         requires { AllByRecursion (λ points. IsStrictlySortedBy entry_cmp points.now) runs.now }
         ensures { IfOk result (λ groups. groups ≡ groups_of (flat_map (λ points. points.now) runs.now)) }
     {
@@ -90,10 +89,7 @@ impl<'a> Groups<'a> {
 
     /// The next key. Its points take the place of those in `points`, none where there is no key. Where memory is wanting
     /// nothing is ahead any more.
-    pub fn next_into(
-        &mut self,
-        points: &mut Vec<&'a Entry>,
-    ) -> Result<Option<&'a Bytes>, AllocError>
+    pub fn next_into(&mut self, points: &mut Vec<&'a Point>) -> Result<Option<&'a [u8]>, AllocError>
         ensures comes { IfOk result (λ key. Comes self.old (option_map (λ k. k.now) key) (map (λ p. p.now) points.new.items) self.new) }
         ensures err { OnErr result (self.new ≡ []) }
     {

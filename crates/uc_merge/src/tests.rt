@@ -8,21 +8,22 @@ use std::alloc::Global;
 use std::test::Fail;
 use uc_bytes::Bytes;
 use uc_entry::{Entry, What, is_run};
+use uc_point::Point;
 
 /// Points of keys of one byte, with sequences from 1 to 40, in order.
-fn points_of(alloc: Global, points: &[(u8, u64)]) -> Result<Vec<Entry>, Fail>
+fn points_of(alloc: Global, points: &[(u8, u64)]) -> Result<Vec<Point>, Fail>
     ensures { IfOk result (λ made. IsStrictlySortedBy entry_cmp made.items) }
 {
-    let mut made = Vec::new(alloc);
+    let mut entries = Vec::new(alloc);
     for &(key, seq) in points {
-        made.push(Entry {
+        entries.push(Entry {
             key: Bytes::from_slice(alloc, &[key])?,
             seq,
             what: What::Delete,
         })?;
     }
-    if is_run(1, 40, &made, &[]) {
-        Ok(made)
+    if is_run(1, 40, &entries, &[]) {
+        Ok(uc_point::points_of(alloc, &entries)?)
     } else {
         Err(Fail::new("not in order"))
     }
@@ -31,17 +32,17 @@ fn points_of(alloc: Global, points: &[(u8, u64)]) -> Result<Vec<Entry>, Fail>
 /// Whether the next key is this one, with points of these sequences.
 fn is_next<'a>(
     groups: &mut Groups<'a>,
-    points: &mut Vec<&'a Entry>,
+    points: &mut Vec<&'a Point>,
     key: u8,
     seqs: &[u64],
 ) -> Result<bool, Fail> {
     match groups.next_into(points)? {
         None => Ok(false),
         Some(next) => Ok(
-            next.as_slice() == [key].as_slice()
+            next == [key].as_slice()
                 && points
                     .iter()
-                    .map(|point| point.seq)
+                    .map(|point| point.seq())
                     .eq(seqs.iter().copied()),
         ),
     }

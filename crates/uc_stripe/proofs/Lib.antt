@@ -14,3 +14,4 @@ pub mod Stepping
 pub mod Onward
 pub mod InTurn
 pub mod Judged
+pub mod OnTop

@@ -27,7 +27,7 @@ none_left (x ∷ xs) e = absurd cc
 pub same_first : {X : Type 0} (x y : X) → Some x ≡ Some y → x ≡ y
 same_first x y e = cc
 
-less_number : (a b : ℕ) → nat_cmp a b ≡ Less → a < b
+pub less_number : (a b : ℕ) → nat_cmp a b ≡ Less → a < b
 less_number a b e = grind (arith, nat_tests)
 
 at_most : (a b : ℕ) → a < b → a ≤ b

@@ -6,7 +6,7 @@ ghost use Rattle.std.specs.Ordering.{nat_cmp};
 ghost use Rattle.uc_entry.specs.Order.{IsFalling};
 ghost use Rattle.uc_stripe.specs.Choice.{AreOfOneKey, PointsFall};
 
-use uc_entry::Entry;
+use uc_point::Point;
 
 /// Whether each keep is below the next.
 pub fn keeps_rise(keeps: &[u64]) -> bool
@@ -30,28 +30,28 @@ pub(crate) fn seqs_are_from_one(seqs: &[u64]) -> bool
 }
 
 /// Whether each point is newer than the next.
-fn points_fall(points: &[&Entry]) -> bool
+fn points_fall(points: &[&Point]) -> bool
     ensures { IsTrue result ↔ PointsFall (map (λ p. p.now) points.now) }
 {
-    points.is_sorted_by(|point, next| next.seq < point.seq)
+    points.is_sorted_by(|point, next| next.seq() < point.seq())
 }
 
 /// Whether no point has the sequence 0.
-fn points_are_from_one(points: &[&Entry]) -> bool
+fn points_are_from_one(points: &[&Point]) -> bool
     ensures { IsTrue result ↔ AllByRecursion (λ p. 0 < p.seq) (map (λ p. p.now) points.now) }
 {
-    points.iter().all(|point| 0 < point.seq)
+    points.iter().all(|point| 0 < point.seq())
 }
 
 /// Whether a point's sequence isn't among some.
-fn is_apart(point: &Entry, seqs: &[u64]) -> bool
+fn is_apart(point: &Point, seqs: &[u64]) -> bool
     ensures { IsTrue result ↔ AllByRecursion (λ n. n ≢ point.now.seq) seqs.now }
 {
-    seqs.iter().all(|seq| *seq != point.seq)
+    seqs.iter().all(|seq| *seq != point.seq())
 }
 
 /// Whether no point has one of the sequences.
-fn are_apart(points: &[&Entry], seqs: &[u64]) -> bool
+fn are_apart(points: &[&Point], seqs: &[u64]) -> bool
     ensures { IsTrue result ↔ AllByRecursion (λ p. AllByRecursion (λ n. n ≢ p.seq) seqs.now) (map (λ p. p.now) points.now) }
 {
     points.iter().all(|point| is_apart(point, seqs))
@@ -59,7 +59,7 @@ fn are_apart(points: &[&Entry], seqs: &[u64]) -> bool
 
 /// Whether points and sequences are like those of one key: both from 1 on and the newest first, and no sequence is in both.
 /// [`push_kept_points`](crate::push_kept_points) takes these.
-pub fn are_of_one_key(points: &[&Entry], seqs: &[u64]) -> bool
+pub fn are_of_one_key(points: &[&Point], seqs: &[u64]) -> bool
     ensures { IsTrue result ↔ AreOfOneKey (map (λ p. p.now) points.now) seqs.now }
 {
     points_fall(points)

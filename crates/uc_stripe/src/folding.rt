@@ -4,6 +4,7 @@ ghost use Rattle.uc_oper.specs.Operation.{Operation};
 ghost use Rattle.uc_oper.specs.Composition.{composed};
 ghost use Rattle.uc_oper.specs.declared.effect.Effect.{Effect as EffectOf};
 ghost use Rattle.uc_entry.specs.Lookup as lookup;
+ghost use Rattle.uc_point.specs.Packed as packed;
 ghost use Rattle.uc_stripe.specs.Choice.{PointsFall};
 ghost use Rattle.uc_stripe.specs.Overwriting as overwriting;
 
@@ -11,24 +12,25 @@ use crate::parts::points_above;
 use std::alloc::{AllocError, Global};
 use std::marker::Sync;
 use std::thread::{Threads, join};
-use uc_entry::{Entry, What};
+use uc_bytes::Bytes;
 use uc_oper::{Effect, Operator};
+use uc_point::{Point, WhatRef};
 
 /// More points than this are folded in two threads.
 const MANY: usize = 5_000;
 
 /// Whether a point overwrites what is older.
-fn overwrites(point: &Entry) -> bool
+fn overwrites(point: &Point) -> bool
     ensures { result ≡ overwriting.overwrites point.now }
 {
-    match point.what {
-        What::Put(_) | What::Delete => true,
-        What::Merge(_) => false,
+    match point.what() {
+        WhatRef::Put(_) | WhatRef::Delete => true,
+        WhatRef::Merge(_) => false,
     }
 }
 
 /// The points, the newest first, but those that a newer one overwrites.
-fn lasting<'b, 'a>(points: &'b [&'a Entry]) -> &'b [&'a Entry]
+fn lasting<'b, 'a>(points: &'b [&'a Point]) -> &'b [&'a Point]
     ensures { (m : Operation) (before : EffectOf) → lookup.points_effect m before (map (λ p. p.now) result.now) ≡ lookup.points_effect m before (map (λ p. p.now) points.now) }
 {
     match points.iter().position(|point| overwrites(point)) {
@@ -38,23 +40,27 @@ fn lasting<'b, 'a>(points: &'b [&'a Entry]) -> &'b [&'a Entry]
 }
 
 /// What a point does.
-fn effect_of(what: &What) -> Result<Effect, AllocError>
-    ensures { IfOk result (λ effect. effect ≡ lookup.what_effect what.now) }
+fn effect_of(alloc: Global, what: WhatRef<'_>) -> Result<Effect, AllocError>
+    ensures { IfOk result (λ effect. effect ≡ lookup.what_effect (packed.what_of what.entry)) }
 {
     Ok(match what {
-        What::Put(value) => Effect::Set(Some(value.clone()?)),
-        What::Delete => Effect::Set(None),
-        What::Merge(operand) => Effect::Fold(operand.clone()?),
+        WhatRef::Put(value) => Effect::Set(Some(Bytes::from_slice(alloc, value)?)),
+        WhatRef::Delete => Effect::Set(None),
+        WhatRef::Merge(operand) => Effect::Fold(Bytes::from_slice(alloc, operand)?),
     })
 }
 
 /// An effect, and then a point. Its operand is written into the effect's text. Want of memory loses the effect.
-fn changed_by<O: Operator>(alloc: Global, effect: Effect, what: &What) -> Result<Effect, AllocError>
-    ensures { IfOk result (λ both. both ≡ composed O.meaning effect (lookup.what_effect what.now)) }
+fn changed_by<O: Operator>(
+    alloc: Global,
+    effect: Effect,
+    what: WhatRef<'_>,
+) -> Result<Effect, AllocError>
+    ensures { IfOk result (λ both. both ≡ composed O.meaning effect (lookup.what_effect (packed.what_of what.entry))) }
 {
     match what {
-        What::Merge(operand) => effect.folded::<O>(alloc, operand.as_slice()),
-        other => effect_of(other),
+        WhatRef::Merge(operand) => effect.folded::<O>(alloc, operand),
+        other => effect_of(alloc, other),
     }
 }
 
@@ -62,13 +68,13 @@ fn changed_by<O: Operator>(alloc: Global, effect: Effect, what: &What) -> Result
 fn folded_onto<O: Operator>(
     alloc: Global,
     before: Effect,
-    points: &[&Entry],
+    points: &[&Point],
 ) -> Result<Effect, AllocError>
     ensures { IfOk result (λ effect. effect ≡ lookup.points_effect O.meaning before (map (λ p. p.now) points.now)) }
 {
     let mut effect = before;
     for place in (0..points.len()).rev() {
-        effect = changed_by::<O>(alloc, effect, &points[place].what)?;
+        effect = changed_by::<O>(alloc, effect, points[place].what())?;
     }
     Ok(effect)
 }
@@ -79,7 +85,7 @@ fn folded_by_halves<O: Operator + Sync>(
     rt: &(impl Threads + Sync),
     alloc: Global,
     before: Effect,
-    points: &[&Entry],
+    points: &[&Point],
 ) -> Result<Effect, AllocError>
     ensures { IfOk result (λ effect. effect ≡ lookup.points_effect O.meaning before (map (λ p. p.now) points.now)) }
 {
@@ -98,7 +104,7 @@ fn points_effect<O: Operator + Sync>(
     rt: &(impl Threads + Sync),
     alloc: Global,
     before: Effect,
-    points: &[&Entry],
+    points: &[&Point],
 ) -> Result<Effect, AllocError>
     ensures { IfOk result (λ effect. effect ≡ lookup.points_effect O.meaning before (map (λ p. p.now) points.now)) }
 {
@@ -114,7 +120,7 @@ fn points_effect<O: Operator + Sync>(
 pub(crate) fn effect_above_newest<O: Operator + Sync>(
     rt: &(impl Threads + Sync),
     alloc: Global,
-    points: &[&Entry],
+    points: &[&Point],
     seqs: &[u64],
 ) -> Result<Effect, AllocError>
     requires { PointsFall (map (λ p. p.now) points.now) }

@@ -1,5 +1,5 @@
 //! [`push_kept_points`]: what is kept of one key's points.
-ghost use Rattle.std.specs.Prelude.{◌≡◌, ◌<◌, ◌++◌, [], map, nat_lt, IfOk, OnOk};
+ghost use Rattle.std.specs.Prelude.{◌≡◌, ◌<◌, ◌↔◌, ◌++◌, [], map, nat_lt, IsTrue, IfOk, OnOk};
 ghost use Rattle.std.specs.List.{AllByRecursion, cons_option};
 ghost use Rattle.std.specs.List.Sorted.{IsStrictlySortedBy};
 ghost use Rattle.std.specs.Ordering.{nat_cmp};
@@ -13,9 +13,9 @@ use crate::keeping::Keeping;
 use std::alloc::{AllocError, Global};
 use std::marker::Sync;
 use std::thread::Threads;
-use uc_bytes::Bytes;
-use uc_entry::{Entry, What};
+use uc_entry::What;
 use uc_oper::{Effect, Operator};
+use uc_point::{Point, WhatRef};
 
 /// What a point says that stands for an effect. No value needs no point where something else clears the key.
 fn what_of(effect: Effect, cleared: bool) -> Option<What>
@@ -58,15 +58,26 @@ fn is_cleared(seq: u64, seqs: &[u64]) -> bool
     }
 }
 
+/// Whether the range deletions are all below a sequence.
+fn are_below(seqs: &[u64], seq: u64) -> bool
+    requires { IsFalling seqs.now }
+    ensures { IsTrue result ↔ AllByRecursion (λ n. n < seq) seqs.now }
+{
+    match seqs.first() {
+        None => true,
+        Some(newest) => *newest < seq,
+    }
+}
+
 /// The point that stands for a stripe's points of a key, where they need one.
 fn point_for<O: Operator + Sync>(
     rt: &(impl Threads + Sync),
     alloc: Global,
     bottom: bool,
     key: &[u8],
-    points: &[&Entry],
+    points: &[&Point],
     seqs: &[u64],
-) -> Result<Option<Entry>, AllocError>
+) -> Result<Option<Point>, AllocError>
     requires fall { PointsFall (map (λ p. p.now) points.now) }
     requires from_one { AllByRecursion (λ p. 0 < p.seq) (map (λ p. p.now) points.now) }
     requires seqs_fall { IsFalling seqs.now }
@@ -75,20 +86,23 @@ fn point_for<O: Operator + Sync>(
     let Some(newest) = points.first() else {
         return Ok(None);
     };
+    let seq = newest.seq();
+    // A put that nothing hides stands as it is, so its value is copied once.
+    if let WhatRef::Put(value) = newest.what()
+        && are_below(seqs, seq)
+    {
+        return Ok(Some(Point::new(alloc, key, seq, WhatRef::Put(value))?));
+    }
     let effect = effect_above_newest::<O>(rt, alloc, points, seqs)?;
-    let cleared = is_cleared(newest.seq, seqs);
+    let cleared = is_cleared(seq, seqs);
     match what_kept::<O>(alloc, bottom, effect, cleared)? {
         None => Ok(None),
-        Some(what) => Ok(Some(Entry {
-            key: Bytes::from_slice(alloc, key)?,
-            seq: newest.seq,
-            what,
-        })),
+        Some(what) => Ok(Some(Point::new(alloc, key, seq, WhatRef::of(&what))?)),
     }
 }
 
 /// Pushes a point where there is one.
-fn push_some(kept: &mut Vec<Entry>, point: Option<Entry>) -> Result<(), AllocError>
+fn push_some(kept: &mut Vec<Point>, point: Option<Point>) -> Result<(), AllocError>
     ensures { OnOk result (kept.new.items ≡ kept.old.items ++ cons_option point []) }
 {
     if let Some(point) = point {
@@ -105,9 +119,9 @@ fn push_some(kept: &mut Vec<Entry>, point: Option<Entry>) -> Result<(), AllocErr
 pub fn push_kept_points<O: Operator + Sync>(
     rt: &(impl Threads + Sync),
     alloc: Global,
-    kept: &mut Vec<Entry>,
+    kept: &mut Vec<Point>,
     key: &[u8],
-    points: &[&Entry],
+    points: &[&Point],
     seqs: &[u64],
     keeping: &Keeping<'_>,
 ) -> Result<(), AllocError>
@@ -117,7 +131,7 @@ pub fn push_kept_points<O: Operator + Sync>(
 {
     let mut rest = points;
     while let Some(newest) = rest.first() {
-        let stripe = keeping.stripe_of(newest.seq);
+        let stripe = keeping.stripe_of(newest.seq());
         let (own, count) = stripe.own_points(rest);
         let (over, _) = stripe.split_seqs(seqs);
         let bottom = keeping.is_bottom(&stripe);

@@ -3,16 +3,16 @@ ghost use Rattle.std.specs.Prelude.{◌≡◌, ◌≤◌, length, map, take, dro
 ghost use Rattle.uc_entry.specs.Order.{IsFalling};
 ghost use Rattle.uc_stripe.specs.Choice.{PointsFall};
 
-use uc_entry::Entry;
+use uc_point::Point;
 
 /// How many points are above a sequence. They come first.
-pub(crate) fn points_above(points: &[&Entry], seq: u64) -> usize
+pub(crate) fn points_above(points: &[&Point], seq: u64) -> usize
     requires { PointsFall (map (λ p. p.now) points.now) }
     ensures bound { result ≤ length points.now }
     ensures newer { map (λ p. p.now) (take result points.now) ≡ filter (λ p. nat_lt seq p.seq) (map (λ p. p.now) points.now) }
     ensures older { map (λ p. p.now) (drop result points.now) ≡ filter (λ p. nat_le p.seq seq) (map (λ p. p.now) points.now) }
 {
-    points.partition_point(|point| seq < point.seq)
+    points.partition_point(|point| seq < point.seq())
 }
 
 /// The sequences above one, and the others.

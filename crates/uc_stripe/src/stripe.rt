@@ -9,7 +9,7 @@ ghost use Rattle.uc_stripe.specs.Stripes as stripes;
 
 use crate::parts::{part_seqs, points_above};
 use std::marker::Model;
-use uc_entry::Entry;
+use uc_point::Point;
 use uc_write::MAX_SEQUENCE;
 
 /// The sequences above one, up to another and with it.
@@ -66,7 +66,7 @@ impl Stripe {
     }
 
     /// The points of the stripe, and how many points aren't below it. They come first.
-    pub(crate) fn own_points<'b, 'a>(&self, points: &'b [&'a Entry]) -> (&'b [&'a Entry], usize)
+    pub(crate) fn own_points<'b, 'a>(&self, points: &'b [&'a Point]) -> (&'b [&'a Point], usize)
         requires { PointsFall (map (λ p. p.now) points.now) }
         ensures own { map (λ p. p.now) result.0.now ≡ filter (λ p. stripes.is_in self.now p.seq) (map (λ p. p.now) points.now) }
         ensures bound { result.1 ≤ length points.now }

@@ -3,29 +3,20 @@ use super::*;
 use std::alloc::Global;
 use std::test::Fail;
 use std::thread::Threads;
-use uc_bytes::Bytes;
-use uc_entry::{Entry, What};
 use uc_oper::{Append, Counter};
-
-/// What a point of a test says.
-#[derive(Clone, Copy)]
-enum Says {
-    Put(&'static [u8]),
-    Delete,
-    Merge(&'static [u8]),
-}
+use uc_point::{Point, WhatRef};
 
 /// A point of a test: its sequence, and what it says.
-type Point = (u64, Says);
+type Given = (u8, WhatRef<'static>);
 
 /// Points of one key and the sequences of range deletions over it, what is kept, and the points that are wanted.
 #[derive(Clone, Copy)]
 struct OfKey {
-    points: &'static [Point],
+    points: &'static [Given],
     seqs: &'static [u64],
     keeps: &'static [u64],
     bottom: Option<u64>,
-    wanted: &'static [Point],
+    wanted: &'static [Given],
 }
 
 /// Appends, which join with a comma; worked by hand.
@@ -40,59 +31,59 @@ const POINTS: [OfKey; 13] = [
     },
     // Operands of one stripe are joined, the older one first ...
     OfKey {
-        points: &[(3, Says::Merge(b"c")), (2, Says::Merge(b"b"))],
+        points: &[(3, WhatRef::Merge(b"c")), (2, WhatRef::Merge(b"b"))],
         seqs: &[],
         keeps: &[3],
         bottom: None,
-        wanted: &[(3, Says::Merge(b"b,c"))],
+        wanted: &[(3, WhatRef::Merge(b"b,c"))],
     },
     // ... and those of two aren't: a read at 2 sees one of them.
     OfKey {
-        points: &[(3, Says::Merge(b"c")), (2, Says::Merge(b"b"))],
+        points: &[(3, WhatRef::Merge(b"c")), (2, WhatRef::Merge(b"b"))],
         seqs: &[],
         keeps: &[2],
         bottom: None,
-        wanted: &[(3, Says::Merge(b"c")), (2, Says::Merge(b"b"))],
+        wanted: &[(3, WhatRef::Merge(b"c")), (2, WhatRef::Merge(b"b"))],
     },
     // At the bottom they are a value.
     OfKey {
-        points: &[(3, Says::Merge(b"c")), (2, Says::Merge(b"b"))],
+        points: &[(3, WhatRef::Merge(b"c")), (2, WhatRef::Merge(b"b"))],
         seqs: &[],
         keeps: &[],
         bottom: Some(1),
-        wanted: &[(3, Says::Put(b"b,c"))],
+        wanted: &[(3, WhatRef::Put(b"b,c"))],
     },
     // Only the stripe at the bottom has nothing below it.
     OfKey {
-        points: &[(3, Says::Merge(b"c")), (2, Says::Merge(b"b"))],
+        points: &[(3, WhatRef::Merge(b"c")), (2, WhatRef::Merge(b"b"))],
         seqs: &[],
         keeps: &[2],
         bottom: Some(1),
-        wanted: &[(3, Says::Merge(b"c")), (2, Says::Put(b"b"))],
+        wanted: &[(3, WhatRef::Merge(b"c")), (2, WhatRef::Put(b"b"))],
     },
     // A put hides what is older, and takes the operands that are newer.
     OfKey {
         points: &[
-            (5, Says::Merge(b"e")),
-            (4, Says::Put(b"d")),
-            (2, Says::Merge(b"b")),
+            (5, WhatRef::Merge(b"e")),
+            (4, WhatRef::Put(b"d")),
+            (2, WhatRef::Merge(b"b")),
         ],
         seqs: &[],
         keeps: &[],
         bottom: None,
-        wanted: &[(5, Says::Put(b"d,e"))],
+        wanted: &[(5, WhatRef::Put(b"d,e"))],
     },
     // A delete stays where older runs may have the key ...
     OfKey {
-        points: &[(5, Says::Delete), (4, Says::Put(b"d"))],
+        points: &[(5, WhatRef::Delete), (4, WhatRef::Put(b"d"))],
         seqs: &[],
         keeps: &[],
         bottom: None,
-        wanted: &[(5, Says::Delete)],
+        wanted: &[(5, WhatRef::Delete)],
     },
     // ... and goes at the bottom.
     OfKey {
-        points: &[(5, Says::Delete), (4, Says::Put(b"d"))],
+        points: &[(5, WhatRef::Delete), (4, WhatRef::Put(b"d"))],
         seqs: &[],
         keeps: &[],
         bottom: Some(3),
@@ -100,15 +91,15 @@ const POINTS: [OfKey; 13] = [
     },
     // A range deletion hides the points below it.
     OfKey {
-        points: &[(5, Says::Merge(b"e")), (3, Says::Put(b"c"))],
+        points: &[(5, WhatRef::Merge(b"e")), (3, WhatRef::Put(b"c"))],
         seqs: &[4, 1],
         keeps: &[],
         bottom: None,
-        wanted: &[(5, Says::Put(b"e"))],
+        wanted: &[(5, WhatRef::Put(b"e"))],
     },
     // Above all points of its stripe it says enough by itself ...
     OfKey {
-        points: &[(3, Says::Put(b"c"))],
+        points: &[(3, WhatRef::Put(b"c"))],
         seqs: &[4],
         keeps: &[],
         bottom: None,
@@ -116,58 +107,59 @@ const POINTS: [OfKey; 13] = [
     },
     // ... but it says nothing of a stripe below it.
     OfKey {
-        points: &[(3, Says::Put(b"c"))],
+        points: &[(3, WhatRef::Put(b"c"))],
         seqs: &[4],
         keeps: &[3],
         bottom: None,
-        wanted: &[(3, Says::Put(b"c"))],
+        wanted: &[(3, WhatRef::Put(b"c"))],
     },
     // A delete above the range deletions of its stripe stays.
     OfKey {
-        points: &[(5, Says::Put(b"e")), (2, Says::Delete)],
+        points: &[(5, WhatRef::Put(b"e")), (2, WhatRef::Delete)],
         seqs: &[4, 1],
         keeps: &[3],
         bottom: None,
-        wanted: &[(5, Says::Put(b"e")), (2, Says::Delete)],
+        wanted: &[(5, WhatRef::Put(b"e")), (2, WhatRef::Delete)],
     },
     // Stripes without points give none, also those below all points and above them.
     OfKey {
-        points: &[(6, Says::Merge(b"f")), (5, Says::Merge(b"e"))],
+        points: &[(6, WhatRef::Merge(b"f")), (5, WhatRef::Merge(b"e"))],
         seqs: &[],
         keeps: &[1, 2, 4, 7, 9],
         bottom: Some(1),
-        wanted: &[(6, Says::Merge(b"e,f"))],
+        wanted: &[(6, WhatRef::Merge(b"e,f"))],
     },
 ];
 
 /// The points of the key `k`.
-fn points_of(alloc: Global, given: &[Point]) -> Result<Vec<Entry>, Fail> {
+fn points_of(alloc: Global, given: &[Given]) -> Result<Vec<Point>, Fail> {
     let mut points = Vec::new(alloc);
-    for &(seq, says) in given {
-        points.push(Entry {
-            key: Bytes::from_slice(alloc, b"k")?,
-            seq,
-            what: match says {
-                Says::Put(value) => What::Put(Bytes::from_slice(alloc, value)?),
-                Says::Delete => What::Delete,
-                Says::Merge(operand) => What::Merge(Bytes::from_slice(alloc, operand)?),
-            },
-        })?;
+    for &(seq, what) in given {
+        points.push(Point::new(alloc, b"k", u64::from(seq), what)?)?;
     }
     Ok(points)
 }
 
 /// What is pushed behind one point that stands there.
-fn kept_of(rt: &(impl Threads + Sync), alloc: Global, case: &OfKey) -> Result<Vec<Entry>, Fail> {
+fn kept_of(rt: &(impl Threads + Sync), alloc: Global, case: &OfKey) -> Result<Vec<Point>, Fail> {
     let points = points_of(alloc, case.points)?;
-    let points: Vec<&Entry> = points.iter().collect(alloc)?;
+    let points: Vec<&Point> = points.iter().collect(alloc)?;
     if !are_of_one_key(&points, case.seqs) || !keeps_rise(case.keeps) {
         return Err(Fail::new("no points of one key"));
     }
     let keeping = Keeping::new(case.keeps, case.bottom);
-    let mut kept = points_of(alloc, &[(1, Says::Delete)])?;
+    let mut kept = points_of(alloc, &[(1, WhatRef::Delete)])?;
     push_kept_points::<Append<0x2C>>(rt, alloc, &mut kept, b"k", &points, case.seqs, &keeping)?;
     Ok(kept)
+}
+
+/// Whether both have the same points.
+fn are_same(points: &[Point], others: &[Point]) -> bool {
+    points.len() == others.len()
+        && points
+            .iter()
+            .zip(others)
+            .all(|(point, other)| point.same(other))
 }
 
 #[test]
@@ -175,11 +167,11 @@ fn points_that_are_kept(rt: HostRuntime) -> Result<(), Fail> {
     let alloc = rt.alloc();
     for (place, case) in POINTS.iter().enumerate() {
         let kept = kept_of(&rt, alloc, case)?;
-        let mut wanted = points_of(alloc, &[(1, Says::Delete)])?;
+        let mut wanted = points_of(alloc, &[(1, WhatRef::Delete)])?;
         for point in points_of(alloc, case.wanted)? {
             wanted.push(point)?;
         }
-        assert!(rt; kept == wanted, "case {place}");
+        assert!(rt; are_same(&kept, &wanted), "case {place}");
     }
     Ok(())
 }

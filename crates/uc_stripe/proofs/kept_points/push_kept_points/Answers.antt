@@ -3,7 +3,7 @@ use Rattle.std.specs.Prelude.{Option}
 use Rattle.std.specs.List.{AllByRecursion, cons_option, slice_get}
 use Rattle.uc_entry.specs.declared.entry.Entry.{Entry}
 use Rattle.uc_entry.specs.Order.{IsFalling}
-use Rattle.uc_stripe.specs.Stripes.{is_in, is_bottom}
+use Rattle.uc_stripe.specs.Stripes.{is_in, is_bottom, stripe_of}
 use Rattle.uc_stripe.specs.Choice.{PointsFall, point_for, points_for}
 use Rattle.uc_stripe.proofs.Lists.{all-filter}
 use Rattle.uc_stripe.proofs.Parting.{points_filter, falling_filter}
@@ -29,7 +29,8 @@ offset_bounds-rest-count g c =
 pub loop-newest-smaller : goal.loop-newest-smaller
 loop-newest-smaller g c =
     let first : slice_get c.loop-newest.rest.now 0 ≡ Some c.in-Some.newest.now = search rules in
-    left_fewer (λ p. p.now) c.loop-newest.rest.now c.own_points-count.result.1 c.args.keeping.now.keeps c.in-Some.newest.now first c.loop-newest.invariant.from_one c.stripe_of-stripe.result c.stripe_of-stripe.ensures c.own_points-count.ensures.below
+    let stripe = c.stripe_of-stripe.ensures ∙ ap (stripe_of c.args.keeping.now.keeps) c.seq.ensures.value in
+    left_fewer (λ p. p.now) c.loop-newest.rest.now c.own_points-count.result.1 c.args.keeping.now.keeps c.in-Some.newest.now first c.loop-newest.invariant.from_one c.stripe_of-stripe.result stripe c.own_points-count.ensures.below
 
 pub loop-newest-preserved : goal.loop-newest-preserved
 loop-newest-preserved g c =
@@ -46,7 +47,8 @@ loop-newest-preserved g c =
     let left = left_is (λ p. p.now) rest count more c.own_points-count.ensures.below in
     let fewer : length (take (length rest - count) (drop count rest)) < length rest = loop-newest-smaller g c in
     let within : length rest ≤ length c.args.points.now = c.loop-newest.invariant.within in
-    let step = point_step m key k seqs c.requires.keeps_rise ps c.in-Some.newest.now.now (first_seen (λ p. p.now) rest c.in-Some.newest.now first) c.loop-newest.invariant.fall s c.stripe_of-stripe.ensures in
+    let stripe = c.stripe_of-stripe.ensures ∙ ap (stripe_of k.keeps) c.seq.ensures.value in
+    let step = point_step m key k seqs c.requires.keeps_rise ps c.in-Some.newest.now.now (first_seen (λ p. p.now) rest c.in-Some.newest.now first) c.loop-newest.invariant.fall s stripe in
     let point = point_for m (is_bottom k s) key (filter (λ p. is_in s p.seq) ps) (filter (is_in s) seqs) in
     let made : c.in_ok-point_for.field-0 ≡ point = c.in_ok-point_for.ensures ∙ same_point m key c.is_bottom-bottom.ensures c.own_points-count.ensures.own c.split_seqs.ensures.own in
     let grown : c.push_some.new.kept.items ≡ c.loop-newest.kept.items ++ cons_option point [] = c.in_ok-push_some.ensures ∙ ap (λ (o : Option Entry). c.loop-newest.kept.items ++ cons_option o []) made in
