@@ -52,14 +52,12 @@ pub ended : (groups : List Group) (o : Option (List ℕ)) (points : List Entry) 
 ended groups o points others comes e = (subst (λ (p : Option (List ℕ)). Comes groups p points others) e comes).0
 
 -- the parts of a call, by what they are equal to
-pub one_key_by : (cut : List Fragment) (key named : List ℕ) (points lent : List Entry) (seqs : List ℕ) → lent ≡ points → seqs ≡ seqs_over named cut → named ≡ key → AreOfOneKey points (seqs_over key cut) → AreOfOneKey lent seqs
-one_key_by cut key named points lent seqs e f n h =
-    subst (λ (ps : List Entry). AreOfOneKey ps seqs) (sym e)
-    (subst (AreOfOneKey points) (sym (f ∙ ap (λ (k : List ℕ). seqs_over k cut) n)) h)
+pub one_key_by : (cut : List Fragment) (key : List ℕ) (points lent : List Entry) (seqs : List ℕ) → lent ≡ points → seqs ≡ seqs_over key cut → AreOfOneKey points (seqs_over key cut) → AreOfOneKey lent seqs
+one_key_by cut key points lent seqs e f h =
+    subst (λ (ps : List Entry). AreOfOneKey ps seqs) (sym e) (subst (AreOfOneKey points) (sym f) h)
 
-pub made_by : (m : Operation) (keeping : Keeping) (cut : List Fragment) (key named other : List ℕ) (points lent kept more : List Entry) (seqs : List ℕ) → lent ≡ points → seqs ≡ seqs_over named cut → named ≡ key → other ≡ key → more ≡ kept ++ points_for m keeping other lent seqs → more ≡ kept ++ points_for m keeping key points (seqs_over key cut)
-made_by m keeping cut key named other points lent kept more seqs e f n o made =
+pub made_by : (m : Operation) (keeping : Keeping) (cut : List Fragment) (key : List ℕ) (points lent kept more : List Entry) (seqs : List ℕ) → lent ≡ points → seqs ≡ seqs_over key cut → more ≡ kept ++ points_for m keeping key lent seqs → more ≡ kept ++ points_for m keeping key points (seqs_over key cut)
+made_by m keeping cut key points lent kept more seqs e f made =
     made
-    ∙ ap (λ (k : List ℕ). kept ++ points_for m keeping k lent seqs) o
     ∙ ap (λ (ps : List Entry). kept ++ points_for m keeping key ps seqs) e
-    ∙ ap (λ (ns : List ℕ). kept ++ points_for m keeping key points ns) (f ∙ ap (λ (k : List ℕ). seqs_over k cut) n)
+    ∙ ap (λ (ns : List ℕ). kept ++ points_for m keeping key points ns) f

@@ -43,7 +43,7 @@ fn output_of<O: Operator + Sync>(
     let cut = cut_ranges(alloc, &ranges_of(alloc, inputs)?)?;
     let points = points_kept::<O>(rt, alloc, inputs, &cut, &keeping)?;
     let fragments = fragments_kept(alloc, cut, &keeping)?;
-    Run::build(alloc, low_seq(inputs), high_seq(inputs), points, fragments)
+    Run::from_points(alloc, low_seq(inputs), high_seq(inputs), points, fragments)
 }
 
 /// Several runs, the newest first, made into one that reads as they do at every kept sequence, and at and above the

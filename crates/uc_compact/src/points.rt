@@ -16,9 +16,10 @@ use std::marker::Sync;
 use std::sync::Arc;
 use std::thread::Threads;
 use uc_block::Run;
-use uc_entry::{Entry, Fragment, covering_fragment};
+use uc_entry::{Fragment, covering_fragment};
 use uc_merge::Groups;
 use uc_oper::Operator;
+use uc_point::Point;
 use uc_stripe::{Keeping, push_kept_points};
 
 /// The sequences of the range deletions over a key.
@@ -36,7 +37,7 @@ fn seqs_over<'a>(fragments: &'a [Fragment], key: &[u8]) -> &'a [u64]
 fn push_groups<O: Operator + Sync>(
     rt: &(impl Threads + Sync),
     alloc: Global,
-    kept: &mut Vec<Entry>,
+    kept: &mut Vec<Point>,
     groups: &mut Groups<'_>,
     fragments: &[Fragment],
     keeping: &Keeping<'_>,
@@ -48,14 +49,14 @@ fn push_groups<O: Operator + Sync>(
 {
     let mut points = Vec::new(alloc);
     while let Some(key) = groups.next_into(&mut points)? {
-        let seqs = seqs_over(fragments, key.as_slice());
-        push_kept_points::<O>(rt, alloc, kept, key.as_slice(), &points, seqs, keeping)?;
+        let seqs = seqs_over(fragments, key);
+        push_kept_points::<O>(rt, alloc, kept, key, &points, seqs, keeping)?;
     }
     Ok(())
 }
 
 /// The points of each run.
-fn points_in<'a>(alloc: Global, inputs: &'a [Arc<Run>]) -> Result<Vec<&'a [Entry]>, AllocError>
+fn points_in<'a>(alloc: Global, inputs: &'a [Arc<Run>]) -> Result<Vec<&'a [Point]>, AllocError>
     ensures { IfOk result (λ runs. map (λ points. points.now) runs.items ≡ points_of_each (map arc_value inputs.now)) }
 {
     let mut runs = Vec::new(alloc);
@@ -72,7 +73,7 @@ pub(crate) fn points_kept<O: Operator + Sync>(
     inputs: &[Arc<Run>],
     fragments: &[Fragment],
     keeping: &Keeping<'_>,
-) -> Result<Vec<Entry>, AllocError>
+) -> Result<Vec<Point>, AllocError>
     requires runs { AreRuns (map arc_value inputs.now) }
     requires order { AreInOrder fragments.now }
     requires keeps_rise { IsStrictlySortedBy nat_cmp keeping.now.keeps }

@@ -1,5 +1,5 @@
 -- Rising writes are flushed to a run.
-use Rattle.std.proofs.Common.{ℕ, ◌≤◌, List, [], ◌∷◌, Contains, length, map, fold, filter, refl, arith}
+use Rattle.std.proofs.Common.{ℕ, ◌<◌, ◌≤◌, ◌^◌, List, [], ◌∷◌, Contains, length, map, fold, filter, refl, arith}
 use Rattle.std.specs.Prelude.{◌≢◌, nat_lt}
 use Rattle.std.specs.List.{AllByRecursion}
 use Rattle.std.specs.Ordering.{nat_cmp, flip_args}
@@ -18,7 +18,7 @@ use Rattle.uc_fragment.specs.Cutting.{RangeOf, Piece, spans, cut_points, pieces,
 use Rattle.uc_fragment.proofs.Sets.{all-insert_key}
 use Rattle.uc_run.specs.Flush.{points_in, ranges_in, by_key, first_of}
 use Rattle.uc_run.proofs.ByKey.{all-by_key, sorted-by_key}
-use Rattle.uc_run.proofs.Parts.{all_points, all_ranges, last_is_greatest, up_to_last, last_below, from_first, have_own_seqs, IsApartFrom, are_apart}
+use Rattle.uc_run.proofs.Parts.{all_points, all_ranges, last_is_greatest, up_to_last, last_below, all_below, from_first, have_own_seqs, IsApartFrom, are_apart}
 
 -- ---- what holds of the sequences of ranges holds of those of their fragments
 
@@ -63,6 +63,10 @@ apart_from p (f ∷ fs) h = ((λ _. lacks p f.seqs h.0), apart_from p fs h.1)
 
 within_all : (last : ℕ) (ws : List Write) → IsRising last ws → AllByRecursion (λ (w : Write). IsWithin (first_of ws) (last_of last ws) w.seq) ws
 within_all last ws rising = both (λ (w : Write). first_of ws ≤ w.seq) (λ (w : Write). w.seq ≤ last_of last ws) ws (from_first last ws rising) (up_to_last last ws rising)
+
+-- each sequence is one that a write may have
+pub points_below : (ws : List Write) → IsRising 0 ws → AllByRecursion (λ (p : Entry). p.seq < 2 ^ 56) (by_key (points_in ws))
+points_below ws rising = all-by_key (λ (p : Entry). p.seq < 2 ^ 56) (points_in ws) (all_points (λ n. n < 2 ^ 56) ws (all_below 0 ws rising))
 
 positive : (ws : List Write) → IsRising 0 ws → ws ≢ [] → 1 ≤ first_of ws
 positive [] rising some = absurd (some refl)

@@ -56,6 +56,10 @@ pub last_below : (last : ℕ) (ws : List Write) → last < 2 ^ 56 → IsRising l
 last_below last [] below h = below
 last_below last (w ∷ ws) below h = last_below w.seq ws h.1 h.2
 
+pub all_below : (last : ℕ) (ws : List Write) → IsRising last ws → AllByRecursion (λ (w : Write). w.seq < 2 ^ 56) ws
+all_below last [] h = tt
+all_below last (w ∷ ws) h = (h.1, all_below w.seq ws h.2)
+
 pub from_first : (last : ℕ) (ws : List Write) → IsRising last ws → AllByRecursion (λ (w : Write). first_of ws ≤ w.seq) ws
 from_first last [] h = tt
 from_first last (w ∷ ws) h = (omega arith, all_map (λ (v : Write). w.seq < v.seq) (λ (v : Write). w.seq ≤ v.seq) (λ v lt. omega (arith, lt)) ws (above_last w.seq ws h.2))

@@ -1,15 +1,16 @@
 //! The points and range deletions of a memtable's slots, as a run wants them.
-ghost use Rattle.std.specs.Prelude.{◌≡◌, ℕ, List, length, IfOk};
+ghost use Rattle.std.specs.Prelude.{◌≡◌, ℕ, ◌<◌, ◌^◌, List, length, IfOk};
+ghost use Rattle.std.specs.List.{AllByRecursion};
 ghost use Rattle.uc_write.specs.Borrowed.{op_of};
 ghost use Rattle.uc_run.specs.Slots.{slot_write, slot_writes, LiesWithin, LieWithin};
 ghost use Rattle.uc_run.specs.Points.{HaveOwnSeqs};
 ghost use Rattle.uc_run.specs.Flush as flush;
 
-use crate::entry_ref::{EntryRef, WhatKind};
+use crate::entry_ref::EntryRef;
 use crate::slot::Slot;
 use std::alloc::{AllocError, Global};
-use uc_entry::Entry;
 use uc_fragment::Range;
+use uc_point::{Point, WhatRef};
 use uc_write::OpKind;
 
 /// The texts of a slot in the arena.
@@ -28,9 +29,9 @@ fn point_at<'a>(text: &'a [u8], slot: &Slot) -> Option<EntryRef<'a>>
 {
     let (first, second) = texts_at(text, slot);
     match slot.kind {
-        OpKind::Put => Some(EntryRef::new(first, slot.seq, WhatKind::Put, second)),
-        OpKind::Delete => Some(EntryRef::new(first, slot.seq, WhatKind::Delete, second)),
-        OpKind::Merge => Some(EntryRef::new(first, slot.seq, WhatKind::Merge, second)),
+        OpKind::Put => Some(EntryRef::new(first, slot.seq, WhatRef::Put(second))),
+        OpKind::Delete => Some(EntryRef::new(first, slot.seq, WhatRef::Delete)),
+        OpKind::Merge => Some(EntryRef::new(first, slot.seq, WhatRef::Merge(second))),
         OpKind::DeleteRange => None,
     }
 }
@@ -91,15 +92,16 @@ fn sort_points(points: &mut [EntryRef<'_>])
     points.sort_unstable_by(|point, other| point.order(other));
 }
 
-/// Copies of points, which own their texts. Want of memory loses them.
-fn entries_of(alloc: Global, points: &[EntryRef<'_>]) -> Result<Vec<Entry>, AllocError>
-    ensures { IfOk result (λ entries. entries.items ≡ points.now) }
+/// Points, packed, with copies of their texts. Want of memory loses them.
+fn pack_points(alloc: Global, points: &[EntryRef<'_>]) -> Result<Vec<Point>, AllocError>
+    requires { AllByRecursion (λ p. p.seq < 2 ^ 56) points.now }
+    ensures { IfOk result (λ packed. packed.items ≡ points.now) }
 {
-    let mut entries = Vec::with_capacity(alloc, points.len())?;
+    let mut packed = Vec::with_capacity(alloc, points.len())?;
     for point in points {
-        entries.push(point.to_entry(alloc)?)?;
+        packed.push(point.to_point(alloc)?)?;
     }
-    Ok(entries)
+    Ok(packed)
 }
 
 /// The points among the slots' writes, by key, and of one key the newest first. The texts are copied in this order.
@@ -108,14 +110,15 @@ pub(crate) fn points_by_key(
     alloc: Global,
     text: &[u8],
     slots: &[Slot],
-) -> Result<Vec<Entry>, AllocError>
+) -> Result<Vec<Point>, AllocError>
     requires within { LieWithin text.now slots.now }
     requires own { HaveOwnSeqs (flush.points_in (slot_writes text.now slots.now)) }
+    requires below { AllByRecursion (λ p. p.seq < 2 ^ 56) (flush.by_key (flush.points_in (slot_writes text.now slots.now))) }
     ensures { IfOk result (λ points. points.items ≡ flush.by_key (flush.points_in (slot_writes text.now slots.now))) }
 {
     let mut points = points_in(alloc, text, slots)?;
     sort_points(&mut points);
-    entries_of(alloc, &points)
+    pack_points(alloc, &points)
 }
 
 /// The sequence of the first slot, or 0 where there is none.

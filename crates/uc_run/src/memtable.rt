@@ -159,7 +159,7 @@ impl Memtable {
         let points = points_by_key(alloc, &self.text, &self.slots)?;
         let ranges = ranges_in(alloc, &self.text, &self.slots)?;
         let fragments = cut_ranges(alloc, &ranges)?;
-        Run::build(alloc, first_seq(&self.slots), self.last, points, fragments)
+        Run::from_points(alloc, first_seq(&self.slots), self.last, points, fragments)
     }
 
     /// The run of its writes: the points in order of key, and the range deletions cut into fragments. It costs a sort of

@@ -27,8 +27,8 @@ fragments_kept-requires-clause-are g c =
     let asked : Compaction = record { inputs = map arc_value c.args.inputs.now; keeps = c.args.keeps.now; oldest = c.args.oldest } in
     are_fragments m asked c.are_runs.ensures c.requires c.in_ok-cut.cut.items (cut_are m asked c.are_runs.ensures c.requires c.in_ok-cut.cut.items c.in_ok-ranges_of.field-0.items c.deref.result.now c.in_ok-ranges_of.ensures c.deref.ensures.value c.in_ok-cut.ensures)
 
-pub build-requires : goal.build-requires
-build-requires g c =
+pub from_points-requires : goal.from_points-requires
+from_points-requires g c =
     let m = g.O.Operator.meaning in
     let asked : Compaction = record { inputs = map arc_value c.args.inputs.now; keeps = c.args.keeps.now; oldest = c.args.oldest } in
     let keeping : c.new-keeping.result ≡ keeping_of asked = keeping_by asked c.new-keeping.result c.bottom_of.result c.new-keeping.ensures c.bottom_of.ensures in
@@ -45,4 +45,4 @@ returns g c =
     let cut : c.in_ok-cut.cut.items ≡ fragments_of (ranges_of asked.inputs) = cut_are m asked c.are_runs.ensures c.requires c.in_ok-cut.cut.items c.in_ok-ranges_of.field-0.items c.deref.result.now c.in_ok-ranges_of.ensures c.deref.ensures.value c.in_ok-cut.ensures in
     let points : c.in_ok-points.points.items ≡ (output_of m asked).points = points_by m asked c.new-keeping.result c.deref-2.result.now c.in_ok-points.points.items keeping (c.deref-2.ensures.value ∙ cut) c.in_ok-points.ensures (c.points_are_chosen_key_by_key.ensures.points asked c.are_runs.ensures c.requires) in
     let fragments : c.in_ok-fragments.fragments.items ≡ (output_of m asked).fragments = fragments_by m asked c.new-keeping.result c.in_ok-cut.cut.items c.in_ok-fragments.fragments.items keeping cut c.in_ok-fragments.ensures in
-    subst (λ (r : Contents). IfOk c.build.result (λ run. run ≡ r)) (run_by (output_of m asked) c.low_seq.result c.high_seq.result c.in_ok-points.points.items c.in_ok-fragments.fragments.items c.low_seq.ensures c.high_seq.ensures points fragments) c.build.ensures
+    subst (λ (r : Contents). IfOk c.from_points.result (λ run. run ≡ r)) (run_by (output_of m asked) c.low_seq.result c.high_seq.result c.in_ok-points.points.items c.in_ok-fragments.fragments.items c.low_seq.ensures c.high_seq.ensures points fragments) c.from_points.ensures
