@@ -1,6 +1,7 @@
 //! [`Figures`]: what a run holds, so that two programs' runs can be compared.
 use std::fmt;
-use uc_run::{Entry, Fragment, Run, What};
+use uc_point::{Point, WhatRef};
+use uc_run::{Fragment, Run};
 
 /// How many points and fragments a run has, how large they are, and a checksum of them.
 #[derive(Drop)]
@@ -55,13 +56,13 @@ fn with_bytes(checksum: u64, bytes: &[u8]) -> u64 {
 }
 
 /// A checksum and then a point.
-fn with_point(checksum: u64, point: &Entry) -> u64 {
-    let (kind, text): (u64, &[u8]) = match &point.what {
-        What::Put(value) => (1, value.as_slice()),
-        What::Delete => (2, &[]),
-        What::Merge(operand) => (3, operand.as_slice()),
+fn with_point(checksum: u64, point: &Point) -> u64 {
+    let (kind, text): (u64, &[u8]) = match point.what() {
+        WhatRef::Put(value) => (1, value),
+        WhatRef::Delete => (2, &[]),
+        WhatRef::Merge(operand) => (3, operand),
     };
-    let sum = with_number(with_bytes(checksum, point.key.as_slice()), point.seq);
+    let sum = with_number(with_bytes(checksum, point.key()), point.seq());
     with_bytes(with_number(sum, kind), text)
 }
 
