@@ -1,11 +1,12 @@
 //! What `bench_answers` does, in plain Rust with a `BTreeMap` of values, to measure it against.
 //!
-//!     baseline answers|hot|deleted
+//!     baseline answers|hot|deleted [--threads N]
 //!     baseline operands
 //!
 //! It reads a log of counters from standard input, folds its writes as they come, and answers the workload's queries: the
-//! same line as `bench_answers`, with one run and a point for each key. `operands` prints how many operands the lookups of
-//! `hot` fold: those behind the last put or deletion of each key, where nothing has folded them before.
+//! same line as `bench_answers`, with one run and a point for each key. With `--threads` each of so many threads answers an
+//! equal share of a batch. `operands` prints how many operands the lookups of `hot` fold: those behind the last put or
+//! deletion of each key, where nothing has folded them before.
 
 #[path = "../log.rs"]
 mod log;
@@ -16,6 +17,7 @@ use log::{read_batch, Ended, LogReader, Op};
 use std::collections::{BTreeMap, HashMap};
 use std::io::{self, Read};
 use std::ops::Bound;
+use std::thread;
 use std::time::Instant;
 use store::Numbers;
 
@@ -175,12 +177,31 @@ fn with_answer(sum: u64, answer: &Answer) -> u64 {
     sum.wrapping_mul(31).wrapping_add(kind)
 }
 
+fn answers_of(values: &Values, queries: &[Query]) -> Vec<Answer> {
+    queries.iter().map(|query| answer(values, query)).collect()
+}
+
+/// The answers, of which each thread gives an equal share.
+fn answers_by_threads(values: &Values, queries: &[Query], threads: usize) -> Vec<Answer> {
+    if threads == 1 {
+        return answers_of(values, queries);
+    }
+    let shares = queries.chunks(queries.len().div_ceil(threads));
+    thread::scope(|scope| {
+        let started: Vec<_> = shares
+            .map(|share| scope.spawn(move || answers_of(values, share)))
+            .collect();
+        let ended = started.into_iter().map(|thread| thread.join());
+        ended.flat_map(|answers| answers.unwrap()).collect()
+    })
+}
+
 /// Answers the batches of a workload, and prints what came of it.
-fn measure(values: &Values, workload: &str) {
+fn measure(values: &Values, workload: &str, threads: usize) {
     let (mut count, mut sum, mut times) = (0, 0, String::new());
     for queries in batches_of(workload) {
         let start = Instant::now();
-        let answers: Vec<Answer> = queries.iter().map(|query| answer(values, query)).collect();
+        let answers = answers_by_threads(values, &queries, threads);
         times += &format!(" {}", start.elapsed().as_nanos());
         count += answers.len();
         sum = answers.iter().fold(sum, with_answer);
@@ -207,13 +228,18 @@ fn print_operands(log: &[u8]) {
 }
 
 fn main() -> io::Result<()> {
-    let workload = std::env::args().nth(1).expect("a workload");
+    let words: Vec<String> = std::env::args().skip(1).collect();
+    let words: Vec<&str> = words.iter().map(String::as_str).collect();
     let mut log = Vec::new();
     io::stdin().lock().read_to_end(&mut log)?;
-    if workload == "operands" {
-        print_operands(&log);
-    } else {
-        measure(&values_of(log), &workload);
+    match words.as_slice() {
+        ["operands"] => print_operands(&log),
+        [workload] => measure(&values_of(log), workload, 1),
+        [workload, "--threads", threads] => {
+            let threads = threads.parse().expect("a number");
+            measure(&values_of(log), workload, threads);
+        }
+        _ => panic!("usage: baseline WORKLOAD [--threads N], or baseline operands"),
     }
     Ok(())
 }

@@ -135,16 +135,19 @@ answers() {
 # 2. The same by more workers, in smaller and larger pieces.
 workers() {
     local workers piece
-    if [ "$ours" = none ]; then return; fi
-    echo "answers, compacted, by workers: times faster than one worker with pieces of 16"
+    echo "answers, compacted, by workers: times faster than one. A BTreeMap's threads show what the machine gives"
     for piece in 1 16 256; do
         for workers in 1 2 4; do
-            plan "workers_${workers}_pieces_of_$piece" ours answers --workers "$workers" --piece "$piece"
+            plan "ours_pieces_of_${piece}_workers_$workers" ours answers --workers "$workers" --piece "$piece"
         done
+    done
+    for workers in 1 2 4; do
+        plan "BTreeMap_equal_shares_workers_$workers" baseline answers --threads "$workers"
     done
     measure
     heading 'lookups ms' 'scans ms' 'sum ms' 'faster'
-    print_rows 'said = ms(time[1]) ms(time[2]) ms(sum) cell("%.2f", sums["workers_1_pieces_of_16"] / sum)'
+    print_rows 'one = name; sub(/[0-9]+$/, "1", one)
+        said = ms(time[1]) ms(time[2]) ms(sum) cell("%.2f", sums[one] / sum)'
 }
 
 # 3. Many runs.
@@ -163,11 +166,11 @@ hot() {
     operands=$("$folder/baseline" operands < "$folder/hot.log") || fail "no operands"
     echo "hot: 20,000 lookups; where no flush or compaction folds operands, they fold $operands"
     plan BTreeMap baseline hot
-    for program in ours rocksdb; do
-        plan "${program}_uncompacted" "$program" hot --uncompacted
+    for program in ours RocksDB; do
+        plan "${program}_uncompacted" "${program,,}" hot --uncompacted
         for memtable in 1 4 16; do
             for trigger in 2 4 8; do
-                plan "${program}_memtable_${memtable}_MiB_trigger_$trigger" "$program" hot \
+                plan "${program}_memtable_${memtable}_MiB_trigger_$trigger" "${program,,}" hot \
                     --memtable $((memtable << 20)) --trigger "$trigger"
             done
         done
