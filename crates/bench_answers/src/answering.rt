@@ -30,7 +30,7 @@ impl Working {
 }
 
 /// What came of batches of queries.
-#[derive(Debug, Drop)]
+#[derive(Drop)]
 pub(crate) struct Outcome {
     /// How many answers there are.
     pub(crate) answers: usize,

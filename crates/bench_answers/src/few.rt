@@ -32,12 +32,16 @@ const SPAN: u64 = 5;
 
 /// A put, a merge, a deletion or a range deletion that a number stands for, of a key, of keys up to an end, and to a value.
 fn op_of<'a>(number: u64, key: &'a [u8], end: &'a [u8], value: &'a [u8]) -> OpRef<'a> {
-    match number {
-        0 => OpRef::delete_range(key, end),
-        1..=9 => OpRef::delete(key),
-        10..=49 => OpRef::merge(key, value),
-        _ => OpRef::put(key, value),
+    if number == 0 {
+        return OpRef::delete_range(key, end);
     }
+    if number < 10 {
+        return OpRef::delete(key);
+    }
+    if number < 50 {
+        return OpRef::merge(key, value);
+    }
+    OpRef::put(key, value)
 }
 
 /// A store that is being opened, and has taken so many random writes.
