@@ -1,13 +1,17 @@
 //! Writes a write-ahead log as LevelDB and RocksDB have them to standard output, for measurements.
 //!
-//!     make_log small|large|counters MIB
+//!     make_log small|large|counters|hot MIB
+//!     make_log deleted
 //!     make_log lines
 //!
 //! `small`: batches of one put, with a key of 16 bytes and a value of 100. `large`: batches of 40 puts
 //! with values of 2,000 bytes, each of which spans three or four blocks. `counters`: batches of one write to
 //! one of 300,000 keys of 16 bytes, by lot: 50 percent merges and 45 percent puts of 8 bytes, 5 percent
-//! deletions, and of 10,000 writes one deletes the range of 30 neighbouring keys. The log has as many whole
+//! deletions, and of 10,000 writes one deletes the range of 30 neighbouring keys. `hot`: batches of one write to
+//! one of 1,000 such keys: 90 percent merges, 9 percent puts, 1 percent deletions. The log has as many whole
 //! batches as fit the given size.
+//!
+//! `deleted`: 250,000 keys are put in their order, and then nine of ten deleted, in batches of 100 writes.
 //!
 //! `lines` reads lines from standard input, `put KEY VALUE`, `delete KEY`, `merge KEY OPERAND` and
 //! `range BEGIN END` in hexadecimal, and makes a batch of each.
@@ -33,6 +37,14 @@ const RANGE: u8 = 15;
 const KEYS: u64 = 300_000;
 /// How many keys a range of the counters spans.
 const SPAN: u64 = 30;
+/// How many keys the hot counters have.
+const HOT_KEYS: u64 = 1_000;
+/// How many keys are put before most are deleted.
+const DELETED_KEYS: u64 = 250_000;
+/// Of so many of these keys one is left.
+const LEFT_OF: u64 = 10;
+/// How many writes a batch of these has.
+const DELETED_BATCH: usize = 100;
 
 /// The masked checksum of a record's type and data.
 fn checksum(kind: u8, data: &[u8]) -> u32 {
@@ -114,6 +126,7 @@ struct Shape {
 enum Kind {
     Puts(Shape),
     Counters,
+    Hot,
 }
 
 impl Kind {
@@ -121,7 +134,7 @@ impl Kind {
     fn writes(self) -> u32 {
         match self {
             Kind::Puts(shape) => shape.puts,
-            Kind::Counters => 1,
+            Kind::Counters | Kind::Hot => 1,
         }
     }
 
@@ -135,6 +148,7 @@ impl Kind {
                 }
             }
             Kind::Counters => push_counter_write(lot, out),
+            Kind::Hot => push_hot_write(lot, out),
         }
     }
 }
@@ -143,19 +157,33 @@ fn counter_key(number: u64) -> String {
     format!("account/{number:08}")
 }
 
+/// The record of a write of the key with a number, with what stands behind the key.
+fn record(tag: u8, number: u64, second: &[u8]) -> Vec<u8> {
+    let key = string(counter_key(number).as_bytes());
+    [&[tag], key.as_slice(), second].concat()
+}
+
 /// A merge, a put, a deletion or a range deletion of counters.
 fn push_counter_write(lot: &mut Lot, out: &mut Vec<u8>) {
     let percents = lot.next() % 10_000;
     let place = lot.next() % KEYS;
-    let key = counter_key(place);
-    let texts = |tag, second: &[u8]| [&[tag], string(key.as_bytes()).as_slice(), second].concat();
-    let write = match percents {
-        0 => texts(RANGE, &string(counter_key(place + SPAN).as_bytes())),
-        1..=500 => texts(DELETE, &[]),
-        501..=5_500 => texts(MERGE, &string(&lot.next().to_le_bytes())),
-        _ => texts(PUT, &string(&lot.next().to_le_bytes())),
-    };
-    out.extend(write);
+    out.extend(match percents {
+        0 => record(RANGE, place, &string(counter_key(place + SPAN).as_bytes())),
+        1..=500 => record(DELETE, place, &[]),
+        501..=5_500 => record(MERGE, place, &string(&lot.next().to_le_bytes())),
+        _ => record(PUT, place, &string(&lot.next().to_le_bytes())),
+    });
+}
+
+/// A merge, a put or a deletion of one of few counters.
+fn push_hot_write(lot: &mut Lot, out: &mut Vec<u8>) {
+    let percent = lot.next() % 100;
+    let number = lot.next() % HOT_KEYS;
+    out.extend(match percent {
+        0 => record(DELETE, number, &[]),
+        1..=9 => record(PUT, number, &string(&lot.next().to_le_bytes())),
+        _ => record(MERGE, number, &string(&lot.next().to_le_bytes())),
+    });
 }
 
 /// A text behind its length.
@@ -187,6 +215,24 @@ fn make_log(kind: Kind, size: usize) -> Vec<u8> {
         }
         seq += u64::from(kind.writes());
     }
+}
+
+/// All keys put, and most of them deleted.
+fn deleted_log() -> Vec<u8> {
+    let puts = (0..DELETED_KEYS).map(|number| record(PUT, number, &string(&number.to_le_bytes())));
+    let deleted = (0..DELETED_KEYS).filter(|number| number % LEFT_OF != 0);
+    let deletions = deleted.map(|number| record(DELETE, number, &[]));
+    let writes: Vec<Vec<u8>> = puts.chain(deletions).collect();
+    let mut log = Vec::new();
+    let mut seq = 1;
+    for batch in writes.chunks(DELETED_BATCH) {
+        push_payload(
+            &mut log,
+            &[head(seq, batch.len() as u32), batch.concat()].concat(),
+        );
+        seq += batch.len() as u64;
+    }
+    log
 }
 
 /// The bytes that hexadecimal digits stand for.
@@ -225,7 +271,9 @@ fn log_of_lines(lines: impl BufRead) -> io::Result<Vec<u8>> {
 }
 
 fn usage() -> ! {
-    eprintln!("usage: make_log small|large|counters MIB, or make_log lines");
+    eprintln!(
+        "usage: make_log small|large|counters|hot MIB, or make_log deleted, or make_log lines"
+    );
     std::process::exit(2)
 }
 
@@ -241,6 +289,7 @@ fn kind_named(word: &str) -> Option<Kind> {
             value: 2_000,
         }),
         "counters" => Kind::Counters,
+        "hot" => Kind::Hot,
         _ => return None,
     })
 }
@@ -249,6 +298,7 @@ fn kind_named(word: &str) -> Option<Kind> {
 fn log_asked_for(words: &[String]) -> io::Result<Vec<u8>> {
     match words {
         [word] if word == "lines" => log_of_lines(io::stdin().lock()),
+        [word] if word == "deleted" => Ok(deleted_log()),
         [word, size] => match (kind_named(word), size.parse::<usize>()) {
             (Some(kind), Ok(size)) => Ok(make_log(kind, size << 20)),
             _ => usage(),

@@ -1,0 +1,245 @@
+//! What `bench_answers` does, in plain Rust with a `BTreeMap` of values, to measure it against.
+//!
+//!     baseline answers|hot|deleted [--threads N]
+//!     baseline operands
+//!
+//! It reads a log of counters from standard input, folds its writes as they come, and answers the workload's queries: the
+//! same line as `bench_answers`, with one run and a point for each key. With `--threads` each of so many threads answers an
+//! equal share of a batch. `operands` prints how many operands the lookups of `hot` fold: those behind the last put or
+//! deletion of each key, where nothing has folded them before.
+
+#[path = "../log.rs"]
+mod log;
+#[path = "../store.rs"]
+mod store;
+
+use log::{read_batch, Ended, LogReader, Op};
+use std::collections::{BTreeMap, HashMap};
+use std::io::{self, Read};
+use std::ops::Bound;
+use std::thread;
+use std::time::Instant;
+use store::Numbers;
+
+const KEYS: u64 = 300_000;
+const HOT_KEYS: u64 = 1_000;
+const LOOKUPS: usize = 20_000;
+const SCANS: usize = 500;
+const MOST_ROWS: u64 = 50;
+
+type Values = BTreeMap<Vec<u8>, Vec<u8>>;
+
+enum Query {
+    Get { key: Vec<u8> },
+    Scan { low: Vec<u8>, limit: u64 },
+}
+
+enum Answer {
+    Value(Option<Vec<u8>>),
+    Rows(Vec<(Vec<u8>, Vec<u8>)>),
+}
+
+/// The number that 8 bytes stand for, low byte first; 0 for any other text.
+fn number(bytes: &[u8]) -> u64 {
+    bytes.try_into().map_or(0, u64::from_le_bytes)
+}
+
+/// Changes values as a write does.
+fn apply(values: &mut Values, op: Op) {
+    match op {
+        Op::Put(key, value) => {
+            values.insert(key.to_vec(), value.to_vec());
+        }
+        Op::Delete(key) => {
+            values.remove(key);
+        }
+        Op::Merge(key, operand) => {
+            let value = values.entry(key.to_vec()).or_default();
+            let sum = number(value).wrapping_add(number(operand));
+            *value = sum.to_le_bytes().to_vec();
+        }
+        Op::Range(begin, end) => {
+            if begin < end {
+                let bounds = (Bound::Included(begin), Bound::Excluded(end));
+                let range = values.range::<[u8], _>(bounds);
+                let keys: Vec<Vec<u8>> = range.map(|(key, _)| key.clone()).collect();
+                for key in keys {
+                    values.remove(&key);
+                }
+            }
+        }
+    }
+}
+
+/// Goes through the writes of a log, and says how it ends.
+fn each_write(log: &[u8], mut take: impl FnMut(Op)) -> Ended {
+    let mut reader = LogReader::new(log);
+    let mut last = 0;
+    let mut batches = 0;
+    loop {
+        let payload = match reader.payload() {
+            Ok(payload) => payload,
+            Err(ended) => return ended,
+        };
+        batches += 1;
+        let mut ops = Vec::new();
+        match read_batch(payload, last, &mut ops) {
+            Ok(seq) => last = seq + ops.len() as u64 - 1,
+            Err(fault) => return Ended::Batch(batches, fault),
+        }
+        ops.into_iter().for_each(&mut take);
+    }
+}
+
+/// Goes through the writes of a log that has to end clean.
+fn each_clean_write(log: &[u8], take: impl FnMut(Op)) {
+    match each_write(log, take) {
+        Ended::Clean => {}
+        ended => panic!("{ended}"),
+    }
+}
+
+/// The values after all writes of a log, which is let go of.
+fn values_of(log: Vec<u8>) -> Values {
+    let mut values = Values::new();
+    each_clean_write(&log, |op| apply(&mut values, op));
+    values
+}
+
+fn key_of(number: u64) -> Vec<u8> {
+    format!("account/{number:08}").into_bytes()
+}
+
+fn lookups(numbers: &mut Numbers, keys: u64) -> Vec<Query> {
+    let mut lookup = || Query::Get {
+        key: key_of(numbers.next() % keys),
+    };
+    (0..LOOKUPS).map(|_| lookup()).collect()
+}
+
+fn scans(numbers: &mut Numbers) -> Vec<Query> {
+    let mut scan = || {
+        let low = key_of(numbers.next() % KEYS);
+        let limit = numbers.next() % MOST_ROWS + 1;
+        Query::Scan { low, limit }
+    };
+    (0..SCANS).map(|_| scan()).collect()
+}
+
+/// The batches of queries of a workload, each of which is timed alone.
+fn batches_of(workload: &str) -> Vec<Vec<Query>> {
+    let mut numbers = Numbers { state: 1 };
+    match workload {
+        "answers" => vec![lookups(&mut numbers, KEYS), scans(&mut numbers)],
+        "hot" => vec![lookups(&mut numbers, HOT_KEYS)],
+        "deleted" => [5_000, 10_000, 20_000]
+            .map(|limit| {
+                let low = key_of(0);
+                vec![Query::Scan { low, limit }]
+            })
+            .into(),
+        _ => panic!("no such workload: {workload}"),
+    }
+}
+
+fn answer(values: &Values, query: &Query) -> Answer {
+    match query {
+        Query::Get { key } => Answer::Value(values.get(key).cloned()),
+        Query::Scan { low, limit } => {
+            let bounds = (Bound::Included(low.as_slice()), Bound::Unbounded);
+            let range = values.range::<[u8], _>(bounds).take(*limit as usize);
+            let mut rows = Vec::new();
+            for (key, value) in range {
+                rows.push((key.clone(), value.clone()));
+            }
+            Answer::Rows(rows)
+        }
+    }
+}
+
+fn with_bytes(sum: u64, bytes: &[u8]) -> u64 {
+    bytes.iter().fold(sum, |sum, &byte| {
+        sum.wrapping_mul(31).wrapping_add(u64::from(byte))
+    })
+}
+
+/// A checksum and then an answer.
+fn with_answer(sum: u64, answer: &Answer) -> u64 {
+    let (sum, kind) = match answer {
+        Answer::Value(None) => (sum, 0),
+        Answer::Value(Some(value)) => (with_bytes(sum, value), 1),
+        Answer::Rows(rows) => {
+            let rows = rows.iter();
+            let sum = rows.fold(sum, |sum, row| with_bytes(with_bytes(sum, &row.0), &row.1));
+            (sum, 2)
+        }
+    };
+    sum.wrapping_mul(31).wrapping_add(kind)
+}
+
+fn answers_of(values: &Values, queries: &[Query]) -> Vec<Answer> {
+    queries.iter().map(|query| answer(values, query)).collect()
+}
+
+/// The answers, of which each thread gives an equal share.
+fn answers_by_threads(values: &Values, queries: &[Query], threads: usize) -> Vec<Answer> {
+    if threads == 1 {
+        return answers_of(values, queries);
+    }
+    let shares = queries.chunks(queries.len().div_ceil(threads));
+    thread::scope(|scope| {
+        let started: Vec<_> = shares
+            .map(|share| scope.spawn(move || answers_of(values, share)))
+            .collect();
+        let ended = started.into_iter().map(|thread| thread.join());
+        ended.flat_map(|answers| answers.unwrap()).collect()
+    })
+}
+
+/// Answers the batches of a workload, and prints what came of it.
+fn measure(values: &Values, workload: &str, threads: usize) {
+    let (mut count, mut sum, mut times) = (0, 0, String::new());
+    for queries in batches_of(workload) {
+        let start = Instant::now();
+        let answers = answers_by_threads(values, &queries, threads);
+        times += &format!(" {}", start.elapsed().as_nanos());
+        count += answers.len();
+        sum = answers.iter().fold(sum, with_answer);
+    }
+    println!("1 {} {count} {sum:016x}{times}", values.len());
+}
+
+/// Prints how many operands the lookups of `hot` fold.
+fn print_operands(log: &[u8]) {
+    let mut operands: HashMap<Vec<u8>, u64> = HashMap::new();
+    each_clean_write(log, |op| match op {
+        Op::Put(key, _) | Op::Delete(key) => {
+            operands.insert(key.to_vec(), 0);
+        }
+        Op::Merge(key, _) => *operands.entry(key.to_vec()).or_default() += 1,
+        Op::Range(..) => unreachable!("the log has none"),
+    });
+    let folded = |query: &Query| match query {
+        Query::Get { key } => operands.get(key).copied().unwrap_or_default(),
+        Query::Scan { .. } => 0,
+    };
+    let queries = batches_of("hot").into_iter().flatten();
+    println!("{}", queries.map(|query| folded(&query)).sum::<u64>());
+}
+
+fn main() -> io::Result<()> {
+    let words: Vec<String> = std::env::args().skip(1).collect();
+    let words: Vec<&str> = words.iter().map(String::as_str).collect();
+    let mut log = Vec::new();
+    io::stdin().lock().read_to_end(&mut log)?;
+    match words.as_slice() {
+        ["operands"] => print_operands(&log),
+        [workload] => measure(&values_of(log), workload, 1),
+        [workload, "--threads", threads] => {
+            let threads = threads.parse().expect("a number");
+            measure(&values_of(log), workload, threads);
+        }
+        _ => panic!("usage: baseline WORKLOAD [--threads N], or baseline operands"),
+    }
+    Ok(())
+}

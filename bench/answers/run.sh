@@ -1,0 +1,215 @@
+#!/bin/bash
+# Measures lookups and scans of a store that opens from a log, against plain Rust with a BTreeMap and against RocksDB.
+#
+#     bench/answers/run.sh
+#
+# It measures crates/bench_answers/out/bench_answers (or OURS), which `rt run` in crates/bench_answers builds; OURS=none
+# leaves it out. baseline.rs and ../make_log.rs are built by `rustc -O` in a temporary folder, and rocksdb.cc by `g++ -O2`
+# where RocksDB's headers are installed (Debian's librocksdb-dev); where they aren't, it is left out.
+#
+# Each program runs in a process of its own, in turn, TURNS times (5): it opens the log, makes the queries, answers them
+# once, and prints how long that took without the rest. A row has the turn with the least time. All programs must come to
+# the same answers. Logs: `counters` of MIB MiB (60), `hot` of HOT_MIB (16), `deleted` (see ../make_log.rs).
+set -u -o pipefail
+
+here=$(cd "$(dirname "${BASH_SOURCE[0]}")" && pwd) || exit 1
+ours=${OURS:-$here/../../crates/bench_answers/out/bench_answers}
+turns=${TURNS:-5}
+folder=$(mktemp -d) || exit 1
+trap 'rm -rf "$folder"' EXIT
+
+fail() {
+    echo "run.sh: $*" >&2
+    exit 1
+}
+
+build() { # SOURCE
+    rustc --edition 2021 -O -o "$folder/$(basename "$1" .rs)" "$1" || fail "$1 doesn't build"
+}
+
+# Builds what there is.
+build_all() {
+    build "$here/../make_log.rs"
+    build "$here/baseline.rs"
+    if [ "$ours" != none ]; then ours=$(realpath -e "$ours") || exit 2; fi
+    has_rocksdb=
+    if echo '#include <rocksdb/db.h>' | g++ -std=c++17 -fsyntax-only -x c++ - 2> "$folder/said"; then
+        g++ -O2 -std=c++17 -o "$folder/rocksdb" "$here/rocksdb.cc" -lrocksdb || fail "rocksdb.cc doesn't build"
+        has_rocksdb=yes
+    else
+        echo "run.sh: RocksDB is left out: its headers (librocksdb-dev) or g++ aren't there" >&2
+    fi
+}
+
+make_logs() {
+    "$folder/make_log" counters "${MIB:-60}" > "$folder/answers.log" || fail "no log"
+    "$folder/make_log" hot "${HOT_MIB:-16}" > "$folder/hot.log" || fail "no log"
+    "$folder/make_log" deleted > "$folder/deleted.log" || fail "no log"
+}
+
+# What is measured side by side: a name for each row, the program, and its words.
+names=()
+declare -A programs words
+
+plan() { # NAME PROGRAM WORDS: adds a row, where the program is there
+    local name=$1 program=$2
+    shift 2
+    case $program in
+        ours) if [ "$ours" = none ]; then return; fi ;;
+        rocksdb) if [ -z "$has_rocksdb" ]; then return; fi ;;
+    esac
+    names+=("$name")
+    programs[$name]=$program
+    words[$name]=$*
+}
+
+# Runs one row's program over its workload's log, and keeps what it prints behind the sum of its times.
+run_once() { # NAME
+    local program=${programs[$1]} asked
+    read -ra asked <<< "${words[$1]}"
+    case $program in
+        ours) program=$ours ;;
+        *) program=$folder/$program ;;
+    esac
+    "$program" "${asked[@]}" < "$folder/${asked[0]}.log" > "$folder/line" || fail "$1 fails"
+    awk '{ sum = 0; for (field = 5; field <= NF; field++) sum += $field; printf "%.0f %s\n", sum, $0 }' "$folder/line" \
+        >> "$folder/row.$1" || fail "no figures of $1"
+}
+
+# Runs all rows in turn, and keeps the line of each one's least sum. The answers of all are the same.
+measure() {
+    local name
+    if [ "${#names[@]}" -eq 0 ]; then return; fi
+    for _ in $(seq "$turns"); do
+        for name in "${names[@]}"; do run_once "$name"; done
+    done
+    [ "$(for name in "${names[@]}"; do cut -d ' ' -f 4,5 "$folder/row.$name"; done | sort -u | wc -l)" -eq 1 ] ||
+        fail "the answers differ: ${words[${names[0]}]}"
+    for name in "${names[@]}"; do
+        sort -n "$folder/row.$name" | head -n 1 > "$folder/least.$name" || fail "no figures of $name"
+        rm "$folder/row.$name"
+    done
+}
+
+# Prints a row for each name: its runs and points, and what awk says of it. `sum` is its time, `time[1]` and on are those of
+# its batches, and `over(NAME)` is its time over that of another row. Then nothing is planned any more.
+print_rows() { # AWK
+    local name
+    for name in "${names[@]}"; do echo "$name $(< "$folder/least.$name")"; done | awk '
+        function cell(format, number) { return sprintf("%12s", sprintf(format, number)) }
+        function ms(nanoseconds) { return cell("%.2f", nanoseconds / 1e6) }
+        function over(other) { return sums[other] ? cell("%.2f", sum / sums[other]) : cell("-", 0) }
+        { names[NR] = $1; sums[$1] = $2; lines[NR] = $0 }
+        END {
+            for (row = 1; row <= NR; row++) {
+                count = split(lines[row], fields, " ")
+                name = names[row]; sum = fields[2]; runs = fields[3]; points = fields[4]
+                for (place = 7; place <= count; place++) time[place - 6] = fields[place]
+                said = ""
+                '"$1"'
+                gsub("_", " ", name)
+                printf "%-34s %4d %9d %s\n", name, runs, points, said
+            }
+        }' || fail "no table"
+    names=()
+    echo
+}
+
+heading() { # COLUMNS, of twelve characters each
+    printf '%-34s %4s %9s ' '' runs points
+    printf '%12s' "$@"
+    echo
+}
+
+# 1. Many keys, compacted.
+answers() {
+    echo "answers: 20,000 lookups and 500 scans, compacted"
+    plan ours ours answers
+    plan BTreeMap baseline answers
+    plan RocksDB rocksdb answers
+    measure
+    heading 'lookups ms' 'scans ms' 'sum ms' '/ BTreeMap' '/ RocksDB'
+    print_rows 'said = ms(time[1]) ms(time[2]) ms(sum) over("BTreeMap") over("RocksDB")'
+}
+
+# 2. The same by more workers, in smaller and larger pieces.
+workers() {
+    local workers piece
+    echo "answers, compacted, by workers: times faster than one. A BTreeMap's threads show what the machine gives"
+    for piece in 1 16 256; do
+        for workers in 1 2 4; do
+            plan "ours_pieces_of_${piece}_workers_$workers" ours answers --workers "$workers" --piece "$piece"
+        done
+    done
+    for workers in 1 2 4; do
+        plan "BTreeMap_equal_shares_workers_$workers" baseline answers --threads "$workers"
+    done
+    measure
+    heading 'lookups ms' 'scans ms' 'sum ms' 'faster'
+    print_rows 'one = name; sub(/[0-9]+$/, "1", one)
+        said = ms(time[1]) ms(time[2]) ms(sum) cell("%.2f", sums[one] / sum)'
+}
+
+# 3. Many runs.
+uncompacted() {
+    echo "answers, not compacted"
+    plan ours ours answers --uncompacted
+    plan RocksDB rocksdb answers --uncompacted
+    measure
+    heading 'lookups ms' 'scans ms' 'sum ms' '/ RocksDB'
+    print_rows 'said = ms(time[1]) ms(time[2]) ms(sum) over("RocksDB")'
+}
+
+# 4. Few keys with many merges.
+hot() {
+    local memtable trigger operands program
+    operands=$("$folder/baseline" operands < "$folder/hot.log") || fail "no operands"
+    echo "hot: 20,000 lookups; where no flush or compaction folds operands, they fold $operands"
+    plan BTreeMap baseline hot
+    for program in ours RocksDB; do
+        plan "${program}_uncompacted" "${program,,}" hot --uncompacted
+        for memtable in 1 4 16; do
+            for trigger in 2 4 8; do
+                plan "${program}_memtable_${memtable}_MiB_trigger_$trigger" "${program,,}" hot \
+                    --memtable $((memtable << 20)) --trigger "$trigger"
+            done
+        done
+    done
+    measure
+    heading 'ms' 'ns/lookup' 'ns/operand' '/ BTreeMap'
+    # A store with as many points as writes folds what was counted; in another one it can't be said.
+    print_rows 'whole = name ~ /^ours/ && points == '"$(hot_writes)"'
+        said = ms(sum) cell("%.0f", sum / 20000) (whole ? cell("%.0f", sum / '"$operands"') : cell("-", 0)) \
+            over("BTreeMap")'
+}
+
+# How many writes the log of hot counters has: the points of the store that nothing was folded in.
+hot_writes() {
+    if [ "$ours" = none ]; then echo 0; else cut -d ' ' -f 3 "$folder/least.ours_uncompacted"; fi
+}
+
+# 5. Scans over deleted keys.
+deleted() {
+    echo "deleted: a scan of 5,000 rows, of 10,000 and of 20,000, nine of ten keys deleted"
+    plan BTreeMap baseline deleted
+    plan ours_uncompacted ours deleted --uncompacted
+    plan RocksDB_uncompacted rocksdb deleted --uncompacted
+    plan ours_compacted ours deleted
+    plan RocksDB_compacted rocksdb deleted
+    measure
+    heading '5,000 ms' '10,000 ms' '20,000 ms' '/ 5,000' '/ 10,000' '/ BTreeMap'
+    print_rows 'said = ms(time[1]) ms(time[2]) ms(time[3]) cell("%.2f", time[2] / time[1]) \
+        cell("%.2f", time[3] / time[2]) over("BTreeMap")'
+}
+
+build_all
+make_logs
+grep -m1 'model name' /proc/cpuinfo
+echo "load: $(cut -d ' ' -f 1-3 /proc/loadavg)"
+echo
+answers
+workers
+uncompacted
+hot
+deleted
+echo "load: $(cut -d ' ' -f 1-3 /proc/loadavg)"

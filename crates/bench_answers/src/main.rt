@@ -1,0 +1,66 @@
+//! Answers lookups and scans of a store that opens from a log, for `bench/answers`.
+//!
+//! `bench_answers WORKLOAD [--memtable N] [--trigger N] [--uncompacted] [--workers N] [--piece N]` reads a log of counters
+//! from standard input, opens a store from it, and compacts what universal compaction picks as long as it picks anything.
+//! Then it answers the workload's queries at the last sequence, batch by batch, by so many workers (1) in pieces of so many
+//! queries (16). It prints how many runs and points there are, how many answers came, a checksum of them, and the
+//! nanoseconds of each batch. Read `words.rt` for the options, and `queries.rt` for the workloads.
+//!
+//! Without words it does so with a thousand writes of its own, before and after the compactions and by one worker and by
+//! three, and prints the first four: the answers must be the same.
+#![tactic(auto)]
+
+mod answering;
+mod few;
+mod numbers;
+mod printing;
+mod queries;
+mod store;
+mod words;
+
+use crate::answering::answered;
+use crate::few::few_answers;
+use crate::printing::print_outcome;
+use crate::queries::batches_of;
+use crate::store::{compact_picked, opened};
+use crate::words::{Asked, asked_by};
+use anyhow::{Result, ensure};
+use std::alloc::Global;
+use std::env;
+use std::io::Read;
+use std::marker::Sync;
+use std::thread::Threads;
+use std::time::Clock;
+use uc_oper::Counter;
+use uc_version::Owned;
+
+/// Answers the workload of a log, which is let go of once a store is made from it, and prints what came of it.
+fn measure(
+    rt: &(impl Clock + Threads + Sync + Print),
+    alloc: Global,
+    log: Vec<u8>,
+    asked: &Asked,
+) -> Result<()> {
+    let options = asked.options;
+    ensure!(options.are_good(), "an option is out of its range");
+    let version = opened(alloc, log, options)?;
+    let mut owned = Owned::<Counter>::new(alloc, version, options)?;
+    if asked.compacted {
+        compact_picked(rt, alloc, &mut owned)?;
+    }
+    let batches = batches_of(alloc, asked.workload, owned.version().last())?;
+    let outcome = answered(rt, alloc, owned.version(), &batches, asked.working)?;
+    print_outcome(rt, &owned, &outcome)
+}
+
+fn main(rt: HostRuntime) -> Result<()> {
+    let alloc = rt.alloc();
+    let words: Vec<String> = env::args(&rt)?.collect(alloc)?;
+    let Some((_, [workload, options @ ..])) = words.split_first() else {
+        return few_answers(&rt, alloc);
+    };
+    let asked = asked_by(workload, options)?;
+    let mut log = Vec::new(alloc);
+    rt.stdin().read_to_end(&mut log)?;
+    measure(&rt, alloc, log, &asked)
+}

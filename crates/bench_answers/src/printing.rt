@@ -1,0 +1,33 @@
+//! What is printed of a store and its answers.
+
+use crate::answering::Outcome;
+use crate::store::totals;
+use anyhow::Result;
+use uc_oper::Counter;
+use uc_version::Owned;
+
+/// Prints how large a store is, how many answers it gave, and their checksum, without an end of the line.
+pub(crate) fn print_figures(
+    rt: &impl Print,
+    owned: &Owned<Counter>,
+    outcome: &Outcome,
+) -> Result<()> {
+    let (runs, points) = totals(owned.version());
+    let (answers, checksum) = (outcome.answers, outcome.checksum);
+    print!(rt; "{runs} {points} {answers} {checksum:016x}")?;
+    Ok(())
+}
+
+/// Prints a line of the same figures, and of how long each batch took.
+pub(crate) fn print_outcome(
+    rt: &impl Print,
+    owned: &Owned<Counter>,
+    outcome: &Outcome,
+) -> Result<()> {
+    print_figures(rt, owned, outcome)?;
+    for nanoseconds in &outcome.nanoseconds {
+        print!(rt; " {nanoseconds}")?;
+    }
+    println!(rt; "")?;
+    Ok(())
+}
