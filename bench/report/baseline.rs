@@ -6,15 +6,16 @@
 //! picks until that is nothing, and reports again: the same text as `ucstore report`. With `--values` it prints how
 //! many keys have a value then, and a checksum of both, in place of all else.
 
+#[path = "../compaction.rs"]
+mod compaction;
 #[path = "../log.rs"]
 mod log;
 #[path = "../store.rs"]
 mod store;
 
-mod compaction;
 mod picking;
 
-use compaction::{compact, Keeping};
+use compaction::{compact, Counter, Keeping};
 use log::{read_batch, Ended, LogReader, Op};
 use picking::{picked, Options, Stretch};
 use std::io::{self, BufWriter, Read, Write};
@@ -151,7 +152,7 @@ impl Store {
             keeps: &[self.last],
             bottom: low.filter(|_| has_oldest),
         };
-        compact(&runs, keeping)
+        compact::<Counter>(&runs, keeping)
     }
 
     /// Compacts neighbouring runs, and gives the id of what they become.

@@ -1,25 +1,37 @@
-//! Compactions of counters' runs in plain Rust: runs are merged key by key, and of a key's points between two keeps at
+//! Compactions in plain Rust, for the baselines: runs are merged key by key, and of a key's points between two keeps at
 //! most one is left.
 
-use crate::store::{cut, Entry, Fragment, Run, What};
+use crate::store::{Entry, Fragment, Run, What, cut};
 
 const MAX_SEQUENCE: u64 = (1 << 56) - 1;
+
+/// How operands are joined.
+pub(crate) trait Operator {
+    /// The value that an operand makes of none.
+    fn first(operand: &[u8]) -> Vec<u8>;
+
+    /// What an older text becomes with a newer operand.
+    fn joined(older: Vec<u8>, newer: &[u8]) -> Vec<u8>;
+}
+
+/// Adds numbers of 64 bits.
+pub(crate) struct Counter;
 
 fn number(bytes: &[u8]) -> u64 {
     bytes.try_into().map_or(0, u64::from_le_bytes)
 }
 
-/// The value that an operand makes of none.
-fn first(operand: &[u8]) -> Vec<u8> {
-    number(operand).to_le_bytes().to_vec()
-}
+impl Operator for Counter {
+    fn first(operand: &[u8]) -> Vec<u8> {
+        number(operand).to_le_bytes().to_vec()
+    }
 
-/// What an older text becomes with a newer operand.
-fn joined(mut older: Vec<u8>, newer: &[u8]) -> Vec<u8> {
-    let sum = number(&older).wrapping_add(number(newer));
-    older.clear();
-    older.extend_from_slice(&sum.to_le_bytes());
-    older
+    fn joined(mut older: Vec<u8>, newer: &[u8]) -> Vec<u8> {
+        let sum = number(&older).wrapping_add(number(newer));
+        older.clear();
+        older.extend_from_slice(&sum.to_le_bytes());
+        older
+    }
 }
 
 enum Effect {
@@ -29,31 +41,31 @@ enum Effect {
 }
 
 impl Effect {
-    fn changed_by(self, what: &What) -> Effect {
+    fn changed_by<O: Operator>(self, what: &What) -> Effect {
         match what {
             What::Put(value) => Effect::Set(Some(value.clone())),
             What::Delete => Effect::Set(None),
             What::Merge(operand) => match self {
                 Effect::Keep => Effect::Fold(operand.clone()),
-                Effect::Fold(older) => Effect::Fold(joined(older, operand)),
-                Effect::Set(None) => Effect::Set(Some(first(operand))),
-                Effect::Set(Some(value)) => Effect::Set(Some(joined(value, operand))),
+                Effect::Fold(older) => Effect::Fold(O::joined(older, operand)),
+                Effect::Set(None) => Effect::Set(Some(O::first(operand))),
+                Effect::Set(Some(value)) => Effect::Set(Some(O::joined(value, operand))),
             },
         }
     }
 
     /// The value that it makes of none.
-    fn value(self) -> Option<Vec<u8>> {
+    fn value<O: Operator>(self) -> Option<Vec<u8>> {
         match self {
             Effect::Keep => None,
-            Effect::Fold(operand) => Some(first(&operand)),
+            Effect::Fold(operand) => Some(O::first(&operand)),
             Effect::Set(value) => value,
         }
     }
 }
 
 /// What a stripe's points of a key do, and below them its newest range deletion.
-fn effect_of(points: &[&Entry], deleted: Option<u64>) -> Effect {
+fn effect_of<O: Operator>(points: &[&Entry], deleted: Option<u64>) -> Effect {
     let (mut effect, mut newer) = (Effect::Keep, points);
     if let Some(deleted) = deleted {
         effect = Effect::Set(None);
@@ -66,7 +78,7 @@ fn effect_of(points: &[&Entry], deleted: Option<u64>) -> Effect {
         newer = &newer[..=place];
     }
     for point in newer.iter().rev() {
-        effect = effect.changed_by(&point.what);
+        effect = effect.changed_by::<O>(&point.what);
     }
     effect
 }
@@ -134,10 +146,15 @@ impl Keeping<'_> {
     }
 
     /// What stands for points of a stripe, where a range deletion of it covers the key.
-    fn what_kept(&self, stripe: &Stripe, own: &[&Entry], deleted: Option<u64>) -> Option<What> {
-        let effect = effect_of(own, deleted);
+    fn what_kept<O: Operator>(
+        &self,
+        stripe: &Stripe,
+        own: &[&Entry],
+        deleted: Option<u64>,
+    ) -> Option<What> {
+        let effect = effect_of::<O>(own, deleted);
         if self.is_bottom(stripe) {
-            return effect.value().map(What::Put);
+            return effect.value::<O>().map(What::Put);
         }
         match effect {
             Effect::Keep => None,
@@ -149,7 +166,13 @@ impl Keeping<'_> {
     }
 
     /// Pushes the points that stand for a key's points.
-    fn push_kept(&self, kept: &mut Vec<Entry>, key: &[u8], points: &[&Entry], seqs: &[u64]) {
+    fn push_kept<O: Operator>(
+        &self,
+        kept: &mut Vec<Entry>,
+        key: &[u8],
+        points: &[&Entry],
+        seqs: &[u64],
+    ) {
         let mut rest = points;
         while let Some(newest) = rest.first() {
             let stripe = self.stripe_of(newest.seq);
@@ -157,7 +180,7 @@ impl Keeping<'_> {
             rest = below;
             let over = seqs.partition_point(|seq| stripe.upto < *seq);
             let deleted = seqs.get(over).filter(|seq| stripe.above < **seq);
-            let what = self.what_kept(&stripe, own, deleted.copied());
+            let what = self.what_kept::<O>(&stripe, own, deleted.copied());
             kept.extend(what.map(|what| Entry {
                 key: key.to_vec(),
                 seq: newest.seq,
@@ -182,7 +205,7 @@ fn seqs_over<'a>(ahead: &mut &'a [Fragment], key: &[u8]) -> &'a [u64] {
 }
 
 /// Several runs, the newest first, made into one.
-pub(crate) fn compact(inputs: &[&Run], keeping: Keeping<'_>) -> Run {
+pub(crate) fn compact<O: Operator>(inputs: &[&Run], keeping: Keeping<'_>) -> Run {
     let fragments = inputs.iter().flat_map(|run| &run.fragments);
     let ranges: Vec<(&[u8], &[u8], u64)> = fragments
         .flat_map(|fragment| {
@@ -199,7 +222,7 @@ pub(crate) fn compact(inputs: &[&Run], keeping: Keeping<'_>) -> Run {
     let mut ahead = fragments.as_slice();
     while let Some(key) = groups.next_into(&mut points) {
         let seqs = seqs_over(&mut ahead, key);
-        keeping.push_kept(&mut kept, key, &points, seqs);
+        keeping.push_kept::<O>(&mut kept, key, &points, seqs);
     }
     for fragment in &mut fragments {
         fragment.seqs = keeping.kept_seqs(&fragment.seqs);
