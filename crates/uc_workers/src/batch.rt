@@ -1,18 +1,16 @@
 //! [`answer_plain`]: the answers to a batch of queries of a version.
 ghost use Rattle.std.specs.Prelude.{◌≡◌, ◌⊎◌, ◌<◌, None, Some, IfOk, IfErr, length};
-ghost use Rattle.std.specs.List.{AllByRecursion};
 ghost use Rattle.uc_workers.specs.Asking as asking;
-ghost use Rattle.uc_workers.specs.Pieces.{AreDrawn, AreNumbers};
 ghost use Rattle.uc_workers.specs.declared.ask_error.AskError.TheVariants.{Memory};
 
 use crate::ask_error::{AskError, MOST_WORKERS};
-use crate::drawing::{Draws, draw_pieces};
+use crate::drawing::drawn_by_workers;
 use crate::gathering::{joined, placed};
 use crate::piece::pieces_in;
 use crossbeam_utils::atomic::AtomicCell;
 use std::alloc::{AllocError, Global};
 use std::marker::Sync;
-use std::thread::{Threads, map_indices};
+use std::thread::Threads;
 use uc_answer::{Answer, Query};
 use uc_history::Version;
 use uc_oper::Operator;
@@ -30,27 +28,9 @@ fn ask_refusal(workers: usize, piece: usize) -> Option<AskError>
     None
 }
 
-/// Lets workers draw the pieces, each in a thread of its own where one can be made. One worker is the calling thread.
-fn drawn_by_workers<O: Operator + Sync>(
-    rt: &(impl Threads + Sync),
-    alloc: Global,
-    version: &Version,
-    piece: usize,
-    queries: &[Query],
-    pieces: usize,
-    workers: usize,
-) -> Result<Vec<Draws>, AllocError>
-    requires { AreNumbers piece (length queries.now) pieces }
-    ensures { IfOk result (λ draws. AllByRecursion (AreDrawn O.meaning version.now piece queries.now pieces) draws.items) }
-{
-    let next = AtomicCell::new(0usize);
-    let worker = |_: usize| draw_pieces::<O>(alloc, version, piece, queries, pieces, &next);
-    map_indices(rt, alloc, workers.min(pieces), &worker)
-}
-
 /// The answers to queries, in their order, by workers that draw pieces.
-fn answers_of<O: Operator + Sync>(
-    rt: &(impl Threads + Sync),
+fn answers_of<O: Operator + Sync, R: Threads + Sync>(
+    rt: &R,
     alloc: Global,
     version: &Version,
     queries: &[Query],
@@ -61,7 +41,17 @@ fn answers_of<O: Operator + Sync>(
     ensures { IfOk result (λ answers. answers.items ≡ asking.answers_of O.meaning version.now queries.now) }
 {
     let pieces = pieces_in(queries.len(), piece);
-    let draws = drawn_by_workers::<O>(rt, alloc, version, piece, queries, pieces, workers)?;
+    let next = AtomicCell::new(0usize);
+    let draws = drawn_by_workers::<O, R>(
+        rt,
+        alloc,
+        version,
+        piece,
+        queries,
+        pieces,
+        &next,
+        workers.min(pieces),
+    )?;
     let places = placed::<O>(alloc, version, piece, queries, pieces, draws)?;
     joined::<O>(alloc, version, piece, queries, places)
 }
@@ -86,5 +76,5 @@ pub fn answer_plain<O: Operator + Sync>(
     if let Some(error) = ask_refusal(workers, piece) {
         return Err(error);
     }
-    Ok(answers_of::<O>(rt, alloc, version, queries, workers, piece)?)
+    Ok(answers_of::<O, _>(rt, alloc, version, queries, workers, piece)?)
 }
