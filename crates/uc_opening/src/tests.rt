@@ -4,10 +4,10 @@ use std::alloc::Global;
 use std::process::Abort;
 use std::test::Fail;
 use uc_batch::Writes;
-use uc_bytes::Bytes;
 use uc_history::Version;
 use uc_pick::Options;
-use uc_write::{MAX_SEQUENCE, Op, OpRef, Write, WriteRef};
+use uc_run::Run;
+use uc_write::{MAX_SEQUENCE, OpRef, WriteRef};
 
 /// What an opening comes to: how many runs, the id of the newest, and the keeps.
 #[derive(Clone, Copy)]
@@ -41,7 +41,7 @@ const ROW: Case = Case {
 };
 
 /// Worked by hand.
-const CASES: [Case; 17] = [
+static CASES: [Case; 17] = [
     ROW,
     Case {
         keeps: &[2, 2, 1],
@@ -167,6 +167,11 @@ const CASES: [Case; 17] = [
     },
 ];
 
+/// These rows.
+fn cases() -> &'static [Case] {
+    &CASES
+}
+
 /// The options of a row.
 fn options_of(case: &Case) -> Options {
     Options {
@@ -176,42 +181,53 @@ fn options_of(case: &Case) -> Options {
     }
 }
 
-/// Looks at what a row came to.
-fn wants(rt: &impl Abort, case: &Case, outcome: Result<Version, OpenError>) -> Result<(), Fail> {
-    let (version, wanted) = match (outcome, case.wanted) {
-        (Ok(version), Ok(wanted)) => (version, wanted),
-        (Err(error), Err(wanted)) => {
-            assert_eq!(rt; error, wanted);
-            return Ok(());
-        }
-        _ => return Err("another outcome")?,
-    };
-    assert_eq!(rt; version.runs().len(), wanted.runs);
+/// Whether a version has the runs of an opening, the newest first.
+fn has_runs(version: &Version, wanted: &Opened) -> bool {
     for (place, run) in version.runs().iter().enumerate() {
-        assert_eq!(rt; run.id(), wanted.newest.wrapping_sub(place as u64));
-        assert_eq!(rt; run.slot(), wanted.runs.wrapping_sub(1).wrapping_sub(place));
+        let id = wanted.newest.wrapping_sub(place as u64);
+        let slot = wanted.runs.wrapping_sub(1).wrapping_sub(place);
+        if run.id() != id || run.slot() != slot {
+            return false;
+        }
     }
+    version.runs().len() == wanted.runs
+}
+
+/// Looks at the version that a row came to.
+fn wants_version(rt: &impl Abort, case: &Case, version: &Version, wanted: &Opened) {
+    assert!(rt; has_runs(version, wanted));
     assert_eq!(rt; version.keeps(), wanted.keeps);
     assert_eq!(rt; version.last(), case.puts);
-    assert_eq!(rt;
-        version.next_id(),
-        case.first_id.wrapping_add(wanted.runs as u64)
-    );
+    let next = case.first_id.wrapping_add(wanted.runs as u64);
+    assert_eq!(rt; version.next_id(), next);
+}
+
+/// Looks at what a row came to.
+fn wants(rt: &impl Abort, case: &Case, outcome: Result<Version, OpenError>) -> Result<(), Fail> {
+    match (outcome, case.wanted) {
+        (Ok(version), Ok(wanted)) => wants_version(rt, case, &version, &wanted),
+        (Err(error), Err(wanted)) => assert_eq!(rt; error, wanted),
+        _ => return Err("another outcome")?,
+    }
     Ok(())
+}
+
+/// What comes of the puts of a row, one by one.
+fn put_one_by_one(rt: &impl Abort, alloc: Global, case: &Case) -> Result<Version, OpenError> {
+    let mut opener = Opener::new(alloc, options_of(case));
+    for seq in 1..=case.puts {
+        assert!(rt; opener.last() < seq);
+        assert!(rt; seq <= MAX_SEQUENCE);
+        opener.insert(alloc, &WriteRef::new(seq, OpRef::put(b"k", b"1")))?;
+    }
+    assert_eq!(rt; opener.last(), case.puts);
+    opener.finish(alloc, case.keeps)
 }
 
 #[test]
 fn puts_open_one_by_one(rt: HostRuntime) -> Result<(), Fail> {
-    let alloc = rt.alloc();
-    for case in CASES {
-        let mut opener = Opener::new(alloc, options_of(&case));
-        for seq in 1..=case.puts {
-            assert!(rt; opener.last() < seq);
-            assert!(rt; seq <= MAX_SEQUENCE);
-            opener.insert(alloc, &WriteRef::new(seq, OpRef::put(b"k", b"1")))?;
-        }
-        assert_eq!(rt; opener.last(), case.puts);
-        wants(&rt, &case, opener.finish(alloc, case.keeps))?;
+    for case in cases() {
+        wants(&rt, case, put_one_by_one(&rt, rt.alloc(), case))?;
     }
     Ok(())
 }
@@ -220,9 +236,7 @@ fn puts_open_one_by_one(rt: HostRuntime) -> Result<(), Fail> {
 fn put_list(alloc: Global, count: u64) -> Result<Writes, Fail> {
     let mut list = Vec::new(alloc);
     for seq in 1..=count {
-        let key = Bytes::from_slice(alloc, b"k")?;
-        let op = Op::Put(key, Bytes::from_slice(alloc, b"1")?);
-        list.push(Write { seq, op })?;
+        list.push(WriteRef::new(seq, OpRef::put(b"k", b"1")).to_write(alloc)?)?;
     }
     Ok(Writes::of(list).ok_or("the sequences don't rise")?)
 }
@@ -230,13 +244,27 @@ fn put_list(alloc: Global, count: u64) -> Result<Writes, Fail> {
 #[test]
 fn lists_of_puts_open(rt: HostRuntime) -> Result<(), Fail> {
     let alloc = rt.alloc();
-    for case in CASES {
+    for case in cases() {
         let writes = put_list(alloc, case.puts)?;
-        let outcome = open_version(alloc, &writes, case.keeps, &options_of(&case));
-        wants(&rt, &case, outcome)?;
+        let outcome = open_version(alloc, &writes, case.keeps, &options_of(case));
+        wants(&rt, case, outcome)?;
     }
     Ok(())
 }
+
+/// Whether a run has these least and greatest sequences, and so many points and fragments.
+fn has_counts(run: &Run, seqs: [u64; 2], points: u64, fragments: usize) -> bool {
+    [run.low_seq(), run.high_seq()] == seqs
+        && run.points() == points
+        && run.fragments().len() == fragments
+}
+
+/// One run, whose id is 1.
+const ONE_RUN: Opened = Opened {
+    runs: 1,
+    newest: 1,
+    keeps: &[],
+};
 
 #[test]
 fn a_range_without_keys_becomes_a_run(rt: HostRuntime) -> Result<(), Fail> {
@@ -245,37 +273,35 @@ fn a_range_without_keys_becomes_a_run(rt: HostRuntime) -> Result<(), Fail> {
     assert!(rt; opener.last() < 5);
     opener.insert(alloc, &WriteRef::new(5, OpRef::delete_range(b"b", b"a")))?;
     let version = opener.finish(alloc, &[])?;
-    assert_eq!(rt; (version.runs().len(), version.last()), (1, 5));
-    let newest = version.runs().first().ok_or("no run")?;
-    assert_eq!(rt; (newest.id(), newest.slot()), (1, 0));
-    let run = newest.run();
-    assert_eq!(rt; (run.low_seq(), run.high_seq()), (5, 5));
-    assert_eq!(rt; (run.points(), run.fragments().len()), (0, 0));
+    assert!(rt; has_runs(&version, &ONE_RUN));
+    assert_eq!(rt; version.last(), 5);
+    let run = version.runs().first().ok_or("no run")?.run();
+    assert!(rt; has_counts(run, [5, 5], 0, 0));
     Ok(())
+}
+
+/// A write of each kind, numbered from 1.
+fn every_change(alloc: Global) -> Result<Writes, Fail> {
+    let ops = [
+        OpRef::put(b"k", b"k"),
+        OpRef::merge(b"k", b"k"),
+        OpRef::delete(b"k"),
+        OpRef::delete_range(b"k", b"l"),
+    ];
+    let mut list = Vec::new(alloc);
+    for (at, op) in ops.into_iter().enumerate() {
+        list.push(WriteRef::new(at as u64 + 1, op).to_write(alloc)?)?;
+    }
+    Ok(Writes::of(list).ok_or("the sequences don't rise")?)
 }
 
 #[test]
 fn a_list_of_every_change_opens(rt: HostRuntime) -> Result<(), Fail> {
     let alloc = rt.alloc();
-    let key = || Bytes::from_slice(alloc, b"k");
-    let ops = [
-        Op::Put(key()?, key()?),
-        Op::Merge(key()?, key()?),
-        Op::Delete(key()?),
-        Op::DeleteRange(key()?, Bytes::from_slice(alloc, b"l")?),
-    ];
-    let mut list = Vec::new(alloc);
-    for (at, op) in ops.into_iter().enumerate() {
-        list.push(Write {
-            seq: at as u64 + 1,
-            op,
-        })?;
-    }
-    let writes = Writes::of(list).ok_or("the sequences don't rise")?;
+    let writes = every_change(alloc)?;
     let version = open_version(alloc, &writes, &[], &Options::usual())?;
     let run = version.runs().first().ok_or("no run")?.run();
-    assert_eq!(rt; (run.points(), run.fragments().len()), (3, 1));
-    assert_eq!(rt; (run.low_seq(), run.high_seq()), (1, 4));
+    assert!(rt; has_counts(run, [1, 4], 3, 1));
     Ok(())
 }
 
