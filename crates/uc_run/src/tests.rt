@@ -12,55 +12,74 @@ fn bytes(alloc: Global, text: &[u8]) -> Result<Bytes, Fail> {
     Ok(Bytes::from_slice(alloc, text)?)
 }
 
+/// Inserts a change with a sequence above the last.
+fn insert(rt: &impl Abort, memtable: &mut Memtable, seq: u64, op: OpRef<'_>) -> Result<(), Fail> {
+    assert!(rt; memtable.last() < seq);
+    assert!(rt; seq <= MAX_SEQUENCE);
+    Ok(memtable.insert_ref(&WriteRef::new(seq, op))?)
+}
+
+/// Inserts a write that owns its texts, with a sequence above the last.
+fn insert_owned(rt: &impl Abort, memtable: &mut Memtable, write: &Write) -> Result<(), Fail> {
+    assert!(rt; memtable.last() < write.seq);
+    assert!(rt; write.seq <= MAX_SEQUENCE);
+    Ok(memtable.insert(write)?)
+}
+
+/// Whether a memtable has this size and this last sequence.
+fn holds(memtable: &Memtable, size: u64, last: u64) -> bool {
+    memtable.size() == size && memtable.last() == last
+}
+
 #[test]
 fn sizes_of_writes_are_summed(rt: HostRuntime) -> Result<(), Fail> {
     let mut memtable = Memtable::new(rt.alloc());
     assert!(rt; memtable.is_empty());
-    assert_eq!(rt; (memtable.size(), memtable.last()), (0, 0));
-    let cases = [
-        (OpRef::put(b"a", b"bc"), 11),
-        (OpRef::delete(b"ab"), 21),
-        (OpRef::merge(b"", b"b"), 30),
-    ];
-    for (at, (op, size)) in cases.into_iter().enumerate() {
-        let seq = at as u64 + 1;
-        assert!(rt; memtable.last() < seq);
-        memtable.insert_ref(&WriteRef::new(seq, op))?;
-        assert!(rt; !memtable.is_empty());
-        assert_eq!(rt; (memtable.size(), memtable.last()), (size, seq));
-    }
-    Ok(())
-}
-
-#[test]
-fn ranges_without_keys_have_no_size(rt: HostRuntime) -> Result<(), Fail> {
-    let mut memtable = Memtable::new(rt.alloc());
-    memtable.insert_ref(&WriteRef::new(5, OpRef::delete_range(b"\x61", b"\x65")))?;
-    memtable.insert_ref(&WriteRef::new(8, OpRef::delete_range(b"\x63", b"\x67")))?;
-    assert_eq!(rt; (memtable.size(), memtable.last()), (20, 8));
-    memtable.insert_ref(&WriteRef::new(9, OpRef::delete_range(b"\x65", b"\x61")))?;
-    assert_eq!(rt; (memtable.size(), memtable.last()), (20, 9));
-    Ok(())
-}
-
-#[test]
-fn owned_writes_are_inserted(rt: HostRuntime) -> Result<(), Fail> {
-    let alloc = rt.alloc();
-    let mut memtable = Memtable::new(alloc);
-    let op = Op::Put(bytes(alloc, b"a")?, bytes(alloc, b"b")?);
-    memtable.insert(&Write { seq: 3, op })?;
+    assert!(rt; holds(&memtable, 0, 0));
+    insert(&rt, &mut memtable, 1, OpRef::put(b"a", b"bc"))?;
     assert!(rt; !memtable.is_empty());
-    assert_eq!(rt; (memtable.size(), memtable.last()), (10, 3));
+    assert!(rt; holds(&memtable, 11, 1));
+    insert(&rt, &mut memtable, 2, OpRef::delete(b"ab"))?;
+    assert!(rt; !memtable.is_empty());
+    assert!(rt; holds(&memtable, 21, 2));
+    insert(&rt, &mut memtable, 3, OpRef::merge(b"", b"b"))?;
+    assert!(rt; !memtable.is_empty());
+    assert!(rt; holds(&memtable, 30, 3));
     Ok(())
 }
 
 /// A memtable with two range deletions that overlap.
 fn two_ranges(rt: &impl Abort, alloc: Global) -> Result<Memtable, Fail> {
     let mut memtable = Memtable::new(alloc);
-    memtable.insert_ref(&WriteRef::new(5, OpRef::delete_range(b"\x61", b"\x65")))?;
-    assert!(rt; memtable.last() < 8);
-    memtable.insert_ref(&WriteRef::new(8, OpRef::delete_range(b"\x63", b"\x67")))?;
+    insert(rt, &mut memtable, 5, OpRef::delete_range(b"\x61", b"\x65"))?;
+    insert(rt, &mut memtable, 8, OpRef::delete_range(b"\x63", b"\x67"))?;
     Ok(memtable)
+}
+
+#[test]
+fn ranges_without_keys_have_no_size(rt: HostRuntime) -> Result<(), Fail> {
+    let mut memtable = two_ranges(&rt, rt.alloc())?;
+    assert!(rt; holds(&memtable, 20, 8));
+    insert(&rt, &mut memtable, 9, OpRef::delete_range(b"\x65", b"\x61"))?;
+    assert!(rt; holds(&memtable, 20, 9));
+    Ok(())
+}
+
+/// A put at 3 that owns its texts.
+fn owned_put(alloc: Global) -> Result<Write, Fail> {
+    let op = OpRef::put(b"a", b"b");
+    Ok(WriteRef::new(3, op).to_write(alloc)?)
+}
+
+#[test]
+fn owned_writes_are_inserted(rt: HostRuntime) -> Result<(), Fail> {
+    let alloc = rt.alloc();
+    let write = owned_put(alloc)?;
+    let mut memtable = Memtable::new(alloc);
+    insert_owned(&rt, &mut memtable, &write)?;
+    assert!(rt; !memtable.is_empty());
+    assert!(rt; holds(&memtable, 10, 3));
+    Ok(())
 }
 
 /// The fragments that they are cut into: their ends and their sequences.
@@ -71,7 +90,7 @@ const PIECES: [(&[u8], &[u8], &[u64]); 3] = [
 ];
 
 /// A key, a sequence, and whether a range deletion is seen there.
-const SEEN: [(&[u8], u64, bool); 6] = [
+static SEEN: [(&[u8], u64, bool); 6] = [
     (b"\x66", 8, true),
     (b"\x66", 7, false),
     (b"\x67", 8, false),
@@ -80,15 +99,21 @@ const SEEN: [(&[u8], u64, bool); 6] = [
     (b"\x61", 4, false),
 ];
 
+/// A fragment of these.
+fn fragment(alloc: Global, piece: (&[u8], &[u8], &[u64])) -> Result<Fragment, Fail> {
+    let (begin, end, seqs) = piece;
+    Ok(Fragment {
+        begin: bytes(alloc, begin)?,
+        end: bytes(alloc, end)?,
+        seqs: Items::from(Vec::from_slice(alloc, seqs)?),
+    })
+}
+
 /// The run of these pieces.
 fn built(rt: &impl Abort, alloc: Global) -> Result<Run, Fail> {
     let mut pieces = Vec::new(alloc);
-    for (begin, end, seqs) in PIECES {
-        pieces.push(Fragment {
-            begin: bytes(alloc, begin)?,
-            end: bytes(alloc, end)?,
-            seqs: Items::from(Vec::from_slice(alloc, seqs)?),
-        })?;
+    for piece in PIECES {
+        pieces.push(fragment(alloc, piece)?)?;
     }
     let points = Vec::new(alloc);
     assert!(rt; is_run(5, 8, &points, &pieces));
@@ -102,44 +127,51 @@ fn flushed(rt: &impl Abort, alloc: Global) -> Result<Run, Fail> {
     Ok(memtable.flush(alloc)?)
 }
 
+/// Whether a run has no point, takes 38 bytes, and is the wanted one.
+fn is_cut(run: &Run, want: &Run) -> bool {
+    run.points() == 0 && run.size() == 38 && run.same(want)
+}
+
 #[test]
 fn overlapping_ranges_are_cut(rt: HostRuntime) -> Result<(), Fail> {
     let alloc = rt.alloc();
-    let run = flushed(&rt, alloc)?;
-    assert_eq!(rt; (run.points(), run.size()), (0, 38));
-    assert!(rt; run.same(&built(&rt, alloc)?));
+    let want = built(&rt, alloc)?;
+    assert!(rt; is_cut(&flushed(&rt, alloc)?, &want));
     Ok(())
+}
+
+/// Whether an effect is that of a range deletion, or of nothing.
+fn shows(effect: &Effect, seen: bool) -> bool {
+    match effect {
+        Effect::Set(None) => seen,
+        Effect::Keep => !seen,
+        _ => false,
+    }
 }
 
 #[test]
 fn cut_ranges_are_seen(rt: HostRuntime) -> Result<(), Fail> {
     let alloc = rt.alloc();
     let run = flushed(&rt, alloc)?;
-    for (key, at, seen) in SEEN {
-        let want = if seen {
-            Effect::Set(None)
-        } else {
-            Effect::Keep
-        };
-        assert_eq!(rt;
-            run.effect::<Counter>(alloc, key, at)?,
-            want,
-            "{key:?} at {at}"
-        );
+    for (key, at, seen) in &SEEN {
+        let effect = run.effect::<Counter>(alloc, key, *at)?;
+        assert!(rt; shows(&effect, *seen), "{key:?} at {at}");
     }
     Ok(())
+}
+
+/// Whether a run has the pieces of these ranges, and sequences from 5 to 9.
+fn reaches_nine(run: &Run) -> bool {
+    [run.low_seq(), run.high_seq(), run.size()] == [5, 9, 38] && run.fragments().len() == 3
 }
 
 #[test]
 fn a_range_without_keys_has_a_sequence(rt: HostRuntime) -> Result<(), Fail> {
     let alloc = rt.alloc();
     let mut memtable = two_ranges(&rt, alloc)?;
-    assert!(rt; memtable.last() < 9);
-    memtable.insert_ref(&WriteRef::new(9, OpRef::delete_range(b"\x65", b"\x61")))?;
+    insert(&rt, &mut memtable, 9, OpRef::delete_range(b"\x65", b"\x61"))?;
     assert!(rt; !memtable.is_empty());
-    let run = memtable.flush(alloc)?;
-    assert_eq!(rt; (run.low_seq(), run.high_seq()), (5, 9));
-    assert_eq!(rt; (run.size(), run.fragments().len()), (38, 3));
+    assert!(rt; reaches_nine(&memtable.flush(alloc)?));
     Ok(())
 }
 
@@ -149,20 +181,29 @@ const PUTS: [&[u8]; 5] = [b"a", b"ab", b"b", b"a", b""];
 /// The points of their run, in order: their keys and sequences.
 const POINTS: [(&[u8], u64); 5] = [(b"", 5), (b"a", 4), (b"a", 1), (b"ab", 2), (b"b", 3)];
 
-#[test]
-fn points_stand_by_key(rt: HostRuntime) -> Result<(), Fail> {
-    let alloc = rt.alloc();
+/// The run of these puts.
+fn puts(rt: &impl Abort, alloc: Global) -> Result<Run, Fail> {
     let mut memtable = Memtable::new(alloc);
     for (at, key) in PUTS.iter().enumerate() {
-        let seq = at as u64 + 1;
-        assert!(rt; memtable.last() < seq);
-        memtable.insert_ref(&WriteRef::new(seq, OpRef::put(key, b"1")))?;
+        insert(rt, &mut memtable, at as u64 + 1, OpRef::put(key, b"1"))?;
     }
     assert!(rt; !memtable.is_empty());
-    let run = memtable.flush(alloc)?;
+    Ok(memtable.flush(alloc)?)
+}
+
+/// Whether a run has a point of this key and sequence at a place.
+fn has_point(run: &Run, place: u64, key: &[u8], seq: u64) -> bool {
+    match run.point(place) {
+        Some(point) => point.0 == key && point.1 == seq,
+        None => false,
+    }
+}
+
+#[test]
+fn points_stand_by_key(rt: HostRuntime) -> Result<(), Fail> {
+    let run = puts(&rt, rt.alloc())?;
     for (place, (key, seq)) in POINTS.iter().enumerate() {
-        let point = run.point(place as u64).ok_or("a point is missing")?;
-        assert_eq!(rt; (point.0, point.1), (*key, *seq));
+        assert!(rt; has_point(&run, place as u64, key, *seq));
     }
     assert_eq!(rt; run.points(), 5);
     Ok(())
@@ -217,14 +258,24 @@ fn drawn(rt: &impl Abort, alloc: Global, dice: &mut Dice) -> Result<(Memtable, V
     let mut writes = Vec::new(alloc);
     for _ in 0..=dice.roll(300) {
         let seq = memtable.last().saturating_add(1 + (dice.roll(2) & 1));
-        assert!(rt; memtable.last() < seq);
-        assert!(rt; seq <= MAX_SEQUENCE);
         let op = dice.op(alloc)?;
         let write = Write { seq, op };
-        memtable.insert(&write)?;
+        insert_owned(rt, &mut memtable, &write)?;
         writes.push(write)?;
     }
     Ok((memtable, writes))
+}
+
+/// Whether a lookup in a run finds what the writes do.
+fn keeps_effect<O: Operator>(
+    alloc: Global,
+    run: &Run,
+    writes: &[Write],
+    key: &[u8],
+    at: u64,
+) -> Result<bool, Fail> {
+    let want = effect_at::<O>(alloc, writes, key, at)?;
+    Ok(run.effect::<O>(alloc, key, at)? == want)
 }
 
 /// Looks each key up in a run at each sequence, and wants what the writes do to it.
@@ -236,9 +287,8 @@ fn wants_effects<O: Operator>(
 ) -> Result<(), Fail> {
     for key in KEYS {
         for at in 0..=run.high_seq() {
-            let want = effect_at::<O>(alloc, writes, key, at)?;
-            let found = run.effect::<O>(alloc, key, at)?;
-            assert_eq!(rt; found, want, "{key:?} at {at} of {writes:?}");
+            let holds = keeps_effect::<O>(alloc, run, writes, key, at)?;
+            assert!(rt; holds, "{key:?} at {at} of {writes:?}");
         }
     }
     Ok(())
