@@ -3,6 +3,7 @@ ghost use Rattle.std.specs.Prelude.{refl};
 
 use super::*;
 use std::alloc::{AllocError, Global};
+use std::process::Abort;
 use std::test::Fail;
 use uc_bytes::Bytes;
 
@@ -18,126 +19,110 @@ const MOST: [u8; 8] = [255; 8];
 
 const ONE: [u8; 8] = [1, 0, 0, 0, 0, 0, 0, 0];
 
+/// An older text, a newer one, and what an operator makes of both.
+type Row = (&'static [u8], &'static [u8], &'static [u8]);
+
+/// Joins and pairs the texts of a row.
+fn wants_both<O: Operator>(rt: &impl Abort, alloc: Global, row: &Row) -> Result<(), Fail> {
+    let joined = O::join(alloc, row.0, row.1)?;
+    assert_eq!(rt; joined.as_slice(), row.2);
+    let paired = O::pair(alloc, row.0, row.1)?;
+    assert_eq!(rt; paired.as_slice(), row.2);
+    Ok(())
+}
+
+/// Joins and pairs the texts of a row in place.
+fn wants_both_in_place<O: Operator>(rt: &impl Abort, alloc: Global, row: &Row) -> Result<(), Fail> {
+    let joined = O::join_onto(alloc, Vec::from_slice(alloc, row.0)?, row.1)?;
+    assert_eq!(rt; joined.as_slice(), row.2);
+    let paired = O::pair_onto(alloc, Vec::from_slice(alloc, row.0)?, row.1)?;
+    assert_eq!(rt; paired.as_slice(), row.2);
+    Ok(())
+}
+
+/// Makes a value of an operand.
+fn wants_first<O: Operator>(
+    rt: &impl Abort,
+    alloc: Global,
+    operand: &[u8],
+    want: &[u8],
+) -> Result<(), Fail> {
+    let first = O::first(alloc, operand)?;
+    assert_eq!(rt; first.as_slice(), want);
+    Ok(())
+}
+
+/// Numbers and their sums. What doesn't have eight bytes counts as zero.
+static SUMS: [Row; 5] = [
+    (&FIVE, &SEVEN, &TWELVE),
+    (&MOST, &ONE, &ZERO),
+    (b"\x00", &SEVEN, &SEVEN),
+    (b"abc", &SEVEN, &SEVEN),
+    (b"nine byte", b"", &ZERO),
+];
+
 #[test]
 fn counters_add_and_wrap(rt: HostRuntime) -> Result<(), Fail> {
     let alloc = rt.alloc();
-    assert_eq!(rt;
-        Counter::join(alloc, &FIVE, &SEVEN)?.as_slice(),
-        TWELVE.as_slice()
-    );
-    assert_eq!(rt;
-        Counter::pair(alloc, &FIVE, &SEVEN)?.as_slice(),
-        TWELVE.as_slice()
-    );
-    assert_eq!(rt;
-        Counter::join(alloc, &MOST, &ONE)?.as_slice(),
-        ZERO.as_slice()
-    );
-    assert_eq!(rt; Counter::first(alloc, &SEVEN)?.as_slice(), SEVEN.as_slice());
-    assert_eq!(rt;
-        Counter::first(alloc, &[1, 2, 3])?.as_slice(),
-        ZERO.as_slice()
-    );
-    assert_eq!(rt;
-        Counter::join(alloc, &[0], &SEVEN)?.as_slice(),
-        SEVEN.as_slice()
-    );
-    Ok(())
+    for row in &SUMS {
+        wants_both::<Counter>(&rt, alloc, row)?;
+    }
+    wants_first::<Counter>(&rt, alloc, &SEVEN, &SEVEN)?;
+    wants_first::<Counter>(&rt, alloc, &[1, 2, 3], &ZERO)
 }
 
 #[test]
-fn texts_append_with_a_delimiter(rt: HostRuntime) -> Result<(), Fail> {
-    let alloc = rt.alloc();
-    assert_eq!(rt;
-        Append::<44>::join(alloc, b"", b"b")?.as_slice(),
-        b",b".as_slice()
-    );
-    assert_eq!(rt;
-        Append::<44>::pair(alloc, b"b", b"c")?.as_slice(),
-        b"b,c".as_slice()
-    );
-    assert_eq!(rt;
-        Append::<44>::first(alloc, b"b")?.as_slice(),
-        b"b".as_slice()
-    );
+fn counters_add_in_place(rt: HostRuntime) -> Result<(), Fail> {
+    for row in &SUMS {
+        wants_both_in_place::<Counter>(&rt, rt.alloc(), row)?;
+    }
     Ok(())
 }
 
-#[test]
-fn the_greater_text_stays(rt: HostRuntime) -> Result<(), Fail> {
-    let alloc = rt.alloc();
-    assert_eq!(rt;
-        Maximum::join(alloc, b"a", b"ab")?.as_slice(),
-        b"ab".as_slice()
-    );
-    assert_eq!(rt;
-        Maximum::pair(alloc, b"ab", b"`")?.as_slice(),
-        b"ab".as_slice()
-    );
-    assert_eq!(rt; Maximum::first(alloc, b"b")?.as_slice(), b"b".as_slice());
-    Ok(())
-}
-
-/// An older text, a newer one, and both joined with a comma.
-const JOINED: [(&[u8], &[u8], &[u8]); 3] = [
+/// Texts, joined with a comma.
+static JOINED: [Row; 3] = [
     (b"", b"b", b",b"),
     (b"b", b"c", b"b,c"),
     (b"b,c", b"", b"b,c,"),
 ];
 
 #[test]
-fn texts_are_extended(rt: HostRuntime) -> Result<(), Fail> {
+fn texts_append_with_a_delimiter(rt: HostRuntime) -> Result<(), Fail> {
     let alloc = rt.alloc();
-    for (older, newer, want) in JOINED {
-        let base = Vec::from_slice(alloc, older)?;
-        let joined = Append::<44>::join_onto(alloc, base, newer)?;
-        assert_eq!(rt; joined.as_slice(), want);
-        let operand = Vec::from_slice(alloc, older)?;
-        let paired = Append::<44>::pair_onto(alloc, operand, newer)?;
-        assert_eq!(rt; paired.as_slice(), want);
+    for row in &JOINED {
+        wants_both::<Append<44>>(&rt, alloc, row)?;
     }
-    Ok(())
+    wants_first::<Append<44>>(&rt, alloc, b"b", b"b")
 }
-
-/// An older number, a newer one, and their sum. What doesn't have eight bytes counts as zero.
-const SUMS: [(&[u8], &[u8], &[u8]); 4] = [
-    (&FIVE, &SEVEN, &TWELVE),
-    (&MOST, &ONE, &ZERO),
-    (b"abc", &SEVEN, &SEVEN),
-    (b"nine byte", b"", &ZERO),
-];
 
 #[test]
-fn counters_add_in_place(rt: HostRuntime) -> Result<(), Fail> {
-    let alloc = rt.alloc();
-    for (older, newer, want) in SUMS {
-        let base = Vec::from_slice(alloc, older)?;
-        let joined = Counter::join_onto(alloc, base, newer)?;
-        assert_eq!(rt; joined.as_slice(), want);
-        let operand = Vec::from_slice(alloc, older)?;
-        let paired = Counter::pair_onto(alloc, operand, newer)?;
-        assert_eq!(rt; paired.as_slice(), want);
+fn texts_are_extended(rt: HostRuntime) -> Result<(), Fail> {
+    for row in &JOINED {
+        wants_both_in_place::<Append<44>>(&rt, rt.alloc(), row)?;
     }
     Ok(())
 }
 
-/// An older text, a newer one, and the greater.
-const GREATER: [(&[u8], &[u8], &[u8]); 3] = [
+/// Texts, and the greater of them.
+static GREATER: [Row; 3] = [
     (b"a", b"ab", b"ab"),
     (b"ab", b"`", b"ab"),
     (b"b", b"b", b"b"),
 ];
 
 #[test]
-fn the_greater_text_stays_in_place(rt: HostRuntime) -> Result<(), Fail> {
+fn the_greater_text_stays(rt: HostRuntime) -> Result<(), Fail> {
     let alloc = rt.alloc();
-    for (older, newer, want) in GREATER {
-        let base = Vec::from_slice(alloc, older)?;
-        let joined = Maximum::join_onto(alloc, base, newer)?;
-        assert_eq!(rt; joined.as_slice(), want);
-        let operand = Vec::from_slice(alloc, older)?;
-        let paired = Maximum::pair_onto(alloc, operand, newer)?;
-        assert_eq!(rt; paired.as_slice(), want);
+    for row in &GREATER {
+        wants_both::<Maximum>(&rt, alloc, row)?;
+    }
+    wants_first::<Maximum>(&rt, alloc, b"b", b"b")
+}
+
+#[test]
+fn the_greater_text_stays_in_place(rt: HostRuntime) -> Result<(), Fail> {
+    for row in &GREATER {
+        wants_both_in_place::<Maximum>(&rt, rt.alloc(), row)?;
     }
     Ok(())
 }
@@ -163,17 +148,36 @@ impl Operator for Newest {
     }
 }
 
+fn bytes(alloc: Global, text: &[u8]) -> Result<Bytes, Fail> {
+    Ok(Bytes::from_slice(alloc, text)?)
+}
+
+/// The effect of an operand.
+fn fold(alloc: Global, operand: &[u8]) -> Result<Effect, Fail> {
+    Ok(Effect::Fold(bytes(alloc, operand)?))
+}
+
+/// Applies an effect to a value, and wants another one.
+fn wants_applied<O: Operator>(
+    rt: &impl Abort,
+    alloc: Global,
+    effect: Effect,
+    value: &[u8],
+    want: &[u8],
+) -> Result<(), Fail> {
+    let value = bytes(alloc, value)?;
+    let value = effect.apply::<O>(alloc, Some(value))?.ok_or("no value")?;
+    assert_eq!(rt; value.as_slice(), want);
+    Ok(())
+}
+
 #[test]
 fn owned_forms_are_provided(rt: HostRuntime) -> Result<(), Fail> {
     let alloc = rt.alloc();
-    let value = Newest::join_onto(alloc, Vec::from_slice(alloc, b"a")?, b"b")?;
-    assert_eq!(rt; value.as_slice(), b"b".as_slice());
-    let pair = Newest::pair_onto(alloc, value, b"c")?;
-    assert_eq!(rt; pair.as_slice(), b"c".as_slice());
-    let effect = Effect::Fold(Bytes::from(pair)).folded::<Newest>(alloc, b"d")?;
-    let value = effect.apply::<Newest>(alloc, Some(Bytes::from_slice(alloc, b"e")?))?;
-    assert_eq!(rt; value, Some(Bytes::from_slice(alloc, b"d")?));
-    Ok(())
+    wants_both_in_place::<Newest>(&rt, alloc, &(b"a", b"b", b"b"))?;
+    wants_both_in_place::<Newest>(&rt, alloc, &(b"b", b"c", b"c"))?;
+    let effect = fold(alloc, b"c")?.folded::<Newest>(alloc, b"d")?;
+    wants_applied::<Newest>(&rt, alloc, effect, b"e", b"d")
 }
 
 #[test]
@@ -186,28 +190,55 @@ fn operands_merge_into_values(rt: HostRuntime) -> Result<(), Fail> {
     Ok(())
 }
 
-fn bytes(alloc: Global, text: &[u8]) -> Result<Bytes, Fail> {
-    Ok(Bytes::from_slice(alloc, text)?)
+/// Whether an effect is that of an operand.
+fn is_fold(effect: &Effect, operand: &[u8]) -> bool {
+    match effect {
+        Effect::Fold(text) => text.as_slice() == operand,
+        _ => false,
+    }
+}
+
+/// Whether an effect sets a value.
+fn is_set(effect: &Effect, value: &[u8]) -> bool {
+    match effect {
+        Effect::Set(Some(text)) => text.as_slice() == value,
+        _ => false,
+    }
 }
 
 #[test]
 fn effects_compose_and_apply(rt: HostRuntime) -> Result<(), Fail> {
     let alloc = rt.alloc();
-    let older = Effect::Fold(bytes(alloc, b"b")?);
-    let both = older.then::<Append<44>>(alloc, Effect::Fold(bytes(alloc, b"c")?))?;
-    assert_eq!(rt; both, Effect::Fold(bytes(alloc, b"b,c")?));
-    let value = both.apply::<Append<44>>(alloc, Some(bytes(alloc, b"a")?))?;
-    assert_eq!(rt; value, Some(bytes(alloc, b"a,b,c")?));
-    let cleared = Effect::Set(None).then::<Append<44>>(alloc, Effect::Fold(bytes(alloc, b"d")?))?;
-    assert_eq!(rt; cleared, Effect::Set(Some(bytes(alloc, b"d")?)));
+    let newer = fold(alloc, b"c")?;
+    let both = fold(alloc, b"b")?.then::<Append<44>>(alloc, newer)?;
+    assert!(rt; is_fold(&both, b"b,c"));
+    wants_applied::<Append<44>>(&rt, alloc, both, b"a", b"a,b,c")
+}
+
+#[test]
+fn an_operand_is_added_to_no_value(rt: HostRuntime) -> Result<(), Fail> {
+    let alloc = rt.alloc();
+    let newer = fold(alloc, b"d")?;
+    let cleared = Effect::Set(None).then::<Append<44>>(alloc, newer)?;
+    assert!(rt; is_set(&cleared, b"d"));
+    Ok(())
+}
+
+#[test]
+fn operands_are_added_to_nothing(rt: HostRuntime) -> Result<(), Fail> {
+    let alloc = rt.alloc();
     let kept = Effect::Keep.then::<Append<44>>(alloc, Effect::Keep)?;
-    assert_eq!(rt; kept, Effect::Keep);
+    assert!(rt; kept == Effect::Keep);
     let folded = kept.folded::<Append<44>>(alloc, b"e")?;
-    assert_eq!(rt; folded, Effect::Fold(bytes(alloc, b"e")?));
+    assert!(rt; is_fold(&folded, b"e"));
     let folded = folded.folded::<Append<44>>(alloc, b"f")?;
-    assert_eq!(rt; folded, Effect::Fold(bytes(alloc, b"e,f")?));
+    assert!(rt; is_fold(&folded, b"e,f"));
+    Ok(())
+}
+
+#[test]
+fn laws_hold() {
     then_is_associative::<Counter>();
     keep_is_unit::<Maximum>();
     apply_composes::<Append<44>>();
-    Ok(())
 }
