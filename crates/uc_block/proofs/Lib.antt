@@ -11,3 +11,4 @@ pub mod Equal
 pub mod Passing
 pub mod NearPlace
 pub mod FoundThere
+pub mod Hiding

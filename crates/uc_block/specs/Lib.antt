@@ -6,3 +6,4 @@ pub mod Overwriting
 pub mod Prefixes
 pub mod NextKey
 pub mod Cursors
+pub mod Hiding

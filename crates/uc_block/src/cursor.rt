@@ -5,10 +5,11 @@ ghost use Rattle.uc_entry.specs.Run.{IsRun};
 ghost use Rattle.uc_entry.specs.PlainList.{plain_list};
 ghost use Rattle.uc_entry.specs.Seek.{seek_place};
 ghost use Rattle.uc_model.specs.Meaning.{effect_on};
+ghost use Rattle.uc_block.specs.Hiding.{hidden_to};
 
 use crate::fences::passed_from;
 use crate::lookup::effect_found;
-use crate::near::{fragments_ended, fragments_near};
+use crate::near::{end_of_hiding, fragments_ended, fragments_near};
 use crate::places::points_between;
 use crate::run::Run;
 use std::alloc::{AllocError, Global};
@@ -85,18 +86,51 @@ impl<'a> Cursor<'a> {
         self.run.is_one();
         plain_list_does_what_is_found::<O>();
         let points = self.run.entries();
-        let end = passed_from(points, self.run.fences(), self.place, key);
+        let end = passed_from(points, self.run.fences(), self.place, key, true);
         let on = points_between(points, self.place, end, key, at);
         let over = fragments_near(self.run.fragments(), self.fragment, key);
         effect_found::<O>(alloc, on, over, key, at)
+    }
+
+    /// Where the first of the run's fragments ends that is over the key with a range deletion at or below the sequence, if one
+    /// is: from the key to below that end the sequence sees nothing of older runs. It costs a search among the fragments where
+    /// the one at which the cursor stands isn't it.
+    pub fn hidden_to(&self, key: &[u8], at: u64) -> Option<&'a [u8]>
+        ensures { option_map (λ end. end.now) result ≡ hidden_to self.now.run key.now at }
+    {
+        self.run.is_one();
+        let over = fragments_near(self.run.fragments(), self.fragment, key);
+        end_of_hiding(over, key, at)
+    }
+
+    /// Passes the points that who looks for the keys from `low` on or, where strict, behind `low`, passes over: a few of them
+    /// one by one, and more by a search by the fences.
+    fn pass_to(&mut self, low: &[u8], strict: bool)
+        ensures { self.new ≡ record { run = self.old.run; place = max self.old.place (seek_place self.old.run.points low.now strict) } }
+    {
+        self.run.is_one();
+        self.place = passed_from(
+            self.run.entries(),
+            self.run.fences(),
+            self.place,
+            low,
+            strict,
+        );
+        self.fragment = fragments_ended(self.run.fragments(), self.fragment, low);
     }
 
     /// Passes the points at and below a key: a few of them one by one, and more by a search by the fences.
     pub fn pass(&mut self, key: &[u8])
         ensures { self.new ≡ record { run = self.old.run; place = max self.old.place (seek_place self.old.run.points key.now true) } }
     {
-        self.run.is_one();
-        self.place = passed_from(self.run.entries(), self.run.fences(), self.place, key);
-        self.fragment = fragments_ended(self.run.fragments(), self.fragment, key);
+        self.pass_to(key, true);
+    }
+
+    /// Passes the points below a key: a few of them one by one, and more by a search by the fences. Where the next key is at or
+    /// above it, that costs one comparison.
+    pub fn seek(&mut self, low: &[u8])
+        ensures { self.new ≡ record { run = self.old.run; place = max self.old.place (seek_place self.old.run.points low.now false) } }
+    {
+        self.pass_to(low, false);
     }
 }

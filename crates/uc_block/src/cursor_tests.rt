@@ -64,6 +64,16 @@ fn fragments(alloc: Global) -> Result<Vec<Fragment>, Fail> {
     Ok(fragments)
 }
 
+/// The run of these points and fragments.
+fn run_of_them(alloc: Global) -> Result<Run, Fail> {
+    let points = points(alloc)?;
+    let fragments = fragments(alloc)?;
+    if !is_run(1, 100, &points, &fragments) {
+        return Err(Fail::new("no run"));
+    }
+    Ok(Run::build(alloc, 1, 100, points, fragments)?)
+}
+
 /// Sequences at which keys are read.
 const ATS: [u64; 6] = [0, 3, 30, 44, 60, 100];
 
@@ -89,12 +99,7 @@ fn wants_effects(
 #[test]
 fn a_walk_finds_what_searches_find(rt: HostRuntime) -> Result<(), Fail> {
     let alloc = rt.alloc();
-    let points = points(alloc)?;
-    let fragments = fragments(alloc)?;
-    if !is_run(1, 100, &points, &fragments) {
-        return Err(Fail::new("no run"));
-    }
-    let run = Run::build(alloc, 1, 100, points, fragments)?;
+    let run = run_of_them(alloc)?;
     for low in 0..100_u8 {
         let mut cursor = run.cursor(&[low]);
         cursor.is_of_run();
@@ -110,5 +115,64 @@ fn a_walk_finds_what_searches_find(rt: HostRuntime) -> Result<(), Fail> {
         }
         assert_eq!(rt; cursor.key(), None);
     }
+    Ok(())
+}
+
+/// Where the fragment over a key ends, if it has a range deletion at or below a sequence.
+fn told_end(key: u8, at: u64) -> Option<u8> {
+    for (begin, end, seqs) in &FRAGMENTS {
+        if *begin <= key && key < *end && seqs.iter().any(|seq| *seq <= at) {
+            return Some(*end);
+        }
+    }
+    None
+}
+
+/// Whether at each sequence the key is hidden up to where the fragment over it ends.
+fn is_hidden_as_told(cursor: &Cursor<'_>, key: u8) -> bool {
+    for at in ATS {
+        let same = match (cursor.hidden_to(&[key], at), told_end(key, at)) {
+            (Some(end), Some(told)) => end == [told].as_slice(),
+            (None, None) => true,
+            _ => false,
+        };
+        if !same {
+            return false;
+        }
+    }
+    true
+}
+
+/// Whether who seeks each key from one on stands where a search of it stands.
+fn seeks_as_searched(run: &Run, low: u8) -> bool {
+    for key in low..100 {
+        let mut cursor = run.cursor(&[low]);
+        cursor.seek(&[key]);
+        if !(cursor.is_before(&[key]) && is_hidden_as_told(&cursor, key)) {
+            return false;
+        }
+    }
+    true
+}
+
+#[test]
+fn a_cursor_seeks_and_tells_what_is_hidden(rt: HostRuntime) -> Result<(), Fail> {
+    let run = run_of_them(rt.alloc())?;
+    for low in 0..100_u8 {
+        assert!(rt; seeks_as_searched(&run, low), "from {low}");
+    }
+    Ok(())
+}
+
+#[test]
+fn a_cursor_does_not_go_back(rt: HostRuntime) -> Result<(), Fail> {
+    let run = run_of_them(rt.alloc())?;
+    let mut cursor = run.cursor(&[20]);
+    cursor.seek(&[31]);
+    assert_eq!(rt; cursor.key(), Some([32].as_slice()));
+    cursor.seek(&[20]);
+    assert_eq!(rt; cursor.key(), Some([32].as_slice()));
+    assert_eq!(rt; cursor.hidden_to(&[32], 2), None);
+    assert_eq!(rt; cursor.hidden_to(&[32], 3), Some([41].as_slice()));
     Ok(())
 }

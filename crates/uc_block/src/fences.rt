@@ -99,15 +99,15 @@ fn place_in(points: &[Point], low: &[u8], strict: bool) -> usize
     points.partition_point(|point| is_passed(low, strict, point.key()))
 }
 
-/// The place of the first of the points that isn't passed over by who looks behind the key.
-fn first_behind(points: &[Point], key: &[u8]) -> Option<usize>
+/// The place of the first of the points that isn't passed over.
+fn first_behind(points: &[Point], low: &[u8], strict: bool) -> Option<usize>
     ensures { IfSome result (λ n. (n < length points.now)
-        × AllWithin (λ p. seek.is_passed key.now true p.key ≡ true) points.now 0 n
-        × HoldsAt (λ p. seek.is_passed key.now true p.key ≡ false) points.now n) }
+        × AllWithin (λ p. seek.is_passed low.now strict p.key ≡ true) points.now 0 n
+        × HoldsAt (λ p. seek.is_passed low.now strict p.key ≡ false) points.now n) }
 {
     points
         .iter()
-        .position(|point| !is_passed(key, true, point.key()))
+        .position(|point| !is_passed(low, strict, point.key()))
 }
 
 /// How many fences are passed over.
@@ -142,17 +142,26 @@ pub(crate) fn seek_by_fences(points: &[Point], fences: &Fences, low: &[u8], stri
     begin + place_in(&points[begin..end], low, strict)
 }
 
-/// The place, from one on, of the first point that isn't passed over by who looks behind the key. A few points are looked
-/// at one by one; the fences are searched where none of them is it.
-pub(crate) fn passed_from(points: &[Point], fences: &Fences, place: usize, key: &[u8]) -> usize
+/// The place, from one on, of the first point that isn't passed over. A few points are looked at one by one; the fences are
+/// searched where none of them is it.
+pub(crate) fn passed_from(
+    points: &[Point],
+    fences: &Fences,
+    place: usize,
+    low: &[u8],
+    strict: bool,
+) -> usize
     requires sorted { IsStrictlySortedBy entry_cmp points.now }
     requires fenced { IsFenced points.now fences.now }
     requires within { place ≤ length points.now }
-    ensures { result ≡ max place (seek.seek_place points.now key.now true) }
+    ensures { result ≡ max place (seek.seek_place points.now low.now strict) }
 {
+    if place == points.len() {
+        return place;
+    }
     let few = FEW_POINTS.min(points.len() - place);
-    match first_behind(&points[place..place + few], key) {
+    match first_behind(&points[place..place + few], low, strict) {
         Some(count) => place + count,
-        None => place.max(seek_by_fences(points, fences, key, true)),
+        None => place.max(seek_by_fences(points, fences, low, strict)),
     }
 }

@@ -1,11 +1,12 @@
 //! The fragment over a key, looked for from a place on.
-ghost use Rattle.std.specs.Prelude.{◌≡◌, ◌≤◌, filter};
-ghost use Rattle.std.specs.List.{AllByRecursion};
+ghost use Rattle.std.specs.Prelude.{◌≡◌, ◌≤◌, filter, nat_le, option_map};
+ghost use Rattle.std.specs.List.{AllByRecursion, find, list_any};
 ghost use Rattle.uc_entry.specs.Order.{IsFalling, AreInOrder};
 ghost use Rattle.uc_entry.specs.Run.{covers};
 ghost use Rattle.uc_block.specs.Cursors as cursors;
+ghost use Rattle.uc_block.specs.Hiding.{hides};
 
-use uc_entry::Fragment;
+use uc_entry::{Fragment, covering_fragment};
 
 /// Whether a fragment ends at or before a key.
 fn ends_by(fragment: &Fragment, key: &[u8]) -> bool
@@ -70,5 +71,30 @@ pub(crate) fn fragments_ended(fragments: &[Fragment], place: usize, key: &[u8]) 
         place + fragments[place..].partition_point(|fragment| ends_by(fragment, key))
     } else {
         place
+    }
+}
+
+/// Whether one of falling sequences is at or below a sequence.
+fn is_any_by(seqs: &[u64], at: u64) -> bool
+    requires { IsFalling seqs.now }
+    ensures { result ≡ list_any (λ seq. nat_le seq at) seqs.now }
+{
+    match seqs.last() {
+        Some(oldest) => *oldest <= at,
+        None => false,
+    }
+}
+
+/// Where the fragment over the key ends, if it has a range deletion at or below the sequence.
+pub(crate) fn end_of_hiding<'a>(fragments: &'a [Fragment], key: &[u8], at: u64) -> Option<&'a [u8]>
+    requires order { AreInOrder fragments.now }
+    requires falling { AllByRecursion (λ f. IsFalling f.seqs) fragments.now }
+    ensures { option_map (λ end. end.now) result ≡ option_map (λ f. f.end) (find (hides at key.now) fragments.now) }
+{
+    let fragment = covering_fragment(fragments, key)?;
+    if is_any_by(fragment.seqs.as_slice(), at) {
+        Some(fragment.end.as_slice())
+    } else {
+        None
     }
 }
