@@ -4,3 +4,5 @@ pub mod Walking
 pub mod Standing
 pub mod Shown
 pub mod Protection
+pub mod Hiding
+pub mod Skipping

@@ -44,7 +44,7 @@ module _ (f g : Entry → Bool) where
   more_by p ps qs false true e rest = omega (arith, rest)
   more_by p ps qs false false e rest = rest
 
-  more_length : ((p : Entry) → f p ≡ true → g p ≡ true) → (ps : List Entry) → length (filter f ps) ≤ length (filter g ps)
+  pub more_length : ((p : Entry) → f p ≡ true → g p ≡ true) → (ps : List Entry) → length (filter f ps) ≤ length (filter g ps)
   more_length weaker [] = omega arith
   more_length weaker (p ∷ ps) = more_by p (filter f ps) (filter g ps) (f p) (g p) (weaker p) (more_length weaker ps)
 
@@ -107,11 +107,11 @@ module _ (key : List ℕ) where
   runs_stay [] = refl
   runs_stay (c ∷ cs) = ap (λ (runs : List Contents). c.run ∷ runs) (runs_stay cs)
 
--- the cursors that were lent and passed the key come back
-pub come_back : (key : List ℕ) (cs lent new : List Standing) (len : ℕ) → length cs ≡ len → lent ≡ cs → new ≡ map (passed key) lent → take len (new ++ drop (length new) cs) ≡ map (passed key) cs
-come_back key cs lent new len long same made =
-    let all : new ≡ map (passed key) cs = made ∙ ap (map (passed key)) same in
-    take_at new (drop (length new) cs) len (ap length all ∙ length-map cs (passed key) ∙ long) ∙ all
+-- the cursors that were lent and moved come back
+pub come_back : (moves : Standing → Standing) (cs lent new : List Standing) (len : ℕ) → length cs ≡ len → lent ≡ cs → new ≡ map moves lent → take len (new ++ drop (length new) cs) ≡ map moves cs
+come_back moves cs lent new len long same made =
+    let all : new ≡ map moves cs = made ∙ ap (map moves) same in
+    take_at new (drop (length new) cs) len (ap length all ∙ length-map cs moves ∙ long) ∙ all
 
 -- ---- at the start
 

@@ -69,19 +69,19 @@ each_key P points h = all_back bytes_cmp exact_bytes P (keys points) h
 
 -- ---- orders
 
-and_left : (a b : Bool) → (a && b) ≡ true → a ≡ true
+pub and_left : (a b : Bool) → (a && b) ≡ true → a ≡ true
 and_left true b e = refl
 and_left false b e = e
 
-and_right : (a b : Bool) → (a && b) ≡ true → b ≡ true
+pub and_right : (a b : Bool) → (a && b) ≡ true → b ≡ true
 and_right true b e = e
 and_right false b e = absurd (false≢true e)
 
-and_none : (a b : Bool) → b ≡ false → (a && b) ≡ false
+pub and_none : (a b : Bool) → b ≡ false → (a && b) ≡ false
 and_none true b e = e
 and_none false b e = refl
 
-not_true : (b : Bool) → not b ≡ true → b ≡ false
+pub not_true : (b : Bool) → not b ≡ true → b ≡ false
 not_true true e = absurd (false≢true e)
 not_true false e = refl
 
@@ -90,7 +90,7 @@ not_passed true h = absurd (h refl)
 not_passed false h = refl
 
 -- what isn't at or below is above
-above : (x y : List ℕ) → is_le (bytes_cmp x y) ≡ false → bytes_cmp y x ≡ Less
+pub above : (x y : List ℕ) → is_le (bytes_cmp x y) ≡ false → bytes_cmp y x ≡ Less
 above x y e = nat_list_cmp_total.antisymm y x ∙ by (bytes_cmp x y) e
   where
     by : (o : Ordering) → is_le o ≡ false → ordering_reverse o ≡ Less

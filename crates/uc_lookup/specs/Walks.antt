@@ -1,5 +1,5 @@
 -- Where a walk over the points of several runs stands.
-use Rattle.std.specs.Prelude.{◌≡◌, ℕ, Bool, true, List, Option, map, max}
+use Rattle.std.specs.Prelude.{◌≡◌, ℕ, Bool, true, false, List, Option, map, max}
 use Rattle.uc_entry.specs.Run.{Contents}
 use Rattle.uc_entry.specs.Seek.{seek_place}
 use Rattle.uc_block.specs.Cursors.{Standing}
@@ -28,3 +28,7 @@ StandsAt low strict c = c.place ≡ seek_place c.run.points low strict
 -- behind the points at and below a key
 abbrev pub passed : List ℕ → Standing → Standing
 passed key c = record { run = c.run; place = max c.place (seek_place c.run.points key true) }
+
+-- behind the points below a key
+abbrev pub sought : List ℕ → Standing → Standing
+sought low c = record { run = c.run; place = max c.place (seek_place c.run.points low false) }

@@ -1,5 +1,5 @@
 //! [`Cursors`]: a walk over the points of several runs, key by key.
-ghost use Rattle.std.specs.Prelude.{◌≡◌, ℕ, Bool, List, false, map, option_map, IfOk, IfSome};
+ghost use Rattle.std.specs.Prelude.{◌≡◌, ℕ, ◌≤◌, Bool, List, false, length, map, option_map, IfOk, IfSome};
 ghost use Rattle.std.specs.List.{AllByRecursion};
 ghost use Rattle.uc_model.specs.Meaning.{effect_on, value_of};
 ghost use Rattle.uc_answer.specs.Answers as answers;
@@ -8,8 +8,9 @@ ghost use Rattle.uc_merge.specs.Heads as heads;
 ghost use Rattle.uc_stripe.specs.Inputs.{points_of, writes_of};
 ghost use Rattle.uc_history.specs.Versions.{contents_of};
 ghost use Rattle.uc_lookup.specs.Ahead.{Comes};
-ghost use Rattle.uc_lookup.specs.Walks.{walk_at, runs_of, standing_at, passed, StandsAt};
+ghost use Rattle.uc_lookup.specs.Walks.{walk_at, runs_of, standing_at, passed, sought, StandsAt};
 
+use crate::dead_keys::dead_up_to;
 use std::alloc::{AllocError, Global};
 use std::marker::Model;
 use uc_block::Cursor;
@@ -43,7 +44,7 @@ impl<'a> Model for Cursors<'a> {
 }
 
 /// The lesser of two keys, where there are two.
-fn lesser<'a>(key: Option<&'a [u8]>, other: Option<&'a [u8]>) -> Option<&'a [u8]>
+pub(crate) fn lesser<'a>(key: Option<&'a [u8]>, other: Option<&'a [u8]>) -> Option<&'a [u8]>
     ensures { option_map (λ k. k.now) result ≡ heads.lesser_of (option_map (λ k. k.now) key.entry) (option_map (λ k. k.now) other.entry) }
 {
     match (key, other) {
@@ -85,7 +86,7 @@ fn cursors_from<'a>(
 }
 
 /// The least of the keys before which the cursors stand.
-fn least_key<'a>(cursors: &[Cursor<'a>]) -> Option<&'a [u8]>
+pub(crate) fn least_key<'a>(cursors: &[Cursor<'a>]) -> Option<&'a [u8]>
     ensures { (low : List ℕ) (strict : Bool) → AllByRecursion (StandsAt low strict) cursors.now →
         IsNextKey (points_of (runs_of cursors.now)) low strict (option_map (λ k. k.now) result) }
 {
@@ -144,6 +145,15 @@ fn pass_each(cursors: &mut [Cursor<'_>], key: &[u8])
     }
 }
 
+/// Passes the points of each run below a key.
+fn seek_each(cursors: &mut [Cursor<'_>], low: &[u8])
+    ensures { cursors.new ≡ map (sought low.now) cursors.old }
+{
+    for walk in cursors.iter_mut() {
+        walk.seek(low);
+    }
+}
+
 impl<'a> Cursors<'a> {
     /// Before the keys of the runs' points from `low` on, and below `high` where there is one. It costs a search in each run.
     /// It fails only for want of memory.
@@ -186,5 +196,25 @@ impl<'a> Cursors<'a> {
         self.low = key;
         self.strict = true;
         Ok(Some((key, value)))
+    }
+
+    /// Passes keys that have no value at a sequence: those behind the key that was passed last, as far as a run's range deletion
+    /// hides it and neither that run nor a newer one has a point. It does nothing where no run hides that key. It costs a step
+    /// for each run, and for those whose points are passed a search.
+    pub(crate) fn skip_dead<O: Operator>(&mut self, at: u64)
+        ensures rows { answers.rows_of O.meaning (writes_of self.old.runs) at self.new.keys ≡
+            answers.rows_of O.meaning (writes_of self.old.runs) at self.old.keys }
+        ensures shorter { length self.new.keys ≤ length self.old.keys }
+        ensures runs { self.new.runs ≡ self.old.runs }
+    {
+        if !self.strict {
+            return;
+        }
+        let Some(bound) = dead_up_to::<O>(&self.cursors, self.low, at) else {
+            return;
+        };
+        seek_each(&mut self.cursors, bound);
+        self.low = bound;
+        self.strict = false;
     }
 }

@@ -34,8 +34,9 @@ fn first_rows<O: Operator>(
         let Some((key, value)) = cursors.next::<O>(alloc, at)? else {
             break;
         };
-        if let Some(value) = value {
-            rows.push((Bytes::from_slice(alloc, key)?, value))?;
+        match value {
+            Some(value) => rows.push((Bytes::from_slice(alloc, key)?, value))?,
+            None => cursors.skip_dead::<O>(at),
         }
     }
     Ok(rows)

@@ -1,7 +1,7 @@
 use Rattle.std.proofs.Common.{rules, ◌≡◌, false, length, sym, ap, ◌∙◌, subst}
 use Rattle.std.specs.Prelude.{option_map}
 use Rattle.std.specs.List.{AllByRecursion}
-use Rattle.uc_lookup.specs.Walks.{StandsAt}
+use Rattle.uc_lookup.specs.Walks.{passed, StandsAt}
 use Rattle.uc_lookup.proofs.Standing.{Looks, come_back, ends, too_far, stand_before, stand_behind, same_runs, comes}
 use Rattle.uc_lookup.proofs.cursors.Cursors.next.Goals as goal
 
@@ -36,7 +36,7 @@ invariant_of-self g c =
     let found = option_map (λ k. k.now) c.least_key.result in
     let looks : Looks c.args.self.now k.cursors.items c.deref.result.now k.low.now k.strict k.high.now found = record { is = c.self.view_is; same = c.deref.ensures.value; there = c.self.invariant; least = c.least_key.ensures } in
     let long : length k.cursors.items ≡ k.cursors.len = search rules in
-    let passes = come_back key k.cursors.items c.deref_mut.result.now c.pass_each.new.cursors k.cursors.len long c.deref_mut.ensures.value c.pass_each.ensures in
+    let passes = come_back (passed key) k.cursors.items c.deref_mut.result.now c.pass_each.new.cursors k.cursors.len long c.deref_mut.ensures.value c.pass_each.ensures in
     stand_behind c.args.self.now k.cursors.items c.deref.result.now k.low.now k.strict k.high.now found looks key (ap (option_map (λ k. k.now)) c.in-Some.is) _ passes
 
 pub returns-clause-comes : goal.returns-clause-comes
@@ -46,7 +46,7 @@ returns-clause-comes g c =
     let found = option_map (λ k. k.now) c.least_key.result in
     let looks : Looks c.args.self.now k.cursors.items c.deref.result.now k.low.now k.strict k.high.now found = record { is = c.self.view_is; same = c.deref.ensures.value; there = c.self.invariant; least = c.least_key.ensures } in
     let long : length k.cursors.items ≡ k.cursors.len = search rules in
-    let passes = come_back key k.cursors.items c.deref_mut.result.now c.pass_each.new.cursors k.cursors.len long c.deref_mut.ensures.value c.pass_each.ensures in
+    let passes = come_back (passed key) k.cursors.items c.deref_mut.result.now c.pass_each.new.cursors k.cursors.len long c.deref_mut.ensures.value c.pass_each.ensures in
     comes c.args.self.now k.cursors.items c.deref.result.now k.low.now k.strict k.high.now found looks key (ap (option_map (λ k. k.now)) c.in-Some.is) _ passes (sym c.is_below.ensures ∙ c.if-not-is_below.false)
 
 pub returns-clause-runs : goal.returns-clause-runs
@@ -56,5 +56,5 @@ returns-clause-runs g c =
     let found = option_map (λ k. k.now) c.least_key.result in
     let looks : Looks c.args.self.now k.cursors.items c.deref.result.now k.low.now k.strict k.high.now found = record { is = c.self.view_is; same = c.deref.ensures.value; there = c.self.invariant; least = c.least_key.ensures } in
     let long : length k.cursors.items ≡ k.cursors.len = search rules in
-    let passes = come_back key k.cursors.items c.deref_mut.result.now c.pass_each.new.cursors k.cursors.len long c.deref_mut.ensures.value c.pass_each.ensures in
+    let passes = come_back (passed key) k.cursors.items c.deref_mut.result.now c.pass_each.new.cursors k.cursors.len long c.deref_mut.ensures.value c.pass_each.ensures in
     same_runs c.args.self.now k.cursors.items c.deref.result.now k.low.now k.strict k.high.now found looks key (ap (option_map (λ k. k.now)) c.in-Some.is) _ passes
