@@ -149,8 +149,8 @@ fn pass_each(cursors: &mut [Cursor<'_>], key: &[u8])
 fn seek_each(cursors: &mut [Cursor<'_>], low: &[u8])
     ensures { cursors.new ≡ map (sought low.now) cursors.old }
 {
-    for walk in cursors.iter_mut() {
-        walk.seek(low);
+    for cursor in cursors.iter_mut() {
+        cursor.seek(low);
     }
 }
 
