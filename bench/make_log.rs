@@ -1,7 +1,7 @@
 //! Writes a write-ahead log as LevelDB and RocksDB have them to standard output, for measurements.
 //!
 //!     make_log small|large|counters|hot MIB
-//!     make_log deleted
+//!     make_log deleted|ranged
 //!     make_log lines
 //!
 //! `small`: batches of one put, with a key of 16 bytes and a value of 100. `large`: batches of 40 puts
@@ -11,7 +11,8 @@
 //! one of 1,000 such keys: 90 percent merges, 9 percent puts, 1 percent deletions. The log has as many whole
 //! batches as fit the given size.
 //!
-//! `deleted`: 250,000 keys are put in their order, and then nine of ten deleted, in batches of 100 writes.
+//! `deleted`: 250,000 keys are put in their order, and then nine of ten deleted, in batches of 100 writes. `ranged`: the
+//! same keys are put, and then of each 1,000 neighbours the first 900 deleted by one range deletion.
 //!
 //! `lines` reads lines from standard input, `put KEY VALUE`, `delete KEY`, `merge KEY OPERAND` and
 //! `range BEGIN END` in hexadecimal, and makes a batch of each.
@@ -43,6 +44,10 @@ const HOT_KEYS: u64 = 1_000;
 const DELETED_KEYS: u64 = 250_000;
 /// Of so many of these keys one is left.
 const LEFT_OF: u64 = 10;
+/// Of so many neighbours a range deletion leaves the last ones.
+const NEIGHBOURS: u64 = 1_000;
+/// How many of them it deletes.
+const RANGED: u64 = 900;
 /// How many writes a batch of these has.
 const DELETED_BATCH: usize = 100;
 
@@ -217,11 +222,9 @@ fn make_log(kind: Kind, size: usize) -> Vec<u8> {
     }
 }
 
-/// All keys put, and most of them deleted.
-fn deleted_log() -> Vec<u8> {
+/// All keys put, and then some deletions of them.
+fn log_of_deletions(deletions: impl Iterator<Item = Vec<u8>>) -> Vec<u8> {
     let puts = (0..DELETED_KEYS).map(|number| record(PUT, number, &string(&number.to_le_bytes())));
-    let deleted = (0..DELETED_KEYS).filter(|number| number % LEFT_OF != 0);
-    let deletions = deleted.map(|number| record(DELETE, number, &[]));
     let writes: Vec<Vec<u8>> = puts.chain(deletions).collect();
     let mut log = Vec::new();
     let mut seq = 1;
@@ -233,6 +236,21 @@ fn deleted_log() -> Vec<u8> {
         seq += batch.len() as u64;
     }
     log
+}
+
+/// Most keys deleted one by one.
+fn deleted_log() -> Vec<u8> {
+    let deleted = (0..DELETED_KEYS).filter(|number| number % LEFT_OF != 0);
+    log_of_deletions(deleted.map(|number| record(DELETE, number, &[])))
+}
+
+/// As many keys deleted by ranges.
+fn ranged_log() -> Vec<u8> {
+    let firsts = (0..DELETED_KEYS / NEIGHBOURS).map(|part| part * NEIGHBOURS);
+    log_of_deletions(firsts.map(|first| {
+        let end = counter_key(first + RANGED);
+        record(RANGE, first, &string(end.as_bytes()))
+    }))
 }
 
 /// The bytes that hexadecimal digits stand for.
@@ -272,7 +290,7 @@ fn log_of_lines(lines: impl BufRead) -> io::Result<Vec<u8>> {
 
 fn usage() -> ! {
     eprintln!(
-        "usage: make_log small|large|counters|hot MIB, or make_log deleted, or make_log lines"
+        "usage: make_log small|large|counters|hot MIB, or make_log deleted|ranged, or make_log lines"
     );
     std::process::exit(2)
 }
@@ -299,6 +317,7 @@ fn log_asked_for(words: &[String]) -> io::Result<Vec<u8>> {
     match words {
         [word] if word == "lines" => log_of_lines(io::stdin().lock()),
         [word] if word == "deleted" => Ok(deleted_log()),
+        [word] if word == "ranged" => Ok(ranged_log()),
         [word, size] => match (kind_named(word), size.parse::<usize>()) {
             (Some(kind), Ok(size)) => Ok(make_log(kind, size << 20)),
             _ => usage(),

@@ -9,7 +9,8 @@
 #
 # Each program runs in a process of its own, in turn, TURNS times (5): it opens the log, makes the queries, answers them
 # once, and prints how long that took without the rest. A row has the turn with the least time. All programs must come to
-# the same answers. Logs: `counters` of MIB MiB (60), `hot` of HOT_MIB (16), `deleted` (see ../make_log.rs).
+# the same answers. Logs: `counters` of MIB MiB (60), `hot` of HOT_MIB (16), `deleted` and `ranged` (see
+# ../make_log.rs), which have the same queries.
 set -u -o pipefail
 
 here=$(cd "$(dirname "${BASH_SOURCE[0]}")" && pwd) || exit 1
@@ -45,11 +46,13 @@ make_logs() {
     "$folder/make_log" counters "${MIB:-60}" > "$folder/answers.log" || fail "no log"
     "$folder/make_log" hot "${HOT_MIB:-16}" > "$folder/hot.log" || fail "no log"
     "$folder/make_log" deleted > "$folder/deleted.log" || fail "no log"
+    "$folder/make_log" ranged > "$folder/ranged.log" || fail "no log"
 }
 
-# What is measured side by side: a name for each row, the program, and its words.
+# What is measured side by side: a name for each row, the program, its words, and its log (or else that of its workload).
 names=()
-declare -A programs words
+declare -A programs words logs
+log=
 
 plan() { # NAME PROGRAM WORDS: adds a row, where the program is there
     local name=$1 program=$2
@@ -61,6 +64,7 @@ plan() { # NAME PROGRAM WORDS: adds a row, where the program is there
     names+=("$name")
     programs[$name]=$program
     words[$name]=$*
+    logs[$name]=${log:-$1}
 }
 
 # Runs one row's program over its workload's log, and keeps what it prints behind the sum of its times.
@@ -71,7 +75,7 @@ run_once() { # NAME
         ours) program=$ours ;;
         *) program=$folder/$program ;;
     esac
-    "$program" "${asked[@]}" < "$folder/${asked[0]}.log" > "$folder/line" || fail "$1 fails"
+    "$program" "${asked[@]}" < "$folder/${logs[$1]}.log" > "$folder/line" || fail "$1 fails"
     awk '{ sum = 0; for (field = 5; field <= NF; field++) sum += $field; printf "%.0f %s\n", sum, $0 }' "$folder/line" \
         >> "$folder/row.$1" || fail "no figures of $1"
 }
@@ -188,15 +192,17 @@ hot_writes() {
     if [ "$ours" = none ]; then echo 0; else cut -d ' ' -f 3 "$folder/least.ours_uncompacted"; fi
 }
 
-# 5. Scans over deleted keys.
-deleted() {
-    echo "deleted: a scan of 5,000 rows, of 10,000 and of 20,000, nine of ten keys deleted"
+# 5. Scans over deleted keys: of the log of a name, which says how they were deleted.
+deleted() { # LOG HOW
+    log=$1
+    echo "$1: a scan of 5,000 rows, of 10,000 and of 20,000, nine of ten keys deleted $2"
     plan BTreeMap baseline deleted
     plan ours_uncompacted ours deleted --uncompacted
     plan RocksDB_uncompacted rocksdb deleted --uncompacted
-    plan ours_compacted ours deleted
-    plan RocksDB_compacted rocksdb deleted
+    plan ours_compacted ours deleted --trigger 2
+    plan RocksDB_compacted rocksdb deleted --trigger 2
     measure
+    log=
     heading '5,000 ms' '10,000 ms' '20,000 ms' '/ 5,000' '/ 10,000' '/ BTreeMap'
     print_rows 'said = ms(time[1]) ms(time[2]) ms(time[3]) cell("%.2f", time[2] / time[1]) \
         cell("%.2f", time[3] / time[2]) over("BTreeMap")'
@@ -211,5 +217,6 @@ answers
 workers
 uncompacted
 hot
-deleted
+deleted deleted 'one by one'
+deleted ranged 'by ranges'
 echo "load: $(cut -d ' ' -f 1-3 /proc/loadavg)"
