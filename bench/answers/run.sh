@@ -192,15 +192,15 @@ hot_writes() {
     if [ "$ours" = none ]; then echo 0; else cut -d ' ' -f 3 "$folder/least.ours_uncompacted"; fi
 }
 
-# 5. Scans over deleted keys: of the log of a name, which says how they were deleted.
-deleted() { # LOG HOW
+# 5. Scans over deleted keys, of the log of a name, which says how they were deleted; with so large memtables.
+deleted() { # LOG HOW MEMTABLE
     log=$1
     echo "$1: a scan of 5,000 rows, of 10,000 and of 20,000, nine of ten keys deleted $2"
     plan BTreeMap baseline deleted
-    plan ours_uncompacted ours deleted --uncompacted
-    plan RocksDB_uncompacted rocksdb deleted --uncompacted
-    plan ours_compacted ours deleted --trigger 2
-    plan RocksDB_compacted rocksdb deleted --trigger 2
+    plan ours_uncompacted ours deleted --uncompacted --memtable "$3"
+    plan RocksDB_uncompacted rocksdb deleted --uncompacted --memtable "$3"
+    plan ours_compacted ours deleted --memtable "$3"
+    plan RocksDB_compacted rocksdb deleted --memtable "$3"
     measure
     log=
     heading '5,000 ms' '10,000 ms' '20,000 ms' '/ 5,000' '/ 10,000' '/ BTreeMap'
@@ -217,6 +217,6 @@ answers
 workers
 uncompacted
 hot
-deleted deleted 'one by one'
-deleted ranged 'by ranges'
+deleted deleted 'one by one' $((4 << 20))
+deleted ranged 'by ranges' $((1 << 20))
 echo "load: $(cut -d ' ' -f 1-3 /proc/loadavg)"
