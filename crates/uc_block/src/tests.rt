@@ -1,6 +1,7 @@
 //! Runs of some sizes, and lookups in them.
 use super::*;
 use std::alloc::Global;
+use std::process::Abort;
 use std::test::Fail;
 use uc_bytes::{Bytes, Items};
 use uc_entry::{Entry, Fragment, What, is_run};
@@ -34,26 +35,30 @@ fn puts(alloc: Global, count: u8) -> Result<Run, Fail> {
 }
 
 /// Numbers of points, and how many blocks they fill.
-const BLOCKS: [(u8, u64); 7] = [(0, 0), (1, 1), (15, 1), (16, 1), (17, 2), (32, 2), (33, 3)];
+static BLOCKS: [(u8, u64); 7] = [(0, 0), (1, 1), (15, 1), (16, 1), (17, 2), (32, 2), (33, 3)];
+
+/// Looks at a run of so many puts, which fill so many blocks.
+fn wants_blocks(rt: &impl Abort, run: &Run, count: u64, blocks: u64) {
+    assert_eq!(rt; run.points(), count);
+    assert_eq!(rt; run.entries().len() as u64, count);
+    run.is_one();
+    assert_eq!(rt; run.blocks(), blocks);
+    assert_eq!(rt; run.size(), count.wrapping_mul(10));
+    assert_eq!(rt; run.seek(&[255], false), count);
+}
 
 #[test]
 fn points_fill_blocks(rt: HostRuntime) -> Result<(), Fail> {
-    let alloc = rt.alloc();
-    for (count, blocks) in BLOCKS {
-        let run = puts(alloc, count)?;
-        assert_eq!(rt; run.points(), u64::from(count));
-        assert_eq!(rt; run.entries().len() as u64, u64::from(count));
-        run.is_one();
-        assert_eq!(rt; run.blocks(), blocks);
-        assert_eq!(rt; run.size(), u64::from(count) * 10);
-        assert_eq!(rt; run.seek(&[255], false), u64::from(count));
-        assert_eq!(rt; run.next_key(&[count], false), None);
+    for (count, blocks) in &BLOCKS {
+        let run = puts(rt.alloc(), *count)?;
+        wants_blocks(&rt, &run, u64::from(*count), *blocks);
+        assert!(rt; run.next_key(&[*count], false).is_none());
     }
     Ok(())
 }
 
 /// Blocks, and their fences.
-const FENCES: [(u64, Option<&[u8]>); 4] = [
+static FENCES: [(u64, Option<&[u8]>); 4] = [
     (0, Some(b"\x00")),
     (1, Some(b"\x10")),
     (2, Some(b"\x20")),
@@ -66,7 +71,7 @@ fn puts_at(run: &Run, place: u64, key: &[u8]) -> bool {
 }
 
 /// Keys, whether they are looked for strictly, their place, and the key there.
-const PLACES: [(&[u8], bool, u64, Option<&[u8]>); 6] = [
+static PLACES: [(&[u8], bool, u64, Option<&[u8]>); 6] = [
     (b"", false, 0, Some(b"\x00")),
     (b"\x0f", false, 15, Some(b"\x0f")),
     (b"\x0f", true, 16, Some(b"\x10")),
@@ -75,21 +80,34 @@ const PLACES: [(&[u8], bool, u64, Option<&[u8]>); 6] = [
     (b"\x21", false, 33, None),
 ];
 
+/// Whether a run has these fences.
+fn has_fences(run: &Run) -> bool {
+    for (block, fence) in &FENCES {
+        if run.fence(*block) != *fence {
+            return false;
+        }
+    }
+    true
+}
+
+/// Whether keys have these places in a run.
+fn has_places(run: &Run) -> bool {
+    for (low, strict, place, key) in &PLACES {
+        if run.seek(low, *strict) != *place || run.next_key(low, *strict) != *key {
+            return false;
+        }
+    }
+    true
+}
+
 #[test]
 fn keys_have_places(rt: HostRuntime) -> Result<(), Fail> {
-    let alloc = rt.alloc();
-    let run = puts(alloc, 33)?;
-    for (block, fence) in FENCES {
-        assert_eq!(rt; run.fence(block), fence);
-    }
-    for (low, strict, place, key) in PLACES {
-        assert_eq!(rt; run.seek(low, strict), place);
-        assert_eq!(rt; run.next_key(low, strict), key);
-    }
+    let run = puts(rt.alloc(), 33)?;
+    assert!(rt; has_fences(&run));
+    assert!(rt; has_places(&run));
     assert!(rt; puts_at(&run, 17, b"\x11"));
-    assert_eq!(rt; run.point(33), None);
-    assert_eq!(rt; run.low_seq(), 1);
-    assert_eq!(rt; run.high_seq(), 40);
+    assert!(rt; run.point(33).is_none());
+    assert!(rt; run.low_seq() == 1 && run.high_seq() == 40);
     Ok(())
 }
 
@@ -105,7 +123,7 @@ fn long_key(alloc: Global, number: u8) -> Result<Bytes, Fail> {
 }
 
 /// Keys that have no point, and their places among 200 of these.
-const OUTSIDE: [(&[u8], u64); 7] = [
+static OUTSIDE: [(&[u8], u64); 7] = [
     (b"", 0),
     (b"t/z", 0),
     (b"u", 0),
@@ -115,9 +133,8 @@ const OUTSIDE: [(&[u8], u64); 7] = [
     (b"u0", 200),
 ];
 
-#[test]
-fn keys_with_equal_prefixes_have_places(rt: HostRuntime) -> Result<(), Fail> {
-    let alloc = rt.alloc();
+/// A run of deletes of 200 of these.
+fn long_keys(alloc: Global) -> Result<Run, Fail> {
     let mut points = Vec::new(alloc);
     for number in 0..200_u8 {
         points.push(Entry {
@@ -126,21 +143,31 @@ fn keys_with_equal_prefixes_have_places(rt: HostRuntime) -> Result<(), Fail> {
             what: What::Delete,
         })?;
     }
-    let run = built(alloc, points, Vec::new(alloc))?;
+    built(alloc, points, Vec::new(alloc))
+}
+
+/// Whether a key is found at a place, and the place behind it where it is looked for strictly.
+fn stands_at(run: &Run, key: &Bytes, place: u64) -> bool {
+    let key = key.as_slice();
+    run.seek(key, false) == place && run.seek(key, true) == place.wrapping_add(1)
+}
+
+#[test]
+fn keys_with_equal_prefixes_have_places(rt: HostRuntime) -> Result<(), Fail> {
+    let alloc = rt.alloc();
+    let run = long_keys(alloc)?;
     for number in 0..200_u8 {
         let key = long_key(alloc, number)?;
-        assert_eq!(rt; run.seek(key.as_slice(), false), u64::from(number));
-        assert_eq!(rt; run.seek(key.as_slice(), true), u64::from(number) + 1);
+        assert!(rt; stands_at(&run, &key, u64::from(number)), "at {number}");
     }
-    for (low, place) in OUTSIDE {
-        assert_eq!(rt; run.seek(low, false), place);
+    for (low, place) in &OUTSIDE {
+        assert!(rt; run.seek(low, false) == *place, "at {place}");
     }
     Ok(())
 }
 
-#[test]
-fn a_key_goes_over_blocks(rt: HostRuntime) -> Result<(), Fail> {
-    let alloc = rt.alloc();
+/// A run with 40 puts of one key, whose values are their sequences.
+fn one_key(alloc: Global) -> Result<Run, Fail> {
     let mut points = Vec::new(alloc);
     for back in 0..40_u8 {
         points.push(Entry {
@@ -149,18 +176,40 @@ fn a_key_goes_over_blocks(rt: HostRuntime) -> Result<(), Fail> {
             what: What::Put(bytes(alloc, &[40 - back])?),
         })?;
     }
-    let run = built(alloc, points, Vec::new(alloc))?;
-    assert_eq!(rt; run.blocks(), 3);
+    built(alloc, points, Vec::new(alloc))
+}
+
+/// Whether each of three blocks begins with the key, and a search finds the first or none.
+fn goes_over_blocks(run: &Run) -> bool {
     for block in 0..3_u64 {
-        assert_eq!(rt; run.fence(block), Some(b"k".as_slice()));
+        if run.fence(block) != Some(b"k".as_slice()) {
+            return false;
+        }
     }
-    assert_eq!(rt; run.seek(b"k", false), 0);
-    assert_eq!(rt; run.seek(b"k", true), 40);
-    assert_eq!(rt; run.next_key(b"k", true), None);
+    run.blocks() == 3
+        && run.seek(b"k", false) == 0
+        && run.seek(b"k", true) == 40
+        && run.next_key(b"k", true).is_none()
+}
+
+/// Whether an effect sets this value, or no value.
+fn sets(effect: &Effect, value: Option<&[u8]>) -> bool {
+    match (effect, value) {
+        (Effect::Set(Some(text)), Some(value)) => text.as_slice() == value,
+        (Effect::Set(None), None) => true,
+        _ => false,
+    }
+}
+
+#[test]
+fn a_key_goes_over_blocks(rt: HostRuntime) -> Result<(), Fail> {
+    let alloc = rt.alloc();
+    let run = one_key(alloc)?;
+    assert!(rt; goes_over_blocks(&run));
     let effect = run.effect::<Append<44>>(alloc, b"k", 17)?;
-    assert_eq!(rt; effect, Effect::Set(Some(bytes(alloc, &[17])?)));
+    assert!(rt; sets(&effect, Some(&[17])));
     let nothing = run.effect::<Append<44>>(alloc, b"k", 0)?;
-    assert_eq!(rt; nothing, Effect::Keep);
+    assert!(rt; nothing == Effect::Keep);
     Ok(())
 }
 
@@ -188,7 +237,7 @@ fn merges(alloc: Global) -> Result<Run, Fail> {
 }
 
 /// Sequences, and the value that there is then, if one is known.
-const EFFECTS: [(u64, Option<&[u8]>); 6] = [
+static EFFECTS: [(u64, Option<&[u8]>); 6] = [
     (1, Some(b"b")),
     (2, Some(b"b,c")),
     (3, Some(b"b,c")),
@@ -197,23 +246,29 @@ const EFFECTS: [(u64, Option<&[u8]>); 6] = [
     (6, Some(b"f,g")),
 ];
 
+/// Whether each sequence has its effect.
+fn has_effects(alloc: Global, run: &Run) -> Result<bool, Fail> {
+    for (at, value) in &EFFECTS {
+        let effect = run.effect::<Append<44>>(alloc, b"k", *at)?;
+        if !sets(&effect, *value) {
+            return Ok(false);
+        }
+    }
+    Ok(run.effect::<Append<44>>(alloc, b"l", 9)? == Effect::Keep)
+}
+
+/// Whether a run is the one of these merges, and has one fragment and takes 50 bytes.
+fn is_of_merges(run: &Run, same: &Run, other: &Run) -> bool {
+    run.fragments().len() == 1 && run.size() == 50 && run.same(same) && !run.same(other)
+}
+
 #[test]
 fn effects_by_sequence(rt: HostRuntime) -> Result<(), Fail> {
     let alloc = rt.alloc();
     let run = merges(alloc)?;
-    for (at, value) in EFFECTS {
-        let effect = run.effect::<Append<44>>(alloc, b"k", at)?;
-        let want = match value {
-            None => None,
-            Some(value) => Some(bytes(alloc, value)?),
-        };
-        assert_eq!(rt; effect, Effect::Set(want));
-    }
-    assert_eq!(rt; run.effect::<Append<44>>(alloc, b"l", 9)?, Effect::Keep);
-    assert_eq!(rt; run.fragments().len(), 1);
-    assert_eq!(rt; run.size(), 50);
-    assert!(rt; run.same(&merges(alloc)?));
-    assert!(rt; !run.same(&puts(alloc, 4)?));
+    assert!(rt; has_effects(alloc, &run)?);
+    let same = merges(alloc)?;
+    assert!(rt; is_of_merges(&run, &same, &puts(alloc, 4)?));
     Ok(())
 }
 
