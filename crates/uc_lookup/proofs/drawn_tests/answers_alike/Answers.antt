@@ -1,5 +1,5 @@
 use Rattle.std.specs.List.Sorted.{IsStrictlySortedBy}
-use Rattle.uc_lookup.proofs.drawn_tests.wants_answers.Goals as goal
+use Rattle.uc_lookup.proofs.drawn_tests.answers_alike.Goals as goal
 
 -- one sequence alone
 pub answer_of_runs-requires : goal.answer_of_runs-requires
