@@ -41,6 +41,23 @@ static CHANGES: [(u64, Change); 5] = [
     (5, Change::Merge(b"\x6b", b"\x63")),
 ];
 
+/// Inserts a change with a sequence above the last.
+fn insert(rt: &impl Abort, memtable: &mut Memtable, seq: u64, op: Op) -> Result<(), Fail> {
+    assert!(rt; memtable.last() < seq);
+    assert!(rt; seq <= MAX_SEQUENCE);
+    Ok(memtable.insert(&Write { seq, op })?)
+}
+
+/// The run of a memtable.
+fn placed(rt: &impl Abort, alloc: Global, memtable: Memtable, slot: usize) -> Result<Placed, Fail> {
+    assert!(rt; !memtable.is_empty());
+    Ok(Placed {
+        id: slot as u64,
+        slot,
+        run: Arc::new(alloc, memtable.flush(alloc)?)?,
+    })
+}
+
 /// The run of some of the changes.
 fn run_of(
     rt: &impl Abort,
@@ -50,18 +67,9 @@ fn run_of(
 ) -> Result<Placed, Fail> {
     let mut memtable = Memtable::new(alloc);
     for (seq, change) in changes {
-        let seq = *seq;
-        assert!(rt; memtable.last() < seq);
-        assert!(rt; seq <= MAX_SEQUENCE);
-        let op = op(alloc, change)?;
-        memtable.insert(&Write { seq, op })?;
+        insert(rt, &mut memtable, *seq, op(alloc, change)?)?;
     }
-    assert!(rt; !memtable.is_empty());
-    Ok(Placed {
-        id: slot as u64,
-        slot,
-        run: Arc::new(alloc, memtable.flush(alloc)?)?,
-    })
+    placed(rt, alloc, memtable, slot)
 }
 
 /// The changes in runs of as many of them, the newest first.
@@ -225,18 +233,10 @@ static NEWEST: [(u64, Change); 2] = [
 fn hot_run(rt: &impl Abort, alloc: Global) -> Result<Placed, Fail> {
     let mut memtable = Memtable::new(alloc);
     for number in 6..=45_u8 {
-        let seq = u64::from(number);
-        assert!(rt; memtable.last() < seq);
-        assert!(rt; seq <= MAX_SEQUENCE);
         let op = Op::Put(bytes(alloc, b"\x63")?, bytes(alloc, &[number])?);
-        memtable.insert(&Write { seq, op })?;
+        insert(rt, &mut memtable, u64::from(number), op)?;
     }
-    assert!(rt; !memtable.is_empty());
-    Ok(Placed {
-        id: 1,
-        slot: 1,
-        run: Arc::new(alloc, memtable.flush(alloc)?)?,
-    })
+    placed(rt, alloc, memtable, 1)
 }
 
 /// Scans of these runs, and their rows.
@@ -318,18 +318,29 @@ fn answers(alloc: Global, version: &Version, query: &Query, want: &Want) -> Resu
     is_wanted(alloc, &answer, want)
 }
 
+/// Looks keys up in a version.
+fn wants_values(rt: &impl Abort, alloc: Global, version: &Version) -> Result<(), Fail> {
+    for (key, at, want) in &GETS {
+        let query = get(alloc, key, *at)?;
+        assert!(rt; answers(alloc, version, &query, want)?, "{key:?} at {at}");
+    }
+    Ok(())
+}
+
+/// Scans a version.
+fn wants_rows(rt: &impl Abort, alloc: Global, version: &Version) -> Result<(), Fail> {
+    for (range, want) in &SCANS {
+        let query = scan(alloc, range)?;
+        assert!(rt; answers(alloc, version, &query, want)?, "{range:?}");
+    }
+    Ok(())
+}
+
 #[test]
 fn a_version_answers(rt: HostRuntime) -> Result<(), Fail> {
     let alloc = rt.alloc();
     let run = run_of(&rt, alloc, &CHANGES, 0)?.run;
     let version = version_of(alloc, run)?;
-    for (key, at, want) in &GETS {
-        let query = get(alloc, key, *at)?;
-        assert!(rt; answers(alloc, &version, &query, want)?, "{key:?} at {at}");
-    }
-    for (range, want) in &SCANS {
-        let query = scan(alloc, range)?;
-        assert!(rt; answers(alloc, &version, &query, want)?, "{range:?}");
-    }
-    Ok(())
+    wants_values(&rt, alloc, &version)?;
+    wants_rows(&rt, alloc, &version)
 }
