@@ -1,7 +1,7 @@
 //! A few writes, and a few queries of them: a small fixed piece of work.
 ghost use Rattle.std.specs.Prelude.{◌<◌, ◌^◌};
 
-use crate::answering::{Working, answered};
+use crate::answering::{Outcome, Working, answered};
 use crate::numbers::Numbers;
 use crate::printing::print_figures;
 use crate::queries::{key_of, lookups, scans};
@@ -13,7 +13,7 @@ use std::thread::Threads;
 use std::time::Clock;
 use uc_answer::Query;
 use uc_oper::Counter;
-use uc_version::{Opener, Options, Owned};
+use uc_version::{Opener, Options, Owned, Version};
 use uc_write::{OpRef, WriteRef};
 
 const WRITES: u64 = 1000;
@@ -69,25 +69,54 @@ fn few_batches(alloc: Global, at: u64) -> Result<Vec<Vec<Query>>, AllocError> {
     Ok(vec![in alloc; lookups, scans]?)
 }
 
-/// Answers a few queries of a few writes before and after their compactions, by one worker and by three, and prints how
-/// large the store is then, and what the answers were: the same each time.
-pub(crate) fn few_answers(rt: &(impl Clock + Threads + Sync + Print), alloc: Global) -> Result<()> {
+/// A store of a few writes.
+fn few_writes(alloc: Global) -> Result<Owned<Counter>> {
     let options = Options {
         memtable: MEMTABLE,
         ..Options::usual()
     };
     ensure!(options.are_good(), "an option is out of its range");
     let version = finished(alloc, inserted(alloc, WRITES, options)?)?;
-    let batches = few_batches(alloc, version.last())?;
-    let mut owned = Owned::<Counter>::new(alloc, version, options)?;
-    let before = answered(rt, alloc, owned.version(), &batches, Working::usual())?;
-    compact_picked(rt, alloc, &mut owned)?;
+    Ok(Owned::<Counter>::new(alloc, version, options)?)
+}
+
+/// Makes sure that so many workers come to the answers that were there before.
+fn ensure_same(
+    rt: &(impl Clock + Threads + Sync),
+    alloc: Global,
+    version: &Version,
+    batches: &[Vec<Query>],
+    workers: usize,
+    before: &Outcome,
+) -> Result<()> {
+    let working = Working { workers, piece: 16 };
+    let outcome = answered(rt, alloc, version, batches, working)?;
+    ensure!(outcome.checksum == before.checksum, "the answers differ");
+    Ok(())
+}
+
+/// Answers batches of a store before and after its compactions, by one worker and by three: the answers must be the same.
+fn same_answers(
+    rt: &(impl Clock + Threads + Sync),
+    alloc: Global,
+    owned: &mut Owned<Counter>,
+    batches: &[Vec<Query>],
+) -> Result<Outcome> {
+    let before = answered(rt, alloc, owned.version(), batches, Working::usual())?;
+    compact_picked(rt, alloc, owned)?;
     for workers in [1, 3] {
-        let working = Working { workers, piece: 16 };
-        let outcome = answered(rt, alloc, owned.version(), &batches, working)?;
-        ensure!(outcome.checksum == before.checksum, "the answers differ");
+        ensure_same(rt, alloc, owned.version(), batches, workers, &before)?;
     }
-    print_figures(rt, &owned, &before)?;
+    Ok(before)
+}
+
+/// Answers a few queries of a few writes before and after their compactions, and prints how large the store is then, and
+/// what the answers were.
+pub(crate) fn few_answers(rt: &(impl Clock + Threads + Sync + Print), alloc: Global) -> Result<()> {
+    let mut owned = few_writes(alloc)?;
+    let batches = few_batches(alloc, owned.version().last())?;
+    let outcome = same_answers(rt, alloc, &mut owned, &batches)?;
+    print_figures(rt, &owned, &outcome)?;
     println!(rt; "")?;
     Ok(())
 }

@@ -34,13 +34,13 @@ use std::time::Clock;
 use uc_oper::Counter;
 use uc_version::Owned;
 
-/// Answers the workload of a log, which is let go of once a store is made from it, and prints what came of it.
-fn measure(
-    rt: &(impl Clock + Threads + Sync + Print),
+/// The store of a log, which is let go of once a store is made from it; compacted, where that was asked for.
+fn store_of(
+    rt: &(impl Threads + Sync),
     alloc: Global,
     log: Vec<u8>,
     asked: &Asked,
-) -> Result<()> {
+) -> Result<Owned<Counter>> {
     let options = asked.options;
     ensure!(options.are_good(), "an option is out of its range");
     let version = opened(alloc, log, options)?;
@@ -48,6 +48,17 @@ fn measure(
     if asked.compacted {
         compact_picked(rt, alloc, &mut owned)?;
     }
+    Ok(owned)
+}
+
+/// Answers the workload of a log, and prints what came of it.
+fn measure(
+    rt: &(impl Clock + Threads + Sync + Print),
+    alloc: Global,
+    log: Vec<u8>,
+    asked: &Asked,
+) -> Result<()> {
+    let owned = store_of(rt, alloc, log, asked)?;
     let batches = batches_of(alloc, asked.workload, owned.version().last())?;
     let outcome = answered(rt, alloc, owned.version(), &batches, asked.working)?;
     print_outcome(rt, &owned, &outcome)

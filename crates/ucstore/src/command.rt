@@ -77,8 +77,8 @@ fn operator<'a>(alloc: Global, shown: &'a Shown) -> Arg<'a> {
         )
 }
 
-/// A subcommand that opens a store, with the store's operator and options.
-fn over_a_store<'a>(
+/// A subcommand, with the operator and how large a memtable grows.
+fn with_writes<'a>(
     alloc: Global,
     command: Command<'a>,
     shown: &'a Shown,
@@ -89,6 +89,17 @@ fn over_a_store<'a>(
         shown.memtable.as_str(),
         "Flush a memtable once it holds this many bytes (write_buffer_size)",
     );
+    command
+        .arg(operator(alloc, shown))?
+        .arg(memtable.value_parser(value_parser!(u64)))
+}
+
+/// A subcommand, with the options that say when runs are compacted, and how far.
+fn with_limits<'a>(
+    alloc: Global,
+    command: Command<'a>,
+    shown: &'a Shown,
+) -> Result<Command<'a>, AllocError> {
     let trigger = number(
         alloc,
         "trigger",
@@ -109,6 +120,18 @@ fn over_a_store<'a>(
         "Compact everything once the newer runs together exceed this percentage of the oldest run's \
          size (max_size_amplification_percent)",
     );
+    command
+        .arg(trigger.value_parser(value_parser!(u32)))?
+        .arg(ratio.value_parser(value_parser!(u32)))?
+        .arg(percent.value_parser(value_parser!(u32)))
+}
+
+/// A subcommand, with the options that say how many runs are compacted at once.
+fn with_widths<'a>(
+    alloc: Global,
+    command: Command<'a>,
+    shown: &'a Shown,
+) -> Result<Command<'a>, AllocError> {
     let least = number(
         alloc,
         "least",
@@ -122,13 +145,19 @@ fn over_a_store<'a>(
         "Compact at most this many runs at once (max_merge_width)",
     );
     command
-        .arg(operator(alloc, shown))?
-        .arg(memtable.value_parser(value_parser!(u64)))?
-        .arg(trigger.value_parser(value_parser!(u32)))?
-        .arg(ratio.value_parser(value_parser!(u32)))?
-        .arg(percent.value_parser(value_parser!(u32)))?
         .arg(least.value_parser(value_parser!(u32)))?
         .arg(greatest.value_parser(value_parser!(u32)))
+}
+
+/// A subcommand that opens a store, with the store's operator and options.
+fn over_a_store<'a>(
+    alloc: Global,
+    command: Command<'a>,
+    shown: &'a Shown,
+) -> Result<Command<'a>, AllocError> {
+    let command = with_writes(alloc, command, shown)?;
+    let command = with_limits(alloc, command, shown)?;
+    with_widths(alloc, command, shown)
 }
 
 /// `ucstore play`.
