@@ -10,7 +10,7 @@ ghost use Rattle.std.specs.Prelude.{◌≡◌, IfOk, vec_len};
 use anyhow::{Result, ensure};
 use std::alloc::Global;
 use std::env;
-use std::time::Instant;
+use std::time::{Clock, Instant};
 use uc_crc::crc32c;
 
 const MIB: usize = 1 << 20;
@@ -52,6 +52,17 @@ fn small<R: Print>(rt: &R, alloc: Global) -> Result<()> {
     Ok(())
 }
 
+// Sums so many MiB in so many rounds, and prints how long that took.
+fn measure<R: Clock + Print>(rt: &R, alloc: Global, size: usize, rounds: u32) -> Result<()> {
+    ensure!(size <= MOST_MIB, "at most {MOST_MIB} MiB");
+    let mut bytes = generated(alloc, size * MIB)?;
+    let start = Instant::now(rt)?;
+    let checksum = summed(&mut bytes, rounds);
+    let nanoseconds = start.elapsed(rt)?.as_nanos();
+    println!(rt; "{nanoseconds} {checksum:08x}")?;
+    Ok(())
+}
+
 fn main(rt: HostRuntime) -> Result<()> {
     let words: Vec<String> = env::args(&rt)?.collect(rt.alloc())?;
     if words.len() < 3 {
@@ -59,11 +70,5 @@ fn main(rt: HostRuntime) -> Result<()> {
     }
     let size = words[1].parse::<usize>()?;
     let rounds = words[2].parse::<u32>()?;
-    ensure!(size <= MOST_MIB, "at most {MOST_MIB} MiB");
-    let mut bytes = generated(rt.alloc(), size * MIB)?;
-    let start = Instant::now(&rt)?;
-    let checksum = summed(&mut bytes, rounds);
-    let nanoseconds = start.elapsed(&rt)?.as_nanos();
-    println!(rt; "{nanoseconds} {checksum:08x}")?;
-    Ok(())
+    measure(&rt, rt.alloc(), size, rounds)
 }
