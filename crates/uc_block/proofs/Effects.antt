@@ -12,7 +12,7 @@ use Rattle.uc_entry.specs.declared.entry.Entry.{Entry}
 use Rattle.uc_entry.specs.declared.entry.What.{What}
 use Rattle.uc_entry.specs.declared.entry.What.TheVariants.{Put, Delete, Merge}
 use Rattle.uc_entry.specs.Lookup.{what_effect, points_effect, above_newest}
-use Rattle.uc_block.specs.Overwriting.{sets, overwrites}
+use Rattle.uc_point.specs.Overwriting.{sets, overwrites}
 
 module _ (m : Operation) where
   -- the oldest one first

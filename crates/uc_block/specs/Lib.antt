@@ -2,7 +2,6 @@ pub mod Held
 pub mod Blocks
 pub mod Fences
 pub mod Places
-pub mod Overwriting
 pub mod Prefixes
 pub mod NextKey
 pub mod Cursors

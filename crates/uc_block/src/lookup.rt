@@ -2,56 +2,25 @@
 ghost use Rattle.std.specs.Prelude.{◌≡◌, filter, IfOk, nat_le};
 ghost use Rattle.std.specs.List.{AllByRecursion, flat_map, slice_get};
 ghost use Rattle.uc_oper.specs.Operation.{Operation};
-ghost use Rattle.uc_oper.specs.Composition.{composed};
 ghost use Rattle.uc_oper.specs.declared.effect.Effect.{Effect as EffectOf};
 ghost use Rattle.uc_entry.specs.Order.{IsFalling, AreInOrder};
 ghost use Rattle.uc_entry.specs.Run.{covers};
 ghost use Rattle.uc_entry.specs.Lookup as lookup;
-ghost use Rattle.uc_point.specs.Packed as packed;
 ghost use Rattle.uc_block.specs.Places.{PointsFall};
-ghost use Rattle.uc_block.specs.Overwriting as overwriting;
 
 use crate::places::{greatest_at, newer_than};
 use std::alloc::{AllocError, Global};
-use uc_bytes::Bytes;
 use uc_entry::{Fragment, covering_fragment};
 use uc_oper::{Effect, Operator};
-use uc_point::{Point, WhatRef};
-
-/// Whether a point overwrites what is older.
-#[inline]
-fn overwrites(point: &Point) -> bool
-    ensures { result ≡ overwriting.overwrites point.now }
-{
-    match point.what() {
-        WhatRef::Put(_) | WhatRef::Delete => true,
-        WhatRef::Merge(_) => false,
-    }
-}
+use uc_point::Point;
 
 /// The points, the newest first, but those that a newer one overwrites.
 fn lasting(points: &[Point]) -> &[Point]
     ensures { (m : Operation) (before : EffectOf) → lookup.points_effect m before result.now ≡ lookup.points_effect m before points.now }
 {
-    match points.iter().position(overwrites) {
+    match points.iter().position(Point::overwrites) {
         None => points,
         Some(place) => &points[..place + 1],
-    }
-}
-
-/// An effect, and then a point. Its operand is written into the effect's text, and only a text that is kept
-/// is copied. Want of memory loses the effect.
-fn changed_by<O: Operator>(
-    alloc: Global,
-    effect: Effect,
-    what: WhatRef<'_>,
-) -> Result<Effect, AllocError>
-    ensures { IfOk result (λ both. both ≡ composed O.meaning effect (lookup.what_effect (packed.what_of what.entry))) }
-{
-    match what {
-        WhatRef::Put(value) => Ok(Effect::Set(Some(Bytes::from_slice(alloc, value)?))),
-        WhatRef::Delete => Ok(Effect::Set(None)),
-        WhatRef::Merge(operand) => effect.folded::<O>(alloc, operand),
     }
 }
 
@@ -67,7 +36,7 @@ fn points_effect<O: Operator>(
     let points = lasting(points);
     let mut effect = before;
     for place in (0..points.len()).rev() {
-        effect = changed_by::<O>(alloc, effect, points[place].what())?;
+        effect = points[place].what().after::<O>(alloc, effect)?;
     }
     Ok(effect)
 }

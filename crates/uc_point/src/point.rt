@@ -1,6 +1,7 @@
 //! [`Point`]: an entry of a run in little memory.
 ghost use Rattle.std.specs.Prelude.{◌≡◌, ◌<◌, ◌≤◌, ◌^◌, ◌↔◌, ◌++◌, length, IsTrue, IfOk};
 ghost use Rattle.std.specs.List.{AllByRecursion};
+ghost use Rattle.uc_point.specs.Overwriting as overwriting;
 ghost use Rattle.uc_point.specs.Packed as packed;
 
 use crate::what_ref::WhatRef;
@@ -120,6 +121,17 @@ impl Point {
             DELETION => WhatRef::Delete,
             VALUE => WhatRef::Put(text),
             _ => WhatRef::Merge(text),
+        }
+    }
+
+    /// Whether it overwrites what is older: a put and a delete do, and a merge doesn't.
+    #[inline]
+    pub fn overwrites(&self) -> bool
+        ensures { result ≡ overwriting.overwrites self.now }
+    {
+        match self.what() {
+            WhatRef::Put(_) | WhatRef::Delete => true,
+            WhatRef::Merge(_) => false,
         }
     }
 

@@ -4,6 +4,7 @@ use std::alloc::Global;
 use std::test::Fail;
 use uc_bytes::Bytes;
 use uc_entry::{Entry, What};
+use uc_oper::{Append, Effect};
 
 /// Keys and texts: empty, as long as fit together, and longer.
 const TEXTS: [(&[u8], &[u8]); 6] = [
@@ -69,6 +70,27 @@ fn points_are_the_same_by_all_they_say(rt: HostRuntime) -> Result<(), Fail> {
     for other in &others {
         assert!(rt; !point.same(other));
     }
+    Ok(())
+}
+
+#[test]
+fn a_merge_overwrites_nothing(rt: HostRuntime) -> Result<(), Fail> {
+    let alloc = rt.alloc();
+    assert!(rt; Point::new(alloc, b"k", 7, WhatRef::Put(b"v"))?.overwrites());
+    assert!(rt; Point::new(alloc, b"k", 7, WhatRef::Delete)?.overwrites());
+    assert!(rt; !Point::new(alloc, b"k", 7, WhatRef::Merge(b"v"))?.overwrites());
+    Ok(())
+}
+
+#[test]
+fn what_is_said_goes_onto_an_effect(rt: HostRuntime) -> Result<(), Fail> {
+    let alloc = rt.alloc();
+    let put = WhatRef::Put(b"a").after::<Append>(alloc, Effect::Keep)?;
+    assert_eq!(rt; put, Effect::Set(Some(Bytes::from_slice(alloc, b"a")?)));
+    let both = WhatRef::Merge(b"b").after::<Append>(alloc, put)?;
+    assert_eq!(rt; both, Effect::Set(Some(Bytes::from_slice(alloc, b"a,b")?)));
+    let none = WhatRef::Delete.after::<Append>(alloc, both)?;
+    assert_eq!(rt; none, Effect::Set(None));
     Ok(())
 }
 

@@ -1,10 +1,13 @@
 //! [`WhatRef`]: what a point says of its key, with a borrowed text.
 ghost use Rattle.std.specs.Prelude.{◌≡◌, IfOk};
+ghost use Rattle.uc_oper.specs.Composition.{composed};
+ghost use Rattle.uc_entry.specs.Lookup.{what_effect};
 ghost use Rattle.uc_point.specs.Packed as packed;
 
 use std::alloc::{AllocError, Global};
 use uc_bytes::Bytes;
 use uc_entry::What;
+use uc_oper::{Effect, Operator};
 
 /// What a point says of its key: a [`What`] whose text is borrowed, so that it takes no memory.
 #[derive(Clone, Copy, Debug, PartialEq, Eq)]
@@ -38,5 +41,17 @@ impl<'a> WhatRef<'a> {
             WhatRef::Delete => What::Delete,
             WhatRef::Merge(operand) => What::Merge(Bytes::from_slice(alloc, operand)?),
         })
+    }
+
+    /// What an effect and then this do in turn. An operand is written into the effect's text, and only a text that is kept is
+    /// copied. Want of memory loses the effect.
+    pub fn after<O: Operator>(self, alloc: Global, before: Effect) -> Result<Effect, AllocError>
+        ensures { IfOk result (λ both. both ≡ composed O.meaning before (what_effect (packed.what_of self.entry))) }
+    {
+        match self {
+            WhatRef::Put(value) => Ok(Effect::Set(Some(Bytes::from_slice(alloc, value)?))),
+            WhatRef::Delete => Ok(Effect::Set(None)),
+            WhatRef::Merge(operand) => before.folded::<O>(alloc, operand),
+        }
     }
 }

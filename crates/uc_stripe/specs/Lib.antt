@@ -3,4 +3,3 @@ pub mod Inputs
 pub mod Output
 pub mod Values
 pub mod Choice
-pub mod Overwriting

@@ -1,66 +1,27 @@
 //! What a key's points do, as one effect.
 ghost use Rattle.std.specs.Prelude.{◌≡◌, map, IfOk};
 ghost use Rattle.uc_oper.specs.Operation.{Operation};
-ghost use Rattle.uc_oper.specs.Composition.{composed};
 ghost use Rattle.uc_oper.specs.declared.effect.Effect.{Effect as EffectOf};
 ghost use Rattle.uc_entry.specs.Lookup as lookup;
-ghost use Rattle.uc_point.specs.Packed as packed;
 ghost use Rattle.uc_stripe.specs.Choice.{PointsFall};
-ghost use Rattle.uc_stripe.specs.Overwriting as overwriting;
 
 use crate::parts::points_above;
 use std::alloc::{AllocError, Global};
 use std::marker::Sync;
 use std::thread::{Threads, join};
-use uc_bytes::Bytes;
 use uc_oper::{Effect, Operator};
-use uc_point::{Point, WhatRef};
+use uc_point::Point;
 
 /// More points than this are folded in two threads.
 const MANY: usize = 5_000;
-
-/// Whether a point overwrites what is older.
-fn overwrites(point: &Point) -> bool
-    ensures { result ≡ overwriting.overwrites point.now }
-{
-    match point.what() {
-        WhatRef::Put(_) | WhatRef::Delete => true,
-        WhatRef::Merge(_) => false,
-    }
-}
 
 /// The points, the newest first, but those that a newer one overwrites.
 fn lasting<'b, 'a>(points: &'b [&'a Point]) -> &'b [&'a Point]
     ensures { (m : Operation) (before : EffectOf) → lookup.points_effect m before (map (λ p. p.now) result.now) ≡ lookup.points_effect m before (map (λ p. p.now) points.now) }
 {
-    match points.iter().position(|point| overwrites(point)) {
+    match points.iter().position(|point| point.overwrites()) {
         None => points,
         Some(place) => &points[..place + 1],
-    }
-}
-
-/// What a point does.
-fn effect_of(alloc: Global, what: WhatRef<'_>) -> Result<Effect, AllocError>
-    ensures { IfOk result (λ effect. effect ≡ lookup.what_effect (packed.what_of what.entry)) }
-{
-    Ok(match what {
-        WhatRef::Put(value) => Effect::Set(Some(Bytes::from_slice(alloc, value)?)),
-        WhatRef::Delete => Effect::Set(None),
-        WhatRef::Merge(operand) => Effect::Fold(Bytes::from_slice(alloc, operand)?),
-    })
-}
-
-/// An effect, and then a point. Its operand is written into the effect's text. Want of memory loses the effect.
-fn changed_by<O: Operator>(
-    alloc: Global,
-    effect: Effect,
-    what: WhatRef<'_>,
-) -> Result<Effect, AllocError>
-    ensures { IfOk result (λ both. both ≡ composed O.meaning effect (lookup.what_effect (packed.what_of what.entry))) }
-{
-    match what {
-        WhatRef::Merge(operand) => effect.folded::<O>(alloc, operand),
-        other => effect_of(alloc, other),
     }
 }
 
@@ -74,7 +35,7 @@ fn folded_onto<O: Operator>(
 {
     let mut effect = before;
     for place in (0..points.len()).rev() {
-        effect = changed_by::<O>(alloc, effect, points[place].what())?;
+        effect = points[place].what().after::<O>(alloc, effect)?;
     }
     Ok(effect)
 }

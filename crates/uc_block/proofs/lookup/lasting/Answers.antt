@@ -5,7 +5,7 @@ use Rattle.std.specs.List.{AllWithin, HoldsAt}
 use Rattle.std.specs.Prelude.{ℕ, Option, length, ◌<◌}
 use Rattle.uc_entry.specs.declared.entry.Entry.{Entry}
 use Rattle.uc_entry.specs.declared.entry.What.TheVariants.{Delete}
-use Rattle.uc_block.specs.Overwriting.{overwrites}
+use Rattle.uc_point.specs.Overwriting.{overwrites}
 use Rattle.uc_block.proofs.Effects.{lasting_does}
 use Rattle.uc_block.proofs.lookup.lasting.Goals as goal
 

@@ -3,7 +3,7 @@ use Rattle.std.proofs.lemmas.Iterator.{YieldsList-from_slice, IsFirst-from_posit
 use Rattle.std.specs.Option.{MatchOption}
 use Rattle.std.specs.List.{AllWithin, HoldsAt}
 use Rattle.std.specs.Prelude.{ℕ, Option, length, ◌<◌}
-use Rattle.uc_stripe.specs.Overwriting.{overwrites}
+use Rattle.uc_point.specs.Overwriting.{overwrites}
 use Rattle.uc_stripe.proofs.InTurn.{lasting_first}
 use Rattle.uc_stripe.proofs.folding.lasting.Goals as goal
 

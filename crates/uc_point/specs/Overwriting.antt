@@ -1,4 +1,4 @@
--- Points that overwrite what is older.
+-- What overwrites what is older.
 use Rattle.std.specs.Prelude.{Bool, true, false}
 use Rattle.uc_entry.specs.declared.entry.Entry.{Entry}
 use Rattle.uc_entry.specs.declared.entry.What.{What}
