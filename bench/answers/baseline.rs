@@ -1,11 +1,11 @@
 //! What `bench_answers` does, in plain Rust with a `BTreeMap` of values, to measure it against.
 //!
-//!     baseline answers|hot|deleted [--threads N]
+//!     baseline answers|hot|deleted [--one-batch] [--threads N]
 //!     baseline operands
 //!
 //! It reads a log of counters from standard input, folds its writes as they come, and answers the workload's queries: the
-//! same line as `bench_answers`, with one run and a point for each key. With `--threads` each of so many threads answers an
-//! equal share of a batch. `operands` prints how many operands the lookups of `hot` fold: those behind the last put or
+//! same line as `bench_answers`, with one run and a point for each key. With `--one-batch` all queries are one batch, and with
+//! `--threads` each of so many threads answers an equal share of a batch. `operands` prints how many operands the lookups of `hot` fold: those behind the last put or
 //! deletion of each key, where nothing has folded them before.
 
 #[path = "../log.rs"]
@@ -196,12 +196,12 @@ fn answers_by_threads(values: &Values, queries: &[Query], threads: usize) -> Vec
     })
 }
 
-/// Answers the batches of a workload, and prints what came of it.
-fn measure(values: &Values, workload: &str, threads: usize) {
+/// Answers batches of queries, and prints what came of it.
+fn measure(values: &Values, batches: &[Vec<Query>], threads: usize) {
     let (mut count, mut sum, mut times) = (0, 0, String::new());
-    for queries in batches_of(workload) {
+    for queries in batches {
         let start = Instant::now();
-        let answers = answers_by_threads(values, &queries, threads);
+        let answers = answers_by_threads(values, queries, threads);
         times += &format!(" {}", start.elapsed().as_nanos());
         count += answers.len();
         sum = answers.iter().fold(sum, with_answer);
@@ -232,14 +232,23 @@ fn main() -> io::Result<()> {
     let words: Vec<&str> = words.iter().map(String::as_str).collect();
     let mut log = Vec::new();
     io::stdin().lock().read_to_end(&mut log)?;
-    match words.as_slice() {
-        ["operands"] => print_operands(&log),
-        [workload] => measure(&values_of(log), workload, 1),
-        [workload, "--threads", threads] => {
-            let threads = threads.parse().expect("a number");
-            measure(&values_of(log), workload, threads);
+    let (batches, options) = match words.as_slice() {
+        ["operands"] => {
+            print_operands(&log);
+            return Ok(());
         }
-        _ => panic!("usage: baseline WORKLOAD [--threads N], or baseline operands"),
-    }
+        [workload, "--one-batch", options @ ..] => {
+            let queries = batches_of(workload).into_iter().flatten();
+            (vec![queries.collect()], options)
+        }
+        [workload, options @ ..] => (batches_of(workload), options),
+        [] => panic!("usage: baseline WORKLOAD [--one-batch] [--threads N], or baseline operands"),
+    };
+    let threads = match options {
+        [] => 1,
+        ["--threads", threads] => threads.parse().expect("a number"),
+        _ => panic!("there are no such options"),
+    };
+    measure(&values_of(log), &batches, threads);
     Ok(())
 }

@@ -136,22 +136,21 @@ answers() {
     print_rows 'said = ms(time[1]) ms(time[2]) ms(sum) over("BTreeMap") over("RocksDB")'
 }
 
-# 2. The same by more workers, in smaller and larger pieces.
+# 2. The same queries as one batch, by more workers, in smaller and larger pieces.
 workers() {
     local workers piece
-    echo "answers, compacted, by workers: times faster than one. A BTreeMap's threads show what the machine gives"
+    echo "answers, compacted, as one batch, by workers: times faster than one. A BTreeMap's threads show what the machine gives"
     for piece in 1 16 256; do
         for workers in 1 2 4; do
-            plan "ours_pieces_of_${piece}_workers_$workers" ours answers --workers "$workers" --piece "$piece"
+            plan "ours_pieces_of_${piece}_workers_$workers" ours answers --one-batch --workers "$workers" --piece "$piece"
         done
     done
     for workers in 1 2 4; do
-        plan "BTreeMap_equal_shares_workers_$workers" baseline answers --threads "$workers"
+        plan "BTreeMap_equal_shares_workers_$workers" baseline answers --one-batch --threads "$workers"
     done
     measure
-    heading 'lookups ms' 'scans ms' 'sum ms' 'faster'
-    print_rows 'one = name; sub(/[0-9]+$/, "1", one)
-        said = ms(time[1]) ms(time[2]) ms(sum) cell("%.2f", sums[one] / sum)'
+    heading 'ms' 'faster'
+    print_rows 'one = name; sub(/[0-9]+$/, "1", one); said = ms(sum) cell("%.2f", sums[one] / sum)'
 }
 
 # 3. Many runs.

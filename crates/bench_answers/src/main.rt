@@ -1,10 +1,10 @@
 //! Answers lookups and scans of a store that opens from a log, for `bench/answers`.
 //!
-//! `bench_answers WORKLOAD [--memtable N] [--trigger N] [--uncompacted] [--workers N] [--piece N]` reads a log of counters
-//! from standard input, opens a store from it, and compacts what universal compaction picks as long as it picks anything.
-//! Then it answers the workload's queries at the last sequence, batch by batch, by so many workers (1) in pieces of so many
-//! queries (16). It prints how many runs and points there are, how many answers came, a checksum of them, and the
-//! nanoseconds of each batch. Read `words.rt` for the options, and `queries.rt` for the workloads.
+//! `bench_answers WORKLOAD [--memtable N] [--trigger N] [--uncompacted] [--one-batch] [--workers N] [--piece N]` reads a log
+//! of counters from standard input, opens a store from it, and compacts what universal compaction picks as long as it picks
+//! anything. Then it answers the workload's queries at the last sequence, batch by batch or all as one, by so many workers
+//! (1) in pieces of so many queries (16). It prints how many runs and points there are, how many answers came, a checksum of
+//! them, and the nanoseconds of each batch. Read `words.rt` for the options, and `queries.rt` for the workloads.
 //!
 //! Without words it does so with a thousand writes of its own, before and after the compactions and by one worker and by
 //! three, and prints the first four: the answers must be the same.
@@ -21,16 +21,17 @@ mod words;
 use crate::answering::answered;
 use crate::few::few_answers;
 use crate::printing::print_outcome;
-use crate::queries::batches_of;
+use crate::queries::{as_one_batch, batches_of};
 use crate::store::{compact_picked, opened};
 use crate::words::{Asked, asked_by};
 use anyhow::{Result, ensure};
-use std::alloc::Global;
+use std::alloc::{AllocError, Global};
 use std::env;
 use std::io::Read;
 use std::marker::Sync;
 use std::thread::Threads;
 use std::time::Clock;
+use uc_answer::Query;
 use uc_oper::Counter;
 use uc_version::Owned;
 
@@ -51,6 +52,16 @@ fn store_of(
     Ok(owned)
 }
 
+/// The batches of queries that are asked for, at a sequence.
+fn asked_batches(alloc: Global, asked: &Asked, at: u64) -> Result<Vec<Vec<Query>>, AllocError> {
+    let batches = batches_of(alloc, asked.workload, at)?;
+    if asked.one_batch {
+        as_one_batch(alloc, batches)
+    } else {
+        Ok(batches)
+    }
+}
+
 /// Answers the workload of a log, and prints what came of it.
 fn measure(
     rt: &(impl Clock + Threads + Sync + Print),
@@ -59,7 +70,7 @@ fn measure(
     asked: &Asked,
 ) -> Result<()> {
     let owned = store_of(rt, alloc, log, asked)?;
-    let batches = batches_of(alloc, asked.workload, owned.version().last())?;
+    let batches = asked_batches(alloc, asked, owned.version().last())?;
     let outcome = answered(rt, alloc, owned.version(), &batches, asked.working)?;
     print_outcome(rt, &owned, &outcome)
 }

@@ -119,3 +119,15 @@ pub(crate) fn batches_of(
         Workload::Deleted => scans_of_all(alloc, &[5000, 10_000, 20_000], at),
     }
 }
+
+/// All queries as one batch.
+pub(crate) fn as_one_batch(
+    alloc: Global,
+    batches: Vec<Vec<Query>>,
+) -> Result<Vec<Vec<Query>>, AllocError> {
+    let mut all = Vec::new(alloc);
+    for mut batch in batches {
+        all.append(&mut batch)?;
+    }
+    Ok(vec![in alloc; all]?)
+}

@@ -13,6 +13,8 @@ pub(crate) struct Asked {
     pub(crate) options: Options,
     /// Whether it is compacted before it is read.
     pub(crate) compacted: bool,
+    /// Whether all queries of the workload are one batch.
+    pub(crate) one_batch: bool,
     pub(crate) working: Working,
 }
 
@@ -59,6 +61,7 @@ pub(crate) fn asked_by(workload: &str, options: &[String]) -> Result<Asked> {
         workload,
         options: Options::usual(),
         compacted: true,
+        one_batch: false,
         working: Working::usual(),
     };
     // The option whose number comes next.
@@ -71,6 +74,7 @@ pub(crate) fn asked_by(workload: &str, options: &[String]) -> Result<Asked> {
                 open = None;
             }
             None if word == "--uncompacted" => asked.compacted = false,
+            None if word == "--one-batch" => asked.one_batch = true,
             None => open = Some(Setting::named(word).context("there is no such option")?),
         }
     }
