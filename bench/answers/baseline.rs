@@ -5,8 +5,8 @@
 //!
 //! It reads a log of counters from standard input, folds its writes as they come, and answers the workload's queries: the
 //! same line as `bench_answers`, with one run and a point for each key. With `--one-batch` all queries are one batch, and with
-//! `--threads` each of so many threads answers an equal share of a batch. `operands` prints how many operands the lookups of `hot` fold: those behind the last put or
-//! deletion of each key, where nothing has folded them before.
+//! `--threads` so many threads draw pieces of 16 queries. `operands` prints how many operands the lookups of `hot` fold:
+//! those behind the last put or deletion of each key, where nothing has folded them before.
 
 #[path = "../log.rs"]
 mod log;
@@ -17,6 +17,7 @@ use log::{read_batch, Ended, LogReader, Op};
 use std::collections::{BTreeMap, HashMap};
 use std::io::{self, Read};
 use std::ops::Bound;
+use std::sync::atomic::{AtomicUsize, Ordering};
 use std::thread;
 use std::time::Instant;
 use store::Numbers;
@@ -26,6 +27,9 @@ const HOT_KEYS: u64 = 1_000;
 const LOOKUPS: usize = 20_000;
 const SCANS: usize = 500;
 const MOST_ROWS: u64 = 50;
+
+/// How many queries a thread draws at a time.
+const PIECE: usize = 16;
 
 type Values = BTreeMap<Vec<u8>, Vec<u8>>;
 
@@ -181,19 +185,29 @@ fn answers_of(values: &Values, queries: &[Query]) -> Vec<Answer> {
     queries.iter().map(|query| answer(values, query)).collect()
 }
 
-/// The answers, of which each thread gives an equal share.
+/// The answers, by threads that draw pieces of the queries as they come free.
 fn answers_by_threads(values: &Values, queries: &[Query], threads: usize) -> Vec<Answer> {
-    if threads == 1 {
-        return answers_of(values, queries);
-    }
-    let shares = queries.chunks(queries.len().div_ceil(threads));
-    thread::scope(|scope| {
-        let started: Vec<_> = shares
-            .map(|share| scope.spawn(move || answers_of(values, share)))
-            .collect();
-        let ended = started.into_iter().map(|thread| thread.join());
-        ended.flat_map(|answers| answers.unwrap()).collect()
-    })
+    let next = AtomicUsize::new(0);
+    let draw_pieces = || {
+        let mut drawn = Vec::new();
+        loop {
+            let number = next.fetch_add(1, Ordering::Relaxed);
+            let Some(piece) = queries.chunks(PIECE).nth(number) else {
+                return drawn;
+            };
+            drawn.push((number, answers_of(values, piece)));
+        }
+    };
+    let mut pieces = thread::scope(|scope| {
+        let others: Vec<_> = (1..threads).map(|_| scope.spawn(draw_pieces)).collect();
+        let mut drawn = draw_pieces();
+        for other in others {
+            drawn.extend(other.join().unwrap());
+        }
+        drawn
+    });
+    pieces.sort_unstable_by_key(|(number, _)| *number);
+    pieces.into_iter().flat_map(|(_, answers)| answers).collect()
 }
 
 /// Answers batches of queries, and prints what came of it.
@@ -201,7 +215,10 @@ fn measure(values: &Values, batches: &[Vec<Query>], threads: usize) {
     let (mut count, mut sum, mut times) = (0, 0, String::new());
     for queries in batches {
         let start = Instant::now();
-        let answers = answers_by_threads(values, queries, threads);
+        let answers = match threads {
+            1 => answers_of(values, queries),
+            threads => answers_by_threads(values, queries, threads),
+        };
         times += &format!(" {}", start.elapsed().as_nanos());
         count += answers.len();
         sum = answers.iter().fold(sum, with_answer);

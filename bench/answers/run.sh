@@ -80,11 +80,12 @@ run_once() { # NAME
         >> "$folder/row.$1" || fail "no figures of $1"
 }
 
-# Runs all rows in turn, and keeps the line of each one's least sum. The answers of all are the same.
-measure() {
+# Runs all rows in turn, TURNS times or as often as is said, and keeps the line of each one's least sum. The answers of all
+# are the same.
+measure() { # [TIMES]
     local name
     if [ "${#names[@]}" -eq 0 ]; then return; fi
-    for _ in $(seq "$turns"); do
+    for _ in $(seq "${1:-$turns}"); do
         for name in "${names[@]}"; do run_once "$name"; done
     done
     [ "$(for name in "${names[@]}"; do cut -d ' ' -f 4,5 "$folder/row.$name"; done | sort -u | wc -l)" -eq 1 ] ||
@@ -136,7 +137,8 @@ answers() {
     print_rows 'said = ms(time[1]) ms(time[2]) ms(sum) over("BTreeMap") over("RocksDB")'
 }
 
-# 2. The same queries as one batch, by more workers, in smaller and larger pieces.
+# 2. The same queries as one batch, by more workers, in smaller and larger pieces. How fast four processors are together
+# changes with what else the machine does, so these rows have four times the turns.
 workers() {
     local workers piece
     echo "answers, compacted, as one batch, by workers: times faster than one. A BTreeMap's threads show what the machine gives"
@@ -146,9 +148,9 @@ workers() {
         done
     done
     for workers in 1 2 4; do
-        plan "BTreeMap_equal_shares_workers_$workers" baseline answers --one-batch --threads "$workers"
+        plan "BTreeMap_pieces_of_16_workers_$workers" baseline answers --one-batch --threads "$workers"
     done
-    measure
+    measure $((4 * turns))
     heading 'ms' 'faster'
     print_rows 'one = name; sub(/[0-9]+$/, "1", one); said = ms(sum) cell("%.2f", sums[one] / sum)'
 }
