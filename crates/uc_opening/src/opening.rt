@@ -12,26 +12,7 @@ use std::alloc::{AllocError, Global};
 use uc_batch::Writes;
 use uc_history::Version;
 use uc_pick::Options;
-use uc_write::{Op, OpRef, Write, WriteRef};
-
-/// The change with its texts borrowed.
-fn borrowed(op: &Op) -> OpRef<'_>
-    ensures { result ≡ op.now }
-{
-    match op {
-        Op::Put(key, value) => OpRef::put(key.as_slice(), value.as_slice()),
-        Op::Delete(key) => OpRef::delete(key.as_slice()),
-        Op::Merge(key, operand) => OpRef::merge(key.as_slice(), operand.as_slice()),
-        Op::DeleteRange(begin, end) => OpRef::delete_range(begin.as_slice(), end.as_slice()),
-    }
-}
-
-/// The write with its texts borrowed.
-fn borrowed_write(write: &Write) -> WriteRef<'_>
-    ensures { result ≡ write.now }
-{
-    WriteRef::new(write.seq, borrowed(&write.op))
-}
+use uc_write::{Write, WriteRef};
 
 /// A store that is being opened, after these writes.
 fn opener_after(alloc: Global, options: Options, writes: &[Write]) -> Result<Opener, AllocError>
@@ -40,7 +21,7 @@ fn opener_after(alloc: Global, options: Options, writes: &[Write]) -> Result<Ope
 {
     let mut opener = Opener::new(alloc, options);
     for write in writes {
-        opener.insert(alloc, &borrowed_write(write))?;
+        opener.insert(alloc, &WriteRef::of(write))?;
     }
     Ok(opener)
 }

@@ -1,6 +1,8 @@
 //! Points of each kind, with texts that fit and texts that don't.
+ghost use Rattle.std.specs.Prelude.{◌<◌, ◌^◌};
+
 use super::*;
-use std::alloc::Global;
+use std::alloc::{AllocError, Global};
 use std::test::Fail;
 use uc_bytes::Bytes;
 use uc_entry::{Entry, What};
@@ -56,20 +58,22 @@ fn points_say_what_entries_say(rt: HostRuntime) -> Result<(), Fail> {
     Ok(())
 }
 
+/// Whether a point is the same as the put of `v` to `k` with sequence 7.
+fn is_the_put(alloc: Global, key: &[u8], seq: u64, what: WhatRef<'_>) -> Result<bool, AllocError>
+    requires { seq < 2 ^ 56 }
+{
+    let put = Point::new(alloc, b"k", 7, WhatRef::Put(b"v"))?;
+    Ok(put.same(&Point::new(alloc, key, seq, what)?))
+}
+
 #[test]
 fn points_are_the_same_by_all_they_say(rt: HostRuntime) -> Result<(), Fail> {
     let alloc = rt.alloc();
-    let point = Point::new(alloc, b"k", 7, WhatRef::Put(b"v"))?;
-    assert!(rt; point.same(&Point::new(alloc, b"k", 7, WhatRef::Put(b"v"))?));
-    let others = [
-        Point::new(alloc, b"kv", 7, WhatRef::Put(b""))?,
-        Point::new(alloc, b"k", 8, WhatRef::Put(b"v"))?,
-        Point::new(alloc, b"k", 7, WhatRef::Merge(b"v"))?,
-        Point::new(alloc, b"k", 7, WhatRef::Delete)?,
-    ];
-    for other in &others {
-        assert!(rt; !point.same(other));
-    }
+    assert!(rt; is_the_put(alloc, b"k", 7, WhatRef::Put(b"v"))?);
+    assert!(rt; !is_the_put(alloc, b"kv", 7, WhatRef::Put(b""))?);
+    assert!(rt; !is_the_put(alloc, b"k", 8, WhatRef::Put(b"v"))?);
+    assert!(rt; !is_the_put(alloc, b"k", 7, WhatRef::Merge(b"v"))?);
+    assert!(rt; !is_the_put(alloc, b"k", 7, WhatRef::Delete)?);
     Ok(())
 }
 
@@ -85,11 +89,11 @@ fn a_merge_overwrites_nothing(rt: HostRuntime) -> Result<(), Fail> {
 #[test]
 fn what_is_said_goes_onto_an_effect(rt: HostRuntime) -> Result<(), Fail> {
     let alloc = rt.alloc();
-    let put = WhatRef::Put(b"a").after::<Append>(alloc, Effect::Keep)?;
+    let put = WhatRef::Put(b"a").after::<Append<0x2C>>(alloc, Effect::Keep)?;
     assert_eq!(rt; put, Effect::Set(Some(Bytes::from_slice(alloc, b"a")?)));
-    let both = WhatRef::Merge(b"b").after::<Append>(alloc, put)?;
+    let both = WhatRef::Merge(b"b").after::<Append<0x2C>>(alloc, put)?;
     assert_eq!(rt; both, Effect::Set(Some(Bytes::from_slice(alloc, b"a,b")?)));
-    let none = WhatRef::Delete.after::<Append>(alloc, both)?;
+    let none = WhatRef::Delete.after::<Append<0x2C>>(alloc, both)?;
     assert_eq!(rt; none, Effect::Set(None));
     Ok(())
 }

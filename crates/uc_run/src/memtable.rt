@@ -13,7 +13,7 @@ use std::alloc::{AllocError, Global};
 use std::marker::Model;
 use uc_block::Run;
 use uc_fragment::cut_ranges;
-use uc_write::{Op, OpRef, Write, WriteRef};
+use uc_write::{Write, WriteRef};
 
 /// The newest writes, before they become a run (RocksDB wiki, "MemTable"). A contract sees it as the list of the
 /// writes that were inserted, in order.
@@ -78,18 +78,6 @@ fn push_write(
     Ok(())
 }
 
-/// The change with its texts borrowed.
-fn borrowed(op: &Op) -> OpRef<'_>
-    ensures { result ≡ op.now }
-{
-    match op {
-        Op::Put(key, value) => OpRef::put(key.as_slice(), value.as_slice()),
-        Op::Delete(key) => OpRef::delete(key.as_slice()),
-        Op::Merge(key, operand) => OpRef::merge(key.as_slice(), operand.as_slice()),
-        Op::DeleteRange(begin, end) => OpRef::delete_range(begin.as_slice(), end.as_slice()),
-    }
-}
-
 impl Memtable {
     /// A memtable without writes. It takes no memory.
     pub fn new(alloc: Global) -> Memtable
@@ -134,7 +122,7 @@ impl Memtable {
         ensures ok { OnOk result (self.new ≡ self.old ++ write.now ∷ []) }
         ensures err { OnErr result (self.new ≡ self.old) }
     {
-        self.insert_ref(&WriteRef::new(write.seq, borrowed(&write.op)))
+        self.insert_ref(&WriteRef::of(write))
     }
 
     /// Inserts a write whose texts are borrowed, as [`insert`](Memtable::insert) does.

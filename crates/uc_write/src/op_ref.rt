@@ -40,6 +40,18 @@ impl<'a> Model for OpRef<'a> {
 }
 
 impl<'a> OpRef<'a> {
+    /// The same with its texts borrowed.
+    pub fn of(op: &'a Op) -> OpRef<'a>
+        ensures { result ≡ op.now }
+    {
+        match op {
+            Op::Put(key, value) => OpRef::put(key.as_slice(), value.as_slice()),
+            Op::Delete(key) => OpRef::delete(key.as_slice()),
+            Op::Merge(key, operand) => OpRef::merge(key.as_slice(), operand.as_slice()),
+            Op::DeleteRange(begin, end) => OpRef::delete_range(begin.as_slice(), end.as_slice()),
+        }
+    }
+
     /// Sets a key to a value.
     pub fn put(key: &'a [u8], value: &'a [u8]) -> OpRef<'a>
         ensures { result ≡ changes.Put key.now value.now }

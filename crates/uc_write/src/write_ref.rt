@@ -29,6 +29,13 @@ impl<'a> WriteRef<'a> {
         WriteRef { seq, op }
     }
 
+    /// The same with its texts borrowed.
+    pub fn of(write: &'a Write) -> WriteRef<'a>
+        ensures { result ≡ write.now }
+    {
+        WriteRef::new(write.seq, OpRef::of(&write.op))
+    }
+
     /// Its place in the order of all writes, from 1 to [`MAX_SEQUENCE`](crate::MAX_SEQUENCE).
     pub fn seq(&self) -> u64
         ensures { result ≡ self.now.seq }
