@@ -1,5 +1,5 @@
 -- What memtables end as is what their writes open with.
-use Rattle.std.proofs.Common.{◌≡◌, ◌≢◌, ℕ, ◌+◌, ◌<◌, Bool, true, false, cond, ◌&&◌, List, [], ◌∷◌, ◌++◌, length, map, fold, Option, Some, None, refl, sym, ap, ◌∙◌, subst}
+use Rattle.std.proofs.Common.{◌≡◌, ◌≢◌, ℕ, ◌+◌, Bool, true, false, cond, ◌&&◌, List, [], ◌∷◌, ◌++◌, length, map, fold, Option, Some, None, refl, sym, ap, ◌∙◌}
 use Rattle.std.specs.List.{AllByRecursion}
 use Rattle.std.proofs.lemmas.List.{length-map}
 use Rattle.uc_write.specs.declared.write.Write.{Write}
@@ -7,11 +7,11 @@ use Rattle.uc_batch.specs.Rising.{last_of}
 use Rattle.uc_entry.specs.Run.{Contents}
 use Rattle.uc_run.specs.Flush.{flushed}
 use Rattle.uc_pick.specs.Options.{are_good}
-use Rattle.uc_history.specs.Versions.{PlacedRun, Stored}
-use Rattle.uc_history.specs.Openings.{Opening, memtables, opened, with_flushed, flushed_runs, rising}
+use Rattle.uc_history.specs.Versions.{PlacedRun}
+use Rattle.uc_history.specs.Openings.{Opening, memtables, opened, with_flushed, rising}
 use Rattle.uc_history.proofs.Memtables.{some_from}
 use Rattle.uc_opening.specs.Refusal.{are_few}
-use Rattle.uc_opening.specs.Progress.{Flushing, Progress, flushing_of, held_of, progress_of}
+use Rattle.uc_opening.specs.Progress.{Flushing, Progress, flushing_of, progress_of}
 use Rattle.uc_opening.specs.Steps.{rest_run, all_runs, with_run, placed_runs, version_of}
 
 rest_flushed : (p : List Write) → p ≢ [] → rest_run p ≡ flushed p ∷ []

@@ -1,15 +1,14 @@
 -- How far an opening comes with a write more.
-use Rattle.std.proofs.Common.{◌≡◌, ◌≢◌, ℕ, zero, suc, ◌+◌, ◌-◌, ◌<◌, ◌≤◌, Bool, true, false, cond, leb, not, ◌&&◌, List, [], ◌∷◌, ◌++◌, length, Option, Some, None, refl, sym, ap, ◌∙◌, subst, arith, length-append}
+use Rattle.std.proofs.Common.{◌≡◌, ◌≢◌, ℕ, suc, ◌-◌, ◌≤◌, Bool, true, false, cond, leb, not, ◌&&◌, List, [], ◌∷◌, ◌++◌, length, Some, None, refl, sym, ap, ◌∙◌, arith, length-append}
 use Rattle.std.proofs.lemmas.Bool.{leb-true, leb-false, le-leb, lt-leb}
 use Rattle.uc_write.specs.declared.write.Write.{Write}
-use Rattle.uc_batch.specs.Rising.{IsRising, last_of}
 use Rattle.uc_claims.specs.declared.table.TheConstants.{MOST_SLOTS}
 use Rattle.uc_run.specs.Size.{memtable_size}
 use Rattle.uc_run.specs.Flush.{flushed}
 use Rattle.uc_run.proofs.Inserted.{last_grown}
 use Rattle.uc_pick.specs.declared.options.Options.{Options}
 use Rattle.uc_pick.specs.Options.{are_good}
-use Rattle.uc_history.specs.Openings.{with_rest, memtables_from, memtables}
+use Rattle.uc_history.specs.Openings.{memtables_from, memtables}
 use Rattle.uc_opening.specs.Refusal.{are_few}
 use Rattle.uc_opening.specs.Progress.{Flushing, Progress, flushing_of, held_of, progress_of}
 use Rattle.uc_opening.specs.Steps.{is_full, is_spent, begun, grown, with_write, held_with}

@@ -1,13 +1,12 @@
 -- What a refusal says, and that none is leave to open.
-use Rattle.std.proofs.Common.{◌≡◌, ℕ, suc, ◌<◌, ◌≤◌, Bool, true, false, cond, leb, ◌&&◌, List, [], ◌∷◌, length, Option, Some, None, refl, sym, ap, ◌∙◌, subst, arith}
-use Rattle.std.specs.Prelude.{find, nat_lt, ◌↔◌}
+use Rattle.std.proofs.Common.{◌≡◌, ℕ, suc, ◌≤◌, Bool, true, false, cond, ◌&&◌, List, [], ◌∷◌, length, Option, Some, None, refl, sym, ap, ◌∙◌, arith}
+use Rattle.std.specs.Prelude.{nat_lt}
 use Rattle.std.specs.List.{AllByRecursion}
 use Rattle.std.proofs.lemmas.Bool.{leb-true, leb-false, le-leb, lt-leb}
 use Rattle.uc_batch.specs.Rising.{IsRising, last_of}
 use Rattle.uc_claims.specs.declared.table.TheConstants.{MOST_SLOTS}
 use Rattle.uc_pick.specs.Options.{are_good}
 use Rattle.uc_history.specs.Openings.{Opening, MayOpen, memtables}
-use Rattle.uc_opening.specs.declared.open_error.OpenError.{OpenError}
 use Rattle.uc_opening.specs.declared.open_error.OpenError.TheVariants.{BadOption, SnapshotAhead, TooManyRuns}
 use Rattle.uc_opening.specs.Refusal.{first_ahead, are_few, first_refusal, opening_refusal}
 use Rattle.uc_opening.specs.Progress.{Flushing, Progress, flushing_of, progress_of}

@@ -1,11 +1,11 @@
 -- The writes of a list up to a place.
-use Rattle.std.proofs.Common.{◌≡◌, ℕ, zero, suc, ◌+◌, ◌<◌, List, [], ◌∷◌, ◌++◌, length, get_or, take, refl, sym, ap, ◌∙◌, subst, arith}
+use Rattle.std.proofs.Common.{◌≡◌, ℕ, zero, suc, ◌+◌, ◌<◌, List, [], ◌∷◌, ◌++◌, length, get_or, take, sym, ap, ◌∙◌, subst, arith}
 use Rattle.std.specs.Prelude.{◌^◌}
 use Rattle.std.proofs.lemmas.List.{take_more}
 use Rattle.uc_write.specs.declared.write.Write.{Write}
 use Rattle.uc_batch.specs.Rising.{IsRising, last_of}
 use Rattle.uc_pick.specs.declared.options.Options.{Options}
-use Rattle.uc_opening.specs.Progress.{Progress, progress_of}
+use Rattle.uc_opening.specs.Progress.{progress_of}
 
 rises_at : (last : ℕ) (ws : List Write) (i : ℕ) (d : Write) → i < length ws → IsRising last ws → (last_of last (take i ws) < (get_or ws i d).seq) × ((get_or ws i d).seq < 2 ^ 56)
 rises_at last [] i d lt h = absurd (omega (arith, lt))

@@ -1,4 +1,4 @@
-use Rattle.std.proofs.Common.{rules, ◌≡◌, ap, sym, ◌∙◌, take, [], ◌∷◌, get_or, fold}
+use Rattle.std.proofs.Common.{ap, sym, ◌∙◌, take, [], ◌∷◌, get_or}
 use Rattle.std.proofs.lemmas.List.{take_more}
 use Rattle.std.proofs.lemmas.List.Sums.{fold-append}
 use Rattle.std.specs.Ordering.{nat_cmp}

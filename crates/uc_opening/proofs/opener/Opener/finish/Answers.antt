@@ -3,7 +3,7 @@ use Rattle.uc_pick.specs.Options.{are_good}
 use Rattle.uc_history.specs.Versions.{IsVersion}
 use Rattle.uc_history.specs.Openings.{Opening}
 use Rattle.uc_opening.specs.Refusal.{first_ahead}
-use Rattle.uc_opening.specs.Progress.{Progress, progress_of}
+use Rattle.uc_opening.specs.Progress.{progress_of}
 use Rattle.uc_opening.specs.Held.{progress}
 use Rattle.uc_opening.proofs.Ended.{ends_opened}
 use Rattle.uc_opening.proofs.Refused.{none_refused}

@@ -1,12 +1,12 @@
 use Rattle.std.proofs.Common.{rules, ◌≡◌, ◌<◌, ap, sym, ◌∙◌, subst, [], ◌∷◌, ◌++◌, Option}
 use Rattle.std.specs.Option.{IfSome}
-use Rattle.uc_batch.specs.Rising.{IsRising, last_of}
+use Rattle.uc_batch.specs.Rising.{last_of}
 use Rattle.uc_run.proofs.Inserted.{rising_grown}
 use Rattle.uc_opening.specs.Progress.{Flushing, Progress, progress_of}
 use Rattle.uc_opening.specs.Held.{progress}
 use Rattle.uc_opening.specs.Steps.{held_with}
 use Rattle.uc_opening.proofs.Grown.{state_grown}
-use Rattle.uc_opening.proofs.Newest.{held_below, held_limit}
+use Rattle.uc_opening.proofs.Newest.{held_below}
 use Rattle.uc_opening.proofs.opener.Opener.insert.Goals as goal
 
 pub hold_write-requires-clause-above : goal.hold_write-requires-clause-above
