@@ -1,7 +1,9 @@
 #!/bin/bash
 # Measures lookups and scans of a store that opens from a log, against plain Rust with a BTreeMap and against RocksDB.
 #
-#     bench/answers/run.sh
+#     bench/answers/run.sh [PART..]
+#
+# The parts are answers, workers, uncompacted, hot, deleted and ranged, or all of them where none is named.
 #
 # It measures crates/bench_answers/out/bench_answers (or OURS), which `rt run` in crates/bench_answers builds; OURS=none
 # leaves it out. baseline.rs and ../make_log.rs are built by `rustc -O` in a temporary folder, and rocksdb.cc by `g++ -O2`
@@ -194,7 +196,7 @@ hot_writes() {
 }
 
 # 5. Scans over deleted keys, of the log of a name, which says how they were deleted; with so large memtables.
-deleted() { # LOG HOW MEMTABLE
+over_deleted() { # LOG HOW MEMTABLE
     log=$1
     echo "$1: a scan of 5,000 rows, of 10,000 and of 20,000, nine of ten keys deleted $2"
     plan BTreeMap baseline deleted
@@ -209,15 +211,25 @@ deleted() { # LOG HOW MEMTABLE
         cell("%.2f", time[3] / time[2]) over("BTreeMap")'
 }
 
+deleted() {
+    over_deleted deleted 'one by one' $((4 << 20))
+}
+
+ranged() {
+    over_deleted ranged 'by ranges' $((1 << 20))
+}
+
+if [ $# -eq 0 ]; then set -- answers workers uncompacted hot deleted ranged; fi
+for part; do
+    case $part in
+        answers | workers | uncompacted | hot | deleted | ranged) ;;
+        *) fail "there is no part $part" ;;
+    esac
+done
 build_all
 make_logs
 grep -m1 'model name' /proc/cpuinfo
 echo "load: $(cut -d ' ' -f 1-3 /proc/loadavg)"
 echo
-answers
-workers
-uncompacted
-hot
-deleted deleted 'one by one' $((4 << 20))
-deleted ranged 'by ranges' $((1 << 20))
+for part; do "$part"; done
 echo "load: $(cut -d ' ' -f 1-3 /proc/loadavg)"
