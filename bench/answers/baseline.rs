@@ -207,7 +207,10 @@ fn answers_by_threads(values: &Values, queries: &[Query], threads: usize) -> Vec
         drawn
     });
     pieces.sort_unstable_by_key(|(number, _)| *number);
-    pieces.into_iter().flat_map(|(_, answers)| answers).collect()
+    pieces
+        .into_iter()
+        .flat_map(|(_, answers)| answers)
+        .collect()
 }
 
 /// Answers batches of queries, and prints what came of it.

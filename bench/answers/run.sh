@@ -6,8 +6,8 @@
 # The parts are answers, workers, uncompacted, hot, deleted and ranged, or all of them where none is named.
 #
 # It measures crates/bench_answers/out/bench_answers (or OURS), which `rt run` in crates/bench_answers builds; OURS=none
-# leaves it out. baseline.rs and ../make_log.rs are built by `rustc -O` in a temporary folder, and rocksdb.cc by `g++ -O2`
-# where RocksDB's headers are installed (Debian's librocksdb-dev); where they aren't, it is left out.
+# leaves it out. baseline.rs, machine.rs and ../make_log.rs are built by `rustc -O` in a temporary folder, and rocksdb.cc by
+# `g++ -O2` where RocksDB's headers are installed (Debian's librocksdb-dev); where they aren't, it is left out.
 #
 # Each program runs in a process of its own, in turn, TURNS times (5): it opens the log, makes the queries, answers them
 # once, and prints how long that took without the rest. A row has the turn with the least time. All programs must come to
@@ -34,6 +34,7 @@ build() { # SOURCE
 build_all() {
     build "$here/../make_log.rs"
     build "$here/baseline.rs"
+    build "$here/machine.rs"
     if [ "$ours" != none ]; then ours=$(realpath -e "$ours") || exit 2; fi
     has_rocksdb=
     if echo '#include <rocksdb/db.h>' | g++ -std=c++17 -fsyntax-only -x c++ - 2> "$folder/said"; then
@@ -139,11 +140,20 @@ answers() {
     print_rows 'said = ms(time[1]) ms(time[2]) ms(sum) over("BTreeMap") over("RocksDB")'
 }
 
+# How much more the processors do together than one does, whatever the program.
+machine() {
+    echo "rounds of arithmetic in registers, in millions a second"
+    printf '%-34s %26s%12s%12s\n' '' least median most
+    "$folder/machine" | awk '{ printf "%-34s %26s%12s%12s\n", "threads " $1, $2, $3, $4 }' || fail "no rounds"
+    echo
+}
+
 # 2. The same queries as one batch, by more workers, in smaller and larger pieces. How fast four processors are together
 # changes with what else the machine does, so these rows have four times the turns.
 workers() {
     local workers piece
-    echo "answers, compacted, as one batch, by workers: times faster than one. A BTreeMap's threads show what the machine gives"
+    machine
+    echo "answers, compacted, as one batch, by workers: times faster than one"
     for piece in 1 16 256; do
         for workers in 1 2 4; do
             plan "ours_pieces_of_${piece}_workers_$workers" ours answers --one-batch --workers "$workers" --piece "$piece"
