@@ -3,7 +3,7 @@ use crate::{Busy, ClaimTable, MOST_SLOTS};
 use std::test::Fail;
 
 #[test]
-fn two_seats_of_one_table(rt: HostRuntime) -> Result<(), Fail> {
+fn slots_of_a_lone_seat(rt: HostRuntime) -> Result<(), Fail> {
     let (table, seat) = ClaimTable::new(rt.alloc(), 4)?;
     let Ok(held) = table.take(seat, &[0]) else {
         panic!(rt; "slot 0 is free")
@@ -14,11 +14,18 @@ fn two_seats_of_one_table(rt: HostRuntime) -> Result<(), Fail> {
     let Err((held, busy)) = table.take_more(held, &[1, 3]) else {
         panic!(rt; "slot 3 is held")
     };
-    assert_eq!(rt; busy, Busy(3));
+    assert!(rt; busy == Busy(3));
     assert!(rt; held.has(0) && !held.has(1) && !held.has(2) && held.has(3));
     let held = table.give_some(held, &[0]);
     assert!(rt; !held.has(0) && held.has(3));
     let seat = table.give(held);
+    assert!(rt; table.close(seat) == [false; MOST_SLOTS]);
+    Ok(())
+}
+
+#[test]
+fn two_seats_of_one_table(rt: HostRuntime) -> Result<(), Fail> {
+    let (table, seat) = ClaimTable::new(rt.alloc(), 4)?;
     let (a, b) = table.split(seat);
     let Ok(a) = table.take(a, &[1, 2]) else {
         panic!(rt; "slots 1 and 2 are free")
@@ -26,7 +33,7 @@ fn two_seats_of_one_table(rt: HostRuntime) -> Result<(), Fail> {
     let Err((mut b, busy)) = table.take(b, &[3, 2]) else {
         panic!(rt; "slot 2 is held")
     };
-    assert_eq!(rt; busy, Busy(2));
+    assert!(rt; busy == Busy(2));
     assert!(rt; !table.busy(&mut b, 3) && table.busy(&mut b, 1));
     let Ok(b) = table.take(b, &[0, 3]) else {
         panic!(rt; "slots 0 and 3 are free")
