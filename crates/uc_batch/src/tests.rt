@@ -1,10 +1,10 @@
 //! Batches whose bytes come from outside.
 use super::*;
 use crate::tag::{Form, Tag};
-use std::alloc::Global;
+use std::alloc::{AllocError, Global};
 use std::test::Fail;
-use uc_bytes::Bytes;
 use uc_logrec::LogWriter;
+use uc_write::{MAX_SEQUENCE, OpRef, WriteRef};
 
 /// Sequence 1, and a count.
 const fn header(count: u8) -> [u8; 12] {
@@ -17,12 +17,9 @@ fn batch(alloc: Global, head: [u8; 12], records: &[u8]) -> Result<Vec<u8>, Fail>
     Ok(bytes)
 }
 
-fn put(alloc: Global, seq: u64, key: &[u8], value: &[u8]) -> Result<Write, Fail> {
-    let op = Op::Put(
-        Bytes::from_slice(alloc, key)?,
-        Bytes::from_slice(alloc, value)?,
-    );
-    Ok(Write { seq, op })
+/// The put of `1` to `a`, as the first write.
+fn first_put(alloc: Global) -> Result<Write, AllocError> {
+    WriteRef::new(1, OpRef::put(b"a", b"1")).to_write(alloc)
 }
 
 /// Each of these says that the key `a` is set to `1`.
@@ -34,18 +31,35 @@ const PUTS: [&[u8]; 5] = [
     b"\x01\x81\x00a\x011",
 ];
 
-#[test]
-fn puts_are_read(rt: HostRuntime) -> Result<(), Fail> {
-    let alloc = rt.alloc();
-    for records in PUTS {
-        let bytes = batch(alloc, header(1), records)?;
-        let writes = read_batch(alloc, &bytes, 0)?;
-        assert_eq!(rt; writes.len(), 1);
-        for write in &writes {
-            assert_eq!(rt; write, &put(alloc, 1, b"a", b"1")?);
+/// Whether the batch of a head and records has these writes.
+fn has_writes(alloc: Global, head: [u8; 12], records: &[u8], want: &[Write]) -> Result<bool, Fail> {
+    let writes = read_batch(alloc, &batch(alloc, head, records)?, 0)?;
+    for (write, want) in writes.iter().zip(want) {
+        if write != want {
+            return Ok(false);
         }
     }
+    Ok(writes.len() == want.len())
+}
+
+#[test]
+fn puts_are_read(rt: HostRuntime) -> Result<(), Fail> {
+    let want = [first_put(rt.alloc())?];
+    for record in &PUTS {
+        assert!(rt; has_writes(rt.alloc(), header(1), record, &want)?);
+    }
     Ok(())
+}
+
+/// Why a batch behind a sequence is refused.
+fn refusal_of(
+    alloc: Global,
+    head: [u8; 12],
+    records: &[u8],
+    last: u64,
+) -> Result<Option<BatchError>, Fail> {
+    let bytes = batch(alloc, head, records)?;
+    Ok(read_batch(alloc, &bytes, last).err())
 }
 
 /// Records of one batch, and why it is refused where its count is 1.
@@ -67,11 +81,9 @@ const REFUSED: [(&[u8], BatchError); 12] = [
 #[test]
 fn refusals_name_the_first_fault(rt: HostRuntime) -> Result<(), Fail> {
     refusal_stands_in_batch();
-    let alloc = rt.alloc();
-    for (records, want) in REFUSED {
-        let bytes = batch(alloc, header(1), records)?;
-        let refused = read_batch(alloc, &bytes, 0).err();
-        assert_eq!(rt; refused, Some(want), "at {want:?}");
+    for (records, want) in &REFUSED {
+        let refused = refusal_of(rt.alloc(), header(1), records, 0)?;
+        assert!(rt; refused == Some(*want), "at {want:?}");
     }
     Ok(())
 }
@@ -79,49 +91,45 @@ fn refusals_name_the_first_fault(rt: HostRuntime) -> Result<(), Fail> {
 #[test]
 fn headers_are_judged_first(rt: HostRuntime) -> Result<(), Fail> {
     let alloc = rt.alloc();
-    let bytes = batch(alloc, header(1), PUTS[0])?;
-    assert_eq!(rt;
-        read_batch(alloc, &bytes, 1).err(),
-        Some(BatchError::SequenceBack(1))
-    );
-    assert_eq!(rt;
-        read_batch(alloc, b"\x01\x00\x00", 0).err(),
-        Some(BatchError::TooShort)
-    );
-    let twice = batch(alloc, header(2), PUTS[0])?;
-    assert_eq!(rt;
-        read_batch(alloc, &twice, 0).err(),
-        Some(BatchError::WrongCount)
-    );
-    let last = [255, 255, 255, 255, 255, 255, 255, 0];
-    let mut head = header(1);
-    head[..8].copy_from_slice(&last);
-    let bytes = batch(alloc, head, PUTS[0])?;
-    for write in &read_batch(alloc, &bytes, 7)? {
-        assert_eq!(rt; write.seq, (1 << 56) - 1);
-    }
-    head[8] = 2;
-    let bytes = batch(alloc, head, PUTS[0])?;
-    assert_eq!(rt;
-        read_batch(alloc, &bytes, 7).err(),
-        Some(BatchError::SequenceTooLarge)
-    );
-    assert_eq!(rt; read_batch(alloc, &[0; 12], 9)?.len(), 0);
+    let back = refusal_of(alloc, header(1), PUTS[0], 1)?;
+    assert!(rt; back == Some(BatchError::SequenceBack(1)));
+    let short = read_batch(alloc, b"\x01\x00\x00", 0).err();
+    assert!(rt; short == Some(BatchError::TooShort));
+    let twice = refusal_of(alloc, header(2), PUTS[0], 0)?;
+    assert!(rt; twice == Some(BatchError::WrongCount));
+    assert!(rt; read_batch(alloc, &[0; 12], 9)?.len() == 0);
     Ok(())
 }
 
-fn text(alloc: Global, byte: u8) -> Result<Bytes, Fail> {
-    Ok(Bytes::from_slice(alloc, &[byte])?)
+/// The greatest sequence, and a count.
+const fn last_header(count: u8) -> [u8; 12] {
+    [255, 255, 255, 255, 255, 255, 255, 0, count, 0, 0, 0]
+}
+
+#[test]
+fn the_greatest_sequence_is_read(rt: HostRuntime) -> Result<(), Fail> {
+    let alloc = rt.alloc();
+    let bytes = batch(alloc, last_header(1), PUTS[0])?;
+    for write in &read_batch(alloc, &bytes, 7)? {
+        assert!(rt; write.seq == MAX_SEQUENCE);
+    }
+    let too_large = refusal_of(alloc, last_header(2), PUTS[0], 7)?;
+    assert!(rt; too_large == Some(BatchError::SequenceTooLarge));
+    Ok(())
 }
 
 /// What a record of each form says, with and without a family.
-fn changes(alloc: Global) -> Result<Vec<Op>, Fail> {
-    let mut ops = Vec::new(alloc);
-    ops.push(Op::Delete(text(alloc, b'a')?))?;
-    ops.push(Op::Delete(text(alloc, b'b')?))?;
-    ops.push(Op::Merge(text(alloc, b'c')?, text(alloc, b'd')?))?;
-    ops.push(Op::DeleteRange(text(alloc, b'e')?, text(alloc, b'f')?))?;
-    Ok(ops)
+fn writes_of_each_form(alloc: Global) -> Result<Vec<Write>, AllocError> {
+    let mut writes = Vec::new(alloc);
+    for write in [
+        WriteRef::new(1, OpRef::delete(b"a")),
+        WriteRef::new(2, OpRef::delete(b"b")),
+        WriteRef::new(3, OpRef::merge(b"c", b"d")),
+        WriteRef::new(4, OpRef::delete_range(b"e", b"f")),
+    ] {
+        writes.push(write.to_write(alloc)?)?;
+    }
+    Ok(writes)
 }
 
 const PLAIN_FORMS: &[u8] = b"\x00\x01a\x07\x01b\x02\x01c\x01d\x0f\x01e\x01f";
@@ -130,48 +138,51 @@ const FAMILY_FORMS: &[u8] = b"\x04\x00\x01a\x08\x00\x01b\x06\x00\x01c\x01d\x0e\x
 
 #[test]
 fn every_form_is_read(rt: HostRuntime) -> Result<(), Fail> {
-    let alloc = rt.alloc();
-    let want = changes(alloc)?;
-    for records in [PLAIN_FORMS, FAMILY_FORMS] {
-        let writes = read_batch(alloc, &batch(alloc, header(4), records)?, 0)?;
-        assert_eq!(rt; writes.len(), 4);
-        for (write, op) in writes.iter().zip(&want) {
-            assert_eq!(rt; &write.op, op);
-        }
+    let want = writes_of_each_form(rt.alloc())?;
+    for records in &[PLAIN_FORMS, FAMILY_FORMS] {
+        assert!(rt; has_writes(rt.alloc(), header(4), records, &want)?);
     }
     Ok(())
+}
+
+/// Whether the text that is written for changes is the first of the puts.
+fn is_written_first(alloc: Global, ops: &[Op]) -> Result<bool, Fail> {
+    if !fits_batch(1, ops) {
+        return Ok(false);
+    }
+    let bytes = batch(alloc, header(1), PUTS[0])?;
+    Ok(write_batch(alloc, 1, ops)?.as_slice() == bytes.as_slice())
 }
 
 #[test]
 fn what_is_written_is_read(rt: HostRuntime) -> Result<(), Fail> {
     let alloc = rt.alloc();
-    let op = put(alloc, 1, b"a", b"1")?.op;
-    let ops = [op];
-    assert!(rt; fits_batch(1, &ops));
-    let text = write_batch(alloc, 1, &ops)?;
-    let bytes = batch(alloc, header(1), PUTS[0])?;
-    assert_eq!(rt; text.as_slice(), bytes.as_slice());
-    assert!(rt; !fits_batch(0, &ops));
-    assert!(rt; !fits_batch(1 << 56, &[]));
-    assert!(rt; fits_batch((1 << 56) - 1, &ops));
     written_batch_is_read();
     written_batch_is_spelled();
+    let ops = [first_put(alloc)?.op];
+    assert!(rt; is_written_first(alloc, &ops)?);
+    assert!(rt; !fits_batch(0, &ops) && fits_batch(MAX_SEQUENCE, &ops));
+    assert!(rt; !fits_batch(1 << 56, &[]));
     Ok(())
+}
+
+/// Whether the writes of a batch are the same where their texts are borrowed.
+fn same_borrowed(alloc: Global, bytes: &[u8]) -> Result<bool, Fail> {
+    let owned = read_batch(alloc, bytes, 0)?;
+    for (write, want) in BatchWrites::read(bytes, 0)?.zip(&owned) {
+        if write.to_write(alloc)? != *want {
+            return Ok(false);
+        }
+    }
+    Ok(owned.len() == 4)
 }
 
 #[test]
 fn texts_are_borrowed(rt: HostRuntime) -> Result<(), Fail> {
     let alloc = rt.alloc();
-    let bytes = batch(alloc, header(4), FAMILY_FORMS)?;
-    let owned = read_batch(alloc, &bytes, 0)?;
-    for (write, want) in BatchWrites::read(&bytes, 0)?.zip(&owned) {
-        assert_eq!(rt; &write.to_write(alloc)?, want);
-    }
+    assert!(rt; same_borrowed(alloc, &batch(alloc, header(4), FAMILY_FORMS)?)?);
     let refused = batch(alloc, header(1), b"\x09")?;
-    assert_eq!(rt;
-        BatchWrites::read(&refused, 0).err(),
-        Some(BatchError::BadTag(9, 12))
-    );
+    assert!(rt; BatchWrites::read(&refused, 0).err() == Some(BatchError::BadTag(9, 12)));
     Ok(())
 }
 
