@@ -61,9 +61,9 @@ const OPERATORS: [(&str, OperatorName); 4] = [
 /// Without words for them the options are the usual ones.
 #[test]
 fn operators_and_usual_options(rt: HostRuntime) -> Result<(), Fail> {
-    for (line, wanted) in &OPERATORS {
+    for (line, wanted) in OPERATORS {
         let (operator, options) = options_of(rt.alloc(), line)?;
-        assert_eq!(rt; operator, Some(*wanted), "{line}");
+        assert_eq!(rt; operator, Some(wanted), "{line}");
         assert_eq!(rt; options, Options::usual(), "{line}");
     }
     Ok(())
@@ -112,24 +112,19 @@ const REFUSED: [(&str, ErrorKind); 15] = [
     ),
 ];
 
-/// Why words are refused.
-fn refusal_of(alloc: Global, words: &[&str]) -> Result<Option<ErrorKind>, Fail> {
-    let shown = Shown::new(alloc)?;
-    match command::ucstore(alloc, &shown)?.try_get_matches_from(words) {
-        Ok(_) => Ok(None),
-        Err(error) => Ok(Some(error.kind())),
-    }
-}
-
 /// A refused command line ends with status 2.
 #[test]
 fn refused_command_lines(rt: HostRuntime) -> Result<(), Fail> {
     let alloc = rt.alloc();
-    for (line, wanted) in &REFUSED {
+    for (line, wanted) in REFUSED {
+        let shown = Shown::new(alloc)?;
         let words = words_of(alloc, line)?;
-        let kind = refusal_of(alloc, words.as_slice())?;
-        assert!(rt; kind == Some(*wanted), "{line}");
-        assert!(rt; run(&rt, words.as_slice()) == Ok(Done::Refused), "{line}");
+        let kind = match command::ucstore(alloc, &shown)?.try_get_matches_from(words.as_slice()) {
+            Ok(_) => None,
+            Err(error) => Some(error.kind()),
+        };
+        assert_eq!(rt; kind, Some(wanted), "{line}");
+        assert_eq!(rt; run(&rt, words.as_slice()), Ok(Done::Refused), "{line}");
     }
     assert_eq!(rt; Done::Refused.status(), 2);
     Ok(())
