@@ -27,8 +27,8 @@ fn a_script_without_open(rt: HostRuntime) {
         (b"put 61 62\n", 2),
         (b"put 61 62\n\nkeep 1", 4),
     ];
-    for (text, line) in table {
-        assert_eq!(rt; fault(&rt, rt.alloc(), text), Some(line));
+    for (text, line) in &table {
+        assert!(rt; fault(&rt, rt.alloc(), text) == Some(*line));
     }
 }
 
@@ -42,8 +42,8 @@ fn the_first_faulty_line_comes_first(rt: HostRuntime) {
         (b"open\n# two\n\nput 61 62\nnothing\n", 4),
         (b"keep last\nopen\n", 1),
     ];
-    for (text, line) in table {
-        assert_eq!(rt; fault(&rt, rt.alloc(), text), Some(line));
+    for (text, line) in &table {
+        assert!(rt; fault(&rt, rt.alloc(), text) == Some(*line));
     }
 }
 
@@ -90,10 +90,10 @@ fn faulty_lines_before_open(rt: HostRuntime) -> Result<(), Fail> {
         b"open ",
         b"open open",
     ];
-    for line in table {
+    for line in &table {
         let mut text = line.to_vec(rt.alloc())?;
         text.extend_from_slice(b"\nopen\n")?;
-        assert_eq!(rt; fault(&rt, rt.alloc(), text.as_slice()), Some(1));
+        assert!(rt; fault(&rt, rt.alloc(), text.as_slice()) == Some(1));
     }
     Ok(())
 }
@@ -124,7 +124,7 @@ fn faulty_lines_after_open(rt: HostRuntime) -> Result<(), Fail> {
         b" ",
         b"a b c d e f g h",
     ];
-    for line in table {
+    for line in &table {
         is_fault_after_open(&rt, rt.alloc(), line)?;
     }
     Ok(())
@@ -167,7 +167,7 @@ fn faulty_lines_on_compactions(rt: HostRuntime) -> Result<(), Fail> {
         b"report 1",
         b"report\r",
     ];
-    for line in table {
+    for line in &table {
         is_fault_after_open(&rt, rt.alloc(), line)?;
     }
     Ok(())
@@ -177,9 +177,9 @@ fn faulty_lines_on_compactions(rt: HostRuntime) -> Result<(), Fail> {
 fn is_fault_after_open(rt: &impl Abort, alloc: Global, line: &[u8]) -> Result<(), Fail> {
     let mut text = b"open\n# two\n".to_vec(alloc)?;
     text.extend_from_slice(line)?;
-    assert_eq!(rt; fault(rt, alloc, text.as_slice()), Some(3));
+    assert!(rt; fault(rt, alloc, text.as_slice()) == Some(3));
     text.push(b'\n')?;
-    assert_eq!(rt; fault(rt, alloc, text.as_slice()), Some(3));
+    assert!(rt; fault(rt, alloc, text.as_slice()) == Some(3));
     Ok(())
 }
 
@@ -211,8 +211,8 @@ fn the_changes_in_order(rt: HostRuntime) -> Result<(), Fail> {
     assert!(rt; read.calls.as_slice().is_empty());
     let ops = read.ops.into_vec();
     assert_eq!(rt; ops.len(), CHANGES.len());
-    for (op, change) in ops.iter().zip(CHANGES) {
-        assert_eq!(rt; parts(op), change);
+    for (op, change) in ops.iter().zip(&CHANGES) {
+        assert!(rt; parts(op) == *change);
     }
     Ok(())
 }
@@ -263,8 +263,8 @@ fn the_calls_in_order(rt: HostRuntime) -> Result<(), Fail> {
     assert!(rt; read.ops.as_slice().is_empty());
     let calls = read.calls.as_slice();
     assert_eq!(rt; calls.len(), ASKED.len());
-    for (call, wanted) in calls.iter().zip(ASKED) {
-        assert_eq!(rt; asked(call), wanted);
+    for (call, wanted) in calls.iter().zip(&ASKED) {
+        assert!(rt; asked(call) == *wanted);
     }
     Ok(())
 }
@@ -311,13 +311,19 @@ const ON_COMPACTIONS: [(&[u8], Call); 11] = [
     (b"report", Call::Report),
 ];
 
+/// Whether a line asks this call alone.
+fn asks(alloc: Global, line: &[u8], wanted: &Call) -> Result<bool, Fail> {
+    let mut text = b"open\n".to_vec(alloc)?;
+    text.extend_from_slice(line)?;
+    let read = read_script(alloc, text.as_slice())?;
+    let calls = read.calls.as_slice();
+    Ok(calls.len() == 1 && calls.first() == Some(wanted))
+}
+
 #[test]
 fn lines_on_compactions(rt: HostRuntime) -> Result<(), Fail> {
-    for (line, wanted) in ON_COMPACTIONS {
-        let mut text = b"open\n".to_vec(rt.alloc())?;
-        text.extend_from_slice(line)?;
-        let read = read_script(rt.alloc(), text.as_slice())?;
-        assert_eq!(rt; read.calls.as_slice(), [wanted].as_slice());
+    for (line, wanted) in &ON_COMPACTIONS {
+        assert!(rt; asks(rt.alloc(), line, wanted)?);
     }
     Ok(())
 }
