@@ -10,9 +10,9 @@
 # `g++ -O2` where RocksDB's headers are installed (Debian's librocksdb-dev); where they aren't, it is left out.
 #
 # Each program runs in a process of its own, in turn, TURNS times (5): it opens the log, makes the queries, answers them
-# once, and prints how long that took without the rest. A row has the turn with the least time. All programs must come to
-# the same answers. Logs: `counters` of MIB MiB (60), `hot` of HOT_MIB (16), `deleted` and `ranged` (see
-# ../make_log.rs), which have the same queries.
+# once, and prints how long that took without the rest. A row has the turn with the least time, and where it says so the
+# median of all turns. All programs must come to the same answers. Logs: `counters` of MIB MiB (60), `hot` of HOT_MIB
+# (16), `deleted` and `ranged` (see ../make_log.rs), which have the same queries.
 set -u -o pipefail
 
 here=$(cd "$(dirname "${BASH_SOURCE[0]}")" && pwd) || exit 1
@@ -83,8 +83,13 @@ run_once() { # NAME
         >> "$folder/row.$1" || fail "no figures of $1"
 }
 
-# Runs all rows in turn, TURNS times or as often as is said, and keeps the line of each one's least sum. The answers of all
-# are the same.
+# The number in the middle of a sorted list, one a line.
+middle() {
+    awk '{ at[NR] = $1 } END { printf "%.0f\n", (at[int((NR + 1) / 2)] + at[int(NR / 2) + 1]) / 2 }'
+}
+
+# Runs all rows in turn, TURNS times or as often as is said, and keeps the line of each one's least sum and the median of its
+# sums. The answers of all are the same.
 measure() { # [TIMES]
     local name
     if [ "${#names[@]}" -eq 0 ]; then return; fi
@@ -94,25 +99,30 @@ measure() { # [TIMES]
     [ "$(for name in "${names[@]}"; do cut -d ' ' -f 4,5 "$folder/row.$name"; done | sort -u | wc -l)" -eq 1 ] ||
         fail "the answers differ: ${words[${names[0]}]}"
     for name in "${names[@]}"; do
-        sort -n "$folder/row.$name" | head -n 1 > "$folder/least.$name" || fail "no figures of $name"
-        rm "$folder/row.$name"
+        sort -n "$folder/row.$name" > "$folder/sorted.$name" || fail "no figures of $name"
+        head -n 1 "$folder/sorted.$name" > "$folder/least.$name" || fail "no figures of $name"
+        middle < "$folder/sorted.$name" > "$folder/median.$name" || fail "no median of $name"
+        rm "$folder/row.$name" "$folder/sorted.$name"
     done
 }
 
-# Prints a row for each name: its runs and points, and what awk says of it. `sum` is its time, `time[1]` and on are those of
-# its batches, and `over(NAME)` is its time over that of another row. Then nothing is planned any more.
+# Prints a row for each name: its runs and points, and what awk says of it. `sum` is its least time, `time[1]` and on are
+# those of its batches then, `median` is that of all its turns, and `over(NAME)` is `sum` over that of another row. Then
+# nothing is planned any more.
 print_rows() { # AWK
     local name
-    for name in "${names[@]}"; do echo "$name $(< "$folder/least.$name")"; done | awk '
+    for name in "${names[@]}"; do
+        echo "$name $(< "$folder/median.$name") $(< "$folder/least.$name")"
+    done | awk '
         function cell(format, number) { return sprintf("%12s", sprintf(format, number)) }
         function ms(nanoseconds) { return cell("%.2f", nanoseconds / 1e6) }
         function over(other) { return sums[other] ? cell("%.2f", sum / sums[other]) : cell("-", 0) }
-        { names[NR] = $1; sums[$1] = $2; lines[NR] = $0 }
+        { names[NR] = $1; medians[$1] = $2; sums[$1] = $3; lines[NR] = $0 }
         END {
             for (row = 1; row <= NR; row++) {
                 count = split(lines[row], fields, " ")
-                name = names[row]; sum = fields[2]; runs = fields[3]; points = fields[4]
-                for (place = 7; place <= count; place++) time[place - 6] = fields[place]
+                name = names[row]; median = fields[2]; sum = fields[3]; runs = fields[4]; points = fields[5]
+                for (place = 8; place <= count; place++) time[place - 7] = fields[place]
                 said = ""
                 '"$1"'
                 gsub("_", " ", name)
@@ -163,8 +173,9 @@ workers() {
         plan "BTreeMap_pieces_of_16_workers_$workers" baseline answers --one-batch --threads "$workers"
     done
     measure $((4 * turns))
-    heading 'ms' 'faster'
-    print_rows 'one = name; sub(/[0-9]+$/, "1", one); said = ms(sum) cell("%.2f", sums[one] / sum)'
+    heading 'ms' 'faster' 'median ms' 'faster'
+    print_rows 'one = name; sub(/[0-9]+$/, "1", one)
+        said = ms(sum) cell("%.2f", sums[one] / sum) ms(median) cell("%.2f", medians[one] / median)'
 }
 
 # 3. Many runs.

@@ -5,7 +5,7 @@ ghost use Rattle.uc_workers.specs.declared.ask_error.AskError.TheVariants.{Memor
 
 use crate::ask_error::{AskError, MOST_WORKERS};
 use crate::drawing::drawn_by_workers;
-use crate::gathering::{joined, placed};
+use crate::gathering::joined;
 use crate::piece::pieces_in;
 use crossbeam_utils::atomic::AtomicCell;
 use std::alloc::{AllocError, Global};
@@ -28,6 +28,12 @@ fn ask_refusal(workers: usize, piece: usize) -> Option<AskError>
     None
 }
 
+/// For how many answers each worker's list has room: twice its share, since one may draw more than another, and all for one
+/// worker.
+fn room_of_each(queries: usize, workers: usize) -> usize {
+    queries.min((queries / workers.max(1)).saturating_mul(2))
+}
+
 /// The answers to queries, in their order, by workers that draw pieces.
 fn answers_of<O: Operator + Sync, R: Threads + Sync>(
     rt: &R,
@@ -41,6 +47,7 @@ fn answers_of<O: Operator + Sync, R: Threads + Sync>(
     ensures { IfOk result (λ answers. answers.items ≡ asking.answers_of O.meaning version.now queries.now) }
 {
     let pieces = pieces_in(queries.len(), piece);
+    let workers = workers.min(pieces);
     let next = AtomicCell::new(0usize);
     let draws = drawn_by_workers::<O, R>(
         rt,
@@ -50,10 +57,10 @@ fn answers_of<O: Operator + Sync, R: Threads + Sync>(
         queries,
         pieces,
         &next,
-        workers.min(pieces),
+        room_of_each(queries.len(), workers),
+        workers,
     )?;
-    let places = placed::<O>(alloc, version, piece, queries, pieces, draws)?;
-    joined::<O>(alloc, version, piece, queries, places)
+    joined::<O>(alloc, version, piece, queries, pieces, draws)
 }
 
 /// The answers to a batch of queries of a version, in their order. It is cut into pieces of so many queries, which so many

@@ -1,84 +1,134 @@
-//! The answers to a batch, put together from those of its pieces.
-ghost use Rattle.std.specs.Prelude.{◌≡◌, ◌*◌, ◌<◌, ◌≤◌, ℕ, IfOk, List, length, fold};
+//! The answers to a batch, put together from what workers drew.
+ghost use Rattle.std.specs.Prelude.{◌≡◌, ◌*◌, ◌<◌, ◌≤◌, ◌++◌, ℕ, IfOk, OnOk, List, take, drop, length, flat_map, if◌then◌else◌};
 ghost use Rattle.std.specs.List.{AllByRecursion};
-ghost use Rattle.uc_oper.specs.Operation.{Operation};
-ghost use Rattle.uc_history.specs.Versions.{Stored};
-ghost use Rattle.uc_answer.specs.declared.query.Query.{Query as QueryOf};
+ghost use Rattle.uc_answer.specs.declared.answer.Answer.{Answer as AnswerOf};
 ghost use Rattle.uc_workers.specs.Asking as asking;
-ghost use Rattle.uc_workers.specs.Pieces.{AreDrawn, AreNumbers, IsPlaced, ArePlaced};
+ghost use Rattle.uc_workers.specs.Pieces.{AreDrawn, AreNumbers, IsRest};
 ghost use Rattle.uc_workers.specs.Pieces as pieces;
 
 use crate::drawing::{Drawn, Draws};
-use crate::piece::piece_answers;
+use crate::piece::{piece_of, push_answers};
 use std::alloc::{AllocError, Global};
+use std::collections::VecDeque;
 use uc_answer::{Answer, Query};
-use uc_bytes::Items;
 use uc_history::Version;
 use uc_oper::Operator;
 
-/// The answers to each piece, where they are there.
-pub(crate) type Places = Vec<Option<Items<Answer>>>;
-
-/// A place for each piece, with no answers yet.
-fn no_answers(alloc: Global, pieces: usize) -> Result<Places, AllocError>
-    ensures len { IfOk result (λ places. length places.items ≡ pieces) }
-    ensures placed { (m : Operation) (v : Stored) (piece : ℕ) (queries : List QueryOf) → IfOk result (λ places. ArePlaced m v piece queries places.items) }
-{
-    let mut places = Vec::with_capacity(alloc, pieces)?;
-    for _ in 0..pieces {
-        places.push(None)?;
-    }
-    Ok(places)
+/// What is left of what a worker drew, the first piece first.
+#[derive(Drop)]
+pub(crate) struct Rest {
+    pub(crate) numbers: VecDeque<usize>,
+    pub(crate) answers: VecDeque<Answer>,
 }
 
-/// Puts the answers to each piece that a worker drew in its place.
-fn place_drawn(places: &mut Places, drawn: Items<Drawn>)
-    ensures { places.new.items ≡ fold pieces.with_drawn places.old.items drawn }
-{
-    for piece in drawn.into_vec() {
-        if piece.number < places.len() {
-            places[piece.number] = Some(piece.answers);
+impl Rest {
+    /// All that a worker drew.
+    fn all_of(drawn: Drawn) -> Rest
+        ensures numbers { result.numbers.items ≡ drawn.numbers.items }
+        ensures answers { result.answers.items ≡ drawn.answers.items }
+    {
+        Rest {
+            numbers: VecDeque::from_vec(drawn.numbers),
+            answers: VecDeque::from_vec(drawn.answers),
         }
     }
 }
 
-/// The answers to pieces, each in its place, of all that workers drew.
-pub(crate) fn placed<O: Operator>(
+/// All that the workers drew.
+fn all_drawn<O: Operator>(
     alloc: Global,
     version: &Version,
     piece: usize,
     queries: &[Query],
-    pieces: usize,
     draws: Vec<Draws>,
-) -> Result<Places, AllocError>
-    requires { AllByRecursion (AreDrawn O.meaning version.now piece queries.now pieces) draws.items }
-    ensures len { IfOk result (λ places. length places.items ≡ pieces) }
-    ensures placed { IfOk result (λ places. ArePlaced O.meaning version.now piece queries.now places.items) }
+) -> Result<Vec<Rest>, AllocError>
+    requires { AllByRecursion (AreDrawn O.meaning version.now piece queries.now) draws.items }
+    ensures { IfOk result (λ rests. AllByRecursion (IsRest (pieces.piece_answers O.meaning version.now piece queries.now)) rests.items) }
 {
-    let mut places = no_answers(alloc, pieces)?;
+    let mut rests = Vec::new(alloc);
     for drawn in draws {
-        place_drawn(&mut places, drawn?);
+        rests.push(Rest::all_of(drawn?))?;
     }
-    Ok(places)
+    Ok(rests)
 }
 
-/// The answers to the piece with a number: those in its place or, where no worker drew it, made here.
-fn answers_in<O: Operator>(
+/// Moves so many answers from the front of `answers` behind those of `all`. Want of memory loses some of them.
+fn move_answers(
+    answers: &mut VecDeque<Answer>,
+    count: usize,
+    all: &mut Vec<Answer>,
+) -> Result<(), AllocError>
+    ensures moved { OnOk result (all.new.items ≡ all.old.items ++ take count answers.old.items) }
+    ensures rest { OnOk result (answers.new.items ≡ drop count answers.old.items) }
+{
+    for _ in 0..count {
+        if let Some(answer) = answers.pop_front() {
+            all.push(answer)?;
+        }
+    }
+    Ok(())
+}
+
+/// Moves the answers to the piece with a number, which are so many, behind those of `all`, and tells that it did, where they are
+/// the first that are left of what a worker drew.
+fn take_first(
+    rest: &mut Rest,
+    number: usize,
+    count: usize,
+    all: &mut Vec<Answer>,
+) -> Result<bool, AllocError>
+    ensures { (f : ℕ → List AnswerOf) → length (f number) ≡ count → IsRest f rest.old →
+        IfOk result (λ taken. IsRest f rest.new × (all.new.items ≡ (if taken then all.old.items ++ f number else all.old.items))) }
+{
+    if rest.numbers.front() != Some(&number) {
+        return Ok(false);
+    }
+    let _ = rest.numbers.pop_front();
+    move_answers(&mut rest.answers, count, all)?;
+    Ok(true)
+}
+
+/// The same for the first of the workers who drew the piece.
+fn take_piece(
+    rests: &mut Vec<Rest>,
+    number: usize,
+    count: usize,
+    all: &mut Vec<Answer>,
+) -> Result<bool, AllocError>
+    ensures { (f : ℕ → List AnswerOf) → length (f number) ≡ count → AllByRecursion (IsRest f) rests.old.items →
+        IfOk result (λ taken. AllByRecursion (IsRest f) rests.new.items ×
+        (all.new.items ≡ (if taken then all.old.items ++ f number else all.old.items))) }
+{
+    for place in 0..rests.len() {
+        if take_first(&mut rests[place], number, count, all)? {
+            return Ok(true);
+        }
+    }
+    Ok(false)
+}
+
+/// Appends the answers to the piece with a number: those of the worker who drew it or, where nobody did, those that are made
+/// here. Want of memory loses some of them.
+fn push_piece<O: Operator>(
     alloc: Global,
     version: &Version,
     piece: usize,
     queries: &[Query],
     number: usize,
-    place: Option<Items<Answer>>,
-) -> Result<Vec<Answer>, AllocError>
-    requires number { number * piece < length queries.now }
-    requires placed { IsPlaced O.meaning version.now piece queries.now number place }
-    ensures { IfOk result (λ answers. answers.items ≡ pieces.piece_answers O.meaning version.now piece queries.now number) }
+    rests: &mut Vec<Rest>,
+    all: &mut Vec<Answer>,
+) -> Result<(), AllocError>
+    requires { number * piece < length queries.now }
+    ensures { AllByRecursion (IsRest (pieces.piece_answers O.meaning version.now piece queries.now)) rests.old.items →
+        OnOk result (AllByRecursion (IsRest (pieces.piece_answers O.meaning version.now piece queries.now)) rests.new.items ×
+        (all.new.items ≡ all.old.items ++ pieces.piece_answers O.meaning version.now piece queries.now number)) }
 {
-    match place {
-        Some(answers) => Ok(answers.into_vec()),
-        None => piece_answers::<O>(alloc, version, piece, queries, number),
+    let asked = piece_of(piece, queries, number);
+    if take_piece(rests, number, asked.len(), all)? {
+        return Ok(());
     }
+    push_answers::<O>(alloc, version, asked, all)?;
+    Ok(())
 }
 
 /// The answers to all pieces, in their order.
@@ -87,19 +137,18 @@ pub(crate) fn joined<O: Operator>(
     version: &Version,
     piece: usize,
     queries: &[Query],
-    places: Places,
+    pieces: usize,
+    draws: Vec<Draws>,
 ) -> Result<Vec<Answer>, AllocError>
-    requires numbers { AreNumbers piece (length queries.now) (length places.items) }
-    requires enough { length queries.now ≤ length places.items * piece }
-    requires placed { ArePlaced O.meaning version.now piece queries.now places.items }
+    requires numbers { AreNumbers piece (length queries.now) pieces }
+    requires enough { length queries.now ≤ pieces * piece }
+    requires drawn { AllByRecursion (AreDrawn O.meaning version.now piece queries.now) draws.items }
     ensures { IfOk result (λ answers. answers.items ≡ asking.answers_of O.meaning version.now queries.now) }
 {
+    let mut rests = all_drawn::<O>(alloc, version, piece, queries, draws)?;
     let mut all = Vec::with_capacity(alloc, queries.len())?;
-    let mut number = 0;
-    for place in places {
-        let mut answers = answers_in::<O>(alloc, version, piece, queries, number, place)?;
-        all.append(&mut answers)?;
-        number += 1;
+    for number in 0..pieces {
+        push_piece::<O>(alloc, version, piece, queries, number, &mut rests, &mut all)?;
     }
     Ok(all)
 }

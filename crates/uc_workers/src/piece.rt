@@ -1,5 +1,5 @@
 //! Pieces of a batch of queries.
-ghost use Rattle.std.specs.Prelude.{◌≡◌, ◌*◌, ◌<◌, ◌≤◌, length, IfOk};
+ghost use Rattle.std.specs.Prelude.{◌≡◌, ◌*◌, ◌<◌, ◌≤◌, ◌++◌, length, OnOk};
 ghost use Rattle.uc_workers.specs.Asking as asking;
 ghost use Rattle.uc_workers.specs.Pieces as pieces;
 ghost use Rattle.uc_workers.specs.Pieces.{AreNumbers};
@@ -28,31 +28,17 @@ pub(crate) fn piece_of(piece: usize, queries: &[Query], number: usize) -> &[Quer
     &rest[..piece.min(rest.len())]
 }
 
-/// The answers to queries, in their order.
-fn answers_of<O: Operator>(
+/// Appends the answers to queries, in their order. Want of memory loses some of them.
+pub(crate) fn push_answers<O: Operator>(
     alloc: Global,
     version: &Version,
     queries: &[Query],
-) -> Result<Vec<Answer>, AllocError>
-    ensures { IfOk result (λ answers. answers.items ≡ asking.answers_of O.meaning version.now queries.now) }
+    answers: &mut Vec<Answer>,
+) -> Result<(), AllocError>
+    ensures { OnOk result (answers.new.items ≡ answers.old.items ++ asking.answers_of O.meaning version.now queries.now) }
 {
-    let mut answers = Vec::with_capacity(alloc, queries.len())?;
     for query in queries {
         answers.push(answer_one::<O>(alloc, version, query)?)?;
     }
-    Ok(answers)
-}
-
-/// The answers to the piece with a number.
-pub(crate) fn piece_answers<O: Operator>(
-    alloc: Global,
-    version: &Version,
-    piece: usize,
-    queries: &[Query],
-    number: usize,
-) -> Result<Vec<Answer>, AllocError>
-    requires { number * piece < length queries.now }
-    ensures { IfOk result (λ answers. answers.items ≡ pieces.piece_answers O.meaning version.now piece queries.now number) }
-{
-    answers_of::<O>(alloc, version, piece_of(piece, queries, number))
+    Ok(())
 }

@@ -1,6 +1,8 @@
-use Rattle.std.specs.List.{AllByRecursion}
-use Rattle.uc_workers.specs.Pieces.{IsDrawn}
+use Rattle.std.proofs.Common.{◌≡◌}
+use Rattle.std.specs.List.{flat_map}
+use Rattle.uc_workers.specs.Pieces as pieces
 use Rattle.uc_workers.proofs.drawing.draw_pieces.Given as goal
 
 abbrev pub invariant-loop : goal.invariant-loop
-invariant-loop g l = AllByRecursion (IsDrawn g.O.Operator.meaning l.fn.version l.piece l.queries l.pieces) l.drawn.items
+invariant-loop g l =
+    l.answers.items ≡ flat_map (pieces.piece_answers g.O.Operator.meaning l.fn.version l.piece l.queries) l.numbers.items

@@ -1,13 +1,13 @@
-use Rattle.std.proofs.Common.{◌+◌, [], ◌∷◌, ap, sym, ◌∙◌}
-use Rattle.std.proofs.lemmas.List.{length-append}
+use Rattle.std.proofs.Common.{refl, ◌∙◌}
 use Rattle.uc_workers.proofs.Joining.{one_more}
 use Rattle.uc_workers.proofs.gathering.joined.Goals as goal
 
--- src/gathering.rt:79:5
-pub loop-place-preserved : goal.loop-place-preserved
-loop-place-preserved g c = record {
-  so_far = c.in_ok-append.ensures.items
-      ∙ one_more _ c.args.queries.now c.args.piece c.loop-place.number c.loop-place.all.items c.in_ok-answers.answers.items
-      c.loop-place.invariant.so_far c.in_ok-answers.ensures;
-  count = ap (λ n. n + 1) c.loop-place.invariant.count ∙ sym (length-append c.loop-place.yielded (c.in-Some.place ∷ []));
-}
+-- src/gathering.rt:150:5
+pub loop-number-preserved : goal.loop-number-preserved
+loop-number-preserved g c =
+    let after = c.in_ok-push_piece.ensures c.loop-number.invariant.rests in
+    record {
+      so_far = after.1
+          ∙ one_more _ c.args.queries.now c.args.piece c.loop-number.number c.loop-number.all.items _ c.loop-number.invariant.so_far refl;
+      rests = after.0;
+    }

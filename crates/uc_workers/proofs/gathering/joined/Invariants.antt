@@ -1,9 +1,12 @@
-use Rattle.std.proofs.Common.{◌≡◌, ◌*◌, length, take}
+use Rattle.std.proofs.Common.{◌≡◌, ◌*◌, take}
+use Rattle.std.specs.List.{AllByRecursion}
 use Rattle.uc_workers.specs.Asking as asking
+use Rattle.uc_workers.specs.Pieces.{IsRest}
+use Rattle.uc_workers.specs.Pieces as pieces
 use Rattle.uc_workers.proofs.gathering.joined.Given as goal
 
-abbrev pub invariant-loop-place : goal.invariant-loop-place
-invariant-loop-place g l = record {
+abbrev pub invariant-loop-number : goal.invariant-loop-number
+invariant-loop-number g l = record {
   so_far : l.all.items ≡ asking.answers_of g.O.Operator.meaning l.fn.version (take (l.number * l.piece) l.queries);
-  count : l.number ≡ length l.yielded;
+  rests : AllByRecursion (IsRest (pieces.piece_answers g.O.Operator.meaning l.fn.version l.piece l.queries)) l.rests.items;
 }
