@@ -69,8 +69,8 @@ fn move_answers(
     Ok(())
 }
 
-/// Moves the answers to the piece with a number, which are so many, behind those of `all`, and tells that it did, where they are
-/// the first that are left of what a worker drew.
+/// Where the piece with a number is the first that is left of what a worker drew, moves the answers to it, which are so many,
+/// behind those of `all`, and tells that it did. Want of memory loses some of them.
 fn take_first(
     rest: &mut Rest,
     number: usize,
@@ -88,7 +88,7 @@ fn take_first(
     Ok(true)
 }
 
-/// The same for the first of the workers who drew the piece.
+/// The same for the first worker of whose pieces it is the first that is left.
 fn take_piece(
     rests: &mut Vec<Rest>,
     number: usize,
