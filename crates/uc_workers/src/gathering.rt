@@ -1,5 +1,5 @@
 //! The answers to a batch, put together from what workers drew.
-ghost use Rattle.std.specs.Prelude.{◌≡◌, ◌*◌, ◌<◌, ◌≤◌, ◌++◌, ℕ, IfOk, OnOk, List, take, drop, length, flat_map, if◌then◌else◌};
+ghost use Rattle.std.specs.Prelude.{◌≡◌, ◌↔◌, ◌*◌, ◌<◌, ◌≤◌, ◌++◌, ℕ, Some, IsTrue, slice_get, IfOk, OnOk, List, take, drop, length, flat_map, if◌then◌else◌};
 ghost use Rattle.std.specs.List.{AllByRecursion};
 ghost use Rattle.uc_answer.specs.declared.answer.Answer.{Answer as AnswerOf};
 ghost use Rattle.uc_workers.specs.Asking as asking;
@@ -77,7 +77,8 @@ fn take_first(
     count: usize,
     all: &mut Vec<Answer>,
 ) -> Result<bool, AllocError>
-    ensures { (f : ℕ → List AnswerOf) → length (f number) ≡ count → IsRest f rest.old →
+    ensures told { IfOk result (λ taken. IsTrue taken ↔ (slice_get rest.old.numbers.items 0 ≡ Some number)) }
+    ensures taken { (f : ℕ → List AnswerOf) → length (f number) ≡ count → IsRest f rest.old →
         IfOk result (λ taken. IsRest f rest.new × (all.new.items ≡ (if taken then all.old.items ++ f number else all.old.items))) }
 {
     if rest.numbers.front() != Some(&number) {
