@@ -1,87 +1,97 @@
-//! [`answer_plain`]: the answers to a batch of queries of a version.
-ghost use Rattle.std.specs.Prelude.{◌≡◌, ◌⊎◌, ◌<◌, None, Some, IfOk, IfErr, length};
+//! [`Batch`]: queries of a version, cut into pieces.
+ghost use Rattle.std.specs.Prelude.{◌≡◌, ◌*◌, ◌<◌, ◌≤◌, ◌++◌, length, OnOk};
 ghost use Rattle.uc_workers.specs.Asking as asking;
-ghost use Rattle.uc_workers.specs.declared.ask_error.AskError.TheVariants.{Memory};
+ghost use Rattle.uc_workers.specs.Pieces as pieces;
+ghost use Rattle.uc_workers.specs.Pieces.{AreNumbers};
 
-use crate::ask_error::{AskError, MOST_WORKERS};
-use crate::drawing::drawn_by_workers;
-use crate::gathering::joined;
-use crate::piece::pieces_in;
-use crossbeam_utils::atomic::AtomicCell;
 use std::alloc::{AllocError, Global};
-use std::marker::Sync;
-use std::thread::Threads;
+use std::marker::Model;
 use uc_answer::{Answer, Query};
 use uc_history::Version;
+use uc_lookup::answer_one;
 use uc_oper::Operator;
 
-/// Why a batch can't be answered by so many workers in pieces of so many queries.
-fn ask_refusal(workers: usize, piece: usize) -> Option<AskError>
-    ensures { result ≡ asking.ask_refusal workers piece }
-{
-    if workers == 0 || workers > MOST_WORKERS {
-        return Some(AskError::BadWorkers);
-    }
-    if piece == 0 {
-        return Some(AskError::BadPiece);
-    }
-    None
+/// Queries of a version, cut into pieces of so many queries; the last one may have fewer. A contract sees it as these.
+#[derive(Drop)]
+pub(crate) struct Batch<'a> {
+    version: &'a Version,
+    queries: &'a [Query],
+    piece: usize,
 }
 
-/// For how many answers each worker's list has room: twice its share, since one may draw more than another, and all for one
-/// worker.
-fn room_of_each(queries: usize, workers: usize) -> usize {
-    queries.min((queries / workers.max(1)).saturating_mul(2))
+impl<'a> Model for Batch<'a> {
+    ghost use Rattle.std.specs.Prelude.{◌<◌};
+    ghost use Rattle.uc_workers.specs.Pieces.{Batch};
+
+    ghost Value = { Batch };
+
+    ghost view = { λ b. record { version = b.version.now; queries = b.queries.now; piece = b.piece } };
+
+    ghost invariant = { λ b. 0 < b.piece };
 }
 
-/// The answers to queries, in their order, by workers that draw pieces.
-fn answers_of<O: Operator + Sync, R: Threads + Sync>(
-    rt: &R,
+/// Appends the answers to queries. Want of memory leaves some of them there.
+fn push_each<O: Operator>(
     alloc: Global,
     version: &Version,
     queries: &[Query],
-    workers: usize,
-    piece: usize,
-) -> Result<Vec<Answer>, AllocError>
-    requires { 0 < piece }
-    ensures { IfOk result (λ answers. answers.items ≡ asking.answers_of O.meaning version.now queries.now) }
+    answers: &mut Vec<Answer>,
+) -> Result<(), AllocError>
+    ensures { OnOk result (answers.new.items ≡ answers.old.items ++ asking.answers_of O.meaning version.now queries.now) }
 {
-    let pieces = pieces_in(queries.len(), piece);
-    let workers = workers.min(pieces);
-    let next = AtomicCell::new(0usize);
-    let draws = drawn_by_workers::<O, R>(
-        rt,
-        alloc,
-        version,
-        piece,
-        queries,
-        pieces,
-        &next,
-        room_of_each(queries.len(), workers),
-        workers,
-    )?;
-    joined::<O>(alloc, version, piece, queries, pieces, draws)
+    for query in queries {
+        answers.push(answer_one::<O>(alloc, version, query)?)?;
+    }
+    Ok(())
 }
 
-/// The answers to a batch of queries of a version, in their order. It is cut into pieces of so many queries, which so many
-/// workers draw as they come free; each worker has a thread where one can be made.
-///
-/// Whatever the workers and the pieces are, the answers are those of [`answer_one`](uc_lookup::answer_one) to one query after
-/// the other. It is refused for a number of workers that isn't 1 to [`MOST_WORKERS`], then for a piece of no query, and else
-/// only for want of memory.
-pub fn answer_plain<O: Operator + Sync>(
-    rt: &(impl Threads + Sync),
-    alloc: Global,
-    version: &Version,
-    queries: &[Query],
-    workers: usize,
-    piece: usize,
-) -> Result<Vec<Answer>, AskError>
-    ensures ok { IfOk result (λ answers. (asking.ask_refusal workers piece ≡ None) × (answers.items ≡ asking.answers_of O.meaning version.now queries.now)) }
-    ensures err { IfErr result (λ error. (asking.ask_refusal workers piece ≡ Some error) ⊎ ((asking.ask_refusal workers piece ≡ None) × (error ≡ Memory))) }
-{
-    if let Some(error) = ask_refusal(workers, piece) {
-        return Err(error);
+impl<'a> Batch<'a> {
+    /// Queries of a version in pieces of so many.
+    pub(crate) fn new(version: &'a Version, queries: &'a [Query], piece: usize) -> Batch<'a>
+        requires { 0 < piece }
+        ensures { result ≡ record { version = version.now; queries = queries.now; piece = piece } }
+    {
+        Batch {
+            version,
+            queries,
+            piece,
+        }
     }
-    Ok(answers_of::<O, _>(rt, alloc, version, queries, workers, piece)?)
+
+    /// How many queries there are.
+    pub(crate) fn len(&self) -> usize
+        ensures { result ≡ length self.now.queries }
+    {
+        self.queries.len()
+    }
+
+    /// How many pieces there are.
+    pub(crate) fn pieces(&self) -> usize
+        ensures numbers { AreNumbers self.now result }
+        ensures enough { length self.now.queries ≤ result * self.now.piece }
+    {
+        self.queries.len().div_ceil(self.piece)
+    }
+
+    /// The piece with a number, from 0.
+    pub(crate) fn piece_of(&self, number: usize) -> &[Query]
+        requires { number * self.now.piece < length self.now.queries }
+        ensures { result.now ≡ pieces.piece_of self.now number }
+    {
+        let rest = &self.queries[number * self.piece..];
+        &rest[..self.piece.min(rest.len())]
+    }
+
+    /// Appends the answers to the piece with a number. Want of memory leaves some of them there.
+    pub(crate) fn push_answers<O: Operator>(
+        &self,
+        alloc: Global,
+        number: usize,
+        answers: &mut Vec<Answer>,
+    ) -> Result<(), AllocError>
+        requires { number * self.now.piece < length self.now.queries }
+        ensures { OnOk result (answers.new.items ≡ answers.old.items ++ pieces.piece_answers O.meaning self.now number) }
+    {
+        push_each::<O>(alloc, self.version, self.piece_of(number), answers)
+    }
 }

@@ -1,56 +1,17 @@
 //! The answers to a batch, put together from what workers drew.
-ghost use Rattle.std.specs.Prelude.{◌≡◌, ◌↔◌, ◌*◌, ◌<◌, ◌≤◌, ◌++◌, ℕ, Some, IsTrue, slice_get, IfOk, OnOk, List, take, drop, length, flat_map, if◌then◌else◌};
-ghost use Rattle.std.specs.List.{AllByRecursion};
+ghost use Rattle.std.specs.Prelude.{◌≡◌, ◌≢◌, ◌*◌, ◌<◌, ◌++◌, ℕ, Some, slice_get, IfSome, IfNone, IfOk, OnOk, List, take, drop, length};
+ghost use Rattle.std.specs.List.{All, AllByRecursion, HoldsAt};
 ghost use Rattle.uc_answer.specs.declared.answer.Answer.{Answer as AnswerOf};
 ghost use Rattle.uc_workers.specs.Asking as asking;
-ghost use Rattle.uc_workers.specs.Pieces.{AreDrawn, AreNumbers, IsRest};
+ghost use Rattle.uc_workers.specs.Pieces.{IsDrawn};
 ghost use Rattle.uc_workers.specs.Pieces as pieces;
 
-use crate::drawing::{Drawn, Draws};
-use crate::piece::{piece_of, push_answers};
+use crate::batch::Batch;
+use crate::drawing::Drawn;
 use std::alloc::{AllocError, Global};
 use std::collections::VecDeque;
-use uc_answer::{Answer, Query};
-use uc_history::Version;
+use uc_answer::Answer;
 use uc_oper::Operator;
-
-/// What is left of what a worker drew, the first piece first.
-#[derive(Drop)]
-pub(crate) struct Rest {
-    pub(crate) numbers: VecDeque<usize>,
-    pub(crate) answers: VecDeque<Answer>,
-}
-
-impl Rest {
-    /// All that a worker drew.
-    fn all_of(drawn: Drawn) -> Rest
-        ensures numbers { result.numbers.items ≡ drawn.numbers.items }
-        ensures answers { result.answers.items ≡ drawn.answers.items }
-    {
-        Rest {
-            numbers: VecDeque::from_vec(drawn.numbers),
-            answers: VecDeque::from_vec(drawn.answers),
-        }
-    }
-}
-
-/// All that the workers drew.
-fn all_drawn<O: Operator>(
-    alloc: Global,
-    version: &Version,
-    piece: usize,
-    queries: &[Query],
-    draws: Vec<Draws>,
-) -> Result<Vec<Rest>, AllocError>
-    requires { AllByRecursion (AreDrawn O.meaning version.now piece queries.now) draws.items }
-    ensures { IfOk result (λ rests. AllByRecursion (IsRest (pieces.piece_answers O.meaning version.now piece queries.now)) rests.items) }
-{
-    let mut rests = Vec::new(alloc);
-    for drawn in draws {
-        rests.push(Rest::all_of(drawn?))?;
-    }
-    Ok(rests)
-}
 
 /// Moves so many answers from the front of `answers` behind those of `all`. Want of memory loses some of them.
 fn move_answers(
@@ -69,87 +30,60 @@ fn move_answers(
     Ok(())
 }
 
-/// Where the piece with a number is the first that is left of what a worker drew, moves the answers to it, which are so many,
-/// behind those of `all`, and tells that it did. Want of memory loses some of them.
-fn take_first(
-    rest: &mut Rest,
-    number: usize,
-    count: usize,
-    all: &mut Vec<Answer>,
-) -> Result<bool, AllocError>
-    ensures told { IfOk result (λ taken. IsTrue taken ↔ (slice_get rest.old.numbers.items 0 ≡ Some number)) }
-    ensures taken { (f : ℕ → List AnswerOf) → length (f number) ≡ count → IsRest f rest.old →
-        IfOk result (λ taken. IsRest f rest.new × (all.new.items ≡ (if taken then all.old.items ++ f number else all.old.items))) }
+/// The place of the first of what the workers drew whose first piece that is left is the one with a number.
+fn holder_of(draws: &[Drawn], number: usize) -> Option<usize>
+    ensures some { IfSome result (λ place. (place < length draws.now) × HoldsAt (λ d. slice_get d.numbers.items 0 ≡ Some number) draws.now place) }
+    ensures none { IfNone result (All (λ d. slice_get d.numbers.items 0 ≢ Some number) draws.now) }
 {
-    if rest.numbers.front() != Some(&number) {
-        return Ok(false);
-    }
-    let _ = rest.numbers.pop_front();
-    move_answers(&mut rest.answers, count, all)?;
-    Ok(true)
+    draws
+        .iter()
+        .position(|drawn| drawn.numbers.front() == Some(&number))
 }
 
-/// The same for the first worker of whose pieces it is the first that is left.
-fn take_piece(
-    rests: &mut Vec<Rest>,
-    number: usize,
-    count: usize,
-    all: &mut Vec<Answer>,
-) -> Result<bool, AllocError>
-    ensures { (f : ℕ → List AnswerOf) → length (f number) ≡ count → AllByRecursion (IsRest f) rests.old.items →
-        IfOk result (λ taken. AllByRecursion (IsRest f) rests.new.items ×
-        (all.new.items ≡ (if taken then all.old.items ++ f number else all.old.items))) }
+/// Moves the answers to the first piece that is left of what a worker drew, which are so many, behind those of `all`. Want of
+/// memory loses some of them.
+fn take_first(drawn: &mut Drawn, count: usize, all: &mut Vec<Answer>) -> Result<(), AllocError>
+    ensures { (f : ℕ → List AnswerOf) (number : ℕ) → slice_get drawn.old.numbers.items 0 ≡ Some number → length (f number) ≡ count →
+        IsDrawn f drawn.old → OnOk result (IsDrawn f drawn.new × (all.new.items ≡ all.old.items ++ f number)) }
 {
-    for place in 0..rests.len() {
-        if take_first(&mut rests[place], number, count, all)? {
-            return Ok(true);
-        }
-    }
-    Ok(false)
+    let _ = drawn.numbers.pop_front();
+    move_answers(&mut drawn.answers, count, all)?;
+    Ok(())
 }
 
 /// Appends the answers to the piece with a number: those of the worker who drew it or, where nobody did, those that are made
 /// here. Want of memory loses some of them.
 fn push_piece<O: Operator>(
     alloc: Global,
-    version: &Version,
-    piece: usize,
-    queries: &[Query],
+    batch: &Batch<'_>,
     number: usize,
-    rests: &mut Vec<Rest>,
+    draws: &mut Vec<Drawn>,
     all: &mut Vec<Answer>,
 ) -> Result<(), AllocError>
-    requires { number * piece < length queries.now }
-    ensures { AllByRecursion (IsRest (pieces.piece_answers O.meaning version.now piece queries.now)) rests.old.items →
-        OnOk result (AllByRecursion (IsRest (pieces.piece_answers O.meaning version.now piece queries.now)) rests.new.items ×
-        (all.new.items ≡ all.old.items ++ pieces.piece_answers O.meaning version.now piece queries.now number)) }
+    requires { number * batch.now.piece < length batch.now.queries }
+    ensures { AllByRecursion (IsDrawn (pieces.piece_answers O.meaning batch.now)) draws.old.items →
+        OnOk result (AllByRecursion (IsDrawn (pieces.piece_answers O.meaning batch.now)) draws.new.items ×
+        (all.new.items ≡ all.old.items ++ pieces.piece_answers O.meaning batch.now number)) }
 {
-    let asked = piece_of(piece, queries, number);
-    if take_piece(rests, number, asked.len(), all)? {
-        return Ok(());
-    }
-    push_answers::<O>(alloc, version, asked, all)?;
+    let Some(place) = holder_of(draws, number) else {
+        return batch.push_answers::<O>(alloc, number, all);
+    };
+    take_first(&mut draws[place], batch.piece_of(number).len(), all)?;
     Ok(())
 }
 
 /// The answers to all pieces, in their order.
 pub(crate) fn joined<O: Operator>(
     alloc: Global,
-    version: &Version,
-    piece: usize,
-    queries: &[Query],
-    pieces: usize,
-    draws: Vec<Draws>,
+    batch: &Batch<'_>,
+    mut draws: Vec<Drawn>,
 ) -> Result<Vec<Answer>, AllocError>
-    requires numbers { AreNumbers piece (length queries.now) pieces }
-    requires enough { length queries.now ≤ pieces * piece }
-    requires drawn { AllByRecursion (AreDrawn O.meaning version.now piece queries.now) draws.items }
-    ensures { IfOk result (λ answers. answers.items ≡ asking.answers_of O.meaning version.now queries.now) }
+    requires { AllByRecursion (IsDrawn (pieces.piece_answers O.meaning batch.now)) draws.items }
+    ensures { IfOk result (λ answers. answers.items ≡ asking.answers_of O.meaning batch.now.version batch.now.queries) }
 {
-    let mut rests = all_drawn::<O>(alloc, version, piece, queries, draws)?;
-    let mut all = Vec::with_capacity(alloc, queries.len())?;
-    for number in 0..pieces {
-        push_piece::<O>(alloc, version, piece, queries, number, &mut rests, &mut all)?;
+    let mut all = Vec::with_capacity(alloc, batch.len())?;
+    for number in 0..batch.pieces() {
+        push_piece::<O>(alloc, batch, number, &mut draws, &mut all)?;
     }
     Ok(all)
 }

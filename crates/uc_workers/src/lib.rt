@@ -2,16 +2,16 @@
 //!
 //! A batch is cut into pieces, which workers draw as they come free: a slow piece holds up nobody. Whatever they do in
 //! whichever order, the answers are those of one thread that goes through the queries. Read `specs/Asking.antt` first,
-//! then `batch.rt`.
+//! then `plain.rt`.
 #![tactic(auto)]
 
 mod ask_error;
 mod batch;
 mod drawing;
 mod gathering;
-mod piece;
+mod plain;
 #[cfg(test)]
 mod tests;
 
 pub use ask_error::{AskError, MOST_WORKERS};
-pub use batch::answer_plain;
+pub use plain::answer_plain;

@@ -1,26 +1,18 @@
-use Rattle.std.proofs.Common.{◌≡◌, ◌++◌, length, sym, subst, ap, ◌∙◌, if◌then◌else◌}
+use Rattle.std.proofs.Common.{rules, ◌≡◌, ◌<◌, Some, slice_get, length, sym, subst, ap, ◌∙◌}
 use Rattle.std.proofs.lemmas.List.{length-map}
-use Rattle.uc_workers.specs.Asking as asking
+use Rattle.std.proofs.ByRecursion.{All-set, All-get_or}
+use Rattle.uc_workers.specs.Pieces.{IsDrawn}
 use Rattle.uc_workers.specs.Pieces as pieces
 use Rattle.uc_workers.proofs.gathering.push_piece.Goals as goal
 
--- src/gathering.rt:128:9
-pub returns-then-branch : goal.returns-then-branch
-returns-then-branch g c = λ all.
-    let f = pieces.piece_answers g.O.Operator.meaning c.args.version.now c.args.piece c.args.queries.now in
-    let after = c.in_ok-take_piece.ensures f (length-map _ _ ∙ ap length (sym c.piece_of-asked.ensures)) all in (
-      after.0,
-      subst (λ b. c.take_piece.new.all.items ≡ (if b then c.args.all.now.items ++ f c.args.number else c.args.all.now.items)) c.if-branch.true after.1,
-    )
-
--- src/gathering.rt:112:1
 pub returns : goal.returns
 returns g c = λ all.
-    let f = pieces.piece_answers g.O.Operator.meaning c.args.version.now c.args.piece c.args.queries.now in
-    let after = c.in_ok-take_piece.ensures f (length-map _ _ ∙ ap length (sym c.piece_of-asked.ensures)) all in (
-      after.0,
-      c.in_ok-push_answers.ensures
-          ∙ ap (λ xs. xs ++ asking.answers_of g.O.Operator.meaning c.args.version.now c.piece_of-asked.result.now)
-          (subst (λ b. c.take_piece.new.all.items ≡ (if b then c.args.all.now.items ++ f c.args.number else c.args.all.now.items)) c.if-branch.false after.1)
-          ∙ ap (λ asked. c.args.all.now.items ++ asking.answers_of g.O.Operator.meaning c.args.version.now asked) c.piece_of-asked.ensures,
+    let f = pieces.piece_answers g.O.Operator.meaning c.args.batch.now in
+    let first : slice_get c.index_mut.result.now.numbers.items 0 ≡ Some c.args.number = search rules in
+    let within : c.in-Some.place < length c.args.draws.now.items = search rules in
+    let stands = subst (IsDrawn f) (sym c.index_mut.ensures.value)
+    (All-get_or (IsDrawn f) c.args.draws.now.items c.in-Some.place c.index_mut.result.now within all) in
+    let after = c.in_ok-take_first.ensures f c.args.number first (length-map _ _ ∙ ap length (sym c.piece_of.ensures)) stands in (
+      All-set (IsDrawn f) c.args.draws.now.items c.in-Some.place c.take_first.new.drawn after.0 all,
+      after.1,
     )
