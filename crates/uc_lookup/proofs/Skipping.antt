@@ -20,7 +20,7 @@ use Rattle.uc_merge.proofs.Keys.{lt_of}
 use Rattle.uc_answer.specs.Answers.{is_below, rows_of}
 use Rattle.uc_stripe.specs.Inputs.{writes_of, points_of}
 use Rattle.uc_lookup.specs.Ahead.{is_ahead, keys_ahead}
-use Rattle.uc_lookup.specs.Walks.{Walk, walk_at, runs_of, sought, StandsAt}
+use Rattle.uc_lookup.specs.Walks.{Walk, walk_at, runs_of, sought, StandsAt, Skips}
 use Rattle.uc_lookup.specs.Dead.{AreDead}
 use Rattle.uc_lookup.proofs.Standing.{more_length}
 use Rattle.uc_lookup.proofs.Walking.{and_left, and_right, not_true, above}
@@ -81,7 +81,7 @@ module _ (m : Operation) (at : ℕ) (walk : Walk) (cursors : List Standing) (key
   stay : runs_of moved ≡ runs_of cursors
   stay = ap runs_of goes ∙ runs_stay key bound dead.above cursors
 
-  pub same_runs : runs_of moved ≡ walk.runs
+  same_runs : runs_of moved ≡ walk.runs
   same_runs = stay ∙ ap (λ (w : Walk). w.runs) is
 
   abbrev before : List ℕ → Bool
@@ -126,16 +126,19 @@ module _ (m : Operation) (at : ℕ) (walk : Walk) (cursors : List Standing) (key
   moved_keys : keys_ahead (points_of (runs_of moved)) bound false high ≡ keys_ahead points bound false high
   moved_keys = ap (λ (runs : List Contents). keys_ahead (points_of runs) bound false high) stay
 
-  pub same_rows : rows_of m (writes_of walk.runs) at (keys_ahead (points_of (runs_of moved)) bound false high) ≡ rows_of m (writes_of walk.runs) at walk.keys
+  same_rows : rows_of m (writes_of walk.runs) at (keys_ahead (points_of (runs_of moved)) bound false high) ≡ rows_of m (writes_of walk.runs) at walk.keys
   same_rows =
       ap (rows_of m (writes_of walk.runs) at) moved_keys
       ∙ subst (λ (runs : List Contents). rows_of m (writes_of runs) at (keys_ahead points bound false high) ≡ rows_of m (writes_of runs) at (keys_ahead points key true high)) (ap (λ (w : Walk). w.runs) is)
       (same_given row before behind ahead_too no_row (keys_of points))
       ∙ ap (rows_of m (writes_of walk.runs) at) keys_are
 
-  pub no_more : length (keys_ahead (points_of (runs_of moved)) bound false high) ≤ length walk.keys
+  no_more : length (keys_ahead (points_of (runs_of moved)) bound false high) ≤ length walk.keys
   no_more =
       let le : length (keys_ahead points bound false high) ≤ length (keys_ahead points key true high) = no_more_given row before behind ahead_too no_row (keys_of points) in
       let new : length (keys_ahead (points_of (runs_of moved)) bound false high) ≡ length (keys_ahead points bound false high) = ap length moved_keys in
       let old : length (keys_ahead points key true high) ≡ length walk.keys = ap length keys_are in
       omega (arith, le, new, old)
+
+  pub skips : Skips m at walk (walk_at bound false high (runs_of moved))
+  skips = record { rows = same_rows; shorter = no_more; runs = same_runs }

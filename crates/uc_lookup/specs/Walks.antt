@@ -1,15 +1,23 @@
 -- Where a walk over the points of several runs stands.
-use Rattle.std.specs.Prelude.{◌≡◌, ℕ, Bool, true, false, List, Option, map, max}
+use Rattle.std.specs.Prelude.{◌≡◌, ℕ, ◌≤◌, Bool, true, false, List, Option, length, map, max}
+use Rattle.uc_oper.specs.Operation.{Operation}
+use Rattle.uc_answer.specs.Answers.{rows_of}
 use Rattle.uc_entry.specs.Run.{Contents}
 use Rattle.uc_entry.specs.Seek.{seek_place}
 use Rattle.uc_block.specs.Cursors.{Standing}
-use Rattle.uc_stripe.specs.Inputs.{points_of}
+use Rattle.uc_stripe.specs.Inputs.{points_of, writes_of}
 use Rattle.uc_lookup.specs.Ahead.{keys_ahead}
 
 -- runs, the newest first, and the keys of their points that are still ahead
 pub record Walk : Type 0 where
   pub runs : List Contents
   pub keys : List (List ℕ)
+
+-- a walk that went on over keys without a value at a sequence: the rows that are ahead stay, and so do the runs
+pub record Skips (m : Operation) (at : ℕ) (old new : Walk) : Type 0 where
+  pub rows : rows_of m (writes_of old.runs) at new.keys ≡ rows_of m (writes_of old.runs) at old.keys
+  pub shorter : length new.keys ≤ length old.keys
+  pub runs : new.runs ≡ old.runs
 
 -- those of the keys from `low` on or, where strict, behind it, and below `high` where there is one
 abbrev pub walk_at : List ℕ → Bool → Option (List ℕ) → List Contents → Walk

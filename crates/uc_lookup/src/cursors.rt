@@ -1,5 +1,5 @@
 //! [`Cursors`]: a walk over the points of several runs, key by key.
-ghost use Rattle.std.specs.Prelude.{◌≡◌, ℕ, ◌≤◌, Bool, List, false, length, map, option_map, IfOk, IfSome};
+ghost use Rattle.std.specs.Prelude.{◌≡◌, ℕ, Bool, List, false, map, option_map, IfOk, IfSome};
 ghost use Rattle.std.specs.List.{AllByRecursion};
 ghost use Rattle.uc_model.specs.Meaning.{effect_on, value_of};
 ghost use Rattle.uc_answer.specs.Answers as answers;
@@ -8,7 +8,7 @@ ghost use Rattle.uc_merge.specs.Heads as heads;
 ghost use Rattle.uc_stripe.specs.Inputs.{points_of, writes_of};
 ghost use Rattle.uc_history.specs.Versions.{contents_of};
 ghost use Rattle.uc_lookup.specs.Ahead.{Comes};
-ghost use Rattle.uc_lookup.specs.Walks.{walk_at, runs_of, standing_at, passed, sought, StandsAt};
+ghost use Rattle.uc_lookup.specs.Walks.{walk_at, runs_of, standing_at, passed, sought, StandsAt, Skips};
 
 use crate::dead_keys::dead_up_to;
 use std::alloc::{AllocError, Global};
@@ -202,10 +202,7 @@ impl<'a> Cursors<'a> {
     /// hides it and neither that run nor a newer one has a point. It does nothing where no run hides that key. It costs a step
     /// for each run, and for those whose points are passed a search.
     pub(crate) fn skip_dead<O: Operator>(&mut self, at: u64)
-        ensures rows { answers.rows_of O.meaning (writes_of self.old.runs) at self.new.keys ≡
-            answers.rows_of O.meaning (writes_of self.old.runs) at self.old.keys }
-        ensures shorter { length self.new.keys ≤ length self.old.keys }
-        ensures runs { self.new.runs ≡ self.old.runs }
+        ensures { Skips O.meaning at self.old self.new }
     {
         if !self.strict {
             return;
