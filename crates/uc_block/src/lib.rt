@@ -19,8 +19,3 @@ mod size;
 pub use cursor::Cursor;
 pub use laws::next_key_is_the_least;
 pub use run::Run;
-
-#[cfg(test)]
-mod cursor_tests;
-#[cfg(test)]
-mod tests;

@@ -15,6 +15,3 @@ mod ranges;
 pub use compacted::Compacted;
 pub use compacting::compact;
 pub use inputs::inputs_stand;
-
-#[cfg(test)]
-mod tests;

@@ -18,6 +18,3 @@ pub use logs::{ended_line, push_writes};
 pub use refusals::{claim_refusal_line, install_refusal_line, opening_refusal_line};
 pub use replies::{compacted_line, reply_lines};
 pub use reports::report_lines;
-
-#[cfg(test)]
-mod tests;

@@ -28,6 +28,3 @@ pub use log_read::{LogRead, Payloads, read_log};
 pub use log_reader::{LogReader, Next};
 pub use log_writer::LogWriter;
 pub use uc_crc::{crc32c, mask, unmask};
-
-#[cfg(test)]
-mod tests;

@@ -32,6 +32,3 @@ pub use laws::{
 pub use reading::read_script;
 pub use script::{Calls, Keeps, Ops, Script};
 pub use seq::Seq;
-
-#[cfg(test)]
-mod tests;

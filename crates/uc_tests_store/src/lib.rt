@@ -1,9 +1,10 @@
-//! Random stores, compacted in every way: reads see no difference.
+//! Stores worked by hand, and random ones, compacted in every way: reads see no difference.
 //!
-//! Each store has a few small runs of drawn writes. Every stretch of them is compacted under drawn keeps, and what the
+//! Each random store has a few small runs of drawn writes. Every stretch of them is compacted under drawn keeps, and what the
 //! output does to each key at every kept sequence, at the greatest of the inputs and above, is compared with what the
-//! plain program of `uc_model` makes of the stretch's writes.
+//! plain program of `uc_model` makes of the stretch's writes (`compactions.rt`).
 //! `owned_stores.rt` has stores whose stretches are claimed and installed in any order, and `workers.rt` batches of queries.
+//! Worked by hand are claims, installs and picks (`owners.rt`) and a batch of queries (`worked_batches.rt`).
 #![tactic(auto)]
 
 #[cfg(test)]
@@ -12,5 +13,9 @@ mod compactions;
 mod dice;
 #[cfg(test)]
 mod owned_stores;
+#[cfg(test)]
+mod owners;
+#[cfg(test)]
+mod worked_batches;
 #[cfg(test)]
 mod workers;

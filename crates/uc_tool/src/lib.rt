@@ -26,6 +26,3 @@ pub use laws::{compactions_end_where_nothing_is_picked, reads_are_answered_from_
 pub use playing::play;
 pub use reporting::report_log;
 pub use uc_pick::Options;
-
-#[cfg(test)]
-mod tests;

@@ -33,6 +33,3 @@ pub use uc_claims::MOST_SLOTS;
 pub use uc_history::{Placed, Version};
 pub use uc_opening::{OpenError, Opener, open_version};
 pub use uc_pick::{Candidate, Options, Stretch};
-
-#[cfg(test)]
-mod tests;

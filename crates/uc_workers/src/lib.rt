@@ -10,8 +10,6 @@ mod batch;
 mod drawing;
 mod gathering;
 mod plain;
-#[cfg(test)]
-mod tests;
 
 pub use ask_error::{AskError, MOST_WORKERS};
 pub use plain::answer_plain;

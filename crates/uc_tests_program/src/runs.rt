@@ -1,8 +1,8 @@
 //! One run of each program.
 
-use super::*;
 use std::test::Fail;
 use uc_oper::Counter;
+use uc_tool::{Done, Options, dump, play};
 
 /// The log of a batch that sets the key `a` to `1` at sequence 1.
 const LOG: [u8; 24] = [

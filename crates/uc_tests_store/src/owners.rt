@@ -1,5 +1,5 @@
 //! Claims, installs and picks worked by hand.
-use super::*;
+use Step::{Abandon, Busy, Claim, Install, Pick, Runs};
 use std::alloc::Global;
 use std::marker::Sync;
 use std::process::Abort;
@@ -8,6 +8,9 @@ use std::thread::Threads;
 use uc_batch::Writes;
 use uc_bytes::Bytes;
 use uc_oper::Append;
+use uc_version::{
+    ClaimError, InstallError, MOST_SLOTS, Options, Owned, OwnedClaim, Stretch, open_plain, pick,
+};
 use uc_write::{Op, Write};
 
 /// The operator of the tests: texts joined by a comma.
@@ -24,8 +27,6 @@ enum Step {
     Busy(usize, bool),
     Pick(Option<Stretch>),
 }
-
-use Step::{Abandon, Busy, Claim, Install, Pick, Runs};
 
 /// Merges of one key, each a run of its own, and what is done with the store then.
 struct Row {

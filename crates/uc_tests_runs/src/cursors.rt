@@ -1,8 +1,8 @@
 //! A walk over a run finds what searches of it find.
-use super::*;
 use std::alloc::Global;
 use std::process::Abort;
 use std::test::Fail;
+use uc_block::{Cursor, Run};
 use uc_bytes::{Bytes, Items};
 use uc_entry::{Entry, Fragment, What, is_run};
 use uc_oper::Append;

@@ -1,5 +1,4 @@
 //! A batch worked by hand, by several workers and in several pieces.
-use super::*;
 use std::alloc::Global;
 use std::marker::Sync;
 use std::test::Fail;
@@ -11,6 +10,7 @@ use uc_history::Version;
 use uc_opening::open_version;
 use uc_oper::Append;
 use uc_pick::Options;
+use uc_workers::{AskError, answer_plain};
 use uc_write::{Op, Write};
 
 /// A change of a test.

@@ -1,10 +1,10 @@
 //! Scripts that are read, scripts at fault, and texts that are printed.
 
-use super::*;
 use std::alloc::Global;
 use std::process::Abort;
 use std::test::Fail;
 use uc_bytes::Bytes;
+use uc_script::{Call, ScriptError, Seq, push_hex, push_number, read_script};
 use uc_write::{Op, OpKind};
 
 /// The line at fault, if there is one.

@@ -1,8 +1,8 @@
 //! Runs of some sizes, and lookups in them.
-use super::*;
 use std::alloc::Global;
 use std::process::Abort;
 use std::test::Fail;
+use uc_block::{Run, next_key_is_the_least};
 use uc_bytes::{Bytes, Items};
 use uc_entry::{Entry, Fragment, What, is_run};
 use uc_oper::{Append, Effect};

@@ -1,10 +1,10 @@
 //! Lines worked by hand.
-use super::*;
 use std::alloc::Global;
 use std::test::Fail;
 use uc_answer::Answer;
 use uc_bytes::{Bytes, Items};
 use uc_fold::Totals;
+use uc_lines::{compacted_line, opening_refusal_line, reply_lines};
 use uc_opening::OpenError;
 use uc_pick::Stretch;
 use uc_query::Reply;

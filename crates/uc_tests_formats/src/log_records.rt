@@ -1,8 +1,11 @@
 //! Logs whose bytes, payloads and endings come from outside: the checksums are those of LevelDB's own code.
-use super::*;
 use std::alloc::{AllocError, Global};
 use std::process::Abort;
 use std::test::Fail;
+use uc_logrec::{
+    Ending, LogFault, LogReader, LogWriter, Next, crc32c, log_is_read_by_grammar, mask, read_log,
+    unmask, written_log_is_read, written_records_fill_blocks,
+};
 
 /// Records without data.
 const FULL: [u8; 7] = [0x05, 0x2b, 0x28, 0x43, 0, 0, 1];

@@ -1,0 +1,12 @@
+//! Worked examples of runs: what is found in them, and what compactions make of them.
+//!
+//! Everything here runs the calls of other crates as their users do, over points that were worked out by hand. `blocks.rt` has
+//! runs of some sizes and lookups in them, `cursors.rt` walks over their points, and `compactions.rt` whole compactions.
+#![tactic(auto)]
+
+#[cfg(test)]
+mod blocks;
+#[cfg(test)]
+mod compactions;
+#[cfg(test)]
+mod cursors;
