@@ -13,7 +13,8 @@ pub record Walk : Type 0 where
   pub runs : List Contents
   pub keys : List (List ℕ)
 
--- a walk that went on over keys without a value at a sequence: the rows that are ahead stay, and so do the runs
+-- a walk that went on over keys without a value at a sequence, or stayed: the same rows are ahead, no more keys are, and the
+-- runs are the same
 pub record Skips (m : Operation) (at : ℕ) (old new : Walk) : Type 0 where
   pub rows : rows_of m (writes_of old.runs) at new.keys ≡ rows_of m (writes_of old.runs) at old.keys
   pub shorter : length new.keys ≤ length old.keys
