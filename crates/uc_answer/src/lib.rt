@@ -19,6 +19,3 @@ pub use laws::{
 pub use plain::answer_writes;
 pub use query::Query;
 pub use rows::Rows;
-
-#[cfg(test)]
-mod tests;

@@ -34,6 +34,3 @@ pub use reading::read_batch;
 pub use uc_write::{Op, Write};
 pub use writes::Writes;
 pub use writing::{fits_batch, write_batch};
-
-#[cfg(test)]
-mod tests;

@@ -9,6 +9,3 @@ mod items;
 
 pub use bytes::Bytes;
 pub use items::Items;
-
-#[cfg(test)]
-mod tests;

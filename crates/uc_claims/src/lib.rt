@@ -17,8 +17,6 @@ mod rule;
 mod seat;
 mod slot_set;
 mod table;
-#[cfg(test)]
-mod tests;
 
 pub use busy::Busy;
 pub use held_slots::HeldSlots;

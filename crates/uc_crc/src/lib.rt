@@ -19,6 +19,3 @@ mod table;
 pub use checksum::{crc32c, extend};
 pub use laws::division;
 pub use masking::{mask, unmask};
-
-#[cfg(test)]
-mod tests;

@@ -16,6 +16,3 @@ pub use fragment::Fragment;
 pub use laws::{
     plain_list_does_what_is_found, plain_list_is_in_order, stripes_of_plain_list_do_what_is_found,
 };
-
-#[cfg(test)]
-mod tests;

@@ -23,6 +23,3 @@ pub use laws::{
 };
 pub use sums::Sums;
 pub use totals::Totals;
-
-#[cfg(test)]
-mod tests;

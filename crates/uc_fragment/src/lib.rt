@@ -14,6 +14,3 @@ mod range;
 pub use cutting::cut_ranges;
 pub use laws::{fragments_are_in_order, fragments_cover_what_ranges_cover};
 pub use range::Range;
-
-#[cfg(test)]
-mod tests;

@@ -30,28 +30,28 @@ impl<'a> Range<'a> {
     }
 
     /// The least key that it covers, where it covers any.
-    pub(crate) fn begin(&self) -> &'a [u8]
+    pub fn begin(&self) -> &'a [u8]
         ensures { result.now ≡ self.now.begin }
     {
         self.begin
     }
 
     /// The least key behind those that it covers.
-    pub(crate) fn end(&self) -> &'a [u8]
+    pub fn end(&self) -> &'a [u8]
         ensures { result.now ≡ self.now.end }
     {
         self.end
     }
 
     /// Its sequence.
-    pub(crate) fn seq(&self) -> u64
+    pub fn seq(&self) -> u64
         ensures { result ≡ self.now.seq }
     {
         self.seq
     }
 
     /// Whether it covers any key.
-    pub(crate) fn has_keys(&self) -> bool
+    pub fn has_keys(&self) -> bool
         ensures { result ≡ cutting.has_keys self.now }
     {
         self.begin.cmp(&self.end).is_lt()

@@ -8,6 +8,3 @@ mod cursor;
 mod groups;
 
 pub use groups::Groups;
-
-#[cfg(test)]
-mod tests;

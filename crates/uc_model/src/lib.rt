@@ -14,6 +14,3 @@ pub use laws::{
     later_writes_change_nothing, untouched_key_keeps_its_value, value_is_given,
 };
 pub use value::{effect_at, touches_key, value_at};
-
-#[cfg(test)]
-mod tests;

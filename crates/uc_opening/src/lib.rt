@@ -13,8 +13,6 @@ mod open_error;
 mod opener;
 mod opening;
 mod placing;
-#[cfg(test)]
-mod tests;
 
 pub use laws::no_refusal_is_leave_to_open;
 pub use open_error::OpenError;

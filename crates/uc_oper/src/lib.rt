@@ -20,6 +20,3 @@ pub use laws::{apply_composes, keep_is_unit, then_is_associative};
 pub use maximum::Maximum;
 pub use merging::merged;
 pub use operator::Operator;
-
-#[cfg(test)]
-mod tests;

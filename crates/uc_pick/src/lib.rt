@@ -21,6 +21,3 @@ pub use laws::{
 pub use options::Options;
 pub use picking::pick_among;
 pub use stretch::Stretch;
-
-#[cfg(test)]
-mod tests;

@@ -9,6 +9,3 @@ mod what_ref;
 
 pub use point::{INLINE_BYTES, Point, points_of};
 pub use what_ref::WhatRef;
-
-#[cfg(test)]
-mod tests;

@@ -25,6 +25,3 @@ pub use uc_answer::{Answer, Query, Rows, answer_writes};
 pub use uc_lookup::answer_one;
 pub use uc_report::{Report, RunLine, Totals, report};
 pub use uc_workers::{AskError, MOST_WORKERS, answer_plain};
-
-#[cfg(test)]
-mod tests;

@@ -5,7 +5,5 @@
 #![tactic(auto)]
 
 mod recovery;
-#[cfg(test)]
-mod tests;
 
 pub use recovery::{Recovered, recover};

@@ -11,6 +11,3 @@ pub use reporting::report;
 pub use run_line::RunLine;
 pub use summary::Report;
 pub use uc_fold::Totals;
-
-#[cfg(test)]
-mod tests;

@@ -30,6 +30,3 @@ pub use uc_entry::{
 pub use uc_fragment::{
     Range, cut_ranges, fragments_are_in_order, fragments_cover_what_ranges_cover,
 };
-
-#[cfg(test)]
-mod tests;

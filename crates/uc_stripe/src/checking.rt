@@ -16,14 +16,14 @@ pub fn keeps_rise(keeps: &[u64]) -> bool
 }
 
 /// Whether each sequence is above the next.
-pub(crate) fn seqs_fall(seqs: &[u64]) -> bool
+pub fn seqs_fall(seqs: &[u64]) -> bool
     ensures { IsTrue result ↔ IsFalling seqs.now }
 {
     seqs.is_sorted_by(|seq, next| next < seq)
 }
 
 /// Whether no sequence is 0.
-pub(crate) fn seqs_are_from_one(seqs: &[u64]) -> bool
+pub fn seqs_are_from_one(seqs: &[u64]) -> bool
     ensures { IsTrue result ↔ AllByRecursion (λ n. 0 < n) seqs.now }
 {
     seqs.iter().all(|seq| 0 < *seq)

@@ -14,7 +14,7 @@ mod laws;
 mod parts;
 mod stripe;
 
-pub use checking::{are_of_one_key, keeps_rise};
+pub use checking::{are_of_one_key, keeps_rise, seqs_are_from_one, seqs_fall};
 pub use fragment_seqs::kept_seqs;
 pub use keeping::Keeping;
 pub use kept_points::push_kept_points;
@@ -23,6 +23,3 @@ pub use laws::{
     compaction_of_the_oldest_leaves_values, points_are_chosen_key_by_key, runs_compose,
     sequences_have_one_stripe,
 };
-
-#[cfg(test)]
-mod tests;

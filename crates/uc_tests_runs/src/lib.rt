@@ -1,7 +1,8 @@
 //! Worked examples of runs: what is found in them, and what compactions make of them.
 //!
 //! Everything here runs the calls of other crates as their users do, over points that were worked out by hand. `blocks.rt` has
-//! runs of some sizes and lookups in them, `cursors.rt` walks over their points, and `compactions.rt` whole compactions.
+//! runs of some sizes and lookups in them, `cursors.rt` walks over their points, `memtables.rt` memtables and the runs that they are
+//! flushed to, and `compactions.rt` whole compactions.
 #![tactic(auto)]
 
 #[cfg(test)]
@@ -10,3 +11,5 @@ mod blocks;
 mod compactions;
 #[cfg(test)]
 mod cursors;
+#[cfg(test)]
+mod memtables;

@@ -4,9 +4,12 @@
 //! output does to each key at every kept sequence, at the greatest of the inputs and above, is compared with what the
 //! plain program of `uc_model` makes of the stretch's writes (`compactions.rt`).
 //! `owned_stores.rt` has stores whose stretches are claimed and installed in any order, and `workers.rt` batches of queries.
-//! Worked by hand are claims, installs and picks (`owners.rt`) and a batch of queries (`worked_batches.rt`).
+//! Worked by hand are claims, installs and picks (`owners.rt`), lists of calls (`calls.rt`) and a batch of queries
+//! (`worked_batches.rt`).
 #![tactic(auto)]
 
+#[cfg(test)]
+mod calls;
 #[cfg(test)]
 mod compactions;
 #[cfg(test)]

@@ -13,6 +13,3 @@ pub use op::Op;
 pub use op_ref::{OpKind, OpRef};
 pub use write::{MAX_SEQUENCE, Write};
 pub use write_ref::WriteRef;
-
-#[cfg(test)]
-mod tests;

@@ -1,0 +1,247 @@
+//! Operators on a few texts, and effects that compose.
+ghost use Rattle.std.specs.Prelude.{refl};
+
+use std::alloc::{AllocError, Global};
+use std::process::Abort;
+use std::test::Fail;
+use uc_bytes::Bytes;
+use uc_oper::{
+    Append, Counter, Effect, Maximum, Operator, apply_composes, keep_is_unit, merged,
+    then_is_associative,
+};
+
+const FIVE: [u8; 8] = [5, 0, 0, 0, 0, 0, 0, 0];
+
+const SEVEN: [u8; 8] = [7, 0, 0, 0, 0, 0, 0, 0];
+
+const TWELVE: [u8; 8] = [12, 0, 0, 0, 0, 0, 0, 0];
+
+const ZERO: [u8; 8] = [0; 8];
+
+const MOST: [u8; 8] = [255; 8];
+
+const ONE: [u8; 8] = [1, 0, 0, 0, 0, 0, 0, 0];
+
+/// An older text, a newer one, and what an operator makes of both.
+type Row = (&'static [u8], &'static [u8], &'static [u8]);
+
+/// Joins and pairs the texts of a row.
+fn wants_both<O: Operator>(rt: &impl Abort, alloc: Global, row: &Row) -> Result<(), Fail> {
+    let joined = O::join(alloc, row.0, row.1)?;
+    assert_eq!(rt; joined.as_slice(), row.2);
+    let paired = O::pair(alloc, row.0, row.1)?;
+    assert_eq!(rt; paired.as_slice(), row.2);
+    Ok(())
+}
+
+/// Joins and pairs the texts of a row in place.
+fn wants_both_in_place<O: Operator>(rt: &impl Abort, alloc: Global, row: &Row) -> Result<(), Fail> {
+    let joined = O::join_onto(alloc, Vec::from_slice(alloc, row.0)?, row.1)?;
+    assert_eq!(rt; joined.as_slice(), row.2);
+    let paired = O::pair_onto(alloc, Vec::from_slice(alloc, row.0)?, row.1)?;
+    assert_eq!(rt; paired.as_slice(), row.2);
+    Ok(())
+}
+
+/// Makes a value of an operand.
+fn wants_first<O: Operator>(
+    rt: &impl Abort,
+    alloc: Global,
+    operand: &[u8],
+    want: &[u8],
+) -> Result<(), Fail> {
+    let first = O::first(alloc, operand)?;
+    assert_eq!(rt; first.as_slice(), want);
+    Ok(())
+}
+
+/// Numbers and their sums. What doesn't have eight bytes counts as zero.
+static SUMS: [Row; 5] = [
+    (&FIVE, &SEVEN, &TWELVE),
+    (&MOST, &ONE, &ZERO),
+    (b"\x00", &SEVEN, &SEVEN),
+    (b"abc", &SEVEN, &SEVEN),
+    (b"nine byte", b"", &ZERO),
+];
+
+#[test]
+fn counters_add_and_wrap(rt: HostRuntime) -> Result<(), Fail> {
+    let alloc = rt.alloc();
+    for row in &SUMS {
+        wants_both::<Counter>(&rt, alloc, row)?;
+    }
+    wants_first::<Counter>(&rt, alloc, &SEVEN, &SEVEN)?;
+    wants_first::<Counter>(&rt, alloc, &[1, 2, 3], &ZERO)
+}
+
+#[test]
+fn counters_add_in_place(rt: HostRuntime) -> Result<(), Fail> {
+    for row in &SUMS {
+        wants_both_in_place::<Counter>(&rt, rt.alloc(), row)?;
+    }
+    Ok(())
+}
+
+/// Texts, joined with a comma.
+static JOINED: [Row; 3] = [
+    (b"", b"b", b",b"),
+    (b"b", b"c", b"b,c"),
+    (b"b,c", b"", b"b,c,"),
+];
+
+#[test]
+fn texts_append_with_a_delimiter(rt: HostRuntime) -> Result<(), Fail> {
+    let alloc = rt.alloc();
+    for row in &JOINED {
+        wants_both::<Append<44>>(&rt, alloc, row)?;
+    }
+    wants_first::<Append<44>>(&rt, alloc, b"b", b"b")
+}
+
+#[test]
+fn texts_are_extended(rt: HostRuntime) -> Result<(), Fail> {
+    for row in &JOINED {
+        wants_both_in_place::<Append<44>>(&rt, rt.alloc(), row)?;
+    }
+    Ok(())
+}
+
+/// Texts, and the greater of them.
+static GREATER: [Row; 3] = [
+    (b"a", b"ab", b"ab"),
+    (b"ab", b"`", b"ab"),
+    (b"b", b"b", b"b"),
+];
+
+#[test]
+fn the_greater_text_stays(rt: HostRuntime) -> Result<(), Fail> {
+    let alloc = rt.alloc();
+    for row in &GREATER {
+        wants_both::<Maximum>(&rt, alloc, row)?;
+    }
+    wants_first::<Maximum>(&rt, alloc, b"b", b"b")
+}
+
+#[test]
+fn the_greater_text_stays_in_place(rt: HostRuntime) -> Result<(), Fail> {
+    for row in &GREATER {
+        wants_both_in_place::<Maximum>(&rt, rt.alloc(), row)?;
+    }
+    Ok(())
+}
+
+/// Keeps the newest text. It gives the required functions alone.
+enum Newest {}
+
+impl Operator for Newest {
+    ghost meaning = { record { first = λ x. x; join = λ base x. x; pair = λ older newer. newer } };
+
+    ghost lawful = { record { join_pair = λ b x y. refl; first_pair = λ x y. refl; pair_assoc = λ x y z. refl } };
+
+    fn first(alloc: Global, operand: &[u8]) -> Result<Vec<u8>, AllocError> {
+        Vec::from_slice(alloc, operand)
+    }
+
+    fn join(alloc: Global, _: &[u8], operand: &[u8]) -> Result<Vec<u8>, AllocError> {
+        Vec::from_slice(alloc, operand)
+    }
+
+    fn pair(alloc: Global, _: &[u8], newer: &[u8]) -> Result<Vec<u8>, AllocError> {
+        Vec::from_slice(alloc, newer)
+    }
+}
+
+fn bytes(alloc: Global, text: &[u8]) -> Result<Bytes, Fail> {
+    Ok(Bytes::from_slice(alloc, text)?)
+}
+
+/// The effect of an operand.
+fn fold(alloc: Global, operand: &[u8]) -> Result<Effect, Fail> {
+    Ok(Effect::Fold(bytes(alloc, operand)?))
+}
+
+/// Applies an effect to a value, and wants another one.
+fn wants_applied<O: Operator>(
+    rt: &impl Abort,
+    alloc: Global,
+    effect: Effect,
+    value: &[u8],
+    want: &[u8],
+) -> Result<(), Fail> {
+    let value = bytes(alloc, value)?;
+    let value = effect.apply::<O>(alloc, Some(value))?.ok_or("no value")?;
+    assert_eq!(rt; value.as_slice(), want);
+    Ok(())
+}
+
+#[test]
+fn owned_forms_are_provided(rt: HostRuntime) -> Result<(), Fail> {
+    let alloc = rt.alloc();
+    wants_both_in_place::<Newest>(&rt, alloc, &(b"a", b"b", b"b"))?;
+    wants_both_in_place::<Newest>(&rt, alloc, &(b"b", b"c", b"c"))?;
+    let effect = fold(alloc, b"c")?.folded::<Newest>(alloc, b"d")?;
+    wants_applied::<Newest>(&rt, alloc, effect, b"e", b"d")
+}
+
+#[test]
+fn operands_merge_into_values(rt: HostRuntime) -> Result<(), Fail> {
+    let alloc = rt.alloc();
+    let first = merged::<Append<44>>(alloc, None, b"a")?;
+    assert_eq!(rt; first.as_slice(), b"a".as_slice());
+    let second = merged::<Append<44>>(alloc, Some(first), b"b")?;
+    assert_eq!(rt; second.as_slice(), b"a,b".as_slice());
+    Ok(())
+}
+
+/// Whether an effect is that of an operand.
+fn is_fold(effect: &Effect, operand: &[u8]) -> bool {
+    match effect {
+        Effect::Fold(text) => text.as_slice() == operand,
+        _ => false,
+    }
+}
+
+/// Whether an effect sets a value.
+fn is_set(effect: &Effect, value: &[u8]) -> bool {
+    match effect {
+        Effect::Set(Some(text)) => text.as_slice() == value,
+        _ => false,
+    }
+}
+
+#[test]
+fn effects_compose_and_apply(rt: HostRuntime) -> Result<(), Fail> {
+    let alloc = rt.alloc();
+    let newer = fold(alloc, b"c")?;
+    let both = fold(alloc, b"b")?.then::<Append<44>>(alloc, newer)?;
+    assert!(rt; is_fold(&both, b"b,c"));
+    wants_applied::<Append<44>>(&rt, alloc, both, b"a", b"a,b,c")
+}
+
+#[test]
+fn an_operand_is_added_to_no_value(rt: HostRuntime) -> Result<(), Fail> {
+    let alloc = rt.alloc();
+    let newer = fold(alloc, b"d")?;
+    let cleared = Effect::Set(None).then::<Append<44>>(alloc, newer)?;
+    assert!(rt; is_set(&cleared, b"d"));
+    Ok(())
+}
+
+#[test]
+fn operands_are_added_to_nothing(rt: HostRuntime) -> Result<(), Fail> {
+    let alloc = rt.alloc();
+    let kept = Effect::Keep.then::<Append<44>>(alloc, Effect::Keep)?;
+    assert!(rt; kept == Effect::Keep);
+    let folded = kept.folded::<Append<44>>(alloc, b"e")?;
+    assert!(rt; is_fold(&folded, b"e"));
+    let folded = folded.folded::<Append<44>>(alloc, b"f")?;
+    assert!(rt; is_fold(&folded, b"e,f"));
+    Ok(())
+}
+
+#[test]
+fn laws_hold() {
+    then_is_associative::<Counter>();
+    keep_is_unit::<Maximum>();
+    apply_composes::<Append<44>>();
+}

@@ -1,0 +1,200 @@
+//! Runs of a few points, merged.
+ghost use Rattle.std.specs.Prelude.{IfOk};
+ghost use Rattle.std.specs.List.Sorted.{IsStrictlySortedBy};
+ghost use Rattle.uc_entry.specs.Order.{entry_cmp};
+
+use std::alloc::Global;
+use std::test::Fail;
+use uc_bytes::Bytes;
+use uc_entry::{Entry, What, is_run};
+use uc_merge::Groups;
+use uc_point::Point;
+
+/// Points of keys of one byte, with sequences from 1 to 40, in order.
+fn points_of(alloc: Global, points: &[(u8, u64)]) -> Result<Vec<Point>, Fail>
+    ensures { IfOk result (λ made. IsStrictlySortedBy entry_cmp made.items) }
+{
+    let mut entries = Vec::new(alloc);
+    for &(key, seq) in points {
+        entries.push(Entry {
+            key: Bytes::from_slice(alloc, &[key])?,
+            seq,
+            what: What::Delete,
+        })?;
+    }
+    if is_run(1, 40, &entries, &[]) {
+        Ok(uc_point::points_of(alloc, &entries)?)
+    } else {
+        Err(Fail::new("not in order"))
+    }
+}
+
+/// Whether the next key is this one, with points of these sequences.
+fn is_next<'a>(
+    groups: &mut Groups<'a>,
+    points: &mut Vec<&'a Point>,
+    key: u8,
+    seqs: &[u64],
+) -> Result<bool, Fail> {
+    match groups.next_into(points)? {
+        None => Ok(false),
+        Some(next) => Ok(
+            next == [key].as_slice()
+                && points
+                    .iter()
+                    .map(|point| point.seq())
+                    .eq(seqs.iter().copied()),
+        ),
+    }
+}
+
+/// Whether the runs, the newest first, have these groups and no others.
+fn have_groups(
+    alloc: Global,
+    runs: [&[(u8, u64)]; 3],
+    expected: &[(u8, &[u64])],
+) -> Result<bool, Fail> {
+    let newer = points_of(alloc, runs[0])?;
+    let middle = points_of(alloc, runs[1])?;
+    let older = points_of(alloc, runs[2])?;
+    let mut groups = Groups::over(
+        alloc,
+        &[newer.as_slice(), middle.as_slice(), older.as_slice()],
+    )?;
+    let mut points = Vec::new(alloc);
+    for (key, seqs) in expected {
+        if !is_next(&mut groups, &mut points, *key, seqs)? {
+            return Ok(false);
+        }
+    }
+    Ok(groups.next_into(&mut points)?.is_none() && points.is_empty())
+}
+
+/// Two runs, the newer one first, and the keys of both, each with the sequences of its points.
+struct Merge {
+    newer: &'static [(u8, u64)],
+    older: &'static [(u8, u64)],
+    groups: &'static [(u8, &'static [u64])],
+}
+
+/// Worked by hand.
+const MERGES: [Merge; 5] = [
+    // No points.
+    Merge {
+        newer: &[],
+        older: &[],
+        groups: &[],
+    },
+    // Keys of one run alone and of both, several points of a key, and equal last keys.
+    Merge {
+        newer: &[(1, 9), (3, 8), (3, 7), (4, 6), (9, 10)],
+        older: &[(2, 1), (3, 4), (3, 2), (9, 3)],
+        groups: &[
+            (1, &[9]),
+            (2, &[1]),
+            (3, &[8, 7, 4, 2]),
+            (4, &[6]),
+            (9, &[10, 3]),
+        ],
+    },
+    // All keys of the newer run before those of the older one.
+    Merge {
+        newer: &[(1, 7), (2, 9), (2, 8)],
+        older: &[(3, 2), (4, 1)],
+        groups: &[(1, &[7]), (2, &[9, 8]), (3, &[2]), (4, &[1])],
+    },
+    // All keys of the newer run behind those of the older one.
+    Merge {
+        newer: &[(5, 9)],
+        older: &[(3, 2), (4, 1)],
+        groups: &[(3, &[2]), (4, &[1]), (5, &[9])],
+    },
+    // One key in all: the points of the newer run first.
+    Merge {
+        newer: &[(6, 9), (6, 5)],
+        older: &[(6, 4), (6, 3)],
+        groups: &[(6, &[9, 5, 4, 3])],
+    },
+];
+
+#[test]
+fn points_come_by_key(rt: HostRuntime) -> Result<(), Fail> {
+    for merge in &MERGES {
+        assert!(rt; have_groups(rt.alloc(), [merge.newer, &[], merge.older], merge.groups)?);
+    }
+    Ok(())
+}
+
+#[test]
+fn no_runs_have_no_groups(rt: HostRuntime) -> Result<(), Fail> {
+    let alloc = rt.alloc();
+    let mut groups = Groups::over(alloc, &[])?;
+    let mut points = Vec::new(alloc);
+    assert!(rt; groups.next_into(&mut points)?.is_none());
+    Ok(())
+}
+
+/// Keys of random points are below this.
+const MOST_KEYS: u8 = 4;
+
+/// The next number of a row of random ones.
+fn next_random(state: &mut u64) -> u64 {
+    *state = state
+        .wrapping_mul(6_364_136_223_846_793_005)
+        .wrapping_add(1_442_695_040_888_963_407);
+    *state >> 33
+}
+
+/// The points of a random run, in order: for each key from 0 on as many as come, their sequences falling from `top`.
+fn random_points(state: &mut u64, alloc: Global, top: u64) -> Result<Vec<(u8, u64)>, Fail> {
+    let mut points = Vec::new(alloc);
+    for key in 0..MOST_KEYS {
+        for place in 0..next_random(state) % 4 {
+            points.push((key, top.saturating_sub(place)))?;
+        }
+    }
+    Ok(points)
+}
+
+/// The sequences of a key's points, found by a look at all points of all runs.
+fn seqs_of_key(alloc: Global, runs: &[&[(u8, u64)]], key: u8) -> Result<Vec<u64>, Fail> {
+    let mut seqs = Vec::new(alloc);
+    for run in runs {
+        for &(other, seq) in *run {
+            if other == key {
+                seqs.push(seq)?;
+            }
+        }
+    }
+    Ok(seqs)
+}
+
+/// The keys of all runs, each with the sequences of its points.
+fn groups_of_all(alloc: Global, runs: &[&[(u8, u64)]]) -> Result<Vec<(u8, Vec<u64>)>, Fail> {
+    let mut groups = Vec::new(alloc);
+    for key in 0..MOST_KEYS {
+        let seqs = seqs_of_key(alloc, runs, key)?;
+        if !seqs.is_empty() {
+            groups.push((key, seqs))?;
+        }
+    }
+    Ok(groups)
+}
+
+#[test]
+fn random_runs_come_by_key(rt: HostRuntime) -> Result<(), Fail> {
+    let alloc = rt.alloc();
+    let mut state = 1;
+    for _ in 0..30 {
+        let newer = random_points(&mut state, alloc, 30)?;
+        let middle = random_points(&mut state, alloc, 20)?;
+        let older = random_points(&mut state, alloc, 10)?;
+        let groups = groups_of_all(alloc, &[&newer, &middle, &older])?;
+        let mut expected = Vec::new(alloc);
+        for (key, seqs) in &groups {
+            expected.push((*key, seqs.as_slice()))?;
+        }
+        assert!(rt; have_groups(alloc, [&newer, &middle, &older], &expected)?);
+    }
+    Ok(())
+}

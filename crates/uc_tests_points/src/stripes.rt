@@ -1,0 +1,268 @@
+//! What is kept of one key's points and of one fragment's sequences, and the laws, called.
+use std::alloc::Global;
+use std::test::Fail;
+use std::thread::Threads;
+use uc_oper::{Append, Counter};
+use uc_point::{Point, WhatRef};
+use uc_stripe::{
+    Keeping, are_of_one_key, compaction_gives_a_run, compaction_keeps_one_of_each_stripe,
+    compaction_keeps_what_is_read, compaction_of_the_oldest_leaves_values, keeps_rise, kept_seqs,
+    points_are_chosen_key_by_key, push_kept_points, runs_compose, seqs_are_from_one, seqs_fall,
+    sequences_have_one_stripe,
+};
+
+/// A point of a test: its sequence, and what it says.
+type Given = (u8, WhatRef<'static>);
+
+/// Points of one key and the sequences of range deletions over it, what is kept, and the points that are wanted.
+#[derive(Clone, Copy)]
+struct OfKey {
+    points: &'static [Given],
+    seqs: &'static [u64],
+    keeps: &'static [u64],
+    bottom: Option<u64>,
+    wanted: &'static [Given],
+}
+
+/// Appends, which join with a comma; worked by hand.
+const POINTS: [OfKey; 13] = [
+    // Nothing comes of nothing, also under a range deletion.
+    OfKey {
+        points: &[],
+        seqs: &[4],
+        keeps: &[],
+        bottom: None,
+        wanted: &[],
+    },
+    // Operands of one stripe are joined, the older one first ...
+    OfKey {
+        points: &[(3, WhatRef::Merge(b"c")), (2, WhatRef::Merge(b"b"))],
+        seqs: &[],
+        keeps: &[3],
+        bottom: None,
+        wanted: &[(3, WhatRef::Merge(b"b,c"))],
+    },
+    // ... and those of two aren't: a read at 2 sees one of them.
+    OfKey {
+        points: &[(3, WhatRef::Merge(b"c")), (2, WhatRef::Merge(b"b"))],
+        seqs: &[],
+        keeps: &[2],
+        bottom: None,
+        wanted: &[(3, WhatRef::Merge(b"c")), (2, WhatRef::Merge(b"b"))],
+    },
+    // At the bottom they are a value.
+    OfKey {
+        points: &[(3, WhatRef::Merge(b"c")), (2, WhatRef::Merge(b"b"))],
+        seqs: &[],
+        keeps: &[],
+        bottom: Some(1),
+        wanted: &[(3, WhatRef::Put(b"b,c"))],
+    },
+    // Only the stripe at the bottom has nothing below it.
+    OfKey {
+        points: &[(3, WhatRef::Merge(b"c")), (2, WhatRef::Merge(b"b"))],
+        seqs: &[],
+        keeps: &[2],
+        bottom: Some(1),
+        wanted: &[(3, WhatRef::Merge(b"c")), (2, WhatRef::Put(b"b"))],
+    },
+    // A put hides what is older, and takes the operands that are newer.
+    OfKey {
+        points: &[
+            (5, WhatRef::Merge(b"e")),
+            (4, WhatRef::Put(b"d")),
+            (2, WhatRef::Merge(b"b")),
+        ],
+        seqs: &[],
+        keeps: &[],
+        bottom: None,
+        wanted: &[(5, WhatRef::Put(b"d,e"))],
+    },
+    // A delete stays where older runs may have the key ...
+    OfKey {
+        points: &[(5, WhatRef::Delete), (4, WhatRef::Put(b"d"))],
+        seqs: &[],
+        keeps: &[],
+        bottom: None,
+        wanted: &[(5, WhatRef::Delete)],
+    },
+    // ... and goes at the bottom.
+    OfKey {
+        points: &[(5, WhatRef::Delete), (4, WhatRef::Put(b"d"))],
+        seqs: &[],
+        keeps: &[],
+        bottom: Some(3),
+        wanted: &[],
+    },
+    // A range deletion hides the points below it.
+    OfKey {
+        points: &[(5, WhatRef::Merge(b"e")), (3, WhatRef::Put(b"c"))],
+        seqs: &[4, 1],
+        keeps: &[],
+        bottom: None,
+        wanted: &[(5, WhatRef::Put(b"e"))],
+    },
+    // Above all points of its stripe it says enough by itself ...
+    OfKey {
+        points: &[(3, WhatRef::Put(b"c"))],
+        seqs: &[4],
+        keeps: &[],
+        bottom: None,
+        wanted: &[],
+    },
+    // ... but it says nothing of a stripe below it.
+    OfKey {
+        points: &[(3, WhatRef::Put(b"c"))],
+        seqs: &[4],
+        keeps: &[3],
+        bottom: None,
+        wanted: &[(3, WhatRef::Put(b"c"))],
+    },
+    // A delete above the range deletions of its stripe stays.
+    OfKey {
+        points: &[(5, WhatRef::Put(b"e")), (2, WhatRef::Delete)],
+        seqs: &[4, 1],
+        keeps: &[3],
+        bottom: None,
+        wanted: &[(5, WhatRef::Put(b"e")), (2, WhatRef::Delete)],
+    },
+    // Stripes without points give none, also those below all points and above them.
+    OfKey {
+        points: &[(6, WhatRef::Merge(b"f")), (5, WhatRef::Merge(b"e"))],
+        seqs: &[],
+        keeps: &[1, 2, 4, 7, 9],
+        bottom: Some(1),
+        wanted: &[(6, WhatRef::Merge(b"e,f"))],
+    },
+];
+
+/// The points of the key `k`.
+fn points_of(alloc: Global, given: &[Given]) -> Result<Vec<Point>, Fail> {
+    let mut points = Vec::new(alloc);
+    for &(seq, what) in given {
+        points.push(Point::new(alloc, b"k", u64::from(seq), what)?)?;
+    }
+    Ok(points)
+}
+
+/// What is pushed behind one point that stands there.
+fn kept_of(rt: &(impl Threads + Sync), alloc: Global, case: &OfKey) -> Result<Vec<Point>, Fail> {
+    let points = points_of(alloc, case.points)?;
+    let points: Vec<&Point> = points.iter().collect(alloc)?;
+    if !are_of_one_key(&points, case.seqs) || !keeps_rise(case.keeps) {
+        return Err(Fail::new("no points of one key"));
+    }
+    let keeping = Keeping::new(case.keeps, case.bottom);
+    let mut kept = points_of(alloc, &[(1, WhatRef::Delete)])?;
+    push_kept_points::<Append<0x2C>>(rt, alloc, &mut kept, b"k", &points, case.seqs, &keeping)?;
+    Ok(kept)
+}
+
+/// Whether both have the same points.
+fn are_same(points: &[Point], others: &[Point]) -> bool {
+    points.len() == others.len()
+        && points
+            .iter()
+            .zip(others)
+            .all(|(point, other)| point.same(other))
+}
+
+#[test]
+fn points_that_are_kept(rt: HostRuntime) -> Result<(), Fail> {
+    let alloc = rt.alloc();
+    for (place, case) in POINTS.iter().enumerate() {
+        let kept = kept_of(&rt, alloc, case)?;
+        let mut wanted = points_of(alloc, &[(1, WhatRef::Delete)])?;
+        for point in points_of(alloc, case.wanted)? {
+            wanted.push(point)?;
+        }
+        assert!(rt; are_same(&kept, &wanted), "case {place}");
+    }
+    Ok(())
+}
+
+/// Sequences of a fragment, what is kept, and the sequences that are wanted.
+#[derive(Clone, Copy)]
+struct OfFragment {
+    seqs: &'static [u64],
+    keeps: &'static [u64],
+    bottom: Option<u64>,
+    wanted: &'static [u64],
+}
+
+/// Worked by hand.
+const SEQS: [OfFragment; 6] = [
+    OfFragment {
+        seqs: &[],
+        keeps: &[3],
+        bottom: None,
+        wanted: &[],
+    },
+    // One stripe.
+    OfFragment {
+        seqs: &[9, 7, 4, 2],
+        keeps: &[],
+        bottom: None,
+        wanted: &[9],
+    },
+    // Three: a keep is the last sequence of its stripe.
+    OfFragment {
+        seqs: &[9, 7, 4, 2],
+        keeps: &[4, 7],
+        bottom: None,
+        wanted: &[9, 7, 4],
+    },
+    // Nothing is left at the bottom ...
+    OfFragment {
+        seqs: &[9, 7, 4, 2],
+        keeps: &[4, 7],
+        bottom: Some(1),
+        wanted: &[9, 7],
+    },
+    // ... also where that is the only stripe.
+    OfFragment {
+        seqs: &[9, 7, 4, 2],
+        keeps: &[],
+        bottom: Some(1),
+        wanted: &[],
+    },
+    // Stripes without sequences.
+    OfFragment {
+        seqs: &[9, 5],
+        keeps: &[1, 2, 3, 12],
+        bottom: Some(1),
+        wanted: &[9],
+    },
+];
+
+#[test]
+fn seqs_that_are_kept(rt: HostRuntime) -> Result<(), Fail> {
+    let alloc = rt.alloc();
+    for (place, case) in SEQS.iter().enumerate() {
+        if !seqs_fall(case.seqs) || !seqs_are_from_one(case.seqs) || !keeps_rise(case.keeps) {
+            return Err(Fail::new("no sequences of a fragment"));
+        }
+        let kept = kept_seqs(alloc, case.seqs, &Keeping::new(case.keeps, case.bottom))?;
+        assert!(rt; kept.as_slice() == case.wanted, "case {place}");
+    }
+    Ok(())
+}
+
+#[test]
+fn laws_hold_under_an_operator() {
+    runs_compose::<Counter>();
+    sequences_have_one_stripe();
+    compaction_gives_a_run::<Counter>();
+    compaction_keeps_what_is_read::<Counter>();
+    compaction_keeps_one_of_each_stripe::<Counter>();
+    compaction_of_the_oldest_leaves_values::<Counter>();
+    points_are_chosen_key_by_key::<Counter>();
+}
+
+#[test]
+fn what_is_kept(rt: HostRuntime) -> Result<(), Fail> {
+    let keeping = Keeping::new(&[2, 5], Some(1));
+    let shown = format!(in rt.alloc(); "{keeping:?}")?;
+    assert!(rt; shown.as_str().contains("[2, 5]"));
+    Ok(())
+}

@@ -1,0 +1,336 @@
+//! Openings worked by hand.
+use std::alloc::Global;
+use std::process::Abort;
+use std::test::Fail;
+use uc_batch::Writes;
+use uc_history::Version;
+use uc_opening::{OpenError, Opener, no_refusal_is_leave_to_open, open_version};
+use uc_pick::Options;
+use uc_run::Run;
+use uc_write::{MAX_SEQUENCE, OpRef, WriteRef};
+
+/// What an opening comes to: how many runs, the id of the newest, and the keeps.
+#[derive(Clone, Copy)]
+struct Opened {
+    runs: usize,
+    newest: u64,
+    keeps: &'static [u64],
+}
+
+/// An opening of puts of ten bytes, numbered from 1, and what it comes to.
+#[derive(Clone, Copy)]
+struct Case {
+    puts: u64,
+    memtable: u64,
+    first_id: u64,
+    keeps: &'static [u64],
+    wanted: Result<Opened, OpenError>,
+}
+
+/// A row with a run for each of three puts.
+const ROW: Case = Case {
+    puts: 3,
+    memtable: 1,
+    first_id: 1,
+    keeps: &[],
+    wanted: Ok(Opened {
+        runs: 3,
+        newest: 3,
+        keeps: &[3],
+    }),
+};
+
+/// Worked by hand.
+static CASES: [Case; 17] = [
+    ROW,
+    Case {
+        keeps: &[2, 2, 1],
+        wanted: Ok(Opened {
+            runs: 3,
+            newest: 3,
+            keeps: &[1, 2, 3],
+        }),
+        ..ROW
+    },
+    Case {
+        keeps: &[3, 0],
+        wanted: Ok(Opened {
+            runs: 3,
+            newest: 3,
+            keeps: &[0, 3],
+        }),
+        ..ROW
+    },
+    // Nothing is written.
+    Case {
+        puts: 0,
+        wanted: Ok(Opened {
+            runs: 0,
+            newest: 0,
+            keeps: &[0],
+        }),
+        ..ROW
+    },
+    // A memtable is full with the write that brings it to its size.
+    Case {
+        puts: 4,
+        memtable: 20,
+        first_id: 7,
+        wanted: Ok(Opened {
+            runs: 2,
+            newest: 8,
+            keeps: &[4],
+        }),
+        ..ROW
+    },
+    Case {
+        puts: 5,
+        memtable: 20,
+        wanted: Ok(Opened {
+            runs: 3,
+            newest: 3,
+            keeps: &[5],
+        }),
+        ..ROW
+    },
+    Case {
+        puts: 4,
+        memtable: 21,
+        wanted: Ok(Opened {
+            runs: 2,
+            newest: 2,
+            keeps: &[4],
+        }),
+        ..ROW
+    },
+    // There are 64 slots.
+    Case {
+        puts: 64,
+        first_id: 18_446_744_073_709_551_551,
+        wanted: Ok(Opened {
+            runs: 64,
+            newest: 18_446_744_073_709_551_614,
+            keeps: &[64],
+        }),
+        ..ROW
+    },
+    Case {
+        puts: 65,
+        wanted: Err(OpenError::TooManyRuns),
+        ..ROW
+    },
+    Case {
+        puts: 200,
+        wanted: Err(OpenError::TooManyRuns),
+        ..ROW
+    },
+    // The first that is ahead, and before the number of runs.
+    Case {
+        keeps: &[4],
+        wanted: Err(OpenError::SnapshotAhead(4)),
+        ..ROW
+    },
+    Case {
+        keeps: &[3, 9, 5],
+        wanted: Err(OpenError::SnapshotAhead(9)),
+        ..ROW
+    },
+    Case {
+        puts: 70,
+        keeps: &[70, 71],
+        wanted: Err(OpenError::SnapshotAhead(71)),
+        ..ROW
+    },
+    Case {
+        puts: 70,
+        keeps: &[70],
+        wanted: Err(OpenError::TooManyRuns),
+        ..ROW
+    },
+    // Options come first.
+    Case {
+        first_id: 18_446_744_073_709_551_552,
+        keeps: &[4],
+        wanted: Err(OpenError::BadOption),
+        ..ROW
+    },
+    Case {
+        memtable: 0,
+        wanted: Err(OpenError::BadOption),
+        ..ROW
+    },
+    Case {
+        puts: 65,
+        first_id: 0,
+        wanted: Err(OpenError::BadOption),
+        ..ROW
+    },
+];
+
+/// These rows.
+fn cases() -> &'static [Case] {
+    &CASES
+}
+
+/// The options of a row.
+fn options_of(case: &Case) -> Options {
+    Options {
+        memtable: case.memtable,
+        first_id: case.first_id,
+        ..Options::usual()
+    }
+}
+
+/// Whether a version has the runs of an opening, the newest first.
+fn has_runs(version: &Version, wanted: &Opened) -> bool {
+    for (place, run) in version.runs().iter().enumerate() {
+        let id = wanted.newest.wrapping_sub(place as u64);
+        let slot = wanted.runs.wrapping_sub(1).wrapping_sub(place);
+        if run.id() != id || run.slot() != slot {
+            return false;
+        }
+    }
+    version.runs().len() == wanted.runs
+}
+
+/// Looks at the version that a row came to.
+fn wants_version(rt: &impl Abort, case: &Case, version: &Version, wanted: &Opened) {
+    assert!(rt; has_runs(version, wanted));
+    assert_eq!(rt; version.keeps(), wanted.keeps);
+    assert_eq!(rt; version.last(), case.puts);
+    let next = case.first_id.wrapping_add(wanted.runs as u64);
+    assert_eq!(rt; version.next_id(), next);
+}
+
+/// Looks at what a row came to.
+fn wants(rt: &impl Abort, case: &Case, outcome: Result<Version, OpenError>) -> Result<(), Fail> {
+    match (outcome, case.wanted) {
+        (Ok(version), Ok(wanted)) => wants_version(rt, case, &version, &wanted),
+        (Err(error), Err(wanted)) => assert_eq!(rt; error, wanted),
+        _ => return Err("another outcome")?,
+    }
+    Ok(())
+}
+
+/// What comes of the puts of a row, one by one.
+fn put_one_by_one(rt: &impl Abort, alloc: Global, case: &Case) -> Result<Version, OpenError> {
+    let mut opener = Opener::new(alloc, options_of(case));
+    for seq in 1..=case.puts {
+        assert!(rt; opener.last() < seq);
+        assert!(rt; seq <= MAX_SEQUENCE);
+        opener.insert(alloc, &WriteRef::new(seq, OpRef::put(b"k", b"1")))?;
+    }
+    assert_eq!(rt; opener.last(), case.puts);
+    opener.finish(alloc, case.keeps)
+}
+
+#[test]
+fn puts_open_one_by_one(rt: HostRuntime) -> Result<(), Fail> {
+    for case in cases() {
+        wants(&rt, case, put_one_by_one(&rt, rt.alloc(), case))?;
+    }
+    Ok(())
+}
+
+/// So many puts of ten bytes, numbered from 1.
+fn put_list(alloc: Global, count: u64) -> Result<Writes, Fail> {
+    let mut list = Vec::new(alloc);
+    for seq in 1..=count {
+        list.push(WriteRef::new(seq, OpRef::put(b"k", b"1")).to_write(alloc)?)?;
+    }
+    Ok(Writes::of(list).ok_or("the sequences don't rise")?)
+}
+
+#[test]
+fn lists_of_puts_open(rt: HostRuntime) -> Result<(), Fail> {
+    let alloc = rt.alloc();
+    for case in cases() {
+        let writes = put_list(alloc, case.puts)?;
+        let outcome = open_version(alloc, &writes, case.keeps, &options_of(case));
+        wants(&rt, case, outcome)?;
+    }
+    Ok(())
+}
+
+/// Whether a run has these least and greatest sequences, and so many points and fragments.
+fn has_counts(run: &Run, seqs: [u64; 2], points: u64, fragments: usize) -> bool {
+    [run.low_seq(), run.high_seq()] == seqs
+        && run.points() == points
+        && run.fragments().len() == fragments
+}
+
+/// One run, whose id is 1.
+const ONE_RUN: Opened = Opened {
+    runs: 1,
+    newest: 1,
+    keeps: &[],
+};
+
+#[test]
+fn a_range_without_keys_becomes_a_run(rt: HostRuntime) -> Result<(), Fail> {
+    let alloc = rt.alloc();
+    let mut opener = Opener::new(alloc, Options::usual());
+    assert!(rt; opener.last() < 5);
+    opener.insert(alloc, &WriteRef::new(5, OpRef::delete_range(b"b", b"a")))?;
+    let version = opener.finish(alloc, &[])?;
+    assert!(rt; has_runs(&version, &ONE_RUN));
+    assert_eq!(rt; version.last(), 5);
+    let run = version.runs().first().ok_or("no run")?.run();
+    assert!(rt; has_counts(run, [5, 5], 0, 0));
+    Ok(())
+}
+
+/// A write of each kind, numbered from 1.
+fn every_change(alloc: Global) -> Result<Writes, Fail> {
+    let ops = [
+        OpRef::put(b"k", b"k"),
+        OpRef::merge(b"k", b"k"),
+        OpRef::delete(b"k"),
+        OpRef::delete_range(b"k", b"l"),
+    ];
+    let mut list = Vec::new(alloc);
+    for (at, op) in ops.into_iter().enumerate() {
+        list.push(WriteRef::new(at as u64 + 1, op).to_write(alloc)?)?;
+    }
+    Ok(Writes::of(list).ok_or("the sequences don't rise")?)
+}
+
+#[test]
+fn a_list_of_every_change_opens(rt: HostRuntime) -> Result<(), Fail> {
+    let alloc = rt.alloc();
+    let writes = every_change(alloc)?;
+    let version = open_version(alloc, &writes, &[], &Options::usual())?;
+    let run = version.runs().first().ok_or("no run")?.run();
+    assert!(rt; has_counts(run, [1, 4], 3, 1));
+    Ok(())
+}
+
+#[test]
+fn laws_hold() {
+    no_refusal_is_leave_to_open();
+}
+
+#[test]
+fn errors_are_printed(rt: HostRuntime) -> Result<(), Fail> {
+    let alloc = rt.alloc();
+    let texts = [
+        (
+            OpenError::BadCount,
+            "a store is opened for at least one thread",
+        ),
+        (OpenError::BadOption, "an option is out of range"),
+        (
+            OpenError::SnapshotAhead(4),
+            "snapshot 4 is above the last write",
+        ),
+        (
+            OpenError::TooManyRuns,
+            "the writes make more runs than a store has slots",
+        ),
+        (OpenError::Memory, "out of memory"),
+    ];
+    for (error, text) in texts {
+        assert_eq!(rt; format!(in alloc; "{error}")?.as_str(), text);
+    }
+    Ok(())
+}
