@@ -3,6 +3,7 @@ ghost use Rattle.std.specs.Prelude.{◌≡◌, IfOk};
 ghost use Rattle.std.specs.List.Sorted.{IsStrictlySortedBy};
 ghost use Rattle.std.specs.Ordering.{nat_cmp};
 ghost use Rattle.uc_answer.specs.Answers as answers;
+ghost use Rattle.uc_answer.specs.declared.query.Query.TheVariants as query;
 ghost use Rattle.uc_stripe.specs.Inputs.{writes_of};
 ghost use Rattle.uc_history.specs.Versions.{contents_of, writes_in};
 
@@ -76,4 +77,23 @@ pub fn answer_one<O: Operator>(
 {
     version.is_one();
     answer_of_runs::<O>(alloc, version.runs(), version.keeps(), query)
+}
+
+/// The answer to a lookup, as [`answer_one`] gives it to a [`Query::Get`], of a key that is lent: the value that the key has
+/// at the sequence, or `NotProtected`. It fails only for want of memory.
+pub fn get<O: Operator>(
+    alloc: Global,
+    version: &Version,
+    key: &[u8],
+    at: u64,
+) -> Result<Answer, AllocError>
+    ensures { IfOk result (λ answer. answer ≡ answers.answer_of O.meaning (writes_in version.now) version.now.keeps (query.Get key.now at)) }
+{
+    version.is_one();
+    if is_protected(version.keeps(), at) {
+        let value = value_of_runs::<O>(alloc, version.runs(), key, at)?;
+        Ok(Answer::Value(value))
+    } else {
+        Ok(Answer::NotProtected(at))
+    }
 }

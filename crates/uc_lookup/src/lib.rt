@@ -12,7 +12,7 @@ mod laws;
 mod lookup;
 mod scan;
 
-pub use answering::answer_one;
+pub use answering::{answer_one, get};
 pub use laws::histories_keep_answers;
 
 #[cfg(test)]

@@ -101,8 +101,8 @@ impl Opener {
     }
 
     /// The version of the writes that came, which keeps these sequences and the last one. It is refused for the first of
-    /// these: an option out of its range, a sequence above the last one, more memtables than slots; and
-    /// for want of memory. For k sequences it takes k log k steps.
+    /// these: an option out of its range, a sequence above the last one, more memtables than slots; and, where none of these
+    /// holds, for want of memory. For k sequences it takes k log k steps.
     pub fn finish(self, alloc: Global, keeps: &[u64]) -> Result<Version, OpenError>
         ensures ok { (options : OptionsOf) (writes : List WriteOf) → IsRising 0 writes → self ≡ progress_of options writes →
             let opening : OpeningOf = record { writes = writes; keeps = keeps.now; options = options } in
@@ -110,6 +110,9 @@ impl Opener {
         ensures err { (options : OptionsOf) (writes : List WriteOf) → IsRising 0 writes → self ≡ progress_of options writes →
             let opening : OpeningOf = record { writes = writes; keeps = keeps.now; options = options } in
             IfErr result (λ error. error ≢ Memory → opening_refusal opening ≡ Some error) }
+        ensures memory { (options : OptionsOf) (writes : List WriteOf) → IsRising 0 writes → self ≡ progress_of options writes →
+            let opening : OpeningOf = record { writes = writes; keeps = keeps.now; options = options } in
+            IfErr result (λ error. error ≡ Memory → opening_refusal opening ≡ None) }
     {
         no_refusal_is_leave_to_open();
         opening_gives_a_version();

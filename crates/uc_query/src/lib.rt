@@ -22,6 +22,6 @@ pub use laws::{asks_are_answered_from_plain_writes, calls_extend_histories};
 pub use named_claims::NamedClaims;
 pub use reply::Reply;
 pub use uc_answer::{Answer, Query, Rows, answer_writes};
-pub use uc_lookup::answer_one;
+pub use uc_lookup::{answer_one, get};
 pub use uc_report::{Report, RunLine, Totals, report};
 pub use uc_workers::{AskError, MOST_WORKERS, answer_plain};

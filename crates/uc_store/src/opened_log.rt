@@ -1,0 +1,47 @@
+//! [`open_log`]: a store opened from a write-ahead log.
+ghost use Rattle.std.specs.Prelude.{◌≡◌, ◌≢◌, None, Some, IfOk, IfErr};
+ghost use Rattle.uc_batch.specs.Log.{log_writes};
+ghost use Rattle.uc_history.specs.Openings.{Opening, opened};
+ghost use Rattle.uc_opening.specs.Refusal.{opening_refusal};
+ghost use Rattle.uc_opening.specs.declared.open_error.OpenError.TheVariants.{Memory};
+ghost use Rattle.uc_version.specs.Owners.{unclaimed};
+
+use std::alloc::Global;
+use uc_batch::Ended;
+use uc_opening::OpenError;
+use uc_oper::Operator;
+use uc_recovery::{Recovered, recover};
+use uc_version::{Options, Owned};
+
+/// A store that was opened from a log, and how far the log could be read.
+#[derive(Drop)]
+pub struct OpenedLog<O: Operator> {
+    /// The store, which has the writes before the log's first fault.
+    pub store: Owned<O>,
+    /// How the log ended: clean, torn as after a crash, or at a fault, which is named with its place.
+    pub ended: Ended,
+}
+
+/// Opens a store from the bytes of a write-ahead log, as point-in-time recovery does (RocksDB wiki, "WAL Recovery Modes"): it has
+/// the writes before the log's first fault, and `ended` says whether there was one. Reads are made at the sequences `keeps`,
+/// in any order, and at the last one. It is refused for the first of these: an option out of its range, a sequence of `keeps`
+/// above the last one, more runs than slots; and for want of memory. It goes once over the log.
+pub fn open_log<O: Operator>(
+    alloc: Global,
+    log: &[u8],
+    keeps: &[u64],
+    options: Options,
+) -> Result<OpenedLog<O>, OpenError>
+    ensures store { let opening : Opening = record { writes = (log_writes log.now).list; keeps = keeps.now; options = options } in
+        IfOk result (λ opened_log. opened_log.store ≡ unclaimed (opened opening) options) }
+    ensures ended { IfOk result (λ opened_log. opened_log.ended ≡ (log_writes log.now).ended) }
+    ensures may { let opening : Opening = record { writes = (log_writes log.now).list; keeps = keeps.now; options = options } in
+        IfOk result (λ _. opening_refusal opening ≡ None) }
+    ensures err { let opening : Opening = record { writes = (log_writes log.now).list; keeps = keeps.now; options = options } in
+        IfErr result (λ error. error ≢ Memory → opening_refusal opening ≡ Some error) }
+{
+    let Recovered { opener, ended } = recover(alloc, log, options)?;
+    let version = opener.finish(alloc, keeps)?;
+    let store = Owned::new(alloc, version, options)?;
+    Ok(OpenedLog { store, ended })
+}
