@@ -9,7 +9,9 @@ use Rattle.uc_model.specs.Meaning.{effect_on, value_of}
 use Rattle.uc_model.proofs.MeaningLaws.{effect_gives}
 use Rattle.uc_history.specs.Versions.{Stored, IsVersion, writes_in}
 use Rattle.uc_history.specs.Openings.{opened}
-use Rattle.uc_history.specs.Histories.{Event, Installed, MayHappen, after, writes_brought, History, MayFollow, IsLegal, version_after, writes_given}
+use Rattle.uc_history.specs.declared.event.Event.{Event}
+use Rattle.uc_history.specs.declared.event.Event.TheVariants.{Installed}
+use Rattle.uc_history.specs.Histories.{MayHappen, after, writes_brought, History, MayFollow, IsLegal, version_after, writes_given}
 use Rattle.uc_history.proofs.Replacing as replacing
 use Rattle.uc_history.proofs.Installed.{installed_is_version}
 

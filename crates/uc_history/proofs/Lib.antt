@@ -1,3 +1,6 @@
+pub mod MayBe
+pub mod KnownKeeps
+pub mod Found
 pub mod Once
 pub mod Parts
 pub mod Replacing

@@ -11,7 +11,8 @@ ghost use Rattle.uc_run.specs.Size.{memtable_size};
 ghost use Rattle.uc_history.specs.Versions.{Stored, IsVersion, writes_in};
 ghost use Rattle.uc_history.specs.Openings.{Opening, MayOpen, memtables, opened};
 ghost use Rattle.uc_history.specs.Installs.{Install, MayInstall, installed};
-ghost use Rattle.uc_history.specs.Histories.{Event, MayHappen, after, History, IsLegal, version_after, writes_given, all_ids_given, all_ids_replaced};
+ghost use Rattle.uc_history.specs.declared.event.Event.{Event};
+ghost use Rattle.uc_history.specs.Histories.{MayHappen, after, History, IsLegal, version_after, writes_given, all_ids_given, all_ids_replaced};
 
 use uc_oper::Operator;
 use uc_run::{flush_keeps_every_effect, flushed_writes_are_a_run};
@@ -60,6 +61,11 @@ pub fn install_keeps_what_is_read<O: Operator>()
 /// What an install leaves is a version again.
 pub fn install_gives_a_version<O: Operator>()
     ensures { (v : Stored) (i : Install) → IsVersion v → MayInstall O.meaning v i → IsVersion (installed i v) }
+{}
+
+/// What an event leaves is a version again.
+pub fn events_give_versions<O: Operator>()
+    ensures { (v : Stored) (e : Event) → IsVersion v → MayHappen O.meaning v e → IsVersion (after v e) }
 {}
 
 /// Whatever happened to a store, what it holds is a version, and at each sequence that it keeps every key has the value
