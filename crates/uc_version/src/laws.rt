@@ -1,12 +1,14 @@
 //! What holds of owners.
-ghost use Rattle.std.specs.Prelude.{◌≡◌, Some, None, true};
+ghost use Rattle.std.specs.Prelude.{◌≡◌, ◌≤◌, List, Some, None, true, length};
 ghost use Rattle.uc_pick.specs.declared.stretch.Stretch.{Stretch};
 ghost use Rattle.uc_pick.specs.Picks.{picked};
 ghost use Rattle.uc_stripe.specs.Inputs.{Compaction, Stand};
-ghost use Rattle.uc_history.specs.Installs.{MayInstall, installed};
+ghost use Rattle.uc_history.specs.Versions.{PlacedRun, Stored, contents_of, ids_of};
+ghost use Rattle.uc_history.specs.Installs.{MayInstall, installed, standing};
 ghost use Rattle.uc_version.specs.Owners.{Owner, IsOwner, is_busy};
 ghost use Rattle.uc_version.specs.Picking.{candidates_of};
 ghost use Rattle.uc_version.specs.Claiming.{Claim, is_held, claim_refusal, claim_of, with_claim, without_claim};
+ghost use Rattle.uc_version.specs.Compacting.{IsInstallable, install_for};
 ghost use Rattle.uc_version.specs.Installing.{stretch_of, compaction_of, IdLeft, MayReplace, IsRefused, after_install, install_of};
 ghost use Rattle.uc_version.specs.declared.install_error.InstallError.{InstallError};
 ghost use Rattle.uc_version.specs.declared.install_error.InstallError.TheVariants.{IdsSpent};
@@ -14,6 +16,14 @@ ghost use Rattle.uc_version.specs.declared.install_error.InstallError.TheVariant
 use uc_history::install_gives_a_version;
 use uc_oper::Operator;
 use uc_pick::picks_are_unclaimed_runs;
+
+/// What was compacted of claimed runs, and is installable in a version where the runs with their ids are the same still, is an
+/// event that may happen to that version.
+pub fn what_fits_may_be_installed<O: Operator>()
+    ensures { (v : Stored) (claimed : List PlacedRun) (made : Compaction) → 2 ≤ length claimed → Stand made.inputs made.keeps →
+        contents_of (standing (ids_of claimed) v.runs) ≡ contents_of claimed → IsInstallable v claimed made →
+        MayInstall O.meaning v (install_for O.meaning claimed made) }
+{}
 
 /// An install for a claim that is held is an event that may happen to the version, and leaves the version after it.
 pub fn installs_are_events<O: Operator>()
@@ -54,6 +64,6 @@ pub fn claims_can_be_compacted()
         Stand (compaction_of o.version (stretch_of o c)).inputs (compaction_of o.version (stretch_of o c)).keeps }
     ensures may { (o : Owner) (c : Claim) → IsOwner o → is_held o c ≡ true → IdLeft o.version →
         MayReplace o.version (stretch_of o c) (compaction_of o.version (stretch_of o c)) }
-    ensures refused { (o : Owner) (c : Claim) (error : InstallError) →
+    ensures refused { (o : Owner) (c : Claim) (error : InstallError) → IsOwner o → is_held o c ≡ true →
         IsRefused o.version (stretch_of o c) (compaction_of o.version (stretch_of o c)) error → (error ≡ IdsSpent) × ¬ IdLeft o.version }
 {}
