@@ -19,7 +19,7 @@ module _ (m : Operation) (laws : IsLawful m) where
   pub version_stays : (v : Stored) (e : Event) → IsVersion v → MayHappen m v e → IsVersion (after v e)
   version_stays v (Installed i) is_version may = installed_is_version m laws v i is_version may
 
-  versions_stay : (v : Stored) (es : List Event) → IsVersion v → MayFollow m v es → IsVersion (fold after v es)
+  pub versions_stay : (v : Stored) (es : List Event) → IsVersion v → MayFollow m v es → IsVersion (fold after v es)
   versions_stay v [] is_version may = is_version
   versions_stay v (e ∷ es) is_version may = versions_stay (after v e) es (version_stays v e is_version may.0) may.1
 

@@ -13,3 +13,4 @@ pub mod Along
 pub mod Ids
 pub mod InPlace
 pub mod Growing
+pub mod SameRuns

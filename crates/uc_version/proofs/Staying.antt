@@ -78,7 +78,7 @@ module _ (o : Owner) (is_owner : IsOwner o) (s : Stretch) (fine : claim_refusal 
 
   pub claimed_stays : IsOwner (with_claim o (claim_of o s) s)
   claimed_stays =
-      with_one_more o is_owner (claimed_slots o) (λ k. refl) (free_number o.claims) h range.0 range.1 apart number (free_none o.version o.claims number)
+      with_one_more o is_owner (claimed_slots o) (λ k. refl) (free_number o.claims) h range.0 range.1 apart number (free_none o.version o.claims number) (refl, refl)
 
   pub claim_is_held : is_held (with_claim o (claim_of o s) s) (claim_of o s) ≡ true
   claim_is_held =

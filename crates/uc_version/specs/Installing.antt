@@ -1,10 +1,10 @@
 -- Installs of what was compacted of claimed stretches.
-use Rattle.std.specs.Prelude.{◌≢◌, ℕ, ◌-◌, Option, Some, None, map, nat_lt, if◌then◌else◌}
+use Rattle.std.specs.Prelude.{◌≢◌, ℕ, ◌-◌, List, Option, Some, None, map, nat_lt, if◌then◌else◌}
 use Rattle.uc_oper.specs.Operation.{Operation}
 use Rattle.uc_stripe.specs.Inputs.{Compaction}
 use Rattle.uc_stripe.specs.Output.{output_of}
 use Rattle.uc_pick.specs.declared.stretch.Stretch.{Stretch}
-use Rattle.uc_history.specs.Versions.{Stored}
+use Rattle.uc_history.specs.Versions.{PlacedRun, Stored}
 use Rattle.uc_history.specs.Installs as installs
 use Rattle.uc_history.specs.Installs.{Install, replaced}
 use Rattle.uc_version.specs.declared.held_stretch.HeldStretch.{HeldStretch}
@@ -21,6 +21,10 @@ stretch_in (Some h) = h
 
 abbrev pub stretch_of : Owner → Claim → HeldStretch
 stretch_of o c = stretch_in (held_by o.claims c.number)
+
+-- the runs of a claim
+abbrev pub claimed_runs : Owner → Claim → List PlacedRun
+claimed_runs o c = runs_held o.version (stretch_of o c)
 
 -- an id is left for the output: the last of 64 bits is never given
 abbrev pub IdLeft : Stored → Type 0

@@ -1,15 +1,15 @@
 //! What holds of owners.
-ghost use Rattle.std.specs.Prelude.{◌≡◌, ◌≤◌, List, Some, None, true, length};
+ghost use Rattle.std.specs.Prelude.{◌≡◌, ◌≢◌, ◌≤◌, List, Some, None, true, length};
 ghost use Rattle.uc_pick.specs.declared.stretch.Stretch.{Stretch};
 ghost use Rattle.uc_pick.specs.Picks.{picked};
 ghost use Rattle.uc_stripe.specs.Inputs.{Compaction, Stand};
 ghost use Rattle.uc_history.specs.Versions.{PlacedRun, Stored, contents_of, ids_of};
-ghost use Rattle.uc_history.specs.Installs.{MayInstall, installed, standing};
-ghost use Rattle.uc_version.specs.Owners.{Owner, IsOwner, is_busy};
+ghost use Rattle.uc_history.specs.Installs.{MayInstall, installed, newest_id, standing};
+ghost use Rattle.uc_version.specs.Owners.{Owner, IsOwner, is_busy, last_id};
 ghost use Rattle.uc_version.specs.Picking.{candidates_of};
 ghost use Rattle.uc_version.specs.Claiming.{Claim, is_held, claim_refusal, claim_of, with_claim, without_claim};
 ghost use Rattle.uc_version.specs.Compacting.{IsInstallable, install_for};
-ghost use Rattle.uc_version.specs.Installing.{stretch_of, compaction_of, IdLeft, MayReplace, IsRefused, after_install, install_of};
+ghost use Rattle.uc_version.specs.Installing.{stretch_of, claimed_runs, compaction_of, IdLeft, MayReplace, IsRefused, after_install, install_of};
 ghost use Rattle.uc_version.specs.declared.install_error.InstallError.{InstallError};
 ghost use Rattle.uc_version.specs.declared.install_error.InstallError.TheVariants.{IdsSpent};
 
@@ -51,6 +51,14 @@ pub fn owners_stay_owners<O: Operator>()
 {
     install_gives_a_version::<O>();
 }
+
+/// A claim notes the ids of its newest and its oldest run, and keeps its runs when another claim's are replaced.
+pub fn claims_keep_their_runs<O: Operator>()
+    ensures notes { (o : Owner) (c : Claim) → IsOwner o → is_held o c ≡ true →
+        (c.newest ≡ newest_id (ids_of (claimed_runs o c))) × (c.oldest ≡ last_id (ids_of (claimed_runs o c))) }
+    ensures kept { (o : Owner) (c other : Claim) (made : Compaction) → IsOwner o → is_held o c ≡ true → is_held o other ≡ true →
+        other.number ≢ c.number → claimed_runs (after_install O.meaning o c made) other ≡ claimed_runs o other }
+{}
 
 /// A claim that isn't refused is held from then on.
 pub fn claims_are_held()

@@ -24,8 +24,8 @@ pub use claim_error::ClaimError;
 pub use held_stretch::{HeldStretch, MOST_CLAIMS};
 pub use install_error::InstallError;
 pub use laws::{
-    claims_are_held, claims_can_be_compacted, installs_are_events, owners_stay_owners,
-    picks_can_be_claimed, what_fits_may_be_installed,
+    claims_are_held, claims_can_be_compacted, claims_keep_their_runs, installs_are_events,
+    owners_stay_owners, picks_can_be_claimed, what_fits_may_be_installed,
 };
 pub use opening::open_plain;
 pub use owned::Owned;

@@ -6,9 +6,9 @@ ghost use Rattle.uc_history.specs.Versions as versions;
 ghost use Rattle.uc_history.specs.Versions.{contents_of, ids_of};
 ghost use Rattle.uc_history.specs.Installs as installs;
 ghost use Rattle.uc_history.specs.Installs.{part_of};
-ghost use Rattle.uc_version.specs.Claiming as claiming;
 ghost use Rattle.uc_version.specs.Claiming.{range_refusal};
 ghost use Rattle.uc_version.specs.Compacting.{runs_at};
+ghost use Rattle.uc_version.specs.Owners as owners;
 ghost use Rattle.uc_version.specs.Owners.{runs_held};
 
 use crate::claim_error::ClaimError;
@@ -43,7 +43,7 @@ pub(crate) fn newest_id(runs: &[Placed]) -> u64
 
 /// The id of the oldest of some runs; 0 where there is none.
 pub(crate) fn last_id(runs: &[Placed]) -> u64
-    ensures { result ≡ claiming.last_id (ids_of runs.now) }
+    ensures { result ≡ owners.last_id (ids_of runs.now) }
 {
     match runs.last() {
         None => 0,
