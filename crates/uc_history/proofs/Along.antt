@@ -9,7 +9,9 @@ use Rattle.uc_model.specs.Meaning.{effect_on, value_of}
 use Rattle.uc_model.proofs.MeaningLaws.{effect_gives}
 use Rattle.uc_history.specs.Versions.{Stored, IsVersion, writes_in}
 use Rattle.uc_history.specs.Openings.{opened}
-use Rattle.uc_history.specs.Histories.{Event, Installed, MayHappen, after, writes_brought, History, MayFollow, IsLegal, version_after, writes_given}
+use Rattle.uc_history.specs.declared.event.Event.{Event}
+use Rattle.uc_history.specs.declared.event.Event.TheVariants.{Installed}
+use Rattle.uc_history.specs.Histories.{MayHappen, after, writes_brought, History, MayFollow, IsLegal, version_after, writes_given}
 use Rattle.uc_history.proofs.Replacing as replacing
 use Rattle.uc_history.proofs.Installed.{installed_is_version}
 
@@ -17,7 +19,7 @@ module _ (m : Operation) (laws : IsLawful m) where
   pub version_stays : (v : Stored) (e : Event) → IsVersion v → MayHappen m v e → IsVersion (after v e)
   version_stays v (Installed i) is_version may = installed_is_version m laws v i is_version may
 
-  versions_stay : (v : Stored) (es : List Event) → IsVersion v → MayFollow m v es → IsVersion (fold after v es)
+  pub versions_stay : (v : Stored) (es : List Event) → IsVersion v → MayFollow m v es → IsVersion (fold after v es)
   versions_stay v [] is_version may = is_version
   versions_stay v (e ∷ es) is_version may = versions_stay (after v e) es (version_stays v e is_version may.0) may.1
 

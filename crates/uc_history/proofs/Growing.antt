@@ -2,7 +2,8 @@
 use Rattle.std.proofs.Common.{◌≡◌, List, [], ◌∷◌, ◌++◌, fold, refl}
 use Rattle.uc_oper.specs.Operation.{Operation}
 use Rattle.uc_history.specs.Versions.{Stored}
-use Rattle.uc_history.specs.Histories.{Event, MayHappen, MayFollow, after}
+use Rattle.uc_history.specs.declared.event.Event.{Event}
+use Rattle.uc_history.specs.Histories.{MayHappen, MayFollow, after}
 
 pub follow-append : (m : Operation) (v : Stored) (es : List Event) (e : Event) → MayFollow m v es → MayHappen m (fold after v es) e → MayFollow m v (es ++ e ∷ [])
 follow-append m v [] e may last = (last, tt)

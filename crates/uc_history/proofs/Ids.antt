@@ -8,7 +8,9 @@ use Rattle.uc_claims.proofs.Times.{times-append, times-distinct}
 use Rattle.uc_history.specs.Versions.{Stored, IsVersion, ids_of}
 use Rattle.uc_history.specs.Openings.{opened}
 use Rattle.uc_history.specs.Installs.{inputs_in}
-use Rattle.uc_history.specs.Histories.{Event, Installed, MayHappen, after, ids_replaced, History, MayFollow, IsLegal, ids_given, ids_given_from, all_ids_given, all_ids_replaced}
+use Rattle.uc_history.specs.declared.event.Event.{Event}
+use Rattle.uc_history.specs.declared.event.Event.TheVariants.{Installed}
+use Rattle.uc_history.specs.Histories.{MayHappen, after, ids_replaced, History, MayFollow, IsLegal, ids_given, ids_given_from, all_ids_given, all_ids_replaced}
 use Rattle.uc_history.proofs.Once.{distinct-from_times, times_of_all, alone}
 use Rattle.uc_history.proofs.Installed.{times_before, times_after}
 use Rattle.uc_history.proofs.Along.{version_stays}

@@ -1,5 +1,6 @@
 -- What an install leaves is a version.
-use Rattle.std.proofs.Common.{◌≡◌, ◌≢◌, ℕ, zero, suc, ◌+◌, ◌<◌, ◌≤◌, List, [], ◌∷◌, ◌++◌, map, refl, sym, ap, ◌∙◌, subst, ⊎_elim, arith}
+use Rattle.std.proofs.Common.{◌≡◌, ◌≢◌, ℕ, zero, suc, ◌+◌, ◌-◌, ◌<◌, ◌≤◌, List, [], ◌∷◌, ◌++◌, map, refl, sym, ap, ◌∙◌, subst, ⊎_elim, arith}
+use Rattle.std.specs.Prelude.{◌^◌}
 use Rattle.std.specs.List.{AllByRecursion}
 use Rattle.std.proofs.lemmas.List.{map-append}
 use Rattle.uc_oper.specs.Operation.{Operation, IsLawful}
@@ -155,5 +156,8 @@ module _ (m : Operation) (laws : IsLawful m) (v : Stored) (i : Install) (is_vers
     slots_below = stays (λ p. p.slot) (λ slot. slot < MOST_SLOTS) is_version.slots_below (slot_below stretch some_inputs slots_of_stretch);
     ids_apart = distinct-from_times (ids_of (installed i v).runs) ids_once;
     ids_given = stays (λ p. p.id) (λ id. id < v.next_id + 1) (all-map (λ id. id < v.next_id) (λ id. id < v.next_id + 1) (λ id lt. omega (arith, lt)) (ids_of v.runs) is_version.ids_given) (omega arith);
-    id_below = let lt = may.id_left in omega (arith, lt);
+    id_below = below_last v.next_id is_version.id_below may.may.id_left;
   }
+    where
+      below_last : (n : ℕ) → n < 2 ^ 64 → n ≢ 2 ^ 64 - 1 → n + 1 < 2 ^ 64
+      below_last n lt ne = omega (arith, lt, ne)

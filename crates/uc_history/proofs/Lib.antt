@@ -1,3 +1,6 @@
+pub mod MayBe
+pub mod KnownKeeps
+pub mod Found
 pub mod Once
 pub mod Parts
 pub mod Replacing
@@ -10,3 +13,4 @@ pub mod Along
 pub mod Ids
 pub mod InPlace
 pub mod Growing
+pub mod SameRuns

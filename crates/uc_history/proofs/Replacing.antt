@@ -74,7 +74,7 @@ module _ (m : Operation) (laws : IsLawful m) (v : Stored) (i : Install) (is_vers
     where
       by_place : (b : Bool) → leb (high_of (contents_of stretch)) at ≡ b → Contains i.keeps at ⊎ (high_of (contents_of stretch) ≤ at)
       by_place true e = inr (grind (arith, nat_tests))
-      by_place false e = inl (may.keeps_known at there (grind (arith, nat_tests)))
+      by_place false e = inl (may.may.keeps_known at there (grind (arith, nat_tests)))
 
   abbrev W : List Write
   W = writes_of (contents_of stretch)
@@ -108,7 +108,7 @@ module _ (m : Operation) (laws : IsLawful m) (v : Stored) (i : Install) (is_vers
     nothing_below (p ∷ ps) none = absurd cc
 
     value_here : (b : Bool) → i.oldest ≡ b → value_of m (writes_of (contents_of older) ++ V) key at ≡ value_of m (writes_of (contents_of older) ++ W) key at
-    value_here true is_oldest = value_alone (writes_of (contents_of older)) (nothing_below older (may.oldest_last is_oldest))
+    value_here true is_oldest = value_alone (writes_of (contents_of older)) (nothing_below older (may.may.oldest_last is_oldest))
     value_here false newer_alone =
         effect_continues m laws None (writes_of (contents_of older)) V key at
         ∙ ap (λ e. applied m e (value_of m (writes_of (contents_of older)) key at))

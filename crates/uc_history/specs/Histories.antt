@@ -5,11 +5,9 @@ use Rattle.uc_oper.specs.Operation.{Operation}
 use Rattle.uc_write.specs.declared.write.Write.{Write}
 use Rattle.uc_history.specs.Versions.{Stored, ids_of}
 use Rattle.uc_history.specs.Openings.{Opening, MayOpen, opened}
-use Rattle.uc_history.specs.Installs.{Install, MayInstall, installed}
-
--- what changes a store's version
-pub data Event : Type 0 where
-  Installed : Install → Event
+use Rattle.uc_history.specs.Installs.{MayInstall, installed}
+use Rattle.uc_history.specs.declared.event.Event.{Event}
+use Rattle.uc_history.specs.declared.event.Event.TheVariants.{Installed}
 
 -- when it may happen to a version
 abbrev pub MayHappen : Operation → Stored → Event → Type 0

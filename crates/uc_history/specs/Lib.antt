@@ -4,3 +4,5 @@ pub mod Installs
 pub mod Histories
 pub mod Placing
 pub mod Held
+pub mod InstallView
+pub mod Refusals

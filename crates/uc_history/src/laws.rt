@@ -8,10 +8,11 @@ ghost use Rattle.uc_batch.specs.Rising.{last_of};
 ghost use Rattle.uc_claims.specs.Holding.{AreDistinct};
 ghost use Rattle.uc_model.specs.Meaning.{effect_on, value_of};
 ghost use Rattle.uc_run.specs.Size.{memtable_size};
-ghost use Rattle.uc_history.specs.Versions.{Stored, IsVersion, writes_in};
+ghost use Rattle.uc_history.specs.Versions.{PlacedRun, Stored, IsVersion, writes_in};
 ghost use Rattle.uc_history.specs.Openings.{Opening, MayOpen, memtables, opened};
 ghost use Rattle.uc_history.specs.Installs.{Install, MayInstall, installed};
-ghost use Rattle.uc_history.specs.Histories.{Event, MayHappen, after, History, IsLegal, version_after, writes_given, all_ids_given, all_ids_replaced};
+ghost use Rattle.uc_history.specs.declared.event.Event.{Event};
+ghost use Rattle.uc_history.specs.Histories.{MayHappen, after, ids_replaced, History, IsLegal, version_after, writes_given, all_ids_given, all_ids_replaced};
 
 use uc_oper::Operator;
 use uc_run::{flush_keeps_every_effect, flushed_writes_are_a_run};
@@ -62,6 +63,11 @@ pub fn install_gives_a_version<O: Operator>()
     ensures { (v : Stored) (i : Install) → IsVersion v → MayInstall O.meaning v i → IsVersion (installed i v) }
 {}
 
+/// What an event leaves is a version again.
+pub fn events_give_versions<O: Operator>()
+    ensures { (v : Stored) (e : Event) → IsVersion v → MayHappen O.meaning v e → IsVersion (after v e) }
+{}
+
 /// Whatever happened to a store, what it holds is a version, and at each sequence that it keeps every key has the value
 /// that the plain writes give it.
 pub fn histories_keep_what_is_read<O: Operator>()
@@ -87,4 +93,30 @@ pub fn histories_grow_by_events<O: Operator>()
     ensures legal { (h : History) (e : Event) → IsLegal O.meaning h → MayHappen O.meaning (version_after h) e →
         IsLegal O.meaning (record h { events = h.events ++ e ∷ [] }) }
     ensures after { (h : History) (e : Event) → version_after (record h { events = h.events ++ e ∷ [] }) ≡ after (version_after h) e }
+{}
+
+/// What stands of a legal history so far is a legal history.
+pub fn beginnings_are_legal<O: Operator>()
+    ensures { (h : History) (later : List Event) → IsLegal O.meaning (record h { events = h.events ++ later }) → IsLegal O.meaning h }
+{}
+
+/// A run that an event doesn't replace stays in the version, with its id, its slot and its contents.
+pub fn runs_stay_until_replaced<O: Operator>()
+    ensures { (v : Stored) (e : Event) (run : PlacedRun) → MayHappen O.meaning v e → Contains v.runs run →
+        ¬ Contains (ids_replaced e) run.id → Contains (after v e).runs run }
+{}
+
+/// Along a history a run keeps its slot and its contents: where runs with one id stand in the versions after a history and
+/// after a longer one that begins with it, they are the same.
+pub fn runs_keep_their_contents<O: Operator>()
+    ensures { (h : History) (later : List Event) (run again : PlacedRun) → IsLegal O.meaning (record h { events = h.events ++ later }) →
+        Contains (version_after h).runs run → Contains (version_after (record h { events = h.events ++ later })).runs again →
+        run.id ≡ again.id → run ≡ again }
+{
+    opening_gives_a_version();
+}
+
+/// An event changes neither the keeps nor the last sequence.
+pub fn events_keep_keeps_and_last()
+    ensures { (v : Stored) (e : Event) → ((after v e).keeps ≡ v.keeps) × ((after v e).last ≡ v.last) }
 {}

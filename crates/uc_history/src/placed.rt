@@ -1,7 +1,8 @@
 //! [`Placed`]: a run with its place in a store.
-ghost use Rattle.std.specs.Prelude.{◌≡◌};
+ghost use Rattle.std.specs.Prelude.{◌≡◌, IfOk};
 ghost use Rattle.std.specs.Arc.{arc_value};
 
+use std::alloc::AllocError;
 use std::marker::Model;
 use std::sync::Arc;
 use uc_run::Run;
@@ -39,6 +40,17 @@ impl Placed {
         ensures { result ≡ self.now.slot }
     {
         self.slot
+    }
+
+    /// The run with its place again, which shares the run. It fails only for want of memory.
+    pub fn shared(&self) -> Result<Placed, AllocError>
+        ensures { IfOk result (λ again. again ≡ self.now) }
+    {
+        Ok(Placed {
+            id: self.id,
+            slot: self.slot,
+            run: self.run.clone()?,
+        })
     }
 
     /// The run itself.

@@ -144,4 +144,9 @@ fn laws_hold_under_an_operator() {
     histories_keep_what_is_read::<Counter>();
     histories_grow_by_events::<Counter>();
     runs_are_replaced_once::<Counter>();
+    events_give_versions::<Counter>();
+    beginnings_are_legal::<Counter>();
+    runs_stay_until_replaced::<Counter>();
+    runs_keep_their_contents::<Counter>();
+    events_keep_keeps_and_last();
 }

@@ -9,7 +9,9 @@ use Rattle.uc_answer.specs.declared.query.Query.{Query}
 use Rattle.uc_answer.specs.Answers.{answer_of}
 use Rattle.uc_history.specs.Versions.{Stored, writes_in}
 use Rattle.uc_history.specs.Installs.{Install, MayInstall, installed}
-use Rattle.uc_history.specs.Histories.{Event, Installed, History, IsLegal, MayHappen, after, writes_brought, version_after, writes_given}
+use Rattle.uc_history.specs.declared.event.Event.{Event}
+use Rattle.uc_history.specs.declared.event.Event.TheVariants.{Installed}
+use Rattle.uc_history.specs.Histories.{History, IsLegal, MayHappen, after, writes_brought, version_after, writes_given}
 use Rattle.uc_version.specs.Owners.{IsOwner}
 use Rattle.uc_workers.specs.declared.ask_error.AskError.{AskError}
 use Rattle.uc_workers.specs.Asking.{ask_refusal}

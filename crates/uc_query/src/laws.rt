@@ -1,7 +1,8 @@
 //! What holds of lists of calls.
 ghost use Rattle.std.specs.Prelude.{◌≡◌, ◌++◌, List, length, take};
 ghost use Rattle.std.specs.List.{AllZip};
-ghost use Rattle.uc_history.specs.Histories.{Event, History, IsLegal, version_after, writes_given};
+ghost use Rattle.uc_history.specs.declared.event.Event.{Event};
+ghost use Rattle.uc_history.specs.Histories.{History, IsLegal, version_after, writes_given};
 ghost use Rattle.uc_version.specs.Owners.{IsOwner};
 ghost use Rattle.uc_query.specs.declared.call.Call.{Call};
 ghost use Rattle.uc_query.specs.Names.{State, AreHeld};

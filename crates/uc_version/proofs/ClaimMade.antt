@@ -11,8 +11,8 @@ use Rattle.uc_history.specs.Installs.{part_of, newest_id}
 use Rattle.uc_version.specs.declared.held_stretch.HeldStretch.{HeldStretch}
 use Rattle.uc_version.specs.declared.claim_error.ClaimError.{ClaimError}
 use Rattle.uc_version.specs.declared.claim_error.ClaimError.TheVariants.{Busy}
-use Rattle.uc_version.specs.Owners.{Owner, IsOwner, slots_held, claimed_slots}
-use Rattle.uc_version.specs.Claiming.{claim_refusal, range_refusal, first_busy, last_id, free_number, claim_of}
+use Rattle.uc_version.specs.Owners.{last_id, Owner, IsOwner, slots_held, claimed_slots}
+use Rattle.uc_version.specs.Claiming.{claim_refusal, range_refusal, first_busy, free_number, claim_of}
 use Rattle.uc_version.proofs.HeldClaims.{free_none}
 use Rattle.uc_version.proofs.Flags.{same_first}
 use Rattle.uc_version.proofs.Taking.{range_holds, number_is_free, same_more, with_one_more}
@@ -60,8 +60,10 @@ module _ (o : Owner) (is_owner : IsOwner o) (held : List ℕ) (same : (k : ℕ) 
     free_there : (n : ℕ) → n ≡ free_number o.claims → get_or o.claims n None ≡ None
     free_there n en = ap (λ i. get_or o.claims i None) en ∙ free_none o.version o.claims (number_is_free o is_owner held same 0 h there.0 there.1 apart_here)
 
-    pub owner_after : (n : ℕ) → n ≡ free_number o.claims → IsOwner (record o { claims = set o.claims n (Some h) })
-    owner_after n en = with_one_more o is_owner held same n h there.0 there.1 apart_here (number_below n en) (free_there n en)
+    pub owner_after : (n : ℕ) → n ≡ free_number o.claims → newest ≡ newest_id (ids_of part) → oldest ≡ last_id (ids_of part) → IsOwner (record o { claims = set o.claims n (Some h) })
+    owner_after n en ea eb =
+        with_one_more o is_owner held same n h there.0 there.1 apart_here (number_below n en) (free_there n en)
+        (ea ∙ ap (λ (ps : List PlacedRun). newest_id (ids_of ps)) part_here, eb ∙ ap (λ (ps : List PlacedRun). last_id (ids_of ps)) part_here)
 
     pub slots_after : (n : ℕ) → n ≡ free_number o.claims → (k : ℕ) → times k (held ++ slots_of part) ≡ times k (flat_map (slots_held o.version) (set o.claims n (Some h)))
     slots_after n en k =

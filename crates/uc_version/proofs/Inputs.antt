@@ -3,7 +3,7 @@ use Rattle.std.proofs.Common.{◌≡◌, ℕ, zero, suc, ◌+◌, ◌-◌, ◌<�
 use Rattle.std.proofs.lemmas.List.{map-append, take_more, length-map}
 use Rattle.uc_entry.specs.Run.{Contents}
 use Rattle.uc_history.specs.Versions.{PlacedRun, contents_of, ids_of}
-use Rattle.uc_version.specs.Claiming.{last_id}
+use Rattle.uc_version.specs.Owners.{last_id}
 
 at_map : {X Y : Type 0} (f : X → Y) (xs : List X) (i : ℕ) (y : Y) (d : X) → i < length xs → get_or (map f xs) i y ≡ f (get_or xs i d)
 at_map f [] i y d lt = absurd (omega (arith, lt))

@@ -9,3 +9,4 @@ pub mod Moving
 pub mod Standing
 pub mod PickedClaims
 pub mod Staying
+pub mod KeptClaims

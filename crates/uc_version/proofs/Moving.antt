@@ -4,19 +4,19 @@ use Rattle.std.specs.Prelude.{Option, Some, None}
 use Rattle.std.specs.List.{AllByRecursion, flat_map}
 use Rattle.std.proofs.lemmas.Bool.Decides.{nat_tests}
 use Rattle.std.proofs.lemmas.Bool.{cases_lt}
-use Rattle.std.proofs.lemmas.List.{length-append, length-map, length-set, length-take-le, length-drop, take-append-drop, take-append-le, drop-append-le, drop-drop}
+use Rattle.std.proofs.lemmas.List.{get_or-set_other, length-append, length-map, length-set, length-take-le, length-drop, take-append-drop, take-append-le, drop-append-le, drop-drop}
 use Rattle.std.proofs.Math.Seq.{drop-append-add}
 use Rattle.uc_claims.specs.Claims.{times}
 use Rattle.uc_claims.specs.Holding.{without}
 use Rattle.uc_claims.proofs.Times.{times-append, times-from_Contains}
 use Rattle.uc_entry.specs.Run.{Contents}
-use Rattle.uc_history.specs.Versions.{PlacedRun, Stored, IsVersion, slots_of}
-use Rattle.uc_history.specs.Installs.{part_of, slot_of, replaced}
+use Rattle.uc_history.specs.Versions.{PlacedRun, Stored, IsVersion, ids_of, slots_of}
+use Rattle.uc_history.specs.Installs.{part_of, newest_id, slot_of, replaced}
 use Rattle.uc_history.proofs.Once.{distinct-from_times}
 use Rattle.uc_version.specs.declared.held_stretch.HeldStretch.{HeldStretch}
-use Rattle.uc_version.specs.Owners.{Owner, IsOwner, Stands, runs_held, slots_held, claimed_slots}
+use Rattle.uc_version.specs.Owners.{Owner, IsOwner, last_id, Stands, runs_held, slots_held, claimed_slots}
 use Rattle.uc_version.specs.Installing.{moved_up}
-use Rattle.uc_version.proofs.HeldClaims.{claimed_once, all-set}
+use Rattle.uc_version.proofs.HeldClaims.{claimed_once, all-set, all_at, held_below}
 use Rattle.uc_version.proofs.Taking.{stands, less_claimed, same_less}
 
 -- a run of a stretch has its slot among the stretch's
@@ -35,6 +35,11 @@ slot_in (r ∷ rs) (suc first) count (suc p) d le lt room = slot_in rs first cou
 some_run : (runs : List PlacedRun) (p : ℕ) → p < length runs → PlacedRun
 some_run [] p lt = absurd (omega (arith, lt))
 some_run (r ∷ rs) p lt = r
+
+-- the runs of a claim, if it is held
+abbrev pub runs_in : Stored → Option HeldStretch → List PlacedRun
+runs_in v None = []
+runs_in v (Some h) = runs_held v h
 
 -- two stretches without a slot of both don't overlap
 lie_apart : (v : Stored) (g h : HeldStretch) → 2 ≤ g.count → g.first + g.count ≤ length v.runs → 2 ≤ h.count → h.first + h.count ≤ length v.runs →
@@ -108,29 +113,38 @@ module _ (v : Stored) (h : HeldStretch) (two : 2 ≤ h.count) (within : h.first 
       back : (f : ℕ) → h.first + h.count ≤ f → h.first + h.count + (f - (h.first + h.count)) ≡ f
       back f l = omega (arith, l)
 
-  -- a claim that stays has its slots, and stands
+  -- a claim that stays has its runs and their slots, and stands
   record Stays (c : Option HeldStretch) : Type 0 where
+    runs : runs_in v' (moved_up h.first h.count c) ≡ runs_in v c
     slots : slots_held v' (moved_up h.first h.count c) ≡ slots_held v c
     stands_on : Stands v' (moved_up h.first h.count c)
 
   stays : (c : Option HeldStretch) → Stands v c → ((k : ℕ) → times k (slots_held v c) + times k (slots_of (runs_held v h)) ≤ 1) → Stays c
-  stays None stand once = record { slots = refl; stands_on = tt }
+  stays None stand once = record { runs = refl; slots = refl; stands_on = tt }
   stays (Some g) stand once =
       ⊎_elim
       (λ (le : g.first + g.count ≤ h.first).
       let same : moved_up h.first h.count (Some g) ≡ Some g = stays_there (ltb h.first g.first) (not_behind le) in
+      let kept = part_before g.first g.count le in
       record {
-        slots = ap (slots_held v') same ∙ ap slots_of (part_before g.first g.count le);
-        stands_on = subst (Stands v') (sym same) (stand.0, (let l = length_after in omega (arith, l, le, two, within)));
+        runs = ap (runs_in v') same ∙ kept;
+        slots = ap (slots_held v') same ∙ ap slots_of kept;
+        stands_on = subst (Stands v') (sym same) (stand.0, (let l = length_after in omega (arith, l, le, two, within)), notes_on (part_of g.first g.count v'.runs) kept);
       })
       (λ (le : h.first + h.count ≤ g.first).
       let same : moved_up h.first h.count (Some g) ≡ Some (record g { first = g.first - (h.count - 1) }) = moves (ltb h.first g.first) (is_behind le) in
+      let kept = part_after g.first g.count le in
       record {
-        slots = ap (slots_held v') same ∙ ap slots_of (part_after g.first g.count le);
-        stands_on = subst (Stands v') (sym same) (stand.0, (let l = length_after in let w = stand.1 in omega (arith, l, le, two, w)));
+        runs = ap (runs_in v') same ∙ kept;
+        slots = ap (slots_held v') same ∙ ap slots_of kept;
+        stands_on = subst (Stands v') (sym same) (stand.0, (let l = length_after in let w = stand.1 in omega (arith, l, le, two, w)), notes_on (part_of (g.first - (h.count - 1)) g.count v'.runs) kept);
       })
       (lie_apart v g h stand.0 stand.1 two within once)
     where
+      notes_on : (ps : List PlacedRun) → ps ≡ runs_held v g → (g.newest ≡ newest_id (ids_of ps)) × (g.oldest ≡ last_id (ids_of ps))
+      notes_on ps same =
+          (stand.2.0 ∙ ap (λ (qs : List PlacedRun). newest_id (ids_of qs)) (sym same), stand.2.1 ∙ ap (λ (qs : List PlacedRun). last_id (ids_of qs)) (sym same))
+
       not_behind : g.first + g.count ≤ h.first → ltb h.first g.first ≡ false
       not_behind le = let l : g.first ≤ h.first = omega (arith, le) in grind (arith, nat_tests)
 
@@ -185,3 +199,22 @@ module _ (o : Owner) (is_owner : IsOwner o) (held : List ℕ) (same : (k : ℕ) 
     stand = stand_on o.version h is_there.0 is_there.1 run (set o.claims n None) all;
     apart = distinct-from_times (claimed_slots after) (λ k. let e = ap (times k) (slots_stay o.version h is_there.0 is_there.1 run (set o.claims n None) all) in let le = once k in omega (arith, e, le));
   }
+
+  at_map : (f : Option HeldStretch → Option HeldStretch) → f None ≡ None → (cs : List (Option HeldStretch)) (i : ℕ) → get_or (map f cs) i None ≡ f (get_or cs i None)
+  at_map f none [] i = sym none
+  at_map f none (c ∷ cs) zero = refl
+  at_map f none (c ∷ cs) (suc i) = at_map f none cs i
+
+  -- another claim keeps its runs
+  pub keeps_runs : (k : ℕ) (g : HeldStretch) → (n ≡ k → ⊥) → get_or o.claims k None ≡ Some g →
+      runs_in after.version (get_or after.claims k None) ≡ runs_held o.version g
+  keeps_runs k g other here =
+      ap (runs_in after.version) (at_map (moved_up h.first h.count) refl (set o.claims n None) k)
+      ∙ (all_at o.version (Stays o.version h is_there.0 is_there.1 run) (set o.claims n None) k all there).runs
+      ∙ ap (runs_in o.version) still
+    where
+      still : get_or (set o.claims n None) k None ≡ Some g
+      still = get_or-set_other o.claims n k None None (λ e. other (sym e)) ∙ here
+
+      there : k < length (set o.claims n None)
+      there = held_below o.version (set o.claims n None) k g still

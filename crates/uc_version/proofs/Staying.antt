@@ -1,20 +1,23 @@
 -- What claims, abandons and installs leave is an owner's.
-use Rattle.std.proofs.Common.{◌≡◌, ℕ, ◌+◌, ◌<◌, ◌≤◌, Bool, true, false, not, cond, eqb, ltb, ◌&&◌, List, [], ◌∷◌, length, get_or, refl, sym, ap, ◌∙◌, subst, eq-eqb, get_or-set_same, arith}
+use Rattle.std.proofs.Common.{◌≡◌, ℕ, ◌+◌, ◌<◌, ◌≤◌, ◌≢◌, Bool, true, false, not, cond, eqb, ltb, ◌&&◌, List, [], ◌∷◌, length, get_or, drop, refl, sym, ap, ◌∙◌, subst, eq-eqb, get_or-set_same, arith}
 use Rattle.std.specs.Prelude.{Option, Some, None, Contains, option_map}
 use Rattle.std.specs.Option.{option_or}
 use Rattle.std.specs.List.{AllByRecursion, list_any}
 use Rattle.std.proofs.lemmas.Bool.{false≢true}
 use Rattle.std.proofs.lemmas.Bool.Decides.{nat_tests}
+use Rattle.std.proofs.lemmas.List.{drop_all}
 use Rattle.std.proofs.lemmas.List.Elements.{All-from_recursion}
 use Rattle.uc_oper.specs.Operation.{Operation}
 use Rattle.uc_claims.specs.Claims.{times}
 use Rattle.uc_claims.specs.Holding.{NoneHeld}
 use Rattle.uc_claims.proofs.Times.{times-cons, one_same, times-from_Contains, list_any-times}
 use Rattle.uc_pick.specs.declared.stretch.Stretch.{Stretch}
-use Rattle.uc_stripe.specs.Inputs.{Compaction, Stand, high_of}
+use Rattle.uc_stripe.specs.Inputs.{Compaction, Stand}
 use Rattle.uc_stripe.specs.Output.{output_of}
-use Rattle.uc_history.specs.Versions.{Stored, IsVersion, slots_of}
-use Rattle.uc_history.specs.Installs.{Install, MayInstall, part_of, installed}
+use Rattle.uc_history.specs.Versions.{Stored, IsVersion, ids_of, slots_of}
+use Rattle.uc_history.specs.Installs.{Install, MayInstall, Terms, NothingBelow, terms_of, behind, part_of, installed}
+use Rattle.uc_history.specs.Refusals.{AreInPlace, first_unknown}
+use Rattle.uc_history.proofs.Found.{standing_is, behind_is}
 use Rattle.uc_version.specs.declared.held_stretch.HeldStretch.{HeldStretch}
 use Rattle.uc_version.specs.declared.claim_error.ClaimError.{ClaimError}
 use Rattle.uc_version.specs.declared.claim_error.ClaimError.TheVariants.{Busy}
@@ -22,7 +25,8 @@ use Rattle.uc_version.specs.declared.install_error.InstallError.{InstallError}
 use Rattle.uc_version.specs.declared.install_error.InstallError.TheVariants.{WrongInputs, WrongKeeps, Stale, IdsSpent, Memory}
 use Rattle.uc_version.specs.Owners.{Owner, IsOwner, runs_held, claimed_slots}
 use Rattle.uc_version.specs.Claiming.{Claim, range_refusal, first_busy, claim_refusal, free_number, claim_of, with_claim, has_ids, is_held, without_claim}
-use Rattle.uc_version.specs.Installing.{stretch_in, stretch_of, compaction_of, Fits, first_unknown, IdLeft, MayReplace, IsRefused, after_install, install_of}
+use Rattle.uc_version.specs.Compacting.{Fits, IsNotInstallable}
+use Rattle.uc_version.specs.Installing.{stretch_in, stretch_of, compaction_of, IdLeft, MayReplace, IsRefused, after_install, install_of}
 use Rattle.uc_version.proofs.HeldClaims.{free_none}
 use Rattle.uc_version.proofs.Taking.{range_holds, number_is_free, with_one_more, with_one_less, held_stands}
 use Rattle.uc_version.proofs.Moving.{owner_after}
@@ -74,7 +78,7 @@ module _ (o : Owner) (is_owner : IsOwner o) (s : Stretch) (fine : claim_refusal 
 
   pub claimed_stays : IsOwner (with_claim o (claim_of o s) s)
   claimed_stays =
-      with_one_more o is_owner (claimed_slots o) (λ k. refl) (free_number o.claims) h range.0 range.1 apart number (free_none o.version o.claims number)
+      with_one_more o is_owner (claimed_slots o) (λ k. refl) (free_number o.claims) h range.0 range.1 apart number (free_none o.version o.claims number) (refl, refl)
 
   pub claim_is_held : is_held (with_claim o (claim_of o s) s) (claim_of o s) ≡ true
   claim_is_held =
@@ -102,27 +106,50 @@ installed_stays m o c made is_owner held stand may gives =
     (subst IsVersion is (gives o.version (install_of m o.version (stretch_of o c) made) is_owner.version legal))
 
 -- no keep of a list is unknown where all of them are the compaction's
-all_own : (made : Compaction) (keeps : List ℕ) → ((k : ℕ) → 0 < times k keeps → 0 < times k made.keeps) → first_unknown made keeps ≡ None
-all_own made [] own = refl
-all_own made (keep ∷ keeps) own =
-    ap (λ b. cond b (Some keep) (first_unknown made keeps))
-    (ap (λ b. ltb keep (high_of made.inputs) && not b) (list_any-times keep made.keeps ∙ there (times keep made.keeps) (own keep (let e = times-cons keep keep keeps in let one = one_same keep keep refl in omega (arith, e, one))))
-    ∙ never (ltb keep (high_of made.inputs)))
-    ∙ all_own made keeps (λ k some. own k (let e = times-cons k keep keeps in omega (arith, e, some)))
+all_own : (t : Terms) (keeps : List ℕ) → ((k : ℕ) → 0 < times k keeps → 0 < times k t.keeps) → first_unknown t keeps ≡ None
+all_own t [] own = refl
+all_own t (keep ∷ keeps) own =
+    ap (λ b. cond b (Some keep) (first_unknown t keeps))
+    (ap (λ b. ltb keep t.high && not b) (list_any-times keep t.keeps ∙ there (times keep t.keeps) (own keep (let e = times-cons keep keep keeps in let one = one_same keep keep refl in omega (arith, e, one))))
+    ∙ never (ltb keep t.high))
+    ∙ all_own t keeps (λ k some. own k (let e = times-cons k keep keeps in omega (arith, e, some)))
   where
     never : (b : Bool) → (b && not true) ≡ false
     never true = refl
     never false = refl
 
-pub own_known : (v : Stored) (h : HeldStretch) → first_unknown (compaction_of v h) v.keeps ≡ None
-own_known v h = all_own (compaction_of v h) v.keeps (λ k some. some)
+module _ (v : Stored) (is_version : IsVersion v) (h : HeldStretch) (two : 2 ≤ h.count) (within : h.first + h.count ≤ length v.runs) where
+  -- the runs of a stretch are in place
+  pub own_place : AreInPlace v (ids_of (runs_held v h))
+  own_place = ap ids_of (standing_is v is_version (ids_of (runs_held v h)) h.first h.count (omega (arith, two)) within refl)
 
-pub own_fits : (v : Stored) (h : HeldStretch) → Fits v h (compaction_of v h)
-own_fits v h = record { inputs = refl; oldest = λ e. e }
+  own_oldest : NothingBelow (behind (ids_of (runs_held v h)) v.runs) (terms_of (compaction_of v h))
+  own_oldest last =
+      let same : h.first + h.count ≡ length v.runs = grind (arith, nat_tests) in
+      behind_is v is_version (ids_of (runs_held v h)) h.first h.count (omega (arith, two)) within refl
+      ∙ drop_all (h.first + h.count) v.runs (omega (arith, same))
 
-pub only_ids : (v : Stored) (h : HeldStretch) (error : InstallError) → IsRefused v h (compaction_of v h) error → (error ≡ IdsSpent) × ¬ IdLeft v
-only_ids v h WrongInputs refused = absurd (refused (own_fits v h))
-only_ids v h (WrongKeeps keep) refused = let none : None ≡ Some keep = sym (own_known v h) ∙ refused.1 in absurd cc
-only_ids v h Stale refused = absurd refused
-only_ids v h IdsSpent refused = (refl, refused.2)
-only_ids v h Memory refused = absurd refused
+  own_fits : Fits v (runs_held v h) (compaction_of v h)
+  own_fits = record { inputs = refl; oldest = own_oldest }
+
+  pub own_may : IdLeft v → MayReplace v h (compaction_of v h)
+  own_may left = record {
+    inputs = refl;
+    there = record { in_place = own_place; may = record { keeps_known = λ keep has lt. has; oldest_last = own_oldest; id_left = left } };
+  }
+
+  -- and so it isn't stale
+  pub never_stale : (made : Compaction) (error : InstallError) → IsNotInstallable v (runs_held v h) made error → error ≢ Stale
+  never_stale made WrongInputs refused = λ same. absurd cc
+  never_stale made (WrongKeeps keep) refused = λ same. absurd cc
+  never_stale made Stale refused = λ same. refused.2 own_place
+  never_stale made IdsSpent refused = λ same. absurd cc
+  never_stale made Memory refused = absurd refused
+
+  pub only_ids : (error : InstallError) → IsRefused v h (compaction_of v h) error → (error ≡ IdsSpent) × ¬ IdLeft v
+  only_ids WrongInputs refused = absurd (refused.0 own_fits)
+  only_ids (WrongKeeps keep) refused =
+      let none : None ≡ Some keep = sym (all_own (terms_of (compaction_of v h)) v.keeps (λ k some. some)) ∙ refused.0.1 in absurd cc
+  only_ids Stale refused = absurd (refused.1 refl)
+  only_ids IdsSpent refused = (refl, refused.0.3)
+  only_ids Memory refused = absurd refused.0

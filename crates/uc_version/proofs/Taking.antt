@@ -13,7 +13,7 @@ use Rattle.uc_history.specs.Versions.{slots_of}
 use Rattle.uc_history.proofs.Once.{distinct-from_times, all-from_times}
 use Rattle.uc_version.specs.declared.held_stretch.HeldStretch.{HeldStretch}
 use Rattle.uc_version.specs.declared.claim_error.ClaimError.TheVariants.{OutOfRange, TooNarrow}
-use Rattle.uc_version.specs.Owners.{Owner, IsOwner, Stands, runs_held, slots_held, claimed_slots}
+use Rattle.uc_version.specs.Owners.{Owner, IsOwner, NotesItsRuns, Stands, runs_held, slots_held, claimed_slots}
 use Rattle.uc_version.specs.Claiming.{Claim, range_refusal, free_number, has_ids, is_held}
 use Rattle.uc_version.specs.Installing.{stretch_in, stretch_of}
 use Rattle.uc_version.proofs.HeldClaims.{part_once, times-set, all-set, all_at, held_below, none_held, claimed_once, number_free}
@@ -78,12 +78,12 @@ module _ (o : Owner) (is_owner : IsOwner o) (held : List ℕ) (same : (k : ℕ) 
           by_count zero e = let m = more_claimed k in let le = claimed_once o is_owner k in omega (arith, m, le, e)
           by_count (suc i) e = let m = more_claimed k in let none = unclaimed k (omega (arith, e)) in let le = part_once o.version is_owner.version h.first h.count k in omega (arith, m, none, le)
 
-      pub with_one_more : IsOwner (record o { claims = set o.claims n (Some h) })
-      with_one_more = record {
+      pub with_one_more : NotesItsRuns o.version h → IsOwner (record o { claims = set o.claims n (Some h) })
+      with_one_more notes = record {
         version = is_owner.version;
         options_good = is_owner.options_good;
         numbers = length-set o.claims n (Some h) ∙ is_owner.numbers;
-        stand = all-set o.version (Stands o.version) o.claims n (Some h) is_owner.stand (two, within);
+        stand = all-set o.version (Stands o.version) o.claims n (Some h) is_owner.stand (two, within, notes);
         apart = distinct-from_times (flat_map (slots_held o.version) (set o.claims n (Some h))) once_more;
       }
 
@@ -99,7 +99,7 @@ module _ (o : Owner) (is_owner : IsOwner o) (held : List ℕ) (same : (k : ℕ) 
     there = held_below o.version o.claims n h held_is
 
     pub stands : (2 ≤ h.count) × (h.first + h.count ≤ length o.version.runs)
-    stands = subst (Stands o.version) held_is (all_at o.version (Stands o.version) o.claims n is_owner.stand there)
+    stands = let all = subst (Stands o.version) held_is (all_at o.version (Stands o.version) o.claims n is_owner.stand there) in (all.0, all.1)
 
     pub less_claimed : (k : ℕ) → times k (flat_map (slots_held o.version) fewer) + times k given ≡ times k (claimed_slots o)
     less_claimed k =
@@ -134,4 +134,4 @@ held_stands o is_owner c held = by_claim (get_or o.claims c.number None) refl he
     by_claim None e wrong = absurd cc
     by_claim (Some h) e right =
         subst (λ (found : Option HeldStretch). (2 ≤ (stretch_in found).count) × ((stretch_in found).first + (stretch_in found).count ≤ length o.version.runs)) (sym e)
-        (subst (Stands o.version) e (all_at o.version (Stands o.version) o.claims c.number is_owner.stand (held_below o.version o.claims c.number h e)))
+        (let all = subst (Stands o.version) e (all_at o.version (Stands o.version) o.claims c.number is_owner.stand (held_below o.version o.claims c.number h e)) in (all.0, all.1))

@@ -8,18 +8,13 @@ use Rattle.uc_history.specs.Installs.{part_of, newest_id}
 use Rattle.uc_version.specs.declared.held_stretch.HeldStretch.{HeldStretch}
 use Rattle.uc_version.specs.declared.claim_error.ClaimError.{ClaimError}
 use Rattle.uc_version.specs.declared.claim_error.ClaimError.TheVariants.{OutOfRange, TooNarrow, Busy}
-use Rattle.uc_version.specs.Owners.{Owner, claimed_slots}
+use Rattle.uc_version.specs.Owners.{Owner, claimed_slots, last_id}
 
 -- a claim as its holder has it: its number, and the ids of the newest and the oldest run of its stretch
 pub record Claim : Type 0 where
   pub number : ℕ
   pub newest : ℕ
   pub oldest : ℕ
-
-abbrev pub last_id : List ℕ → ℕ
-last_id [] = 0
-last_id (id ∷ []) = id
-last_id (newer ∷ older ∷ ids) = last_id (older ∷ ids)
 
 -- the first of some slots that is claimed
 abbrev pub first_busy : List ℕ → List ℕ → Option ℕ

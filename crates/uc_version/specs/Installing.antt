@@ -1,16 +1,18 @@
 -- Installs of what was compacted of claimed stretches.
-use Rattle.std.specs.Prelude.{◌≡◌, ◌≢◌, ℕ, ◌+◌, ◌-◌, ◌^◌, Bool, true, not, ◌&&◌, ◌==◌, List, [], ◌∷◌, Option, Some, None, length, map, nat_lt, if◌then◌else◌}
-use Rattle.std.specs.List.{list_any}
+use Rattle.std.specs.Prelude.{◌≢◌, ℕ, ◌-◌, List, Option, Some, None, map, nat_lt, if◌then◌else◌}
 use Rattle.uc_oper.specs.Operation.{Operation}
-use Rattle.uc_stripe.specs.Inputs.{Compaction, high_of}
+use Rattle.uc_stripe.specs.Inputs.{Compaction}
 use Rattle.uc_stripe.specs.Output.{output_of}
-use Rattle.uc_history.specs.Versions.{Stored, contents_of, ids_of}
+use Rattle.uc_pick.specs.declared.stretch.Stretch.{Stretch}
+use Rattle.uc_history.specs.Versions.{PlacedRun, Stored}
+use Rattle.uc_history.specs.Installs as installs
 use Rattle.uc_history.specs.Installs.{Install, replaced}
 use Rattle.uc_version.specs.declared.held_stretch.HeldStretch.{HeldStretch}
 use Rattle.uc_version.specs.declared.install_error.InstallError.{InstallError}
-use Rattle.uc_version.specs.declared.install_error.InstallError.TheVariants.{WrongInputs, WrongKeeps, Stale, IdsSpent, Memory}
+use Rattle.uc_version.specs.declared.install_error.InstallError.TheVariants.{Stale}
 use Rattle.uc_version.specs.Owners.{Owner, runs_held}
 use Rattle.uc_version.specs.Claiming.{Claim, held_by, without_claim}
+use Rattle.uc_version.specs.Compacting.{compaction_at, install_for, IsInstallable, IsNotInstallable}
 
 -- the stretch of a claim
 abbrev pub stretch_in : Option HeldStretch → HeldStretch
@@ -20,45 +22,29 @@ stretch_in (Some h) = h
 abbrev pub stretch_of : Owner → Claim → HeldStretch
 stretch_of o c = stretch_in (held_by o.claims c.number)
 
--- whether the last run of a stretch is the oldest of all
-abbrev pub has_oldest : Stored → HeldStretch → Bool
-has_oldest v h = h.first + h.count == length v.runs
-
--- the compaction of a stretch: under the present keeps, and with the oldest run where it is the last
-abbrev pub compaction_of : Stored → HeldStretch → Compaction
-compaction_of v h = record { inputs = contents_of (runs_held v h); keeps = v.keeps; oldest = has_oldest v h }
-
--- what was compacted is the stretch, and it was made for the oldest run only where the stretch has that
-pub record Fits (v : Stored) (h : HeldStretch) (made : Compaction) : Type 0 where
-  pub inputs : made.inputs ≡ contents_of (runs_held v h)
-  pub oldest : made.oldest ≡ true → has_oldest v h ≡ true
-
--- a keep below the inputs' greatest sequence that it wasn't made for
-abbrev pub is_unknown : Compaction → ℕ → Bool
-is_unknown made keep = nat_lt keep (high_of made.inputs) && not (list_any (λ k. k == keep) made.keeps)
-
--- the first of some keeps that is unknown: the least, as keeps rise
-abbrev pub first_unknown : Compaction → List ℕ → Option ℕ
-first_unknown made [] = None
-first_unknown made (keep ∷ keeps) = if is_unknown made keep then Some keep else first_unknown made keeps
+-- the runs of a claim
+abbrev pub claimed_runs : Owner → Claim → List PlacedRun
+claimed_runs o c = runs_held o.version (stretch_of o c)
 
 -- an id is left for the output: the last of 64 bits is never given
 abbrev pub IdLeft : Stored → Type 0
-IdLeft v = v.next_id ≢ 2 ^ 64 - 1
+IdLeft v = installs.IdLeft v
 
--- When it may be installed for a stretch.
-pub record MayReplace (v : Stored) (h : HeldStretch) (made : Compaction) : Type 0 where
-  pub fits : Fits v h made
-  pub known : first_unknown made v.keeps ≡ None
-  pub left : IdLeft v
+-- where a held stretch is
+abbrev pub place_held : HeldStretch → Stretch
+place_held h = record { first = h.first; count = h.count }
 
--- why it may not
+-- its compaction
+abbrev pub compaction_of : Stored → HeldStretch → Compaction
+compaction_of v h = compaction_at v (place_held h)
+
+-- when what was compacted may be installed for it
+abbrev pub MayReplace : Stored → HeldStretch → Compaction → Type 0
+MayReplace v h made = IsInstallable v (runs_held v h) made
+
+-- why it may not; the runs of a held stretch are always in place
 abbrev pub IsRefused : Stored → HeldStretch → Compaction → InstallError → Type 0
-IsRefused v h made WrongInputs = ¬ Fits v h made
-IsRefused v h made (WrongKeeps keep) = Fits v h made × (first_unknown made v.keeps ≡ Some keep)
-IsRefused v h made Stale = ⊥
-IsRefused v h made IdsSpent = Fits v h made × (first_unknown made v.keeps ≡ None) × ¬ IdLeft v
-IsRefused v h made Memory = ⊥
+IsRefused v h made error = IsNotInstallable v (runs_held v h) made error × (error ≢ Stale)
 
 -- a held stretch where `count` runs, behind the first ones, became one: it moves up where it is behind them
 abbrev pub moved_up : ℕ → ℕ → Option HeldStretch → Option HeldStretch
@@ -73,6 +59,6 @@ after_install m o c made = record o {
   claims = map (moved_up (stretch_of o c).first (stretch_of o c).count) (without_claim o c).claims;
 }
 
--- the event that it is
+-- the install that it is
 abbrev pub install_of : Operation → Stored → HeldStretch → Compaction → Install
-install_of m v h made = record { ids = ids_of (runs_held v h); keeps = made.keeps; oldest = made.oldest; output = output_of m made }
+install_of m v h made = install_for m (runs_held v h) made

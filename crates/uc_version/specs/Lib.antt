@@ -1,5 +1,6 @@
 pub mod Owners
 pub mod Claiming
+pub mod Compacting
 pub mod Installing
 pub mod Picking
 pub mod Held

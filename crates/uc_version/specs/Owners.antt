@@ -1,11 +1,11 @@
 -- What the owner of a store has: a version, and the stretches of its runs that are claimed.
-use Rattle.std.specs.Prelude.{◌≡◌, ℕ, ◌+◌, ◌≤◌, ◌==◌, true, Bool, ⊤, List, [], Option, Some, None, length, replicate}
+use Rattle.std.specs.Prelude.{◌≡◌, ℕ, ◌+◌, ◌≤◌, ◌==◌, true, Bool, ⊤, List, [], ◌∷◌, Option, Some, None, length, replicate}
 use Rattle.std.specs.List.{AllByRecursion, flat_map, list_any}
 use Rattle.uc_claims.specs.Holding.{AreDistinct}
 use Rattle.uc_pick.specs.declared.options.Options.{Options}
 use Rattle.uc_pick.specs.Options.{are_good}
-use Rattle.uc_history.specs.Versions.{PlacedRun, Stored, IsVersion, slots_of}
-use Rattle.uc_history.specs.Installs.{part_of}
+use Rattle.uc_history.specs.Versions.{PlacedRun, Stored, IsVersion, ids_of, slots_of}
+use Rattle.uc_history.specs.Installs.{part_of, newest_id}
 use Rattle.uc_version.specs.declared.held_stretch.HeldStretch.{HeldStretch}
 use Rattle.uc_version.specs.declared.held_stretch.TheConstants.{MOST_CLAIMS}
 
@@ -31,10 +31,19 @@ claimed_slots o = flat_map (slots_held o.version) o.claims
 abbrev pub is_busy : Owner → ℕ → Bool
 is_busy o slot = list_any (λ s. s == slot) (claimed_slots o)
 
--- a held stretch has two runs or more, which are there
+abbrev pub last_id : List ℕ → ℕ
+last_id [] = 0
+last_id (id ∷ []) = id
+last_id (newer ∷ older ∷ ids) = last_id (older ∷ ids)
+
+-- the ids that it notes are those of its newest and its oldest run
+abbrev pub NotesItsRuns : Stored → HeldStretch → Type 0
+NotesItsRuns v h = (h.newest ≡ newest_id (ids_of (runs_held v h))) × (h.oldest ≡ last_id (ids_of (runs_held v h)))
+
+-- a held stretch has two runs or more, which are there, and which it notes
 abbrev pub Stands : Stored → Option HeldStretch → Type 0
 Stands v None = ⊤
-Stands v (Some h) = (2 ≤ h.count) × (h.first + h.count ≤ length v.runs)
+Stands v (Some h) = (2 ≤ h.count) × (h.first + h.count ≤ length v.runs) × NotesItsRuns v h
 
 -- What holds of every owner.
 pub record IsOwner (o : Owner) : Type 0 where

@@ -1,5 +1,8 @@
 //! [`HeldStretch`]: the stretch of a claim that is held.
+ghost use Rattle.std.specs.Prelude.{◌≡◌};
+
 use uc_claims::MOST_SLOTS;
+use uc_pick::Stretch;
 
 /// The most claims that are held at once: each has two slots or more.
 pub const MOST_CLAIMS: usize = MOST_SLOTS / 2;
@@ -15,4 +18,16 @@ pub struct HeldStretch {
     pub newest: u64,
     /// The id of its oldest run.
     pub oldest: u64,
+}
+
+impl HeldStretch {
+    /// Where it stands.
+    pub fn place(&self) -> Stretch
+        ensures { result ≡ record { first = self.now.first; count = self.now.count } }
+    {
+        Stretch {
+            first: self.first,
+            count: self.count,
+        }
+    }
 }

@@ -1,19 +1,29 @@
 //! What holds of owners.
-ghost use Rattle.std.specs.Prelude.{◌≡◌, Some, None, true};
+ghost use Rattle.std.specs.Prelude.{◌≡◌, ◌≢◌, ◌≤◌, List, Some, None, true, length};
 ghost use Rattle.uc_pick.specs.declared.stretch.Stretch.{Stretch};
 ghost use Rattle.uc_pick.specs.Picks.{picked};
 ghost use Rattle.uc_stripe.specs.Inputs.{Compaction, Stand};
-ghost use Rattle.uc_history.specs.Installs.{MayInstall, installed};
-ghost use Rattle.uc_version.specs.Owners.{Owner, IsOwner, is_busy};
+ghost use Rattle.uc_history.specs.Versions.{PlacedRun, Stored, contents_of, ids_of};
+ghost use Rattle.uc_history.specs.Installs.{MayInstall, installed, newest_id, standing};
+ghost use Rattle.uc_version.specs.Owners.{Owner, IsOwner, is_busy, last_id};
 ghost use Rattle.uc_version.specs.Picking.{candidates_of};
 ghost use Rattle.uc_version.specs.Claiming.{Claim, is_held, claim_refusal, claim_of, with_claim, without_claim};
-ghost use Rattle.uc_version.specs.Installing.{stretch_of, compaction_of, IdLeft, MayReplace, IsRefused, after_install, install_of};
+ghost use Rattle.uc_version.specs.Compacting.{IsInstallable, install_for};
+ghost use Rattle.uc_version.specs.Installing.{stretch_of, claimed_runs, compaction_of, IdLeft, MayReplace, IsRefused, after_install, install_of};
 ghost use Rattle.uc_version.specs.declared.install_error.InstallError.{InstallError};
 ghost use Rattle.uc_version.specs.declared.install_error.InstallError.TheVariants.{IdsSpent};
 
 use uc_history::install_gives_a_version;
 use uc_oper::Operator;
 use uc_pick::picks_are_unclaimed_runs;
+
+/// What was compacted of claimed runs, and is installable in a version where the runs with their ids are the same still, is an
+/// event that may happen to that version.
+pub fn what_fits_may_be_installed<O: Operator>()
+    ensures { (v : Stored) (claimed : List PlacedRun) (made : Compaction) → 2 ≤ length claimed → Stand made.inputs made.keeps →
+        contents_of (standing (ids_of claimed) v.runs) ≡ contents_of claimed → IsInstallable v claimed made →
+        MayInstall O.meaning v (install_for O.meaning claimed made) }
+{}
 
 /// An install for a claim that is held is an event that may happen to the version, and leaves the version after it.
 pub fn installs_are_events<O: Operator>()
@@ -42,6 +52,14 @@ pub fn owners_stay_owners<O: Operator>()
     install_gives_a_version::<O>();
 }
 
+/// A claim notes the ids of its newest and its oldest run, and keeps its runs when another claim's are replaced.
+pub fn claims_keep_their_runs<O: Operator>()
+    ensures notes { (o : Owner) (c : Claim) → IsOwner o → is_held o c ≡ true →
+        (c.newest ≡ newest_id (ids_of (claimed_runs o c))) × (c.oldest ≡ last_id (ids_of (claimed_runs o c))) }
+    ensures kept { (o : Owner) (c other : Claim) (made : Compaction) → IsOwner o → is_held o c ≡ true → is_held o other ≡ true →
+        other.number ≢ c.number → claimed_runs (after_install O.meaning o c made) other ≡ claimed_runs o other }
+{}
+
 /// A claim that isn't refused is held from then on.
 pub fn claims_are_held()
     ensures { (o : Owner) (s : Stretch) → IsOwner o → claim_refusal o s ≡ None → is_held (with_claim o (claim_of o s) s) (claim_of o s) ≡ true }
@@ -54,6 +72,6 @@ pub fn claims_can_be_compacted()
         Stand (compaction_of o.version (stretch_of o c)).inputs (compaction_of o.version (stretch_of o c)).keeps }
     ensures may { (o : Owner) (c : Claim) → IsOwner o → is_held o c ≡ true → IdLeft o.version →
         MayReplace o.version (stretch_of o c) (compaction_of o.version (stretch_of o c)) }
-    ensures refused { (o : Owner) (c : Claim) (error : InstallError) →
+    ensures refused { (o : Owner) (c : Claim) (error : InstallError) → IsOwner o → is_held o c ≡ true →
         IsRefused o.version (stretch_of o c) (compaction_of o.version (stretch_of o c)) error → (error ≡ IdsSpent) × ¬ IdLeft o.version }
 {}

@@ -1,7 +1,8 @@
 //! The store in one owner's hands: which stretches of runs are compacted, and what is put in their place.
 //!
 //! An [`Owned`] has a version, and the claims of those who compact stretches of its runs. Read `specs/Owners.antt` first,
-//! then `specs/Claiming.antt` and `specs/Installing.antt`, and `owned.rt`. What a version is stands in `uc_history`, and
+//! then `specs/Claiming.antt` and `specs/Installing.antt`, and `owned.rt`. What holds of compactions of any version's runs, and of
+//! their installs, whoever claims them, stands in `specs/Compacting.antt`, `stretches.rt` and `refusal.rt`. What a version is stands in `uc_history`, and
 //! the picker in `uc_pick`; their public items are given out here too.
 #![tactic(auto)]
 
@@ -17,19 +18,23 @@ mod picking;
 mod refusal;
 mod runs;
 mod slots;
+mod stretches;
 
 pub use claim_error::ClaimError;
 pub use held_stretch::{HeldStretch, MOST_CLAIMS};
 pub use install_error::InstallError;
 pub use laws::{
-    claims_are_held, claims_can_be_compacted, installs_are_events, owners_stay_owners,
-    picks_can_be_claimed,
+    claims_are_held, claims_can_be_compacted, claims_keep_their_runs, installs_are_events,
+    owners_stay_owners, picks_can_be_claimed, what_fits_may_be_installed,
 };
 pub use opening::open_plain;
 pub use owned::Owned;
 pub use owned_claim::OwnedClaim;
 pub use picking::pick;
+pub use refusal::{are_inputs, install_refusal, present_refusal};
+pub use runs::{run_ids, stretch_runs};
+pub use stretches::{compact_stretch, install_event};
 pub use uc_claims::MOST_SLOTS;
-pub use uc_history::{Placed, Version};
+pub use uc_history::{Event, Install, Placed, Refusal, Version};
 pub use uc_opening::{OpenError, Opener, open_version};
 pub use uc_pick::{Candidate, Options, Stretch};

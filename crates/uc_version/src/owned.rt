@@ -14,14 +14,15 @@ use crate::held_stretch::{HeldStretch, MOST_CLAIMS};
 use crate::install_error::InstallError;
 use crate::owned_claim::OwnedClaim;
 use crate::picking::pick;
-use crate::refusal::{has_oldest, install_refusal};
-use crate::runs::{held_runs, last_id, newest_id, runs_of, shared_runs};
+use crate::refusal::install_refusal;
+use crate::runs::{held_runs, last_id, newest_id, runs_of};
 use crate::slots::{busy_slots, claim_slots, give_slots};
+use crate::stretches::compact_stretch;
 use std::alloc::{AllocError, Global};
 use std::marker::{Model, PhantomData, Sync};
 use std::thread::Threads;
 use uc_claims::{ClaimTable, HeldSlots, MOST_SLOTS};
-use uc_compact::{Compacted, compact};
+use uc_compact::Compacted;
 use uc_history::{Version, install_gives_a_version};
 use uc_oper::Operator;
 use uc_pick::{Options, Stretch};
@@ -162,14 +163,12 @@ impl<O: Operator> Owned<O> {
         ensures { IfOk result (λ made. made ≡ installing.compaction_of self.now.version (installing.stretch_of self.now claim.now)) }
     {
         let held = held_stretch(&self.claims, claim);
-        let runs = held_runs(&self.version, &held);
-        let inputs = shared_runs(alloc, runs)?;
-        let oldest = has_oldest(&self.version, &held);
-        compact::<O>(rt, alloc, &inputs, self.version.keeps(), oldest)
+        compact_stretch::<O>(rt, alloc, &self.version, held.place())
     }
 
     /// Puts what was compacted in place of the claim's runs, and gives the claim back. The answer is the id of the new run. It
-    /// copies no run and takes no memory. A refusal hands back both, and the store is as it was.
+    /// copies no run and takes no memory; before anything is changed it goes over the points of the claim's runs. A refusal hands
+    /// back both, and the store is as it was.
     pub fn install(
         &mut self,
         claim: OwnedClaim,
@@ -182,7 +181,8 @@ impl<O: Operator> Owned<O> {
         made.stands();
         install_gives_a_version::<O>();
         let held = held_stretch(&self.claims, &claim);
-        if let Some(error) = install_refusal(&self.version, &held, &made) {
+        let runs = held_runs(&self.version, &held);
+        if let Some(error) = install_refusal(runs, &self.version, &made) {
             return Err((claim, made, error));
         }
         give_slots(&self.table, &mut self.held, held_runs(&self.version, &held));

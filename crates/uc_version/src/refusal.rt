@@ -1,18 +1,21 @@
-//! Why a compaction isn't installed.
-ghost use Rattle.std.specs.Prelude.{◌≡◌, ◌+◌, ◌≤◌, ◌↔◌, IsTrue, IfSome, IfNone, length};
+//! Why what was compacted isn't installed in place of claimed runs.
+ghost use Rattle.std.specs.Prelude.{◌≡◌, ◌≤◌, ◌↔◌, IsTrue, IfSome, IfNone, length};
+ghost use Rattle.uc_claims.specs.declared.table.TheConstants.{MOST_SLOTS};
+ghost use Rattle.uc_history.specs.Versions as versions;
 ghost use Rattle.uc_history.specs.Versions.{contents_of};
-ghost use Rattle.uc_version.specs.Installing as installing;
-ghost use Rattle.uc_version.specs.Installing.{Fits, MayReplace, IsRefused};
+ghost use Rattle.uc_history.specs.Installs.{terms_of};
+ghost use Rattle.uc_history.specs.Refusals.{AreReplaceable, IsRefused};
+ghost use Rattle.uc_version.specs.Compacting as compacting;
+ghost use Rattle.uc_version.specs.Compacting.{IsInstallable, IsNotInstallable};
 
-use crate::held_stretch::HeldStretch;
 use crate::install_error::InstallError;
-use crate::runs::held_runs;
+use crate::runs::run_ids;
 use uc_compact::Compacted;
-use uc_history::{Placed, Version};
+use uc_history::{Placed, Refusal, Terms, Version};
 use uc_oper::Operator;
 
-/// Whether these runs were compacted: as many, with the same points, fragments and ranges.
-fn are_inputs<O: Operator>(made: &Compacted<O>, runs: &[Placed]) -> bool
+/// Whether these runs were compacted: as many, with the same points, fragments and ranges. It goes over their points.
+pub fn are_inputs<O: Operator>(made: &Compacted<O>, runs: &[Placed]) -> bool
     ensures { IsTrue result ↔ (made.now.inputs ≡ contents_of runs.now) }
 {
     let inputs = made.inputs();
@@ -27,60 +30,50 @@ fn are_inputs<O: Operator>(made: &Compacted<O>, runs: &[Placed]) -> bool
     true
 }
 
-/// Whether the last run of a stretch is the oldest of all.
-pub(crate) fn has_oldest(version: &Version, held: &HeldStretch) -> bool
-    requires { held.now.first + held.now.count ≤ length version.now.runs }
-    ensures { result ≡ installing.has_oldest version.now held.now }
+/// The error that says why a version refuses what was compacted.
+fn error_of(refusal: Refusal) -> InstallError
+    ensures { result ≡ compacting.error_of refusal }
 {
-    let len = version.runs().len();
-    held.first + held.count == len
-}
-
-/// Whether the compaction is that of the stretch, and was made for the oldest run only where the stretch has it.
-fn fits<O: Operator>(version: &Version, held: &HeldStretch, made: &Compacted<O>) -> bool
-    requires { held.now.first + held.now.count ≤ length version.now.runs }
-    ensures { IsTrue result ↔ Fits version.now held.now made.now }
-{
-    are_inputs(made, held_runs(version, held)) && (!made.oldest() || has_oldest(version, held))
-}
-
-/// Whether a compaction wasn't made for a keep below the greatest sequence of its inputs.
-fn is_unknown<O: Operator>(made: &Compacted<O>, keep: u64) -> bool
-    ensures { result ≡ installing.is_unknown made.now keep }
-{
-    keep < made.output().high_seq() && !made.keeps().contains(&keep)
-}
-
-/// The first of some keeps that a compaction wasn't made for.
-fn first_unknown<O: Operator>(made: &Compacted<O>, keeps: &[u64]) -> Option<u64>
-    ensures { result ≡ installing.first_unknown made.now keeps.now }
-{
-    for &keep in keeps {
-        if is_unknown(made, keep) {
-            return Some(keep);
-        }
+    match refusal {
+        Refusal::OlderBehind => InstallError::WrongInputs,
+        Refusal::UnknownKeep(keep) => InstallError::WrongKeeps(keep),
+        Refusal::NotInPlace => InstallError::Stale,
+        Refusal::IdsSpent => InstallError::IdsSpent,
     }
-    None
 }
 
-/// Why a compaction may not be installed for a stretch, if it may not.
-pub(crate) fn install_refusal<O: Operator>(
-    version: &Version,
-    held: &HeldStretch,
+/// Why a version refuses what was compacted in place of the claimed runs, whatever it was made of, if it does. It compares
+/// no points and takes no memory.
+pub fn present_refusal<O: Operator>(
+    claimed: &[Placed],
+    present: &Version,
+    made: &Compacted<O>,
+) -> Option<Refusal>
+    requires { length claimed.now ≤ MOST_SLOTS }
+    ensures none { IfNone result (AreReplaceable present.now (versions.ids_of claimed.now) (terms_of made.now)) }
+    ensures some { IfSome result (λ refusal. IsRefused present.now (versions.ids_of claimed.now) (terms_of made.now) refusal) }
+{
+    let ids = run_ids(claimed);
+    let terms = Terms::new(made.keeps(), made.oldest(), made.output().high_seq());
+    present.replace_refusal(&ids[..claimed.len()], &terms)
+}
+
+/// Why what was compacted may not be installed in place of the claimed runs in the version of this moment, if it may not. It
+/// goes over the points of the claimed runs, and takes no memory.
+pub fn install_refusal<O: Operator>(
+    claimed: &[Placed],
+    present: &Version,
     made: &Compacted<O>,
 ) -> Option<InstallError>
-    requires { held.now.first + held.now.count ≤ length version.now.runs }
-    ensures none { IfNone result (MayReplace version.now held.now made.now) }
-    ensures some { IfSome result (λ error. IsRefused version.now held.now made.now error) }
+    requires { length claimed.now ≤ MOST_SLOTS }
+    ensures none { IfNone result (IsInstallable present.now claimed.now made.now) }
+    ensures some { IfSome result (λ error. IsNotInstallable present.now claimed.now made.now error) }
 {
-    if !fits(version, held, made) {
+    if !are_inputs(made, claimed) {
         return Some(InstallError::WrongInputs);
     }
-    if let Some(keep) = first_unknown(made, version.keeps()) {
-        return Some(InstallError::WrongKeeps(keep));
+    match present_refusal(claimed, present, made) {
+        None => None,
+        Some(refusal) => Some(error_of(refusal)),
     }
-    if version.next_id() == u64::MAX {
-        return Some(InstallError::IdsSpent);
-    }
-    None
 }

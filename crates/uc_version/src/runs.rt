@@ -6,8 +6,9 @@ ghost use Rattle.uc_history.specs.Versions as versions;
 ghost use Rattle.uc_history.specs.Versions.{contents_of, ids_of};
 ghost use Rattle.uc_history.specs.Installs as installs;
 ghost use Rattle.uc_history.specs.Installs.{part_of};
-ghost use Rattle.uc_version.specs.Claiming as claiming;
 ghost use Rattle.uc_version.specs.Claiming.{range_refusal};
+ghost use Rattle.uc_version.specs.Compacting.{runs_at};
+ghost use Rattle.uc_version.specs.Owners as owners;
 ghost use Rattle.uc_version.specs.Owners.{runs_held};
 
 use crate::claim_error::ClaimError;
@@ -42,7 +43,7 @@ pub(crate) fn newest_id(runs: &[Placed]) -> u64
 
 /// The id of the oldest of some runs; 0 where there is none.
 pub(crate) fn last_id(runs: &[Placed]) -> u64
-    ensures { result ≡ claiming.last_id (ids_of runs.now) }
+    ensures { result ≡ owners.last_id (ids_of runs.now) }
 {
     match runs.last() {
         None => 0,
@@ -50,12 +51,20 @@ pub(crate) fn last_id(runs: &[Placed]) -> u64
     }
 }
 
+/// The runs of a stretch.
+pub fn stretch_runs(version: &Version, stretch: Stretch) -> &[Placed]
+    requires { stretch.first + stretch.count ≤ length version.now.runs }
+    ensures { result.now ≡ runs_at version.now stretch }
+{
+    &version.runs()[stretch.first..stretch.first + stretch.count]
+}
+
 /// The runs of a held claim.
 pub(crate) fn held_runs<'a>(version: &'a Version, held: &HeldStretch) -> &'a [Placed]
     requires { held.now.first + held.now.count ≤ length version.now.runs }
     ensures { result.now ≡ runs_held version.now held.now }
 {
-    &version.runs()[held.first..held.first + held.count]
+    stretch_runs(version, held.place())
 }
 
 /// The runs again, shared.
@@ -79,4 +88,16 @@ pub(crate) fn slots_of(runs: &[Placed]) -> [usize; MOST_SLOTS]
         slots[place] = placed.slot();
     }
     slots
+}
+
+/// Their ids, in front of places that are of no account.
+pub fn run_ids(runs: &[Placed]) -> [u64; MOST_SLOTS]
+    requires { length runs.now ≤ MOST_SLOTS }
+    ensures { take (length runs.now) result ≡ ids_of runs.now }
+{
+    let mut ids = [0; MOST_SLOTS];
+    for (place, placed) in runs.iter().enumerate() {
+        ids[place] = placed.id();
+    }
+    ids
 }

@@ -1,7 +1,7 @@
 use Rattle.uc_version.specs.Installing.{stretch_of}
 use Rattle.uc_version.proofs.Standing.{part_stands}
 use Rattle.uc_version.proofs.Taking.{held_stands}
-use Rattle.uc_version.proofs.Staying.{own_fits, own_known, only_ids}
+use Rattle.uc_version.proofs.Staying.{own_may, only_ids}
 use Rattle.uc_version.proofs.laws.claims_can_be_compacted.Goals as goal
 
 pub returns : goal.returns
@@ -10,6 +10,9 @@ returns c = record {
       let there = held_stands o is_owner claim held in
       part_stands o.version is_owner.version (stretch_of o claim).first (stretch_of o claim).count there.0 there.1;
   may = λ o claim is_owner held left.
-      record { fits = own_fits o.version (stretch_of o claim); known = own_known o.version (stretch_of o claim); left = left };
-  refused = λ o claim error refused. only_ids o.version (stretch_of o claim) error refused;
+      let there = held_stands o is_owner claim held in
+      own_may o.version is_owner.version (stretch_of o claim) there.0 there.1 left;
+  refused = λ o claim error is_owner held refused.
+      let there = held_stands o is_owner claim held in
+      only_ids o.version is_owner.version (stretch_of o claim) there.0 there.1 error refused;
 }

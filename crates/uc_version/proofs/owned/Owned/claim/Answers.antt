@@ -67,7 +67,7 @@ invariant_of-self-2 g c =
     let s = c.args.stretch in
     subst (λ (h : Holding). IsOwned (record c.self.inside { held = h; claims = slice_set c.self.inside.claims n (Some (record { first = s.first; count = s.count; newest = newest; oldest = oldest })) })) (sym c.in_default.ensures.ok)
     (record {
-      owner_is = owner_after (owner c.self.inside) i.owner_is slots i.slots s c.runs.result.now c.in-Ok.runs.now c.runs.ensures c.in-Ok.ensures.ok.0 c.in-Ok.ensures.ok.1 newest oldest c.in_default.ensures.apart n c.free_number-number.ensures;
+      owner_is = owner_after (owner c.self.inside) i.owner_is slots i.slots s c.runs.result.now c.in-Ok.runs.now c.runs.ensures c.in-Ok.ensures.ok.0 c.in-Ok.ensures.ok.1 newest oldest c.in_default.ensures.apart n c.free_number-number.ensures c.newest_id-newest.ensures c.last_id-oldest.ensures;
       count = i.count;
       table = i.table;
       whole = i.whole;

@@ -1,0 +1,14 @@
+//! [`Refusal`]: why an event may not happen to a version.
+
+/// Why an event may not happen to a version. Of several reasons the first of these is named.
+#[derive(Clone, Copy, Debug, PartialEq, Eq)]
+pub enum Refusal {
+    /// It was made for the oldest run of all, and older runs stand behind its inputs.
+    OlderBehind,
+    /// It wasn't made for this keep: the least such one below the greatest sequence of its inputs.
+    UnknownKeep(u64),
+    /// Its inputs don't stand there as neighbours in their order.
+    NotInPlace,
+    /// No id is left: 2^64 - 1 is never given.
+    IdsSpent,
+}
