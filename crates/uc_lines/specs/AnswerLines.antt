@@ -4,7 +4,7 @@ use Rattle.std.specs.List.{flat_map}
 use Rattle.uc_script.specs.Texts.{hex_text}
 use Rattle.uc_answer.specs.declared.answer.Answer.{Answer}
 use Rattle.uc_answer.specs.declared.answer.Answer.TheVariants.{Value, Rows, NotProtected}
-use Rattle.uc_lines.specs.Line.{numbered_line, text_line}
+use Rattle.uc_tool_log_lines.specs.Line.{numbered_line, text_line}
 
 -- a key and its value
 abbrev pub row_line : List ℕ × List ℕ → List ℕ

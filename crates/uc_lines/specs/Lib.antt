@@ -1,6 +1,5 @@
-pub mod Line
+pub use Rattle.uc_tool_log_lines.specs.Line
 pub mod AnswerLines
-pub mod LogLines
 pub mod ReportLines
 pub mod RefusalLines
 pub mod ReplyLines

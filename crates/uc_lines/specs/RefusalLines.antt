@@ -1,12 +1,10 @@
 -- The lines of refusals.
 use Rattle.std.specs.Prelude.{ℕ, List, codes}
-use Rattle.uc_opening.specs.declared.open_error.OpenError.{OpenError}
-use Rattle.uc_opening.specs.declared.open_error.OpenError.TheVariants as opening
 use Rattle.uc_version.specs.declared.claim_error.ClaimError.{ClaimError}
 use Rattle.uc_version.specs.declared.claim_error.ClaimError.TheVariants as claim
 use Rattle.uc_version.specs.declared.install_error.InstallError.{InstallError}
 use Rattle.uc_version.specs.declared.install_error.InstallError.TheVariants as install
-use Rattle.uc_lines.specs.Line.{numbered_line}
+use Rattle.uc_tool_log_lines.specs.Line.{numbered_line}
 
 -- why a stretch isn't claimed; an owner of a store never says the last two
 abbrev pub claim_refusal_line : ClaimError → List ℕ
@@ -23,11 +21,3 @@ install_refusal_line install.WrongInputs = codes "refused wrong inputs\n"
 install_refusal_line (install.WrongKeeps keep) = numbered_line (codes "refused wrong keeps ") keep
 install_refusal_line install.Stale = codes "refused stale\n"
 install_refusal_line install.Memory = codes "out of memory\n"
-
--- why a store isn't opened; one that isn't shared never says the first, and no definition the last
-abbrev pub opening_refusal_line : OpenError → List ℕ
-opening_refusal_line opening.BadCount = codes "refused bad count\n"
-opening_refusal_line opening.BadOption = codes "refused bad option\n"
-opening_refusal_line (opening.SnapshotAhead keep) = numbered_line (codes "refused snapshot ahead ") keep
-opening_refusal_line opening.TooManyRuns = codes "refused too many runs\n"
-opening_refusal_line opening.Memory = codes "out of memory\n"

@@ -4,7 +4,7 @@ use Rattle.std.specs.List.{flat_map}
 use Rattle.uc_pick.specs.declared.stretch.Stretch.{Stretch}
 use Rattle.uc_query.specs.declared.reply.Reply.{Reply}
 use Rattle.uc_query.specs.declared.reply.Reply.TheVariants.{Claimed, Refused, Installed, NotInstalled, Abandoned, NoClaim, NameHeld, Compacted, Picked, Reported, Answers}
-use Rattle.uc_lines.specs.Line.{fields_line, numbered_line}
+use Rattle.uc_tool_log_lines.specs.Line.{fields_line, numbered_line}
 use Rattle.uc_lines.specs.AnswerLines.{answer_lines}
 use Rattle.uc_lines.specs.ReportLines.{report_lines}
 use Rattle.uc_lines.specs.RefusalLines.{claim_refusal_line, install_refusal_line}

@@ -5,7 +5,7 @@ use Rattle.std.specs.Fmt.{decimal}
 use Rattle.uc_fold.specs.declared.totals.Totals.{Totals}
 use Rattle.uc_report.specs.declared.run_line.RunLine.{RunLine}
 use Rattle.uc_report.specs.declared.summary.Report.{Report}
-use Rattle.uc_lines.specs.Line.{fields_line, numbered_line}
+use Rattle.uc_tool_log_lines.specs.Line.{fields_line, numbered_line}
 
 -- a run
 abbrev pub run_line : RunLine → List ℕ

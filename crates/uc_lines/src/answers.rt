@@ -5,11 +5,11 @@ ghost use Rattle.std.specs.List.{flat_map};
 ghost use Rattle.uc_lines.specs.AnswerLines as lines;
 ghost use Rattle.uc_lines.specs.AnswerLines.{row_line};
 
-use crate::line::{push_numbered_line, push_text_line};
 use std::alloc::AllocError;
 use uc_answer::Answer;
 use uc_bytes::Bytes;
 use uc_script::push_hex;
+use uc_tool_log_lines::{push_numbered_line, push_text_line};
 
 /// Appends a key and its value, as a line.
 fn push_row(out: &mut Vec<u8>, row: &(Bytes, Bytes)) -> Result<(), AllocError>

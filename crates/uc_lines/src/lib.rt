@@ -6,15 +6,11 @@
 #![tactic(auto)]
 
 mod answers;
-mod line;
-mod logs;
 mod refusals;
 mod replies;
 mod reports;
 
 pub use answers::push_answer_lines;
-pub use line::{numbered_line, push_numbered_line};
-pub use logs::{ended_line, push_writes};
-pub use refusals::{claim_refusal_line, install_refusal_line, opening_refusal_line};
+pub use refusals::{claim_refusal_line, install_refusal_line};
 pub use replies::{compacted_line, reply_lines};
 pub use reports::report_lines;

@@ -3,9 +3,8 @@
 ghost use Rattle.std.specs.Prelude.{◌≡◌, IfOk};
 ghost use Rattle.uc_lines.specs.RefusalLines as lines;
 
-use crate::line::numbered_line;
 use std::alloc::{AllocError, Global};
-use uc_opening::OpenError;
+use uc_tool_log_lines::numbered_line;
 use uc_version::{ClaimError, InstallError};
 
 /// The line that says why a stretch isn't claimed.
@@ -31,18 +30,5 @@ pub fn install_refusal_line(alloc: Global, error: InstallError) -> Result<Vec<u8
         InstallError::WrongKeeps(keep) => numbered_line(alloc, b"refused wrong keeps ", keep),
         InstallError::Stale => Vec::from_slice(alloc, b"refused stale\n"),
         InstallError::Memory => Vec::from_slice(alloc, b"out of memory\n"),
-    }
-}
-
-/// The line that says why a store isn't opened.
-pub fn opening_refusal_line(alloc: Global, error: OpenError) -> Result<Vec<u8>, AllocError>
-    ensures { IfOk result (λ line. line.items ≡ lines.opening_refusal_line error) }
-{
-    match error {
-        OpenError::BadCount => Vec::from_slice(alloc, b"refused bad count\n"),
-        OpenError::BadOption => Vec::from_slice(alloc, b"refused bad option\n"),
-        OpenError::SnapshotAhead(keep) => numbered_line(alloc, b"refused snapshot ahead ", keep),
-        OpenError::TooManyRuns => Vec::from_slice(alloc, b"refused too many runs\n"),
-        OpenError::Memory => Vec::from_slice(alloc, b"out of memory\n"),
     }
 }

@@ -6,13 +6,13 @@ ghost use Rattle.uc_lines.specs.AnswerLines.{answer_lines};
 ghost use Rattle.uc_lines.specs.ReplyLines as lines;
 
 use crate::answers::push_answer_lines;
-use crate::line::{fields_line, numbered_line};
 use crate::refusals::{claim_refusal_line, install_refusal_line};
 use crate::reports::report_lines;
 use std::alloc::{AllocError, Global};
 use uc_answer::Answer;
 use uc_pick::Stretch;
 use uc_query::Reply;
+use uc_tool_log_lines::{fields_line, numbered_line};
 
 /// The line of what would be compacted next.
 fn pick_line(alloc: Global, stretch: Option<Stretch>) -> Result<Vec<u8>, AllocError>

@@ -5,10 +5,10 @@ ghost use Rattle.std.specs.List.{flat_map};
 ghost use Rattle.uc_lines.specs.ReportLines as lines;
 ghost use Rattle.uc_lines.specs.ReportLines.{run_line};
 
-use crate::line::{push_counted, push_fields_line, push_numbered_line};
 use std::alloc::{AllocError, Global};
 use uc_fold::Totals;
 use uc_report::{Report, RunLine};
+use uc_tool_log_lines::{push_counted, push_fields_line, push_numbered_line};
 
 /// Appends the line of a run.
 fn push_run(out: &mut Vec<u8>, run: &RunLine) -> Result<(), AllocError>

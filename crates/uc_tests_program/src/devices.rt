@@ -1,5 +1,4 @@
 //! Readers that fail, give little at a time or too much, and writers that fail.
-use crate::plays::small;
 use std::alloc::Global;
 use std::io;
 use std::io::{ErrorKind, Read, Write};
@@ -7,6 +6,7 @@ use std::marker::Sync;
 use std::process::Abort;
 use std::thread::Threads;
 use uc_oper::Counter;
+use uc_tests_shared::options::small;
 use uc_tool::{Done, dump, play, report_log};
 
 /// What is run.

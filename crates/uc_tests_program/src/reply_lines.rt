@@ -4,11 +4,12 @@ use std::test::Fail;
 use uc_answer::Answer;
 use uc_bytes::{Bytes, Items};
 use uc_fold::Totals;
-use uc_lines::{compacted_line, opening_refusal_line, reply_lines};
+use uc_lines::{compacted_line, reply_lines};
 use uc_opening::OpenError;
 use uc_pick::Stretch;
 use uc_query::Reply;
 use uc_report::{Report, RunLine};
+use uc_tool_opening::opening_refusal_line;
 use uc_version::{ClaimError, InstallError};
 
 /// A reply of a test.

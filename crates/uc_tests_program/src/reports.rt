@@ -1,7 +1,7 @@
 //! Reports on logs: what is printed of the store that opens, of its compactions, and of what is left.
-use crate::plays::small;
 use std::str;
 use uc_oper::Append;
+use uc_tests_shared::options::small;
 use uc_tool::{Done, Options, report_log};
 
 /// A log of three batches: `k` is set to `a`, and merged with `b` and with `c`.

@@ -1,28 +1,22 @@
-//! The program's work over any reader and writer.
+//! The program's work over any reader and writer, and what its command line names.
 //!
 //! `play` opens a store over a script's writes and answers its calls; `report_log` reports what a store holds that opens from
 //! a log, and compacts it; `dump` prints what a log holds. What each prints is a stated function of the bytes that it
-//! reads. Read `specs/Output.antt`, `specs/Play.antt` and `specs/Report.antt` first, then `playing.rt` and
-//! `reporting.rt`; `input.rt` and `writing.rt` are the two ends.
+//! reads. Each stands in a crate of its own, `uc_tool_play`, `uc_tool_report` and `uc_tool_dump`, over what they share in
+//! `uc_tool_io` and `uc_tool_opening`; this crate gives them out, so that a caller names it alone. Of its own it has the
+//! operators by their names, and why the program may run nothing.
+//!
+//! Read `uc_tool_io`'s `specs/Output.antt` first, then the head of the subcommand that matters; here `operator_name.rt`
+//! and `refusal.rt`.
 #![tactic(auto)]
 
-mod calling;
-mod compacting;
-mod done;
-mod dumping;
-mod ending;
-mod input;
-mod laws;
-mod opening;
-mod playing;
-mod refusing;
-mod reporting;
-mod run_error;
-mod writing;
+mod operator_name;
+mod refusal;
 
-pub use done::Done;
-pub use dumping::dump;
-pub use laws::{compactions_end_where_nothing_is_picked, reads_are_answered_from_plain_writes};
-pub use playing::play;
-pub use reporting::report_log;
+pub use operator_name::OperatorName;
+pub use refusal::Refusal;
 pub use uc_pick::Options;
+pub use uc_tool_dump::dump;
+pub use uc_tool_io::Done;
+pub use uc_tool_play::{play, reads_are_answered_from_plain_writes};
+pub use uc_tool_report::{compactions_end_where_nothing_is_picked, report_log};

@@ -1,9 +1,8 @@
 //! The command line: its subcommands, their options, and what `--help` says.
 
-use crate::operator_name::OperatorName;
 use clap::{Arg, ArgMatches, Command, value_parser};
 use std::alloc::{AllocError, Global};
-use uc_tool::Options;
+use uc_tool::{OperatorName, Options};
 
 const ABOUT: &str = "A log-structured merge store in memory, proved.";
 

@@ -1,16 +1,12 @@
 //! `ucstore`: words, streams and an exit status. All else is in `uc_tool`.
 //!
-//! `command.rt` has the command line and what its words set, `operator_name.rt` the operators that it can
-//! name, and `refusal.rt` why there may be no command line to read.
+//! `command.rt` has the command line and what its words set. The operators that it can name, and why there may be no command
+//! line to read, stand in `uc_tool` too.
 #![tactic(auto)]
 
 mod command;
-mod operator_name;
-mod refusal;
 
 use crate::command::Shown;
-use crate::operator_name::OperatorName;
-use crate::refusal::Refusal;
 use clap::error::ErrorKind;
 use clap::{ArgMatches, Error};
 use std::alloc::Global;
@@ -22,7 +18,7 @@ use std::process::ExitCode;
 use std::rt::Env;
 use std::thread::Threads;
 use uc_oper::{Append, Counter, Maximum};
-use uc_tool::{Done, dump, play, report_log};
+use uc_tool::{Done, OperatorName, Refusal, dump, play, report_log};
 
 /// The delimiter of `--operator append`.
 const COMMA: u8 = b',';

@@ -1,6 +1,6 @@
 use Rattle.std.proofs.Common.{◌≡◌, ◌++◌, length, take, codes}
 use Rattle.std.specs.List.{flat_map}
-use Rattle.uc_lines.specs.Line.{numbered_line}
+use Rattle.uc_tool_log_lines.specs.Line.{numbered_line}
 use Rattle.uc_lines.specs.AnswerLines.{row_line}
 use Rattle.uc_lines.proofs.answers.push_rows.Given as goal
 

@@ -1,0 +1,23 @@
+//! Worked examples of logs of batches: what they hold, where they are at fault, and how they are dumped.
+//!
+//! Everything here runs the calls of other crates as their users do, over bytes that were worked out by hand
+//! or come from the formats' own vectors. Read `known.rt` first: it asserts what a log holds, by its payloads,
+//! its writes and its dump.
+//!
+//! `logs.rt` has small logs and `batches.rt` batches, whole and faulty, `damage.rt` a log that is cut at each byte and
+//! changed at each byte, `blocks.rt` logs of several blocks, and `dumps.rt` texts of dumps. It stands on the formats and
+//! on `uc_tool_dump`, and not on the store.
+#![tactic(auto)]
+
+#[cfg(test)]
+mod batches;
+#[cfg(test)]
+mod blocks;
+#[cfg(test)]
+mod damage;
+#[cfg(test)]
+mod dumps;
+#[cfg(test)]
+mod known;
+#[cfg(test)]
+mod logs;

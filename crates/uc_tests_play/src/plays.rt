@@ -1,0 +1,52 @@
+//! Runs of scripts over memory.
+use std::alloc::Global;
+use std::marker::Sync;
+use std::process::Abort;
+use std::str;
+use std::thread::Threads;
+use uc_oper::Operator;
+use uc_pick::Options;
+use uc_tests_shared::options::small;
+use uc_tool_io::Done;
+use uc_tool_play::play;
+
+/// A script, and what it prints.
+pub type Row = (&'static str, &'static str);
+
+/// What a script prints, and how its run ends.
+pub fn plays<O: Operator + Sync>(
+    rt: &(impl Threads + Sync),
+    alloc: Global,
+    options: &Options,
+    script: &[u8],
+) -> (Vec<u8>, Done) {
+    let mut reader = script;
+    let mut text = Vec::new(alloc);
+    let done = play::<O, &[u8], Vec<u8>>(rt, alloc, &mut reader, &mut text, options);
+    (text, done)
+}
+
+/// Asserts what a script prints, and how its run ends.
+pub fn shows<O: Operator + Sync>(
+    rt: &(impl Abort + Threads + Sync),
+    alloc: Global,
+    options: &Options,
+    (script, want): Row,
+    ended: Done,
+) {
+    let (text, done) = plays::<O>(rt, alloc, options, script.as_bytes());
+    let printed = str::from_utf8(&text).unwrap_or("other bytes than text");
+    assert_eq!(rt; printed, want, "after {script}");
+    assert_eq!(rt; done, ended, "after {script}");
+}
+
+/// Asserts that each script is answered, and what it prints.
+pub fn all_show<O: Operator + Sync>(
+    rt: &(impl Abort + Threads + Sync),
+    alloc: Global,
+    rows: &[Row],
+) {
+    for row in rows {
+        shows::<O>(rt, alloc, &small(), *row, Done::Fine);
+    }
+}

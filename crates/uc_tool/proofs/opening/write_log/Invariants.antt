@@ -1,6 +1,0 @@
-use Rattle.std.proofs.Common.{◌≡◌, ◌+◌, ◌++◌, drop}
-use Rattle.uc_tool.specs.Opening.{batch_texts}
-use Rattle.uc_tool.proofs.opening.write_log.Given as goal
-
-abbrev pub invariant-loop-op : goal.invariant-loop-op
-invariant-loop-op l = (l.seq ≡ l.op-index + 1) × (l.log ++ batch_texts l.seq (drop l.op-index l.ops) ≡ batch_texts 1 l.ops)

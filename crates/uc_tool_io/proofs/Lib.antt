@@ -1,0 +1,4 @@
+pub mod Known
+pub mod Printing
+pub mod Parts
+pub mod Written

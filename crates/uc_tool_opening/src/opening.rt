@@ -1,0 +1,86 @@
+//! A store that opens from a log, or from a script's writes by way of one.
+
+ghost use Rattle.std.specs.Prelude.{◌≡◌, ◌≢◌, Some, None, IfOk, IfErr};
+ghost use Rattle.uc_logrec.specs.Log.{log_text};
+ghost use Rattle.uc_batch.specs.Batch.{numbered};
+ghost use Rattle.uc_batch.specs.Log.{log_writes};
+ghost use Rattle.uc_batch.specs.Rising.{IsRising};
+ghost use Rattle.uc_history.specs.Openings.{Opening, opened};
+ghost use Rattle.uc_opening.specs.Progress.{progress_of};
+ghost use Rattle.uc_opening.specs.Refusal.{opening_refusal};
+ghost use Rattle.uc_opening.specs.declared.open_error.OpenError.TheVariants.{Memory};
+ghost use Rattle.uc_tool_opening.specs.Opening.{batch_texts, FitsLog};
+
+use std::alloc::{AllocError, Global};
+use std::slice;
+use uc_batch::{write_batch, written_batch_is_read};
+use uc_history::Version;
+use uc_logrec::{LogWriter, written_log_is_read};
+use uc_opening::{OpenError, Opener};
+use uc_pick::Options;
+use uc_recovery::{Recovered, recover};
+use uc_script::{Keeps, Ops};
+use uc_write::Op;
+
+/// Writes the operations as a log, a batch for each, numbered from 1.
+fn write_log(alloc: Global, ops: &[Op]) -> Result<Vec<u8>, AllocError>
+    requires { FitsLog ops.now }
+    ensures { IfOk result (λ log. log.items ≡ log_text (batch_texts 1 ops.now)) }
+{
+    let mut log = LogWriter::new(alloc);
+    let mut seq = 1;
+    for op in ops {
+        let batch = write_batch(alloc, seq, slice::from_ref(op))?;
+        log.add(&batch)?;
+        seq += 1;
+    }
+    Ok(log.finish())
+}
+
+/// The log of the operations, which are let go of.
+fn log_of(alloc: Global, ops: Ops) -> Result<Vec<u8>, AllocError>
+    requires { FitsLog ops }
+    ensures { IfOk result (λ log. log.items ≡ log_text (batch_texts 1 ops)) }
+{
+    write_log(alloc, ops.as_slice())
+}
+
+/// A store that is being opened from a log, which is let go of, and how far that was read.
+pub fn recover_log(alloc: Global, log: Vec<u8>, options: Options) -> Result<Recovered, AllocError>
+    ensures opener { IfOk result (λ recovered. recovered.opener ≡ progress_of options (log_writes log.items).list) }
+    ensures ended { IfOk result (λ recovered. recovered.ended ≡ (log_writes log.items).ended) }
+    ensures rising { IfOk result (λ _. IsRising 0 (log_writes log.items).list) }
+{
+    recover(alloc, &log, options)
+}
+
+/// A store that is being opened from operations, which are numbered from 1, by way of a log of them. What it is made from
+/// is let go of one after the other.
+fn opener_of(alloc: Global, ops: Ops, options: Options) -> Result<Opener, AllocError>
+    requires { FitsLog ops }
+    ensures opener { IfOk result (λ opener. opener ≡ progress_of options (numbered 1 ops)) }
+    ensures rising { IfOk result (λ _. IsRising 0 (numbered 1 ops)) }
+{
+    // What is written is read again: the laws of the layers below, which do nothing when they run.
+    written_log_is_read();
+    written_batch_is_read();
+    let log = log_of(alloc, ops)?;
+    let Recovered { opener, .. } = recover_log(alloc, log, options)?;
+    Ok(opener)
+}
+
+/// The version that a store opens with from operations, which are numbered from 1, by way of a log of them.
+pub fn open_ops(
+    alloc: Global,
+    ops: Ops,
+    keeps: Keeps,
+    options: Options,
+) -> Result<Version, OpenError>
+    requires { FitsLog ops }
+    ensures ok { let opening : Opening = record { writes = numbered 1 ops; keeps = keeps; options = options } in
+        IfOk result (λ version. (version ≡ opened opening) × (opening_refusal opening ≡ None)) }
+    ensures err { let opening : Opening = record { writes = numbered 1 ops; keeps = keeps; options = options } in
+        IfErr result (λ error. error ≢ Memory → opening_refusal opening ≡ Some error) }
+{
+    opener_of(alloc, ops, options)?.finish(alloc, keeps.as_slice())
+}

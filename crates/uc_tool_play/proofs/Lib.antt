@@ -1,0 +1,4 @@
+pub mod Plays
+pub mod Calls
+pub mod Opened
+pub mod ReadAnswers

@@ -1,0 +1,121 @@
+//! The calls of a script to a store, and what is printed for them.
+
+ghost use Rattle.std.specs.Prelude.{◌≡◌, All, None, replicate, IfOk};
+ghost use Rattle.uc_version.specs.declared.held_stretch.TheConstants.{MOST_CLAIMS};
+ghost use Rattle.uc_script.specs.Names.{NameIsGood};
+ghost use Rattle.uc_query.specs.Names.{AreHeld};
+ghost use Rattle.uc_query.specs.Running.{unnamed};
+ghost use Rattle.uc_tool_io.specs.Output.{Prints};
+ghost use Rattle.uc_tool_play.specs.Play as plays;
+ghost use Rattle.uc_tool_play.specs.Play.{replies_of};
+ghost use Rattle.uc_tool_play.specs.Turn.{Turns};
+
+use std::alloc::{AllocError, Global};
+use std::io::Write;
+use std::marker::Sync;
+use std::thread::Threads;
+use uc_bytes::Items;
+use uc_lines::reply_lines;
+use uc_oper::Operator;
+use uc_pick::Stretch;
+use uc_query::{AskError, NamedClaims, Query};
+use uc_script::{Call, Seq};
+use uc_tool_io::{RunError, write_bytes};
+use uc_version::Owned;
+
+/// The sequence that a script names.
+fn seq_at(last: u64, at: Seq) -> u64
+    ensures { result ≡ plays.seq_at last at }
+{
+    match at {
+        Seq::Number(number) => number,
+        Seq::Last => last,
+    }
+}
+
+/// A query alone, for one worker.
+fn asked_alone(alloc: Global, query: Query) -> Result<uc_query::Call, AllocError>
+    ensures { IfOk result (λ call. call ≡ plays.asked_alone query) }
+{
+    let mut queries = Vec::new(alloc);
+    queries.push(query)?;
+    Ok(uc_query::Call::Ask(Items::from(queries), 1, 1))
+}
+
+/// What a script's call asks of the store.
+fn call_of(alloc: Global, last: u64, call: Call) -> Result<uc_query::Call, AllocError>
+    ensures { IfOk result (λ asked. asked ≡ plays.call_of last call) }
+{
+    match call {
+        Call::Get { key, at } => {
+            let at = seq_at(last, at);
+            asked_alone(alloc, Query::Get { key, at })
+        }
+        Call::Scan {
+            low,
+            high,
+            limit,
+            at,
+        } => {
+            let at = seq_at(last, at);
+            let query = Query::Scan {
+                low,
+                high,
+                at,
+                limit,
+            };
+            asked_alone(alloc, query)
+        }
+        Call::Claim { name, first, count } => {
+            Ok(uc_query::Call::Claim(name, Stretch { first, count }))
+        }
+        Call::Install { name } => Ok(uc_query::Call::Install(name)),
+        Call::Abandon { name } => Ok(uc_query::Call::Abandon(name)),
+        Call::Compact { first, count } => Ok(uc_query::Call::Compact(Stretch { first, count })),
+        Call::Pick => Ok(uc_query::Call::Pick),
+        Call::Report => Ok(uc_query::Call::Report),
+    }
+}
+
+/// Carries a script's call out, and gives the lines of its reply.
+fn reply_to<O: Operator + Sync>(
+    rt: &(impl Threads + Sync),
+    alloc: Global,
+    owned: &mut Owned<O>,
+    claims: &mut NamedClaims,
+    last: u64,
+    call: Call,
+) -> Result<Vec<u8>, AllocError>
+    requires name { NameIsGood call }
+    requires held { AreHeld owned.old claims.old }
+    ensures held { AreHeld owned.new claims.new }
+    ensures turn { IfOk result (λ lines. Turns O.meaning (record { owner = owned.old; names = claims.old }) (plays.call_of last call) lines.items (record { owner = owned.new; names = claims.new })) }
+{
+    let call = call_of(alloc, last, call)?;
+    match claims.call(rt, alloc, owned, &call) {
+        Ok(reply) => reply_lines(alloc, &reply),
+        Err(AskError::Memory) => Err(AllocError),
+        Err(AskError::BadWorkers | AskError::BadPiece) => unreachable!(),
+    }
+}
+
+/// Prints the replies to a script's calls, each as soon as it is there.
+pub fn print_replies<O: Operator + Sync, W: Write>(
+    rt: &(impl Threads + Sync),
+    alloc: Global,
+    owned: &mut Owned<O>,
+    last: u64,
+    calls: Vec<Call>,
+    writer: &mut W,
+) -> Result<(), RunError>
+    requires names { All NameIsGood calls.items }
+    requires held { AreHeld owned.old (replicate MOST_CLAIMS None) }
+    ensures { Prints (replies_of O.meaning (unnamed owned.old) last calls.items) (W.contents writer.old) (W.contents writer.new) result }
+{
+    let mut claims = NamedClaims::new();
+    for call in calls {
+        let lines = reply_to(rt, alloc, owned, &mut claims, last, call)?;
+        write_bytes(writer, &lines)?;
+    }
+    Ok(())
+}

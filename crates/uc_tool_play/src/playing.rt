@@ -1,0 +1,138 @@
+//! `play`: a store over the writes of a script, and the replies to its calls.
+
+ghost use Rattle.std.specs.Prelude.{◌≡◌, ◌≤◌, All, Ok, true, vec_len, IfOk, IfSome};
+ghost use Rattle.uc_script.specs.Names.{NameIsGood};
+ghost use Rattle.uc_script.specs.Reading.{Gives};
+ghost use Rattle.uc_script.specs.Script.{script_of};
+ghost use Rattle.uc_pick.specs.Options.{are_good};
+ghost use Rattle.uc_tool_io.specs.declared.input.TheConstants.{INPUT_LIMIT};
+ghost use Rattle.uc_tool_opening.specs.Opening.{FitsLog};
+ghost use Rattle.uc_tool_play.specs.Play.{output_of, script_output, play_of};
+ghost use Rattle.uc_tool_io.specs.Output.{Prints, HasWritten};
+
+use crate::calling::print_replies;
+use std::alloc::Global;
+use std::io::{Read, Write};
+use std::marker::Sync;
+use std::thread::Threads;
+use uc_history::Version;
+use uc_opening::OpenError;
+use uc_oper::Operator;
+use uc_pick::Options;
+use uc_script::{
+    Call, Script, ScriptError, a_script_names_no_more_than_it_has, names_are_in_range, read_script,
+};
+use uc_tool_io::{
+    Done, RunError, finish, finish_without_input, print_refusal, read_input, write_bytes,
+};
+use uc_tool_log_lines::numbered_line;
+use uc_tool_opening::{open_ops, print_refused_opening};
+use uc_version::Owned;
+
+/// Reads a script, and lets go of its text.
+fn script_in(alloc: Global, input: Vec<u8>) -> Result<Script, ScriptError>
+    requires { vec_len input ≤ INPUT_LIMIT }
+    ensures read { Gives (λ script. script) result (script_of input.items) }
+    ensures fits { IfOk result (λ script. FitsLog script.ops) }
+    ensures names { IfOk result (λ script. All NameIsGood script.calls) }
+{
+    // Laws of the layer below, which do nothing when they run: no write is longer than the script, and no name is
+    // above what a store has.
+    a_script_names_no_more_than_it_has();
+    names_are_in_range();
+    read_script(alloc, &input)
+}
+
+/// Prints that a store opened with a version, and the replies to calls.
+fn print_opened<O: Operator + Sync, W: Write>(
+    rt: &(impl Threads + Sync),
+    alloc: Global,
+    version: Version,
+    options: &Options,
+    calls: Vec<Call>,
+    writer: &mut W,
+) -> Result<Done, RunError>
+    requires good { are_good options.now ≡ true }
+    requires names { All NameIsGood calls.items }
+    ensures printed { Prints (output_of O.meaning version options.now calls.items).replies (W.contents writer.old) (W.contents writer.new) result }
+    ensures done { IfOk result (λ done. done ≡ Done.Fine) }
+{
+    let last = version.last();
+    let mut owned = Owned::<O>::new(alloc, version, *options)?;
+    let line = numbered_line(alloc, b"opened ", last)?;
+    write_bytes(writer, &line)?;
+    print_replies::<O, W>(rt, alloc, &mut owned, last, calls, writer)?;
+    Ok(Done::Fine)
+}
+
+/// Opens the store that a script asks for, and prints why it is refused, or that it opened and the replies.
+fn print_script<O: Operator + Sync, W: Write>(
+    rt: &(impl Threads + Sync),
+    alloc: Global,
+    script: Script,
+    options: &Options,
+    writer: &mut W,
+) -> Result<Done, RunError>
+    requires fits { FitsLog script.ops }
+    requires names { All NameIsGood script.calls }
+    ensures printed { Prints (script_output O.meaning options.now script).replies (W.contents writer.old) (W.contents writer.new) result }
+    ensures done { IfOk result (λ done. done ≡ (script_output O.meaning options.now script).done) }
+{
+    let Script { ops, keeps, calls } = script;
+    match open_ops(alloc, ops, keeps, *options) {
+        Ok(version) => {
+            print_opened::<O, W>(rt, alloc, version, options, calls.into_vec(), writer)
+        }
+        Err(OpenError::Memory) => Err(RunError::Memory),
+        Err(error) => print_refused_opening(alloc, error, writer),
+    }
+}
+
+/// Runs a script: opens its store and answers its calls.
+fn run<O: Operator + Sync, W: Write>(
+    rt: &(impl Threads + Sync),
+    alloc: Global,
+    input: Vec<u8>,
+    options: &Options,
+    writer: &mut W,
+) -> Result<Done, RunError>
+    requires { vec_len input ≤ INPUT_LIMIT }
+    ensures printed { Prints (play_of O.meaning options.now input.items).replies (W.contents writer.old) (W.contents writer.new) result }
+    ensures done { IfOk result (λ done. done ≡ (play_of O.meaning options.now input.items).done) }
+{
+    match script_in(alloc, input) {
+        Ok(script) => print_script::<O, W>(rt, alloc, script, options, writer),
+        Err(ScriptError::Fault(line)) => {
+            let line = numbered_line(alloc, b"fault line ", line)?;
+            print_refusal(&line, writer)
+        }
+        Err(ScriptError::Memory) => Err(RunError::Memory),
+    }
+}
+
+/// Runs a script: reads it whole, checks all of it, writes its changes as a log, opens a store from that log, and
+/// carries out its calls in order, under an operator, printing each reply as soon as it is there.
+///
+/// What is written is the text of `play_of`, a function of the bytes that were read, the operator's
+/// meaning and the options. After want of memory it is some whole first replies of that text, and then
+/// `out of memory`; where the reader or the writer fails, or the input is longer than 64 MiB, it is a
+/// front of a text that says so or of that one. It reads at most 64 MiB and a byte, in at most 2^27 reads.
+/// Of the script, its changes, their log and the store no two are held but while the one is made from the other.
+pub fn play<O: Operator + Sync, R: Read, W: Write>(
+    rt: &(impl Threads + Sync),
+    alloc: Global,
+    reader: &mut R,
+    writer: &mut W,
+    options: &Options,
+) -> Done
+    ensures { IfSome (R.remaining reader.old) (λ input.
+        HasWritten (play_of O.meaning options.now input) input (W.contents writer.old) (W.contents writer.new) result) }
+{
+    match read_input(alloc, reader) {
+        Ok(input) => {
+            let outcome = run::<O, W>(rt, alloc, input, options, writer);
+            finish(writer, outcome)
+        }
+        Err(error) => finish_without_input(writer, error),
+    }
+}

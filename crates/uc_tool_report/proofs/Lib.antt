@@ -1,0 +1,4 @@
+pub mod Compactions
+pub mod Reports
+pub mod Reported
+pub mod NoMorePicks

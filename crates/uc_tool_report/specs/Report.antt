@@ -1,0 +1,108 @@
+-- What the report on a log prints.
+use Rattle.std.specs.Prelude.{ℕ, zero, suc, List, [], ◌∷◌, ◌++◌, length, Option, Some, None}
+use Rattle.uc_oper.specs.Operation.{Operation}
+use Rattle.uc_write.specs.declared.write.Write.{Write}
+use Rattle.uc_batch.specs.Log.{log_writes}
+use Rattle.uc_batch.specs.WriteLog.{WriteLog}
+use Rattle.uc_batch.specs.declared.ended.Ended.{Ended}
+use Rattle.uc_batch.specs.declared.ended.Ended.TheVariants as ended
+use Rattle.uc_pick.specs.Picks.{picked}
+use Rattle.uc_pick.specs.declared.options.Options.{Options}
+use Rattle.uc_pick.specs.declared.stretch.Stretch.{Stretch}
+use Rattle.uc_history.specs.Versions.{Stored}
+use Rattle.uc_history.specs.Openings.{Opening, opened}
+use Rattle.uc_opening.specs.Refusal.{opening_refusal}
+use Rattle.uc_opening.specs.declared.open_error.OpenError.{OpenError}
+use Rattle.uc_report.specs.Reports as reports
+use Rattle.uc_version.specs.Owners.{Owner, is_busy, unclaimed}
+use Rattle.uc_version.specs.Picking.{candidates_of}
+use Rattle.uc_version.specs.Claiming.{claim_refusal}
+use Rattle.uc_query.specs.Names.{State}
+use Rattle.uc_query.specs.Running.{unnamed}
+use Rattle.uc_query.specs.Turns.{Turn, compact_turn}
+use Rattle.uc_query.specs.declared.reply.Reply.{Reply}
+use Rattle.uc_query.specs.declared.reply.Reply.TheVariants.{Compacted}
+use Rattle.uc_lines.specs.ReplyLines.{reply_lines, compacted_line}
+use Rattle.uc_lines.specs.ReportLines.{report_lines}
+use Rattle.uc_tool_io.specs.Output.{Output, refused}
+use Rattle.uc_tool_opening.specs.Refusals.{opening_refusal_line, bad_log}
+use Rattle.uc_tool_io.specs.declared.done.Done.TheVariants.{Fine}
+
+-- the lines of some compactions, and what is then
+pub record Compactions : Type 0 where
+  pub lines : List (List ℕ)
+  pub state : State
+
+-- compactions that end here, with no line more or with one
+abbrev pub no_more : State → Compactions
+no_more s = record { lines = []; state = s }
+
+abbrev pub last_line : List ℕ → State → Compactions
+last_line line s = record { lines = line ∷ []; state = s }
+
+-- a line in front of those of the compactions that follow
+abbrev pub behind_line : List ℕ → Compactions → Compactions
+behind_line line others = record { lines = line ∷ others.lines; state = others.state }
+
+-- where a stretch was compacted it goes on from what is then; another reply, which is a refusal, ends it
+abbrev pub after_reply : Stretch → Reply → State → (State → Compactions) → Compactions
+after_reply stretch (Compacted id) s others = behind_line (compacted_line stretch id) (others s)
+after_reply stretch reply s others = last_line (reply_lines reply) s
+
+abbrev pub after_turn : Stretch → Turn → (State → Compactions) → Compactions
+after_turn stretch turn others = after_reply stretch turn.reply turn.state others
+
+-- what is picked is compacted; where nothing is picked it ends
+abbrev pub after_pick : Operation → State → Option Stretch → (State → Compactions) → Compactions
+after_pick m s None others = no_more s
+after_pick m s (Some stretch) others = after_turn stretch (compact_turn m s stretch (claim_refusal s.owner stretch)) others
+
+-- what universal compaction picks of a store
+abbrev pub pick_of : Owner → Option Stretch
+pick_of o = picked o.options (candidates_of o.version (is_busy o))
+
+-- As long as something is picked it is compacted, at most so many times. Each compaction leaves fewer runs, so that their
+-- number is enough.
+abbrev pub compactions : Operation → ℕ → State → Compactions
+compactions m zero s = no_more s
+compactions m (suc n) s = after_pick m s (pick_of s.owner) (λ next. compactions m n next)
+
+-- the compactions of a store of which nothing is claimed
+abbrev pub compactions_of : Operation → Owner → Compactions
+compactions_of m o = compactions m (length o.version.runs) (unnamed o)
+
+-- what a store holds, as lines
+abbrev pub store_lines : Stored → List ℕ
+store_lines v = report_lines (reports.report_of v)
+
+-- a report, the compactions, and a report on what is then
+abbrev pub output_of : Operation → Owner → Output
+output_of m o = record {
+  replies = store_lines o.version ∷ (compactions_of m o).lines ++ store_lines (compactions_of m o).state.owner.version ∷ [];
+  done = Fine;
+}
+
+-- what is printed of an opening, by why it is refused, if it is
+abbrev pub unless_refused : Operation → Opening → Option OpenError → Output
+unless_refused m o (Some error) = refused (opening_refusal_line error)
+unless_refused m o None = output_of m (unclaimed (opened o) o.options)
+
+-- what is printed of these writes
+abbrev pub of_writes : Operation → Options → List Write → Output
+of_writes m options writes =
+    let o : Opening = record { writes = writes; keeps = []; options = options } in
+    unless_refused m o (opening_refusal o)
+
+-- a log that has a fault is refused; a torn tail is none
+abbrev pub unless_faulty : Operation → Options → List Write → Ended → Output
+unless_faulty m options writes ended.Clean = of_writes m options writes
+unless_faulty m options writes (ended.Torn offset) = of_writes m options writes
+unless_faulty m options writes (ended.LogFault fault offset) = bad_log (ended.LogFault fault offset)
+unless_faulty m options writes (ended.BatchFault number fault) = bad_log (ended.BatchFault number fault)
+
+abbrev pub reported : Operation → Options → WriteLog → Output
+reported m options log = unless_faulty m options log.list log.ended
+
+-- what the report on a log's bytes prints, under an operator and options
+abbrev pub report_of : Operation → Options → List ℕ → Output
+report_of m options input = reported m options (log_writes input)
