@@ -1,5 +1,5 @@
 -- What each call leaves.
-use Rattle.std.proofs.Common.{◌≡◌, ◌≢◌, ℕ, zero, suc, ◌-◌, ◌<◌, ◌≤◌, Bool, true, false, cond, ltb, List, [], ◌∷◌, length, get_or, set, ◌⊎◌, inl, inr, refl, sym, subst, arith}
+use Rattle.std.proofs.Common.{◌≡◌, ◌≢◌, ℕ, zero, suc, ◌-◌, ◌<◌, ◌≤◌, Bool, true, false, cond, ltb, List, [], ◌∷◌, length, get_or, set, ◌⊎◌, inl, inr, refl, sym, ap, ◌∙◌, subst, arith}
 use Rattle.std.specs.Prelude.{◌^◌, ⊤, Option, Some, None, Result, Ok, Err}
 use Rattle.std.proofs.lemmas.Bool.{cases_lt}
 use Rattle.std.proofs.lemmas.Bool.Decides.{nat_tests}
@@ -7,13 +7,13 @@ use Rattle.std.proofs.lemmas.List.{set_past}
 use Rattle.uc_oper.specs.Operation.{Operation}
 use Rattle.uc_pick.specs.declared.stretch.Stretch.{Stretch}
 use Rattle.uc_stripe.specs.Inputs.{Compaction, Stand}
-use Rattle.uc_history.specs.Versions.{Stored}
+use Rattle.uc_history.specs.Versions.{Stored, ids_of}
 use Rattle.uc_history.specs.Installs.{Install, MayInstall, installed}
 use Rattle.uc_version.specs.declared.held_stretch.TheConstants.{MOST_CLAIMS}
 use Rattle.uc_version.specs.declared.claim_error.ClaimError.{ClaimError}
 use Rattle.uc_version.specs.Owners.{Owner, IsOwner}
 use Rattle.uc_version.specs.Claiming.{Claim, free_number, claim_refusal, claim_of, with_claim, is_held, without_claim}
-use Rattle.uc_version.specs.Installing.{stretch_of, compaction_of, IdLeft, MayReplace, after_install, install_of}
+use Rattle.uc_version.specs.Installing.{stretch_of, claimed_runs, compaction_of, IdLeft, MayReplace, after_install, install_of}
 use Rattle.uc_workers.specs.declared.ask_error.AskError.{AskError}
 use Rattle.uc_workers.specs.Asking.{ask_refusal}
 use Rattle.uc_answer.specs.declared.query.Query.{Query}
@@ -118,6 +118,25 @@ module _ (m : Operation) (known : Known m) (s : State) (is_owner : IsOwner s.own
         held = named_installed s.owner s.names are name room c e m;
         version = version_then s.owner is_owner c held id;
       }
+
+  version_if : (b : Bool) → b ≡ true → (one other : Turn) → (cond b one other).state.owner.version ≡ one.state.owner.version
+  version_if true e one other = refl
+  version_if false e one other = absurd cc
+
+  -- an install under a name replaces the runs that this name claimed
+  pub install_replaces : (name : ℕ) (c : Claim) → get_or s.names name None ≡ Some c → has_id s.owner.version ≡ true →
+      (i : Install) × (i.ids ≡ ids_of (claimed_runs s.owner c)) × MayInstall m s.owner.version i × ((install_turn m s name (get_or s.names name None)).state.owner.version ≡ installed i s.owner.version)
+  install_replaces name c here id =
+      let held = is_named s.owner s.names are name (room_of name c here) c here in
+      let may = may_replace s.owner is_owner c held id in
+      let stand = known.stand s.owner c is_owner held in (
+        install_of m s.owner.version (stretch_of s.owner c) (made s.owner is_owner c held id),
+        refl,
+        known.event_may s.owner c (made s.owner is_owner c held id) is_owner held stand may,
+        ap (λ (found : Option Claim). (install_turn m s name found).state.owner.version) here
+            ∙ version_if (has_id s.owner.version) id _ _
+            ∙ known.event_after s.owner c (made s.owner is_owner c held id) is_owner held stand may,
+      )
 
   state_if : (b : Bool) (one other : Turn) → (cond b one other).state ≡ cond b one.state other.state
   state_if true one other = refl

@@ -1,11 +1,16 @@
 //! What holds of lists of calls.
-ghost use Rattle.std.specs.Prelude.{◌≡◌, ◌++◌, List, length, take};
+ghost use Rattle.std.specs.Prelude.{◌≡◌, ◌++◌, ℕ, Some, true, List, length, take};
 ghost use Rattle.std.specs.List.{AllZip};
 ghost use Rattle.uc_history.specs.declared.event.Event.{Event};
 ghost use Rattle.uc_history.specs.Histories.{History, IsLegal, version_after, writes_given};
+ghost use Rattle.uc_history.specs.Versions.{ids_of};
+ghost use Rattle.uc_history.specs.Installs.{Install, MayInstall, installed};
 ghost use Rattle.uc_version.specs.Owners.{IsOwner};
+ghost use Rattle.uc_version.specs.Claiming.{Claim};
+ghost use Rattle.uc_version.specs.Installing.{claimed_runs};
 ghost use Rattle.uc_query.specs.declared.call.Call.{Call};
-ghost use Rattle.uc_query.specs.Names.{State, AreHeld};
+ghost use Rattle.uc_query.specs.Names.{State, AreHeld, claim_named};
+ghost use Rattle.uc_query.specs.Turns.{has_id, install_turn};
 ghost use Rattle.uc_query.specs.Running.{run_of};
 ghost use Rattle.uc_query.specs.Answered.{IsAnswered};
 
@@ -28,6 +33,19 @@ pub fn calls_extend_histories<O: Operator>()
     claims_can_be_compacted();
     installs_are_events::<O>();
     histories_grow_by_events::<O>();
+}
+
+/// An install under a name is an event that replaces the runs that this name claimed.
+pub fn installs_replace_what_was_claimed<O: Operator>()
+    ensures { (s : State) (name : ℕ) (c : Claim) → IsOwner s.owner → AreHeld s.owner s.names → claim_named s name ≡ Some c →
+        has_id s.owner.version ≡ true → (event : Install) × (event.ids ≡ ids_of (claimed_runs s.owner c)) ×
+        MayInstall O.meaning s.owner.version event ×
+        ((install_turn O.meaning s name (claim_named s name)).state.owner.version ≡ installed event s.owner.version) }
+{
+    owners_stay_owners::<O>();
+    claims_are_held();
+    claims_can_be_compacted();
+    installs_are_events::<O>();
 }
 
 /// Wherever queries are asked between claims, installs and compactions, they are answered as from the plain writes that the

@@ -18,7 +18,9 @@ mod reply;
 
 pub use call::Call;
 pub use calls::run_calls;
-pub use laws::{asks_are_answered_from_plain_writes, calls_extend_histories};
+pub use laws::{
+    asks_are_answered_from_plain_writes, calls_extend_histories, installs_replace_what_was_claimed,
+};
 pub use named_claims::NamedClaims;
 pub use reply::Reply;
 pub use uc_answer::{Answer, Query, Rows, answer_writes};
