@@ -11,5 +11,5 @@ pub use Rattle.uc_tool_io.specs.Ending
 pub use Rattle.uc_tool_io.specs.Status
 pub use Rattle.uc_tool_dump.specs.Dump
 pub use Rattle.uc_tool_play.specs.Reading
-pub mod OperatorName
-pub mod Refusal
+pub use Rattle.uc_tool_words.specs.OperatorName
+pub use Rattle.uc_tool_words.specs.Refusal

@@ -1,8 +1,8 @@
 -- The words for the operators.
 use Rattle.std.specs.Prelude.{ℕ, List, [], ◌∷◌, Option, codes, find}
 use Rattle.std.specs.Str.{bytes_eq}
-use Rattle.uc_tool.specs.declared.operator_name.OperatorName.{OperatorName}
-use Rattle.uc_tool.specs.declared.operator_name.OperatorName.TheVariants.{Counter, Append, Maximum}
+use Rattle.uc_tool_words.specs.declared.operator_name.OperatorName.{OperatorName}
+use Rattle.uc_tool_words.specs.declared.operator_name.OperatorName.TheVariants.{Counter, Append, Maximum}
 
 abbrev pub word_of : OperatorName → List ℕ
 word_of Counter = codes "counter"

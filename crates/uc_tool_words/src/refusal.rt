@@ -1,8 +1,8 @@
 //! [`Refusal`]: why the program runs nothing.
 
 ghost use Rattle.std.specs.Prelude.{◌≡◌};
-ghost use Rattle.uc_tool.specs.Refusal.{done_of};
-ghost use Rattle.uc_tool.specs.declared.refusal.Refusal.TheVariants.{Memory};
+ghost use Rattle.uc_tool_words.specs.Refusal.{done_of};
+ghost use Rattle.uc_tool_words.specs.declared.refusal.Refusal.TheVariants.{Memory};
 
 use std::alloc::AllocError;
 use thiserror::Error;

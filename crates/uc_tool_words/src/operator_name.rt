@@ -1,8 +1,8 @@
 //! [`OperatorName`]: which operator merges, as the command line names it.
 
 ghost use Rattle.std.specs.Prelude.{◌≡◌, map};
-ghost use Rattle.uc_tool.specs.OperatorName as names;
-ghost use Rattle.uc_tool.specs.OperatorName.{operators, word_of};
+ghost use Rattle.uc_tool_words.specs.OperatorName as names;
+ghost use Rattle.uc_tool_words.specs.OperatorName.{operators, word_of};
 
 /// A merge operator that the command line can name.
 ///

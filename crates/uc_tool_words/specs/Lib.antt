@@ -1,0 +1,2 @@
+pub mod OperatorName
+pub mod Refusal
