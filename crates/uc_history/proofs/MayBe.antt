@@ -1,13 +1,13 @@
 -- What isn't refused may happen.
-use Rattle.std.proofs.Common.{◌≡◌, ◌∙◌, ap, sym, subst}
-use Rattle.std.specs.Prelude.{ℕ, Option, Some, None, IfNone}
+use Rattle.std.proofs.Common.{◌≡◌, ap, subst}
+use Rattle.std.specs.Prelude.{Option, Some, None, IfNone}
 use Rattle.uc_oper.specs.Operation.{Operation}
 use Rattle.uc_entry.specs.Run.{Contents}
 use Rattle.uc_stripe.specs.Inputs.{high_of}
 use Rattle.uc_history.specs.Versions.{Stored, contents_of}
 use Rattle.uc_history.specs.declared.event.Event.TheVariants.{Installed}
 use Rattle.uc_history.specs.declared.refusal.Refusal.{Refusal}
-use Rattle.uc_history.specs.Installs.{Install, MayInstall, MayReplace, inputs_in, older_in, terms_of, compaction_in}
+use Rattle.uc_history.specs.Installs.{Install, MayInstall, MayReplace, inputs_in, older_in}
 use Rattle.uc_history.specs.InstallView.{IsInstall}
 use Rattle.uc_history.specs.Refusals.{AreReplaceable, IsMade, terms_in}
 

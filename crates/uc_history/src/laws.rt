@@ -1,5 +1,5 @@
 //! What holds of versions and of what happens to them.
-ghost use Rattle.std.specs.Prelude.{◌≡◌, ◌≢◌, ◌≤◌, ◌<◌, ◌⊎◌, ◌↔◌, ◌++◌, ◌∷◌, [], ℕ, List, Contains};
+ghost use Rattle.std.specs.Prelude.{◌≡◌, ◌≢◌, ◌≤◌, ◌<◌, ◌⊎◌, ◌↔◌, ◌+◌, ◌++◌, ◌∷◌, [], ℕ, List, Contains, length};
 ghost use Rattle.std.specs.List.{flat_map};
 ghost use Rattle.std.specs.List.Sorted.{IsStrictlySortedBy};
 ghost use Rattle.std.specs.Ordering.{nat_cmp};
@@ -8,9 +8,9 @@ ghost use Rattle.uc_batch.specs.Rising.{last_of};
 ghost use Rattle.uc_claims.specs.Holding.{AreDistinct};
 ghost use Rattle.uc_model.specs.Meaning.{effect_on, value_of};
 ghost use Rattle.uc_run.specs.Size.{memtable_size};
-ghost use Rattle.uc_history.specs.Versions.{PlacedRun, Stored, IsVersion, writes_in};
+ghost use Rattle.uc_history.specs.Versions.{PlacedRun, Stored, IsVersion, ids_of, writes_in};
 ghost use Rattle.uc_history.specs.Openings.{Opening, MayOpen, memtables, opened};
-ghost use Rattle.uc_history.specs.Installs.{Install, MayInstall, installed};
+ghost use Rattle.uc_history.specs.Installs.{Install, MayInstall, installed, part_of, standing};
 ghost use Rattle.uc_history.specs.declared.event.Event.{Event};
 ghost use Rattle.uc_history.specs.Histories.{MayHappen, after, ids_replaced, History, IsLegal, version_after, writes_given, all_ids_given, all_ids_replaced};
 
@@ -119,4 +119,10 @@ pub fn runs_keep_their_contents<O: Operator>()
 /// An event changes neither the keeps nor the last sequence.
 pub fn events_keep_keeps_and_last()
     ensures { (v : Stored) (e : Event) → ((after v e).keeps ≡ v.keeps) × ((after v e).last ≡ v.last) }
+{}
+
+/// Neighbours are found by their ids: as many runs as there are ids, from the one with the newest of them on, are these runs.
+pub fn neighbours_stand_where_their_ids_say()
+    ensures { (v : Stored) (first count : ℕ) → IsVersion v → 0 < count → first + count ≤ length v.runs →
+        standing (ids_of (part_of first count v.runs)) v.runs ≡ part_of first count v.runs }
 {}

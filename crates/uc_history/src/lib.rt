@@ -22,9 +22,9 @@ pub use install::Install;
 pub use laws::{
     beginnings_are_legal, events_give_versions, events_keep_keeps_and_last,
     histories_grow_by_events, histories_keep_what_is_read, install_gives_a_version,
-    install_keeps_what_is_read, memtables_are_filled_in_turn, opened_keeps_are_those_given,
-    opening_gives_a_version, opening_keeps_every_effect, runs_are_replaced_once,
-    runs_keep_their_contents, runs_stay_until_replaced,
+    install_keeps_what_is_read, memtables_are_filled_in_turn, neighbours_stand_where_their_ids_say,
+    opened_keeps_are_those_given, opening_gives_a_version, opening_keeps_every_effect,
+    runs_are_replaced_once, runs_keep_their_contents, runs_stay_until_replaced,
 };
 pub use placed::Placed;
 pub use refusal::Refusal;

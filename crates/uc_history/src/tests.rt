@@ -1,4 +1,4 @@
-//! A version's parts, and a run in place of others.
+//! A version's parts, a run in place of others, and where runs stand.
 ghost use Rattle.std.specs.Prelude.{◌≡◌, ◌∷◌, [], IfOk};
 ghost use Rattle.std.specs.Arc.{arc_value};
 
@@ -123,6 +123,53 @@ fn a_run_is_put_in_place_of_two(rt: HostRuntime) -> Result<(), Fail> {
     Ok(())
 }
 
+/// Why a run may not take the place of the ones with two ids, if it was made for no keep.
+fn refusal_of(
+    alloc: Global,
+    version: &Version,
+    ids: (u64, u64),
+    oldest: bool,
+    output: &Arc<Run>,
+) -> Result<Option<Refusal>, Fail> {
+    let ids = vec![in alloc; ids.0, ids.1]?;
+    let install = Install::new(ids, Vec::new(alloc), oldest, output.clone()?);
+    Ok(version.refusal(&Event::Installed(install)))
+}
+
+#[test]
+fn runs_are_found_by_their_ids(rt: HostRuntime) -> Result<(), Fail> {
+    let alloc = rt.alloc();
+    let newest = run_of(&rt, alloc, &[5])?;
+    let middle = run_of(&rt, alloc, &[3, 4])?;
+    let oldest = run_of(&rt, alloc, &[1, 2])?;
+    let version = three_runs(alloc, newest, middle, oldest)?;
+    assert_eq!(rt; version.place_of(&[6, 4]), Some(0));
+    assert_eq!(rt; version.place_of(&[4, 3]), Some(1));
+    assert_eq!(rt; version.place_of(&[6, 3]), None);
+    assert_eq!(rt; version.place_of(&[3, 4]), None);
+    Ok(())
+}
+
+#[test]
+fn events_are_refused_by_a_look_at_ids(rt: HostRuntime) -> Result<(), Fail> {
+    let alloc = rt.alloc();
+    let newest = run_of(&rt, alloc, &[5])?;
+    let middle = run_of(&rt, alloc, &[3, 4])?;
+    let oldest = run_of(&rt, alloc, &[1, 2])?;
+    let version = three_runs(alloc, newest, middle, oldest)?;
+    let output = run_of(&rt, alloc, &[1, 2])?;
+    let above = run_of(&rt, alloc, &[1, 3])?;
+    let older = refusal_of(alloc, &version, (6, 4), true, &above)?;
+    assert_eq!(rt; older, Some(Refusal::OlderBehind));
+    let keep = refusal_of(alloc, &version, (6, 3), false, &above)?;
+    assert_eq!(rt; keep, Some(Refusal::UnknownKeep(2)));
+    let gone = refusal_of(alloc, &version, (6, 3), false, &output)?;
+    assert_eq!(rt; gone, Some(Refusal::NotInPlace));
+    let fine = refusal_of(alloc, &version, (4, 3), true, &output)?;
+    assert_eq!(rt; fine, None);
+    Ok(())
+}
+
 #[test]
 fn a_version_may_be_empty(rt: HostRuntime) -> Result<(), Fail> {
     let alloc = rt.alloc();
@@ -149,4 +196,5 @@ fn laws_hold_under_an_operator() {
     runs_stay_until_replaced::<Counter>();
     runs_keep_their_contents::<Counter>();
     events_keep_keeps_and_last();
+    neighbours_stand_where_their_ids_say();
 }

@@ -1,4 +1,4 @@
-use Rattle.std.proofs.Common.{◌≡◌, List, ap, subst}
+use Rattle.std.proofs.Common.{◌≡◌, List, subst}
 use Rattle.std.proofs.lemmas.Bool.{false≢true}
 use Rattle.uc_history.specs.Versions.{PlacedRun, ids_of}
 use Rattle.uc_history.specs.Installs.{standing}

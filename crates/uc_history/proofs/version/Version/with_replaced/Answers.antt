@@ -1,9 +1,7 @@
-use Rattle.std.proofs.Common.{◌≡◌, ℕ, ◌+◌, ◌++◌, ◌∷◌, List, take, drop, ap, sym, ◌∙◌, subst, arith, rules}
+use Rattle.std.proofs.Common.{◌≡◌, ap, sym, ◌∙◌, subst, rules}
 use Rattle.std.specs.Arc.{arc_value}
-use Rattle.uc_entry.specs.Run.{Contents}
-use Rattle.uc_history.specs.Versions.{PlacedRun, Stored, IsVersion}
-use Rattle.uc_history.specs.Installs as installs
-use Rattle.uc_history.proofs.InPlace.{slot_at, replaced_is}
+use Rattle.uc_history.specs.Versions.{PlacedRun, IsVersion}
+use Rattle.uc_history.proofs.InPlace.{replaced_is}
 use Rattle.uc_history.proofs.version.Version.with_replaced.Goals as goal
 
 pub new-requires : goal.new-requires
