@@ -1,5 +1,5 @@
 #!/bin/sh
-# CRC-32C by `uc_crc` beside the same algorithm, slicing by 8, in plain Rust.
+# CRC-32C by `uc_logrec` beside the same algorithm, slicing by 8, in plain Rust.
 # Needs rustc, and crates/bench_crc/out/bench_crc, which `rt run` in crates/bench_crc builds.
 # A round is the sum of the whole buffer. Each line has the medians of 9 runs, which take turns, and both
 # programs must come to the same checksum. The load is the machine's, over the last minute, 5 and 15.

@@ -5,10 +5,10 @@ use std::alloc::Global;
 use std::marker::Sync;
 use std::thread::Threads;
 use std::time::{Clock, Instant};
-use uc_answer::{Answer, Query};
 use uc_oper::Counter;
+use uc_query_answer::{Answer, Query};
+use uc_query_workers::answer_plain;
 use uc_version::Version;
-use uc_workers::answer_plain;
 
 /// How a batch is shared out.
 #[derive(Clone, Copy)]

@@ -11,10 +11,10 @@ use std::alloc::{AllocError, Global};
 use std::marker::Sync;
 use std::thread::Threads;
 use std::time::Clock;
-use uc_answer::Query;
+use uc_bytes::{OpRef, WriteRef};
 use uc_oper::Counter;
+use uc_query_answer::Query;
 use uc_version::{Opener, Options, Owned, Version};
-use uc_write::{OpRef, WriteRef};
 
 const WRITES: u64 = 1000;
 

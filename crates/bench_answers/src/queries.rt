@@ -2,8 +2,8 @@
 
 use crate::numbers::Numbers;
 use std::alloc::{AllocError, Global};
-use uc_answer::Query;
 use uc_bytes::Bytes;
+use uc_query_answer::Query;
 
 /// How many keys a log of counters has (`make_log counters`).
 const KEYS: u64 = 300_000;

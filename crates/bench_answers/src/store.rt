@@ -6,8 +6,8 @@ use std::marker::Sync;
 use std::thread::Threads;
 use uc_batch::Ended;
 use uc_oper::Counter;
-use uc_recovery::{Recovered, recover};
 use uc_version::{MOST_SLOTS, Opener, Options, Owned, Stretch, Version};
+use uc_version_open::{Recovered, recover};
 
 /// What a log is made into, which is let go of before anything else is done, and how far it was read.
 fn recovered(alloc: Global, log: Vec<u8>, options: Options) -> Result<Recovered, AllocError> {

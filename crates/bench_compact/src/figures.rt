@@ -1,7 +1,7 @@
 //! [`Figures`]: what a run holds, so that two programs' runs can be compared.
 use std::fmt;
-use uc_point::{Point, WhatRef};
 use uc_run::{Fragment, Run};
+use uc_run_entry::{Point, WhatRef};
 
 /// How many points and fragments a run has, how large they are, and a checksum of them.
 #[derive(Drop)]

@@ -3,8 +3,8 @@ use crate::numbers::Numbers;
 use anyhow::{Result, ensure};
 use std::alloc::{AllocError, Global};
 use std::sync::Arc;
+use uc_bytes::{MAX_SEQUENCE, OpRef, WriteRef};
 use uc_run::{Memtable, Run};
-use uc_write::{MAX_SEQUENCE, OpRef, WriteRef};
 
 /// How many points a key has, at an average, where keys are drawn.
 const POINTS_OF_A_KEY: u64 = 8;

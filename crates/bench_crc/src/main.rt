@@ -11,7 +11,7 @@ use anyhow::{Result, ensure};
 use std::alloc::Global;
 use std::env;
 use std::time::{Clock, Instant};
-use uc_crc::crc32c;
+use uc_logrec::crc32c;
 
 const MIB: usize = 1 << 20;
 

@@ -11,8 +11,8 @@ use std::env;
 use std::io::Read;
 use std::time::Instant;
 use uc_batch::{Mode, Writes, read_writes};
+use uc_bytes::Op;
 use uc_logrec::LogWriter;
-use uc_write::Op;
 
 const FEW: u8 = 100;
 

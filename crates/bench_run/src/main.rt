@@ -17,10 +17,9 @@ use anyhow::{Result, ensure};
 use std::alloc::{AllocError, Global};
 use std::env;
 use std::time::Instant;
-use uc_bytes::Bytes;
+use uc_bytes::{Bytes, MAX_SEQUENCE};
 use uc_oper::{Counter, Effect};
 use uc_run::{Memtable, Run};
-use uc_write::MAX_SEQUENCE;
 
 /// How large the writes of a memtable are when it is flushed.
 const LIMIT: u64 = 4 << 20;

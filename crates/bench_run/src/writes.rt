@@ -3,8 +3,8 @@ ghost use Rattle.std.specs.Prelude.{◌≡◌, ◌≤◌, ◌<◌, ◌+◌, ◌^
 ghost use Rattle.uc_batch.specs.Rising.{last_of};
 
 use std::alloc::AllocError;
+use uc_bytes::{OpRef, WriteRef};
 use uc_run::Memtable;
-use uc_write::{OpRef, WriteRef};
 
 /// A number that spreads keys over all numbers of 64 bits: odd, so that no two keys meet.
 const SPREAD: u64 = 0x9e37_79b9_7f4a_7c15;

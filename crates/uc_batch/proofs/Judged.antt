@@ -2,8 +2,8 @@
 use Rattle.std.proofs.Common.{◌≡◌, ℕ, ◌+◌, ◌-◌, false, eqb, List, [], ◌∷◌, ◌++◌, length, drop, Option, None, Ok, Err, refl, ap, sym, ◌∙◌, subst, arith}
 use Rattle.std.proofs.Math.Seq.{drop-nil}
 use Rattle.std.proofs.lemmas.Bool.{ne_eqb}
-use Rattle.uc_write.specs.declared.op.Op.{Op}
-use Rattle.uc_write.specs.declared.write.Write.{Write}
+use Rattle.uc_bytes.specs.declared.op.Op.{Op}
+use Rattle.uc_bytes.specs.declared.write.Write.{Write}
 use Rattle.uc_logrec.specs.Log.{Reading}
 use Rattle.uc_logrec.specs.Position.{Position, ComesFirst}
 use Rattle.uc_batch.specs.declared.error.BatchError.{BatchError}

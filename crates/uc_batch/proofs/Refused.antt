@@ -2,8 +2,8 @@
 use Rattle.std.proofs.Common.{◌≡◌, ◌≢◌, ℕ, zero, suc, ◌+◌, ◌-◌, ◌*◌, ◌^◌, ◌<◌, ◌≤◌, ◌⊎◌, Bool, true, false, cond, ltb, leb, eqb, List, [], ◌∷◌, ◌++◌, length, take, drop, Option, Some, None, option_to_list, Result, Ok, Err, refl, ap, sym, ◌∙◌, subst, append_assoc, eq-eqb, arith, inl, inr}
 use Rattle.std.proofs.lemmas.Bool.{ltb-false, ltb-true, leb-false, leb-true, lt-ltb}
 use Rattle.std.proofs.lemmas.List.{length-append, length-drop}
-use Rattle.uc_write.specs.declared.op.Op.{Op}
-use Rattle.uc_write.specs.declared.op.Op.TheVariants as op
+use Rattle.uc_bytes.specs.declared.op.Op.{Op}
+use Rattle.uc_bytes.specs.declared.op.Op.TheVariants as op
 use Rattle.uc_batch.specs.declared.error.BatchError.{BatchError}
 use Rattle.uc_batch.specs.declared.error.BatchError.TheVariants as faults
 use Rattle.uc_batch.specs.declared.tag.Form.{Form}

@@ -4,8 +4,8 @@ use Rattle.std.specs.List.{flat_map, AllByRecursion}
 use Rattle.std.specs.Int.{w32, w64, to_le_bytes}
 use Rattle.std.proofs.lemmas.Bool.{le-ltb, cases_lt}
 use Rattle.std.proofs.lemmas.List.Elements.{recursion_from_All}
-use Rattle.uc_write.specs.declared.op.Op.{Op}
-use Rattle.uc_write.specs.declared.op.Op.TheVariants.{Put, Delete, Merge, DeleteRange}
+use Rattle.uc_bytes.specs.declared.op.Op.{Op}
+use Rattle.uc_bytes.specs.declared.op.Op.TheVariants.{Put, Delete, Merge, DeleteRange}
 use Rattle.uc_batch.specs.declared.tag.Form.TheVariants as form
 use Rattle.uc_batch.specs.Varint.{room_for}
 use Rattle.uc_batch.specs.Spelling.{varint_text, string_text, op_text, batch_text, FitsOp, FitsBatch}

@@ -3,9 +3,9 @@
 use Rattle.std.specs.Prelude.{◌≡◌, ℕ, zero, suc, ◌+◌, ◌*◌, ◌^◌, ◌<◌, ◌≤◌, ◌⊎◌, Bool, true, false, List, [], ◌∷◌, ◌++◌, length, Option, Some, None, option_to_list}
 use Rattle.std.specs.List.{flat_map, AllByRecursion}
 use Rattle.std.specs.Int.{w32, w64, to_le_bytes}
-use Rattle.uc_write.specs.declared.op.Op.{Op}
-use Rattle.uc_write.specs.declared.op.Op.TheVariants as op
-use Rattle.uc_write.specs.declared.write.Write.{Write}
+use Rattle.uc_bytes.specs.declared.op.Op.{Op}
+use Rattle.uc_bytes.specs.declared.op.Op.TheVariants as op
+use Rattle.uc_bytes.specs.declared.write.Write.{Write}
 use Rattle.uc_batch.specs.declared.tag.Form.{Form}
 use Rattle.uc_batch.specs.declared.tag.Form.TheVariants as form
 use Rattle.uc_batch.specs.declared.tag.Layout.{Layout}

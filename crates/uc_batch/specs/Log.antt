@@ -1,6 +1,6 @@
 -- The plain writes of a log (RocksDB, `WALRecoveryMode`).
 use Rattle.std.specs.Prelude.{◌≡◌, ℕ, ◌+◌, List, [], ◌∷◌, ◌++◌, Option, Some, None, Result, Ok, Err}
-use Rattle.uc_write.specs.declared.write.Write.{Write}
+use Rattle.uc_bytes.specs.declared.write.Write.{Write}
 use Rattle.uc_logrec.specs.declared.ending.Ending.{Ending}
 use Rattle.uc_logrec.specs.declared.ending.Ending.TheVariants as ending
 use Rattle.uc_logrec.specs.Log.{payloads_of, ending_of}

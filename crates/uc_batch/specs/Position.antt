@@ -1,6 +1,6 @@
 -- Where a reader of a log's batches stands, seen by what is ahead of it.
 use Rattle.std.specs.Prelude.{◌≡◌, ℕ, ◌+◌, ◌<◌, ◌≤◌, ◌^◌, List, [], ◌++◌, length, drop, Option, Some, None, Ok}
-use Rattle.uc_write.specs.declared.write.Write.{Write}
+use Rattle.uc_bytes.specs.declared.write.Write.{Write}
 use Rattle.uc_logrec.specs.Log.{Reading}
 use Rattle.uc_logrec.specs.Position.{Position, ComesFirst}
 use Rattle.uc_batch.specs.declared.ended.Ended.{Ended}

@@ -1,7 +1,7 @@
 -- The records of a batch, from left to right, with the first fault (RocksDB, `write_batch.cc`).
 use Rattle.std.specs.Prelude.{ℕ, zero, suc, List, [], ◌∷◌, ◌++◌, length, take, drop, Option, Some, None, option_to_list, Bool, Result, Ok, Err, ◌-◌, ◌==◌, nat_lt, if◌then◌else◌}
-use Rattle.uc_write.specs.declared.op.Op.{Op}
-use Rattle.uc_write.specs.declared.op.Op.TheVariants as op
+use Rattle.uc_bytes.specs.declared.op.Op.{Op}
+use Rattle.uc_bytes.specs.declared.op.Op.TheVariants as op
 use Rattle.uc_batch.specs.declared.error.BatchError.{BatchError}
 use Rattle.uc_batch.specs.declared.error.BatchError.TheVariants.{BadTag, Cut, OtherFamily}
 use Rattle.uc_batch.specs.declared.tag.Form.{Form}

@@ -1,6 +1,6 @@
 -- Lists of writes whose sequences rise.
 use Rattle.std.specs.Prelude.{ℕ, ◌^◌, ◌<◌, List, [], ◌∷◌}
-use Rattle.uc_write.specs.declared.write.Write.{Write}
+use Rattle.uc_bytes.specs.declared.write.Write.{Write}
 
 -- each sequence is above the one before it, the first above `last`, and below 2^56
 abbrev pub IsRising : ℕ → List Write → Type 0

@@ -2,10 +2,10 @@
 use Rattle.std.specs.Prelude.{ℕ, zero, suc, List, [], ◌∷◌, ◌++◌, length, ◌+◌, ◌/◌, ◌%◌, ◌^◌, ◌<◌, ◌≤◌, nat_lt, All, if◌then◌else◌}
 use Rattle.std.specs.List.{flat_map}
 use Rattle.std.specs.Int.{w32, w64, to_le_bytes}
-use Rattle.uc_write.specs.declared.op.Op.{Op}
+use Rattle.uc_bytes.specs.declared.op.Op.{Op}
 use Rattle.uc_batch.specs.declared.tag.Tag.TheVariants as tag
 use Rattle.uc_batch.specs.Tag.{byte_of}
-use Rattle.uc_write.specs.declared.op.Op.TheVariants.{Put, Delete, Merge, DeleteRange}
+use Rattle.uc_bytes.specs.declared.op.Op.TheVariants.{Put, Delete, Merge, DeleteRange}
 
 -- a number in one byte and at most `more` others, as few as will do
 unfoldable pub varint_text : ℕ → ℕ → List ℕ

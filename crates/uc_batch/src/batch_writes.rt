@@ -10,7 +10,7 @@ use crate::error::BatchError;
 use crate::header::{HEADER_SIZE, Header};
 use crate::records::read_record;
 use std::marker::Model;
-use uc_write::{OpRef, WriteRef};
+use uc_bytes::{OpRef, WriteRef};
 
 /// The writes of a batch that are still to be lent, the first one first. The batch was judged whole before.
 ///
@@ -25,7 +25,7 @@ pub struct BatchWrites<'a> {
 
 impl<'a> Model for BatchWrites<'a> {
     ghost use Rattle.std.specs.Prelude.{List, ◌<◌, ◌≤◌, ◌+◌, ◌^◌};
-    ghost use Rattle.uc_write.specs.declared.write.Write.{Write};
+    ghost use Rattle.uc_bytes.specs.declared.write.Write.{Write};
     ghost use Rattle.uc_batch.specs.Batch.{numbered, ops_in, AreCounted};
 
     ghost Value = { List Write };

@@ -5,7 +5,7 @@ ghost use Rattle.uc_batch.specs.Reads.{Exactly};
 ghost use Rattle.uc_batch.specs.Batch.{judged, last_numbered};
 
 use crate::error::BatchError;
-use uc_write::MAX_SEQUENCE;
+use uc_bytes::MAX_SEQUENCE;
 
 /// The bytes of a batch's sequence and count.
 pub(crate) const HEADER_SIZE: usize = 12;

@@ -1,6 +1,6 @@
 //! What holds of the definitions alone.
 ghost use Rattle.std.specs.Prelude.{◌≡◌, ℕ, ◌<◌, List, length, Ok, Err};
-ghost use Rattle.uc_write.specs.declared.op.Op.{Op as Operation};
+ghost use Rattle.uc_bytes.specs.declared.op.Op.{Op as Operation};
 ghost use Rattle.uc_batch.specs.Batch.{numbered, batch_of};
 ghost use Rattle.uc_logrec.specs.Grammar.{AreBytes};
 ghost use Rattle.uc_batch.specs.declared.error.BatchError.{BatchError as Fault};

@@ -31,6 +31,6 @@ pub use log::read_writes;
 pub use mode::Mode;
 pub use read_error::ReadError;
 pub use reading::read_batch;
-pub use uc_write::{Op, Write};
+pub use uc_bytes::{Op, Write};
 pub use writes::Writes;
 pub use writing::{fits_batch, write_batch};

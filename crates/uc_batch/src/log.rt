@@ -12,7 +12,7 @@ use crate::read_error::ReadError;
 use crate::reading::push_copies;
 use crate::writes::Writes;
 use std::alloc::{AllocError, Global};
-use uc_write::Write;
+use uc_bytes::Write;
 
 /// Copies the writes of a log, up to its first fault, and says how far it was read.
 fn copy_writes(alloc: Global, bytes: &[u8]) -> Result<(Vec<Write>, Ended), AllocError>

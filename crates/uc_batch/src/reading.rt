@@ -3,12 +3,12 @@ ghost use Rattle.std.specs.Prelude.{◌≡◌, ◌++◌, List, IfOk, OnOk, Ok};
 ghost use Rattle.uc_batch.specs.Reads.{Gives};
 ghost use Rattle.uc_batch.specs.Batch.{batch_of};
 ghost use Rattle.uc_batch.specs.Grammar.{Accepts};
-ghost use Rattle.uc_write.specs.declared.write.Write.{Write as WriteOf};
+ghost use Rattle.uc_bytes.specs.declared.write.Write.{Write as WriteOf};
 
 use crate::batch_writes::BatchWrites;
 use crate::error::BatchError;
 use std::alloc::{AllocError, Global};
-use uc_write::Write;
+use uc_bytes::Write;
 
 /// Adds copies of writes, with their texts.
 pub(crate) fn push_copies(

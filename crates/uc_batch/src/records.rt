@@ -6,7 +6,7 @@ ghost use Rattle.uc_batch.specs.Records.{strings_at, after_family, family_at, bo
 use crate::cursor::Cursor;
 use crate::error::BatchError;
 use crate::tag::{Form, Tag};
-use uc_write::OpRef;
+use uc_bytes::OpRef;
 
 /// Reads the number of a column family, which has to be 0, the default one's.
 #[tactic(auto, unfolding(crate::specs::Records::family_at))]

@@ -5,7 +5,7 @@ ghost use Rattle.uc_batch.specs.declared.ended.Ended.TheVariants as ending;
 
 use crate::ended::Ended;
 use std::marker::Model;
-use uc_write::{MAX_SEQUENCE, Write};
+use uc_bytes::{MAX_SEQUENCE, Write};
 
 /// Writes whose sequences rise, and how far the log that they come from was read.
 ///

@@ -6,7 +6,7 @@ ghost use Rattle.uc_batch.specs.Spelling.{varint_text, string_text, op_text, bat
 use crate::tag::Tag;
 use crate::varint::MORE_BYTES;
 use std::alloc::{AllocError, Global};
-use uc_write::{MAX_SEQUENCE, Op};
+use uc_bytes::{MAX_SEQUENCE, Op};
 
 /// Above every length and every count.
 const LENGTHS: usize = 1 << 32;

@@ -3,17 +3,17 @@ use Rattle.std.proofs.Common.{◌≡◌, ℕ, ◌<◌, ◌≤◌, ltb, List, [],
 use Rattle.std.specs.Prelude.{Option}
 use Rattle.std.specs.List.{AllByRecursion, flat_map}
 use Rattle.uc_oper.specs.Operation.{Operation}
-use Rattle.uc_entry.specs.declared.entry.Entry.{Entry}
-use Rattle.uc_entry.specs.declared.fragment.Fragment.{Fragment}
-use Rattle.uc_entry.specs.Order.{IsFalling, AreInOrder}
-use Rattle.uc_entry.specs.Run.{Contents, IsRun, IsWithin}
-use Rattle.uc_fragment.specs.Cutting.{RangeOf, fragments_of}
-use Rattle.uc_fragment.proofs.Pieces.{in_order, seqs_fall}
-use Rattle.uc_stripe.specs.Inputs.{Compaction, AreRuns, Stand, low_of, high_of, points_of, ranges_of, keeping_of}
-use Rattle.uc_stripe.specs.Stripes.{Keeping}
-use Rattle.uc_stripe.specs.Choice.{AreOfOneKey, points_for, points_named, seqs_over}
-use Rattle.uc_stripe.specs.Output.{keys_of, fragment_kept, output_of}
-use Rattle.uc_stripe.proofs.OutputRun.{cut_within, low_from_one}
+use Rattle.uc_run_entry.specs.declared.entry.Entry.{Entry}
+use Rattle.uc_run_entry.specs.declared.fragment.Fragment.{Fragment}
+use Rattle.uc_run_entry.specs.Order.{IsFalling, AreInOrder}
+use Rattle.uc_run_entry.specs.Run.{Contents, IsRun, IsWithin}
+use Rattle.uc_run_fragment.specs.Cutting.{RangeOf, fragments_of}
+use Rattle.uc_run_fragment.proofs.Pieces.{in_order, seqs_fall}
+use Rattle.uc_compact_rules.specs.Inputs.{Compaction, AreRuns, Stand, low_of, high_of, points_of, ranges_of, keeping_of}
+use Rattle.uc_compact_rules.specs.Stripes.{Keeping}
+use Rattle.uc_compact_rules.specs.Choice.{AreOfOneKey, points_for, points_named, seqs_over}
+use Rattle.uc_compact_rules.specs.Output.{keys_of, fragment_kept, output_of}
+use Rattle.uc_compact_rules.proofs.OutputRun.{cut_within, low_from_one}
 use Rattle.uc_compact.specs.Parts.{IsFragment}
 
 module _ (m : Operation) (c : Compaction) (are : AreRuns c.inputs) (stand : Stand c.inputs c.keeps) where

@@ -3,14 +3,14 @@ use Rattle.std.proofs.Common.{◌≡◌, ℕ, List, [], ◌∷◌, ◌++◌, map
 use Rattle.std.specs.List.{AllByRecursion, flat_map}
 use Rattle.std.specs.List.Sorted.{IsStrictlySortedBy}
 use Rattle.uc_oper.specs.Operation.{Operation}
-use Rattle.uc_entry.specs.declared.entry.Entry.{Entry}
-use Rattle.uc_entry.specs.declared.fragment.Fragment.{Fragment}
-use Rattle.uc_entry.specs.Order.{entry_cmp}
-use Rattle.uc_entry.specs.Run.{Contents}
-use Rattle.uc_merge.specs.Groups.{Group, keys_of, group_of, groups_of}
-use Rattle.uc_stripe.specs.Stripes.{Keeping}
-use Rattle.uc_stripe.specs.Inputs.{AreRuns, points_of}
-use Rattle.uc_stripe.specs.Choice.{AreOfOneKey, points_for, points_named, seqs_over}
+use Rattle.uc_run_entry.specs.declared.entry.Entry.{Entry}
+use Rattle.uc_run_entry.specs.declared.fragment.Fragment.{Fragment}
+use Rattle.uc_run_entry.specs.Order.{entry_cmp}
+use Rattle.uc_run_entry.specs.Run.{Contents}
+use Rattle.uc_compact.specs.Groups.{Group, keys_of, group_of, groups_of}
+use Rattle.uc_compact_rules.specs.Stripes.{Keeping}
+use Rattle.uc_compact_rules.specs.Inputs.{AreRuns, points_of}
+use Rattle.uc_compact_rules.specs.Choice.{AreOfOneKey, points_for, points_named, seqs_over}
 use Rattle.uc_compact.specs.Parts.{points_of_each}
 use Rattle.uc_compact.proofs.Pushing.{of_groups, HasOneKey}
 

@@ -4,11 +4,11 @@ use Rattle.std.specs.Prelude.{Option, Some, None}
 use Rattle.std.specs.List.{AllByRecursion, flat_map}
 use Rattle.std.proofs.lemmas.List.{append-nil, append_assoc}
 use Rattle.uc_oper.specs.Operation.{Operation}
-use Rattle.uc_entry.specs.declared.entry.Entry.{Entry}
-use Rattle.uc_entry.specs.declared.fragment.Fragment.{Fragment}
-use Rattle.uc_merge.specs.Groups.{Group, Comes}
-use Rattle.uc_stripe.specs.Stripes.{Keeping}
-use Rattle.uc_stripe.specs.Choice.{AreOfOneKey, points_for, seqs_over}
+use Rattle.uc_run_entry.specs.declared.entry.Entry.{Entry}
+use Rattle.uc_run_entry.specs.declared.fragment.Fragment.{Fragment}
+use Rattle.uc_compact.specs.Groups.{Group, Comes}
+use Rattle.uc_compact_rules.specs.Stripes.{Keeping}
+use Rattle.uc_compact_rules.specs.Choice.{AreOfOneKey, points_for, seqs_over}
 
 module _ (m : Operation) (keeping : Keeping) (cut : List Fragment) where
   abbrev pub of_group : Group → List Entry

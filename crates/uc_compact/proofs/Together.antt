@@ -4,9 +4,9 @@ use Rattle.std.specs.Prelude.{◌↔◌, slice_index_or}
 use Rattle.std.specs.List.{AllByRecursion, IsAllAdjacentAnswer}
 use Rattle.std.proofs.lemmas.Bool.{false≢true}
 use Rattle.std.proofs.lemmas.List.{take_more}
-use Rattle.uc_entry.specs.Run.{Contents}
-use Rattle.uc_stripe.specs.Inputs.{AreRuns, AreNewestFirst, low_of}
-use Rattle.uc_stripe.proofs.Lists.{all-append}
+use Rattle.uc_run_entry.specs.Run.{Contents}
+use Rattle.uc_compact_rules.specs.Inputs.{AreRuns, AreNewestFirst, low_of}
+use Rattle.uc_compact_rules.proofs.Lists.{all-append}
 
 -- one element more of which all hold
 map-append_one : {X Y : Type 0} (f : X → Y) (xs : List X) (x : X) → map f (xs ++ x ∷ []) ≡ map f xs ++ f x ∷ []

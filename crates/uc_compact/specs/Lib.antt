@@ -1,2 +1,5 @@
 pub mod Made
 pub mod Parts
+pub mod Groups
+pub mod Heads
+pub mod Ahead

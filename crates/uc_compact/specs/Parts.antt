@@ -1,10 +1,10 @@
 -- Parts of the inputs.
 use Rattle.std.specs.Prelude.{◌<◌, List, map}
 use Rattle.std.specs.List.{AllByRecursion}
-use Rattle.uc_entry.specs.declared.entry.Entry.{Entry}
-use Rattle.uc_entry.specs.declared.fragment.Fragment.{Fragment}
-use Rattle.uc_entry.specs.Order.{IsFalling}
-use Rattle.uc_entry.specs.Run.{Contents}
+use Rattle.uc_run_entry.specs.declared.entry.Entry.{Entry}
+use Rattle.uc_run_entry.specs.declared.fragment.Fragment.{Fragment}
+use Rattle.uc_run_entry.specs.Order.{IsFalling}
+use Rattle.uc_run_entry.specs.Run.{Contents}
 
 -- the points of each run
 abbrev pub points_of_each : List Contents → List (List Entry)

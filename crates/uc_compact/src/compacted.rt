@@ -1,16 +1,16 @@
 //! [`Compacted`]: what a compaction made.
 ghost use Rattle.std.specs.Prelude.{◌≡◌, ◌≤◌, ◌⊎◌, ℕ, List, Contains, false, map};
 ghost use Rattle.std.specs.Arc.{arc_value};
-ghost use Rattle.uc_stripe.specs.Output.{output_of};
-ghost use Rattle.uc_entry.specs.PlainList.{plain_list};
+ghost use Rattle.uc_compact_rules.specs.Output.{output_of};
+ghost use Rattle.uc_run_entry.specs.PlainList.{plain_list};
 ghost use Rattle.uc_model.specs.Meaning.{effect_on, value_of};
-ghost use Rattle.uc_stripe.specs.Inputs.{AreRuns, Stand, high_of, writes_of};
+ghost use Rattle.uc_compact_rules.specs.Inputs.{AreRuns, Stand, high_of, writes_of};
 
 use std::marker::{Model, PhantomData};
 use std::sync::Arc;
-use uc_block::Run;
+use uc_compact_rules::compaction_keeps_what_is_read;
 use uc_oper::Operator;
-use uc_stripe::compaction_keeps_what_is_read;
+use uc_run_table::Run;
 
 /// Runs that were compacted, and the run that was made of them. A contract sees it as what was asked for: the runs,
 /// the keeps, and whether the oldest run of all was among them; its output is what these definitely become.
@@ -24,7 +24,7 @@ pub struct Compacted<O: Operator> {
 }
 
 impl<O: Operator> Model for Compacted<O> {
-    ghost use Rattle.uc_stripe.specs.Inputs.{Compaction};
+    ghost use Rattle.uc_compact_rules.specs.Inputs.{Compaction};
     ghost use Rattle.uc_compact.specs.Made.{asked, IsMade};
 
     ghost Value = { Compaction };

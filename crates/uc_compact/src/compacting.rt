@@ -1,8 +1,8 @@
 //! [`compact`]: several runs made into one.
 ghost use Rattle.std.specs.Prelude.{◌≡◌, Some, None, map, IfOk, if◌then◌else◌};
 ghost use Rattle.std.specs.Arc.{arc_value};
-ghost use Rattle.uc_stripe.specs.Inputs.{Stand, low_of};
-ghost use Rattle.uc_stripe.specs.Output as output;
+ghost use Rattle.uc_compact_rules.specs.Inputs.{Stand, low_of};
+ghost use Rattle.uc_compact_rules.specs.Output as output;
 
 use crate::compacted::Compacted;
 use crate::fragments::fragments_kept;
@@ -13,10 +13,10 @@ use std::alloc::{AllocError, Global};
 use std::marker::{PhantomData, Sync};
 use std::sync::Arc;
 use std::thread::Threads;
-use uc_block::Run;
-use uc_fragment::cut_ranges;
+use uc_compact_rules::{Keeping, compaction_gives_a_run, points_are_chosen_key_by_key};
 use uc_oper::Operator;
-use uc_stripe::{Keeping, compaction_gives_a_run, points_are_chosen_key_by_key};
+use uc_run_fragment::cut_ranges;
+use uc_run_table::Run;
 
 /// Where the last run is the oldest of all, a sequence of the stripe below which nothing stands.
 fn bottom_of(inputs: &[Arc<Run>], oldest: bool) -> Option<u64>

@@ -3,14 +3,14 @@ ghost use Rattle.std.specs.Prelude.{◌≡◌, ℕ, ◌<◌, length, map, filter
 ghost use Rattle.std.specs.List.{AllByRecursion};
 ghost use Rattle.std.specs.List.Sorted.{IsStrictlySortedBy};
 ghost use Rattle.std.specs.Ordering.{nat_cmp};
-ghost use Rattle.uc_entry.specs.Order.{IsFalling};
-ghost use Rattle.uc_stripe.specs.Output.{fragment_kept};
+ghost use Rattle.uc_run_entry.specs.Order.{IsFalling};
+ghost use Rattle.uc_compact_rules.specs.Output.{fragment_kept};
 ghost use Rattle.uc_compact.specs.Parts.{IsFragment};
 
 use std::alloc::{AllocError, Global};
 use uc_bytes::Items;
-use uc_entry::Fragment;
-use uc_stripe::{Keeping, kept_seqs};
+use uc_compact_rules::{Keeping, kept_seqs};
+use uc_run_entry::Fragment;
 
 /// A fragment with the sequences that are kept of it.
 fn with_kept_seqs(

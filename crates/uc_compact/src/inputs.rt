@@ -1,12 +1,12 @@
 //! Which runs may be compacted together.
 ghost use Rattle.std.specs.Prelude.{◌≡◌, ◌↔◌, IsTrue, IfOk, map};
 ghost use Rattle.std.specs.Arc.{arc_value};
-ghost use Rattle.uc_stripe.specs.Inputs.{AreRuns, AreNewestFirst, Stand, low_of, high_of};
+ghost use Rattle.uc_compact_rules.specs.Inputs.{AreRuns, AreNewestFirst, Stand, low_of, high_of};
 
 use std::alloc::{AllocError, Global};
 use std::sync::Arc;
-use uc_block::Run;
-use uc_stripe::keeps_rise;
+use uc_compact_rules::keeps_rise;
+use uc_run_table::Run;
 
 /// Each is a run: a fact that costs a look at each.
 pub(crate) fn are_runs(inputs: &[Arc<Run>])

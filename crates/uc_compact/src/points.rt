@@ -4,23 +4,22 @@ ghost use Rattle.std.specs.Arc.{arc_value};
 ghost use Rattle.std.specs.List.{AllByRecursion, flat_map};
 ghost use Rattle.std.specs.List.Sorted.{IsStrictlySortedBy};
 ghost use Rattle.std.specs.Ordering.{nat_cmp};
-ghost use Rattle.uc_entry.specs.Order.{AreInOrder};
-ghost use Rattle.uc_merge.specs.Groups.{keys_of};
+ghost use Rattle.uc_run_entry.specs.Order.{AreInOrder};
+ghost use Rattle.uc_compact.specs.Groups.{keys_of};
 ghost use Rattle.uc_compact.specs.Parts.{points_of_each};
-ghost use Rattle.uc_stripe.specs.Choice as choice;
-ghost use Rattle.uc_stripe.specs.Choice.{AreOfOneKey, points_for, points_named};
-ghost use Rattle.uc_stripe.specs.Inputs.{AreRuns, points_of};
+ghost use Rattle.uc_compact_rules.specs.Choice as choice;
+ghost use Rattle.uc_compact_rules.specs.Choice.{AreOfOneKey, points_for, points_named};
+ghost use Rattle.uc_compact_rules.specs.Inputs.{AreRuns, points_of};
 
+use crate::groups::Groups;
 use std::alloc::{AllocError, Global};
 use std::marker::Sync;
 use std::sync::Arc;
 use std::thread::Threads;
-use uc_block::Run;
-use uc_entry::{Fragment, covering_fragment};
-use uc_merge::Groups;
+use uc_compact_rules::{Keeping, push_kept_points};
 use uc_oper::Operator;
-use uc_point::Point;
-use uc_stripe::{Keeping, push_kept_points};
+use uc_run_entry::{Fragment, Point, covering_fragment};
+use uc_run_table::Run;
 
 /// The sequences of the range deletions over a key.
 fn seqs_over<'a>(fragments: &'a [Fragment], key: &[u8]) -> &'a [u64]

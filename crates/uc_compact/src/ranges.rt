@@ -2,14 +2,14 @@
 ghost use Rattle.std.specs.Prelude.{◌≡◌, ◌++◌, map, OnOk, IfOk};
 ghost use Rattle.std.specs.Arc.{arc_value};
 ghost use Rattle.std.specs.List.{flat_map};
-ghost use Rattle.uc_stripe.specs.Inputs as taken;
-ghost use Rattle.uc_stripe.specs.Inputs.{ranges_over};
+ghost use Rattle.uc_compact_rules.specs.Inputs as taken;
+ghost use Rattle.uc_compact_rules.specs.Inputs.{ranges_over};
 
 use std::alloc::{AllocError, Global};
 use std::sync::Arc;
-use uc_block::Run;
-use uc_entry::Fragment;
-use uc_fragment::Range;
+use uc_run_entry::Fragment;
+use uc_run_fragment::Range;
+use uc_run_table::Run;
 
 /// Pushes a range deletion for each sequence of a fragment.
 fn push_fragment<'a>(ranges: &mut Vec<Range<'a>>, fragment: &'a Fragment) -> Result<(), AllocError>

@@ -9,3 +9,12 @@ pub mod Endings
 pub mod OneMeaning
 pub mod Ahead
 pub mod LaidOut
+pub mod BitLists
+pub mod Checksums
+pub mod Dividing
+pub mod Masks
+pub mod Numbers
+pub mod Quotients
+pub mod Remainders
+pub mod Shifts
+pub mod Words

@@ -5,7 +5,7 @@ use Rattle.std.proofs.lemmas.Bool.{le-ltb, eq-eqb}
 use Rattle.std.proofs.lemmas.List.{take_at, drop_at}
 use Rattle.std.proofs.lemmas.List.Folds.{list_all_at}
 use Rattle.std.proofs.lemmas.Nat.{from_le_bytes-to_le_bytes_2, from_le_bytes-to_le_bytes_4}
-use Rattle.uc_crc.specs.Mask.{masked}
+use Rattle.uc_logrec.specs.Mask.{masked}
 use Rattle.uc_logrec.specs.declared.kind.Kind.{Kind}
 use Rattle.uc_logrec.specs.declared.kind.Kind.TheVariants.{Full, First, Middle, Last}
 use Rattle.uc_logrec.specs.Format.{code_of, kind_of, checksum_of, stored_checksum, stored_length, stored_code, record_text, record_of}

@@ -4,3 +4,7 @@ pub mod Log
 pub mod Grammar
 pub mod Position
 pub mod Layout
+pub mod Bits
+pub mod Division
+pub mod Crc
+pub mod Mask

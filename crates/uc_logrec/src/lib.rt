@@ -9,8 +9,17 @@
 //! complete yet, and `log_reader.rt` and `log_writer.rt` the two directions. What a log means is said in
 //! `specs/Grammar.antt`, by the grammar of its records; [`log_is_read_by_grammar`] is the law that the reader
 //! keeps to it, and [`written_log_is_read`] the law that what is written is read again.
+//!
+//! The checksum is [`crc32c`], and [`mask`] the form in which a log stores it. What a checksum is stands in
+//! `specs/`: `Bits` (the bits of bytes and numbers), `Division` (long division of polynomials over GF(2)), `Crc` (a
+//! message's remainder, inverted at both ends) and `Mask` (the masked form). None of it knows of the tables by
+//! which the code goes. Read `checksum.rt` first, then `register.rt`, which takes eight bytes at a time from the
+//! tables of `table.rt`. [`division`] is the law that the division of `specs/` is division. No call of the checksum
+//! takes memory or fails.
 #![tactic(auto)]
 
+mod checksum;
+mod crc_laws;
 mod ending;
 mod fault;
 mod kind;
@@ -19,12 +28,17 @@ mod log_read;
 mod log_reader;
 mod log_record;
 mod log_writer;
+mod masking;
+mod register;
 mod step;
+mod table;
 
+pub use checksum::{crc32c, extend};
+pub use crc_laws::division;
 pub use ending::Ending;
 pub use fault::LogFault;
 pub use laws::{log_is_read_by_grammar, written_log_is_read, written_records_fill_blocks};
 pub use log_read::{LogRead, Payloads, read_log};
 pub use log_reader::{LogReader, Next};
 pub use log_writer::LogWriter;
-pub use uc_crc::{crc32c, mask, unmask};
+pub use masking::{mask, unmask};

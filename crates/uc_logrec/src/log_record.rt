@@ -4,9 +4,10 @@ ghost use Rattle.std.specs.List.{list_all};
 ghost use Rattle.uc_logrec.specs.Format as format;
 ghost use Rattle.uc_logrec.specs.Format.{header_place, record_of};
 
+use crate::checksum::{crc32c, extend};
 use crate::fault::LogFault;
 use crate::kind::Kind;
-use uc_crc::{crc32c, extend, mask};
+use crate::masking::mask;
 
 /// The bytes of a block.
 pub(crate) const BLOCK_SIZE: usize = 32768;

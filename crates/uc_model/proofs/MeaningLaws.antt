@@ -8,9 +8,9 @@ use Rattle.uc_oper.specs.Operation.{Operation, IsLawful}
 use Rattle.uc_oper.specs.Composition.{composed, applied, applied-composed, composed_assoc}
 use Rattle.uc_oper.specs.declared.effect.Effect.{Effect}
 use Rattle.uc_oper.specs.declared.effect.Effect.TheVariants.{Keep}
-use Rattle.uc_write.specs.declared.op.Op.{Op}
-use Rattle.uc_write.specs.declared.op.Op.TheVariants.{Put, Delete, Merge, DeleteRange}
-use Rattle.uc_write.specs.declared.write.Write.{Write}
+use Rattle.uc_bytes.specs.declared.op.Op.{Op}
+use Rattle.uc_bytes.specs.declared.op.Op.TheVariants.{Put, Delete, Merge, DeleteRange}
+use Rattle.uc_bytes.specs.declared.write.Write.{Write}
 use Rattle.uc_model.specs.Meaning.{touches_key, is_seen, changed, touching, value_from, value_of, effect_of, effect_in_turn, effect_on}
 
 -- to apply what one operation does is to change the value by it

@@ -8,7 +8,7 @@ use Rattle.std.proofs.lemmas.List.Elements.{recursion_from_All}
 use Rattle.uc_oper.specs.Operation.{Operation, IsLawful}
 use Rattle.uc_oper.specs.Composition.{composed, applied, applied-composed}
 use Rattle.uc_oper.specs.declared.effect.Effect.{Effect}
-use Rattle.uc_write.specs.declared.write.Write.{Write}
+use Rattle.uc_bytes.specs.declared.write.Write.{Write}
 use Rattle.uc_model.specs.Meaning.{touches_key, touching, touching_within, value_of, effect_in_turn, effect_on, effect_within}
 use Rattle.uc_model.proofs.MeaningLaws.{effect_gives, and_false, filter_none, turns_compose}
 

@@ -9,9 +9,9 @@ use Rattle.uc_oper.specs.Merging.{merged}
 use Rattle.uc_oper.specs.Composition.{composed}
 use Rattle.uc_oper.specs.declared.effect.Effect.{Effect}
 use Rattle.uc_oper.specs.declared.effect.Effect.TheVariants.{Keep, Fold, Set}
-use Rattle.uc_write.specs.declared.op.Op.{Op}
-use Rattle.uc_write.specs.declared.op.Op.TheVariants.{Put, Delete, Merge, DeleteRange}
-use Rattle.uc_write.specs.declared.write.Write.{Write}
+use Rattle.uc_bytes.specs.declared.op.Op.{Op}
+use Rattle.uc_bytes.specs.declared.op.Op.TheVariants.{Put, Delete, Merge, DeleteRange}
+use Rattle.uc_bytes.specs.declared.write.Write.{Write}
 
 -- an operation touches the key that it names, or each key from `begin` to below `end`
 abbrev pub touches_key : List ℕ → Op → Bool

@@ -6,8 +6,8 @@ ghost use Rattle.std.specs.Ordering.{is_lt, is_le};
 ghost use Rattle.uc_bytes.specs.Bytes.{bytes_cmp};
 ghost use Rattle.uc_oper.specs.Composition.{applied, composed};
 ghost use Rattle.uc_oper.specs.declared.effect.Effect.TheVariants.{Keep};
-ghost use Rattle.uc_write.specs.declared.op.Op.TheVariants.{Put, Delete, Merge, DeleteRange};
-ghost use Rattle.uc_write.specs.declared.write.Write.{Write};
+ghost use Rattle.uc_bytes.specs.declared.op.Op.TheVariants.{Put, Delete, Merge, DeleteRange};
+ghost use Rattle.uc_bytes.specs.declared.write.Write.{Write};
 ghost use Rattle.uc_model.specs.Meaning.{touches_key, Gives, changed, value_from, value_of, effect_on, effect_within};
 
 use uc_oper::Operator;

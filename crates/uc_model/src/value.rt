@@ -3,9 +3,8 @@ ghost use Rattle.std.specs.Prelude.{◌≡◌, IfOk};
 ghost use Rattle.uc_model.specs.Meaning as meaning;
 
 use std::alloc::{AllocError, Global};
-use uc_bytes::Bytes;
+use uc_bytes::{Bytes, Op, Write};
 use uc_oper::{Effect, Operator, merged};
-use uc_write::{Op, Write};
 
 /// Whether an operation touches a key: it names the key, or it deletes a range from `begin` to below
 /// `end` that holds it (RocksDB wiki, "DeleteRange").

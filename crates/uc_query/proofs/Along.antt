@@ -6,8 +6,8 @@ use Rattle.std.proofs.lemmas.List.{take-append-drop, drop_more, take_more, take_
 use Rattle.uc_oper.specs.Operation.{Operation}
 use Rattle.uc_version.specs.Owners.{Owner}
 use Rattle.uc_version.specs.Claiming.{Claim}
-use Rattle.uc_workers.specs.declared.ask_error.AskError.{AskError}
-use Rattle.uc_workers.specs.declared.ask_error.AskError.TheVariants.{BadWorkers, BadPiece, Memory}
+use Rattle.uc_query_workers.specs.declared.ask_error.AskError.{AskError}
+use Rattle.uc_query_workers.specs.declared.ask_error.AskError.TheVariants.{BadWorkers, BadPiece, Memory}
 use Rattle.uc_query.specs.declared.call.Call.{Call}
 use Rattle.uc_query.specs.declared.reply.Reply.{Reply}
 use Rattle.uc_query.specs.Names.{State}

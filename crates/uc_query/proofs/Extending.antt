@@ -4,17 +4,17 @@ use Rattle.std.specs.Prelude.{⊤, Option, Some, None, Result, Ok, Err}
 use Rattle.std.specs.List.{AllZip, flat_map}
 use Rattle.std.proofs.lemmas.List.{append_assoc}
 use Rattle.uc_oper.specs.Operation.{Operation}
-use Rattle.uc_write.specs.declared.write.Write.{Write}
-use Rattle.uc_answer.specs.declared.query.Query.{Query}
-use Rattle.uc_answer.specs.Answers.{answer_of}
-use Rattle.uc_history.specs.Versions.{Stored, writes_in}
-use Rattle.uc_history.specs.Installs.{Install, MayInstall, installed}
-use Rattle.uc_history.specs.declared.event.Event.{Event}
-use Rattle.uc_history.specs.declared.event.Event.TheVariants.{Installed}
-use Rattle.uc_history.specs.Histories.{History, IsLegal, MayHappen, after, writes_brought, version_after, writes_given}
+use Rattle.uc_bytes.specs.declared.write.Write.{Write}
+use Rattle.uc_query_answer.specs.declared.query.Query.{Query}
+use Rattle.uc_query_answer.specs.Answers.{answer_of}
+use Rattle.uc_version_state.specs.Versions.{Stored, writes_in}
+use Rattle.uc_version_state.specs.Installs.{Install, MayInstall, installed}
+use Rattle.uc_version_state.specs.declared.event.Event.{Event}
+use Rattle.uc_version_state.specs.declared.event.Event.TheVariants.{Installed}
+use Rattle.uc_version_state.specs.Histories.{History, IsLegal, MayHappen, after, writes_brought, version_after, writes_given}
 use Rattle.uc_version.specs.Owners.{IsOwner}
-use Rattle.uc_workers.specs.declared.ask_error.AskError.{AskError}
-use Rattle.uc_workers.specs.Asking.{ask_refusal}
+use Rattle.uc_query_workers.specs.declared.ask_error.AskError.{AskError}
+use Rattle.uc_query_workers.specs.Asking.{ask_refusal}
 use Rattle.uc_query.specs.declared.call.Call.{Call}
 use Rattle.uc_query.specs.declared.call.Call.TheVariants as call
 use Rattle.uc_query.specs.declared.reply.Reply.{Reply}

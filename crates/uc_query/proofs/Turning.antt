@@ -5,18 +5,18 @@ use Rattle.std.proofs.lemmas.Bool.{cases_lt}
 use Rattle.std.proofs.lemmas.Bool.Decides.{nat_tests}
 use Rattle.std.proofs.lemmas.List.{set_past}
 use Rattle.uc_oper.specs.Operation.{Operation}
-use Rattle.uc_pick.specs.declared.stretch.Stretch.{Stretch}
-use Rattle.uc_stripe.specs.Inputs.{Compaction, Stand}
-use Rattle.uc_history.specs.Versions.{Stored, ids_of}
-use Rattle.uc_history.specs.Installs.{Install, MayInstall, installed}
+use Rattle.uc_version_pick.specs.declared.stretch.Stretch.{Stretch}
+use Rattle.uc_compact_rules.specs.Inputs.{Compaction, Stand}
+use Rattle.uc_version_state.specs.Versions.{Stored, ids_of}
+use Rattle.uc_version_state.specs.Installs.{Install, MayInstall, installed}
 use Rattle.uc_version.specs.declared.held_stretch.TheConstants.{MOST_CLAIMS}
 use Rattle.uc_version.specs.declared.claim_error.ClaimError.{ClaimError}
 use Rattle.uc_version.specs.Owners.{Owner, IsOwner}
 use Rattle.uc_version.specs.Claiming.{Claim, free_number, claim_refusal, claim_of, with_claim, is_held, without_claim}
 use Rattle.uc_version.specs.Installing.{stretch_of, claimed_runs, compaction_of, IdLeft, MayReplace, after_install, install_of}
-use Rattle.uc_workers.specs.declared.ask_error.AskError.{AskError}
-use Rattle.uc_workers.specs.Asking.{ask_refusal}
-use Rattle.uc_answer.specs.declared.query.Query.{Query}
+use Rattle.uc_query_workers.specs.declared.ask_error.AskError.{AskError}
+use Rattle.uc_query_workers.specs.Asking.{ask_refusal}
+use Rattle.uc_query_answer.specs.declared.query.Query.{Query}
 use Rattle.uc_query.specs.declared.call.Call.{Call}
 use Rattle.uc_query.specs.declared.call.Call.TheVariants as call
 use Rattle.uc_query.specs.Names.{State, AreHeld}

@@ -1,8 +1,8 @@
 -- Answers from plain writes.
 use Rattle.std.specs.Prelude.{◌≡◌, ℕ, ⊤, List, map}
 use Rattle.uc_oper.specs.Operation.{Operation}
-use Rattle.uc_write.specs.declared.write.Write.{Write}
-use Rattle.uc_answer.specs.Answers.{answer_of}
+use Rattle.uc_bytes.specs.declared.write.Write.{Write}
+use Rattle.uc_query_answer.specs.Answers.{answer_of}
 use Rattle.uc_query.specs.declared.call.Call.{Call}
 use Rattle.uc_query.specs.declared.call.Call.TheVariants as call
 use Rattle.uc_query.specs.declared.reply.Reply.{Reply}

@@ -3,3 +3,4 @@ pub mod Turns
 pub mod Running
 pub mod Answered
 pub mod Stepping
+pub mod Reports

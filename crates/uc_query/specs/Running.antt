@@ -3,8 +3,8 @@ use Rattle.std.specs.Prelude.{◌≡◌, ◌≢◌, ℕ, ◌≤◌, List, [], �
 use Rattle.uc_oper.specs.Operation.{Operation}
 use Rattle.uc_version.specs.declared.held_stretch.TheConstants.{MOST_CLAIMS}
 use Rattle.uc_version.specs.Owners.{Owner}
-use Rattle.uc_workers.specs.declared.ask_error.AskError.{AskError}
-use Rattle.uc_workers.specs.declared.ask_error.AskError.TheVariants.{Memory}
+use Rattle.uc_query_workers.specs.declared.ask_error.AskError.{AskError}
+use Rattle.uc_query_workers.specs.declared.ask_error.AskError.TheVariants.{Memory}
 use Rattle.uc_query.specs.declared.call.Call.{Call}
 use Rattle.uc_query.specs.declared.reply.Reply.{Reply}
 use Rattle.uc_query.specs.Names.{State, released}

@@ -1,8 +1,8 @@
 -- What a list of calls does from any state on.
 use Rattle.std.specs.Prelude.{◌≡◌, ◌≢◌, ℕ, ◌≤◌, List, Some, None, length, take, ◌⊎◌}
 use Rattle.uc_oper.specs.Operation.{Operation}
-use Rattle.uc_workers.specs.declared.ask_error.AskError.{AskError}
-use Rattle.uc_workers.specs.declared.ask_error.AskError.TheVariants.{Memory}
+use Rattle.uc_query_workers.specs.declared.ask_error.AskError.{AskError}
+use Rattle.uc_query_workers.specs.declared.ask_error.AskError.TheVariants.{Memory}
 use Rattle.uc_query.specs.declared.call.Call.{Call}
 use Rattle.uc_query.specs.declared.reply.Reply.{Reply}
 use Rattle.uc_query.specs.Names.{State}

@@ -1,10 +1,10 @@
 -- What a call does: its reply, and what the store and the names are then.
 use Rattle.std.specs.Prelude.{ℕ, ◌-◌, ◌^◌, ◌<◌, Bool, ⊤, List, Option, Some, None, Result, Ok, Err, nat_lt, if◌then◌else◌}
 use Rattle.uc_oper.specs.Operation.{Operation}
-use Rattle.uc_answer.specs.declared.query.Query.{Query}
-use Rattle.uc_pick.specs.declared.stretch.Stretch.{Stretch}
-use Rattle.uc_pick.specs.Picks.{picked}
-use Rattle.uc_history.specs.Versions.{Stored}
+use Rattle.uc_query_answer.specs.declared.query.Query.{Query}
+use Rattle.uc_version_pick.specs.declared.stretch.Stretch.{Stretch}
+use Rattle.uc_version_pick.specs.Picks.{picked}
+use Rattle.uc_version_state.specs.Versions.{Stored}
 use Rattle.uc_version.specs.declared.held_stretch.TheConstants.{MOST_CLAIMS}
 use Rattle.uc_version.specs.declared.claim_error.ClaimError.{ClaimError}
 use Rattle.uc_version.specs.declared.install_error.InstallError.TheVariants.{IdsSpent}
@@ -12,9 +12,9 @@ use Rattle.uc_version.specs.Owners.{Owner, is_busy}
 use Rattle.uc_version.specs.Picking.{candidates_of}
 use Rattle.uc_version.specs.Claiming.{Claim, claim_refusal, claim_of, with_claim, without_claim}
 use Rattle.uc_version.specs.Installing.{stretch_of, compaction_of, after_install}
-use Rattle.uc_report.specs.Reports.{report_of}
-use Rattle.uc_workers.specs.declared.ask_error.AskError.{AskError}
-use Rattle.uc_workers.specs.Asking.{ask_refusal, answers_of}
+use Rattle.uc_query.specs.Reports.{report_of}
+use Rattle.uc_query_workers.specs.declared.ask_error.AskError.{AskError}
+use Rattle.uc_query_workers.specs.Asking.{ask_refusal, answers_of}
 use Rattle.uc_query.specs.declared.call.Call.{Call}
 use Rattle.uc_query.specs.declared.call.Call.TheVariants as call
 use Rattle.uc_query.specs.declared.reply.Reply.{Reply}

@@ -1,19 +1,19 @@
 //! What is asked of a store, which changes nothing.
 ghost use Rattle.std.specs.Prelude.{◌≡◌, ◌⊎◌, Ok, Err, IfOk, IfErr, IsOk, List, Option};
 ghost use Rattle.uc_version.specs.Claiming.{Claim};
-ghost use Rattle.uc_workers.specs.Asking.{ask_refusal};
-ghost use Rattle.uc_workers.specs.declared.ask_error.AskError.TheVariants.{Memory};
+ghost use Rattle.uc_query_workers.specs.Asking.{ask_refusal};
+ghost use Rattle.uc_query_workers.specs.declared.ask_error.AskError.TheVariants.{Memory};
 ghost use Rattle.uc_query.specs.Turns.{ask_turn};
 
 use crate::reply::Reply;
 use std::alloc::Global;
 use std::marker::Sync;
 use std::thread::Threads;
-use uc_answer::Query;
 use uc_bytes::Items;
 use uc_oper::Operator;
+use uc_query_answer::Query;
+use uc_query_workers::{AskError, answer_plain};
 use uc_version::Owned;
-use uc_workers::{AskError, answer_plain};
 
 /// Answers queries, by so many workers, in pieces of so many queries.
 pub(crate) fn answer_batch<O: Operator + Sync>(

@@ -13,8 +13,8 @@ use std::alloc::Global;
 use std::marker::Sync;
 use std::thread::Threads;
 use uc_oper::Operator;
+use uc_query_workers::AskError;
 use uc_version::Owned;
-use uc_workers::AskError;
 
 /// The replies to calls, in their order, up to the first one that can't be made so or that is refused memory.
 fn replies_to<O: Operator + Sync>(

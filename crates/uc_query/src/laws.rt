@@ -1,10 +1,10 @@
 //! What holds of lists of calls.
 ghost use Rattle.std.specs.Prelude.{◌≡◌, ◌++◌, ℕ, Some, true, List, length, take};
 ghost use Rattle.std.specs.List.{AllZip};
-ghost use Rattle.uc_history.specs.declared.event.Event.{Event};
-ghost use Rattle.uc_history.specs.Histories.{History, IsLegal, version_after, writes_given};
-ghost use Rattle.uc_history.specs.Versions.{ids_of};
-ghost use Rattle.uc_history.specs.Installs.{Install, MayInstall, installed};
+ghost use Rattle.uc_version_state.specs.declared.event.Event.{Event};
+ghost use Rattle.uc_version_state.specs.Histories.{History, IsLegal, version_after, writes_given};
+ghost use Rattle.uc_version_state.specs.Versions.{ids_of};
+ghost use Rattle.uc_version_state.specs.Installs.{Install, MayInstall, installed};
 ghost use Rattle.uc_version.specs.Owners.{IsOwner};
 ghost use Rattle.uc_version.specs.Claiming.{Claim};
 ghost use Rattle.uc_version.specs.Installing.{claimed_runs};
@@ -14,12 +14,12 @@ ghost use Rattle.uc_query.specs.Turns.{has_id, install_turn};
 ghost use Rattle.uc_query.specs.Running.{run_of};
 ghost use Rattle.uc_query.specs.Answered.{IsAnswered};
 
-use uc_history::histories_grow_by_events;
-use uc_lookup::histories_keep_answers;
 use uc_oper::Operator;
+use uc_query_read::histories_keep_answers;
 use uc_version::{
     claims_are_held, claims_can_be_compacted, installs_are_events, owners_stay_owners,
 };
+use uc_version_state::histories_grow_by_events;
 
 /// Whatever calls are made to a store, its version is the one after its history so far and some legal events more.
 pub fn calls_extend_histories<O: Operator>()

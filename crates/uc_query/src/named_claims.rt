@@ -1,7 +1,7 @@
 //! [`NamedClaims`]: claims under names, and what calls do with them.
 ghost use Rattle.std.specs.Prelude.{◌≡◌, ◌≢◌, ◌⊎◌, Ok, Err, None, IfOk, IfErr, IsOk, replicate};
 ghost use Rattle.uc_version.specs.declared.held_stretch.TheConstants.{MOST_CLAIMS as MOST};
-ghost use Rattle.uc_workers.specs.declared.ask_error.AskError.TheVariants.{Memory};
+ghost use Rattle.uc_query_workers.specs.declared.ask_error.AskError.TheVariants.{Memory};
 ghost use Rattle.uc_query.specs.Names.{AreHeld, released};
 ghost use Rattle.uc_query.specs.Turns.{HasName, turn_of};
 
@@ -10,13 +10,13 @@ use crate::call::Call;
 use crate::claiming::{abandon_under, claim_under, give_all_back};
 use crate::installing::{compact_at_once, install_under};
 use crate::reply::Reply;
+use crate::reporting::report;
 use std::alloc::Global;
 use std::marker::{Model, Sync};
 use std::thread::Threads;
 use uc_oper::Operator;
-use uc_report::report;
+use uc_query_workers::AskError;
 use uc_version::{MOST_CLAIMS, Owned, OwnedClaim};
-use uc_workers::AskError;
 
 /// Claims of a store under names, from 0 to below [`MOST_CLAIMS`]. A contract sees them as a list, for each name the claim
 /// that it stands for, if it stands for one.

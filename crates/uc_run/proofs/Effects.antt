@@ -13,21 +13,21 @@ use Rattle.std.proofs.lemmas.List.Sorted.{IsPermutation-refl, IsPermutation-cons
 use Rattle.std.proofs.lemmas.Map.Keys.{sorted_head}
 use Rattle.uc_oper.specs.Operation.{Operation}
 use Rattle.uc_oper.specs.declared.effect.Effect.TheVariants.{Keep}
-use Rattle.uc_write.specs.declared.op.Op.{Op}
-use Rattle.uc_write.specs.declared.op.Op.TheVariants.{Put, Delete, Merge, DeleteRange}
-use Rattle.uc_write.specs.declared.write.Write.{Write}
+use Rattle.uc_bytes.specs.declared.op.Op.{Op}
+use Rattle.uc_bytes.specs.declared.op.Op.TheVariants.{Put, Delete, Merge, DeleteRange}
+use Rattle.uc_bytes.specs.declared.write.Write.{Write}
 use Rattle.uc_batch.specs.Rising.{IsRising, last_of}
 use Rattle.uc_model.specs.Meaning.{is_seen, effect_in_turn, effect_on}
-use Rattle.uc_entry.specs.declared.entry.Entry.{Entry}
-use Rattle.uc_entry.specs.Order.{IsFalling}
-use Rattle.uc_entry.specs.Run.{IsRun, IsWhole, covers}
-use Rattle.uc_entry.specs.PlainList.{point_write, by_seq}
-use Rattle.uc_entry.specs.Lookup.{points_effect, is_visible, seqs_over, above_newest, effect_found}
-use Rattle.uc_entry.proofs.BySeq.{Rises, all_map, by_seq_is}
-use Rattle.uc_entry.proofs.Points.{turn-backwards, PointsFall, all-filtered, passing_fall, by_seq-points, seen_points}
-use Rattle.uc_entry.proofs.Covers.{Clears, covers_fall}
-use Rattle.uc_entry.proofs.Lookup.{above}
-use Rattle.uc_fragment.specs.Cutting.{RangeOf, range_covers, falling, fragments_of}
+use Rattle.uc_run_entry.specs.declared.entry.Entry.{Entry}
+use Rattle.uc_run_entry.specs.Order.{IsFalling}
+use Rattle.uc_run_entry.specs.Run.{IsRun, IsWhole, covers}
+use Rattle.uc_run_entry.specs.PlainList.{point_write, by_seq}
+use Rattle.uc_run_entry.specs.Lookup.{points_effect, is_visible, seqs_over, above_newest, effect_found}
+use Rattle.uc_run_entry.proofs.BySeq.{Rises, all_map, by_seq_is}
+use Rattle.uc_run_entry.proofs.Points.{turn-backwards, PointsFall, all-filtered, passing_fall, by_seq-points, seen_points}
+use Rattle.uc_run_entry.proofs.Covers.{Clears, covers_fall}
+use Rattle.uc_run_entry.proofs.Lookup.{above}
+use Rattle.uc_run_fragment.specs.Cutting.{RangeOf, range_covers, falling, fragments_of}
 use Rattle.uc_run.specs.Flush.{point_of, range_of, points_in, ranges_in, by_key, first_of, flushed}
 use Rattle.uc_run.proofs.ByKey.{all-by_key, passed-by_key}
 use Rattle.uc_run.proofs.Parts.{all_ranges, above_last, rises, IsApartFrom, are_apart}

@@ -4,10 +4,10 @@ use Rattle.std.specs.List.{sum_by, AllByRecursion}
 use Rattle.std.proofs.Math.Seq.{drop-append_seam, take-append_seam, drop-append-add}
 use Rattle.std.proofs.lemmas.List.{drop-append-le, take-append-le, length-drop, map-append, length-append, take_all}
 use Rattle.std.proofs.lemmas.List.Sums.{sum_by_push}
-use Rattle.uc_write.specs.declared.op.Op.{Op}
-use Rattle.uc_write.specs.declared.op_ref.OpKind.{OpKind}
-use Rattle.uc_write.specs.declared.write.Write.{Write}
-use Rattle.uc_write.specs.Borrowed.{op_of}
+use Rattle.uc_bytes.specs.declared.op.Op.{Op}
+use Rattle.uc_bytes.specs.declared.op_ref.OpKind.{OpKind}
+use Rattle.uc_bytes.specs.declared.write.Write.{Write}
+use Rattle.uc_bytes.specs.Borrowed.{op_of}
 use Rattle.uc_run.specs.declared.slot.Slot.{Slot}
 use Rattle.uc_batch.specs.Rising.{IsRising, last_of}
 use Rattle.uc_run.specs.Size.{write_size, memtable_size}

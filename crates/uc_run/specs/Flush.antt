@@ -2,15 +2,15 @@
 use Rattle.std.specs.Prelude.{ℕ, List, [], ◌∷◌, Option, Some, None, fold, if◌then◌else◌}
 use Rattle.std.specs.List.{filter_map}
 use Rattle.std.specs.Ordering.{is_lt}
-use Rattle.uc_write.specs.declared.op.Op.{Op}
-use Rattle.uc_write.specs.declared.op.Op.TheVariants.{Put, Delete, Merge, DeleteRange}
-use Rattle.uc_write.specs.declared.write.Write.{Write}
+use Rattle.uc_bytes.specs.declared.op.Op.{Op}
+use Rattle.uc_bytes.specs.declared.op.Op.TheVariants.{Put, Delete, Merge, DeleteRange}
+use Rattle.uc_bytes.specs.declared.write.Write.{Write}
 use Rattle.uc_batch.specs.Rising.{last_of}
-use Rattle.uc_entry.specs.declared.entry.Entry.{Entry}
-use Rattle.uc_entry.specs.declared.entry.What.TheVariants as what
-use Rattle.uc_entry.specs.Order.{entry_cmp}
-use Rattle.uc_entry.specs.Run.{Contents}
-use Rattle.uc_fragment.specs.Cutting.{RangeOf, fragments_of}
+use Rattle.uc_run_entry.specs.declared.entry.Entry.{Entry}
+use Rattle.uc_run_entry.specs.declared.entry.What.TheVariants as what
+use Rattle.uc_run_entry.specs.Order.{entry_cmp}
+use Rattle.uc_run_entry.specs.Run.{Contents}
+use Rattle.uc_run_fragment.specs.Cutting.{RangeOf, fragments_of}
 
 -- the point that a change of one key is
 abbrev pub point_of : ℕ → Op → Option Entry

@@ -1,6 +1,6 @@
 -- How a memtable holds its writes.
 use Rattle.std.specs.Prelude.{◌≡◌, List}
-use Rattle.uc_write.specs.declared.write.Write.{Write}
+use Rattle.uc_bytes.specs.declared.write.Write.{Write}
 use Rattle.uc_batch.specs.Rising.{IsRising, last_of}
 use Rattle.uc_run.specs.Size.{memtable_size}
 use Rattle.uc_run.specs.Slots.{slot_writes, LieWithin}

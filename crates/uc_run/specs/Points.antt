@@ -1,7 +1,7 @@
 -- Points of writes.
 use Rattle.std.specs.Prelude.{◌==◌, List}
 use Rattle.std.specs.List.{IsDistinct}
-use Rattle.uc_entry.specs.declared.entry.Entry.{Entry}
+use Rattle.uc_run_entry.specs.declared.entry.Entry.{Entry}
 
 -- no two points have one sequence
 abbrev pub HaveOwnSeqs : List Entry → Type 0

@@ -1,9 +1,9 @@
 -- The writes that slots and an arena hold.
 use Rattle.std.specs.Prelude.{◌≡◌, ℕ, ◌+◌, ◌≤◌, List, [], ◌∷◌, ◌++◌, map, take, drop, length}
 use Rattle.std.specs.List.{AllByRecursion}
-use Rattle.uc_write.specs.declared.op_ref.OpKind.{OpKind}
-use Rattle.uc_write.specs.declared.write.Write.{Write}
-use Rattle.uc_write.specs.Borrowed.{op_of}
+use Rattle.uc_bytes.specs.declared.op_ref.OpKind.{OpKind}
+use Rattle.uc_bytes.specs.declared.write.Write.{Write}
+use Rattle.uc_bytes.specs.Borrowed.{op_of}
 use Rattle.uc_run.specs.declared.slot.Slot.{Slot}
 
 -- the write of a slot: its second text lies behind its first

@@ -1,12 +1,12 @@
 //! [`EntryRef`]: a point whose texts are borrowed.
 ghost use Rattle.std.specs.Prelude.{◌≡◌, ◌<◌, ◌^◌, IfOk};
-ghost use Rattle.uc_entry.specs.Order.{entry_cmp};
-ghost use Rattle.uc_point.specs.Packed as packed;
+ghost use Rattle.uc_run_entry.specs.Order.{entry_cmp};
+ghost use Rattle.uc_run_entry.specs.Packed as packed;
 
 use std::alloc::{AllocError, Global};
 use std::cmp::Ordering;
 use std::marker::Model;
-use uc_point::{Point, WhatRef};
+use uc_run_entry::{Point, WhatRef};
 
 /// A point whose texts are borrowed, so that it is moved cheaply. A contract sees it as the `Entry`.
 #[derive(Debug, Drop)]
@@ -17,8 +17,8 @@ pub(crate) struct EntryRef<'a> {
 }
 
 impl<'a> Model for EntryRef<'a> {
-    ghost use Rattle.uc_entry.specs.declared.entry.Entry.{Entry};
-    ghost use Rattle.uc_point.specs.Packed.{what_of};
+    ghost use Rattle.uc_run_entry.specs.declared.entry.Entry.{Entry};
+    ghost use Rattle.uc_run_entry.specs.Packed.{what_of};
 
     ghost Value = { Entry };
 

@@ -1,7 +1,7 @@
 //! The points and range deletions of a memtable's slots, as a run wants them.
 ghost use Rattle.std.specs.Prelude.{◌≡◌, ℕ, ◌<◌, ◌^◌, List, length, IfOk};
 ghost use Rattle.std.specs.List.{AllByRecursion};
-ghost use Rattle.uc_write.specs.Borrowed.{op_of};
+ghost use Rattle.uc_bytes.specs.Borrowed.{op_of};
 ghost use Rattle.uc_run.specs.Slots.{slot_write, slot_writes, LiesWithin, LieWithin};
 ghost use Rattle.uc_run.specs.Points.{HaveOwnSeqs};
 ghost use Rattle.uc_run.specs.Flush as flush;
@@ -9,9 +9,9 @@ ghost use Rattle.uc_run.specs.Flush as flush;
 use crate::entry_ref::EntryRef;
 use crate::slot::Slot;
 use std::alloc::{AllocError, Global};
-use uc_fragment::Range;
-use uc_point::{Point, WhatRef};
-use uc_write::OpKind;
+use uc_bytes::OpKind;
+use uc_run_entry::{Point, WhatRef};
+use uc_run_fragment::Range;
 
 /// The texts of a slot in the arena.
 fn texts_at<'a>(text: &'a [u8], slot: &Slot) -> (&'a [u8], &'a [u8])

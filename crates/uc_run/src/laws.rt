@@ -1,10 +1,10 @@
 //! What holds of the run that rising writes are flushed to.
 ghost use Rattle.std.specs.Prelude.{◌≡◌, ◌≢◌, ℕ, List, []};
-ghost use Rattle.uc_write.specs.declared.write.Write.{Write};
+ghost use Rattle.uc_bytes.specs.declared.write.Write.{Write};
 ghost use Rattle.uc_batch.specs.Rising.{IsRising};
 ghost use Rattle.uc_model.specs.Meaning.{effect_on};
-ghost use Rattle.uc_entry.specs.Run.{IsRun};
-ghost use Rattle.uc_entry.specs.PlainList.{plain_list};
+ghost use Rattle.uc_run_entry.specs.Run.{IsRun};
+ghost use Rattle.uc_run_entry.specs.PlainList.{plain_list};
 ghost use Rattle.uc_run.specs.Flush.{flushed};
 
 use uc_oper::Operator;

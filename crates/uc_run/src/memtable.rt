@@ -11,9 +11,9 @@ use crate::size::op_size;
 use crate::slot::Slot;
 use std::alloc::{AllocError, Global};
 use std::marker::Model;
-use uc_block::Run;
-use uc_fragment::cut_ranges;
-use uc_write::{Write, WriteRef};
+use uc_bytes::{Write, WriteRef};
+use uc_run_fragment::cut_ranges;
+use uc_run_table::Run;
 
 /// The newest writes, before they become a run (RocksDB wiki, "MemTable"). A contract sees it as the list of the
 /// writes that were inserted, in order.
@@ -28,7 +28,7 @@ pub struct Memtable {
 
 impl Model for Memtable {
     ghost use Rattle.std.specs.Prelude.{List};
-    ghost use Rattle.uc_write.specs.declared.write.Write.{Write};
+    ghost use Rattle.uc_bytes.specs.declared.write.Write.{Write};
     ghost use Rattle.uc_run.specs.Held.{inserted, IsHeld};
 
     ghost Value = { List Write };
@@ -114,7 +114,7 @@ impl Memtable {
     }
 
     /// Inserts a write, whose sequence is above all before it and at most
-    /// [`MAX_SEQUENCE`](uc_write::MAX_SEQUENCE). It costs a copy of the texts, amortized. It fails only for want of
+    /// [`MAX_SEQUENCE`](uc_bytes::MAX_SEQUENCE). It costs a copy of the texts, amortized. It fails only for want of
     /// memory, and then inserts nothing.
     pub fn insert(&mut self, write: &Write) -> Result<(), AllocError>
         requires above { last_of 0 self.old < write.now.seq }

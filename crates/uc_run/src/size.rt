@@ -2,11 +2,11 @@
 ghost use Rattle.std.specs.Prelude.{◌≡◌, ◌+◌, ◌-◌, ◌^◌, min};
 ghost use Rattle.std.specs.Ordering.{is_lt};
 ghost use Rattle.uc_bytes.specs.Bytes.{bytes_cmp};
-ghost use Rattle.uc_write.specs.declared.op.Op.TheVariants as changes;
-ghost use Rattle.uc_write.specs.Borrowed.{op_of};
+ghost use Rattle.uc_bytes.specs.declared.op.Op.TheVariants as changes;
+ghost use Rattle.uc_bytes.specs.Borrowed.{op_of};
 ghost use Rattle.uc_run.specs.Size as size;
 
-use uc_write::{OpKind, OpRef};
+use uc_bytes::{OpKind, OpRef};
 
 /// The lengths of both texts, and 8, held at the greatest number.
 fn sum_of(first: usize, second: usize) -> u64

@@ -1,5 +1,5 @@
 //! [`Slot`]: where a write's texts lie in the arena.
-use uc_write::OpKind;
+use uc_bytes::OpKind;
 
 /// A write whose texts lie in an arena, the second behind the first.
 #[derive(Debug, Drop)]

@@ -5,7 +5,7 @@ use Rattle.std.specs.Option.{option_map, option_or}
 use Rattle.std.proofs.lemmas.Bool.{cases_eq, eq-eqb, ne_eqb}
 use Rattle.uc_script.specs.declared.call.Call.{Call}
 use Rattle.uc_script.specs.declared.script.Script.{Script}
-use Rattle.uc_write.specs.declared.op.Op.{Op}
+use Rattle.uc_bytes.specs.declared.op.Op.{Op}
 use Rattle.uc_script.specs.Script.{setup_line, call_line, says_open, lines_before, lines_after, fault_at}
 use Rattle.uc_script.proofs.First.{position-yes, position-no, before_first-yes, before_first-no, after_first-yes, after_first-no}
 

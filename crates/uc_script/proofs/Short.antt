@@ -9,8 +9,8 @@ use Rattle.hex.specs.Hex.{decode_of, decode_pairs, pair_value}
 use Rattle.hex.specs.Hex.{◌>>=◌ as ◌>>>◌}
 use Rattle.hex.specs.declared.error.FromHexError.{FromHexError}
 use Rattle.hex.specs.declared.error.FromHexError.TheVariants.{OddLength}
-use Rattle.uc_write.specs.declared.op.Op.{Op}
-use Rattle.uc_write.specs.declared.op.Op.TheVariants.{Put, Delete, Merge, DeleteRange}
+use Rattle.uc_bytes.specs.declared.op.Op.{Op}
+use Rattle.uc_bytes.specs.declared.op.Op.TheVariants.{Put, Delete, Merge, DeleteRange}
 use Rattle.uc_script.specs.Lines.{lines_of, fields_of, is_skipped, says}
 use Rattle.uc_script.specs.Texts.{◌>>=◌, text_of, number_of}
 use Rattle.uc_script.specs.Script.{with_one, with_two, setup_of, setup_line, changed, change_in, script_of}

@@ -10,7 +10,7 @@ use Rattle.uc_script.specs.declared.setup_line.SetupLine.TheVariants as setup
 use Rattle.uc_script.specs.declared.call_line.CallLine.{CallLine}
 use Rattle.uc_script.specs.declared.call_line.CallLine.TheVariants as asking
 use Rattle.uc_script.specs.declared.script.Script.{Script}
-use Rattle.uc_write.specs.declared.op.Op.{Op}
+use Rattle.uc_bytes.specs.declared.op.Op.{Op}
 use Rattle.uc_script.specs.Lines.{lines_of}
 use Rattle.uc_script.specs.Script.{setup_line, call_line, says_open, lines_before, lines_after, change_in, keep_in, call_in, fault_at, asked_by, unless_fault, script_of}
 use Rattle.uc_script.specs.Reading.{Setup, Fails, setup_after, calls_after}

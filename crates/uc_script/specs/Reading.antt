@@ -8,7 +8,7 @@ use Rattle.uc_script.specs.declared.setup_line.SetupLine.TheVariants as setup
 use Rattle.uc_script.specs.declared.call_line.CallLine.TheVariants as asking
 use Rattle.uc_script.specs.declared.reading.Opened.{Opened}
 use Rattle.uc_script.specs.Lines.{lines_of}
-use Rattle.uc_write.specs.declared.op.Op.{Op}
+use Rattle.uc_bytes.specs.declared.op.Op.{Op}
 
 -- An error is the fault that reading finds, unless memory ran out.
 abbrev pub Fails : {Y : Type 0} → ScriptError → Result Y ℕ → Type 0

@@ -12,8 +12,7 @@ use crate::lines::next_line;
 use crate::script::Script;
 use crate::setup_line::{SetupLine, read_setup_line};
 use std::alloc::Global;
-use uc_bytes::Items;
-use uc_write::Op;
+use uc_bytes::{Items, Op};
 
 /// What was read up to `open`, and where to go on.
 #[derive(Drop)]

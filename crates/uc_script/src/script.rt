@@ -1,7 +1,6 @@
 //! [`Script`]: what a script asks.
 use crate::call::Call;
-use uc_bytes::Items;
-use uc_write::Op;
+use uc_bytes::{Items, Op};
 
 /// The changes that a script writes.
 pub type Ops = Items<Op>;

@@ -6,7 +6,7 @@ ghost use Rattle.uc_script.specs.Script as script;
 use crate::field::{number, text};
 use crate::lines::{Fields, is_skipped, split_line};
 use std::alloc::{AllocError, Global};
-use uc_write::Op;
+use uc_bytes::Op;
 
 /// What a line before `open` says, that line too.
 #[derive(Drop)]

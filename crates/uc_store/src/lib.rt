@@ -11,9 +11,9 @@ mod opened_log;
 pub use opened_log::{OpenedLog, open_log};
 pub use uc_batch::Ended;
 pub use uc_bytes::Bytes;
-pub use uc_opening::OpenError;
 pub use uc_oper::{Append, Counter, Maximum, Operator};
 pub use uc_query::{Answer, AskError, Query, Report, Rows, answer_one, answer_plain, get, report};
 pub use uc_version::{
     ClaimError, InstallError, Options, Owned, OwnedClaim, Placed, Stretch, Version,
 };
+pub use uc_version_open::OpenError;

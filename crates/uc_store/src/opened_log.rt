@@ -1,17 +1,16 @@
 //! [`open_log`]: a store opened from a write-ahead log.
 ghost use Rattle.std.specs.Prelude.{◌≡◌, ◌≢◌, None, Some, IfOk, IfErr};
 ghost use Rattle.uc_batch.specs.Log.{log_writes};
-ghost use Rattle.uc_history.specs.Openings.{Opening, opened};
-ghost use Rattle.uc_opening.specs.Refusal.{opening_refusal};
-ghost use Rattle.uc_opening.specs.declared.open_error.OpenError.TheVariants.{Memory};
+ghost use Rattle.uc_version_state.specs.Openings.{Opening, opened};
+ghost use Rattle.uc_version_open.specs.Refusal.{opening_refusal};
+ghost use Rattle.uc_version_open.specs.declared.open_error.OpenError.TheVariants.{Memory};
 ghost use Rattle.uc_version.specs.Owners.{unclaimed};
 
 use std::alloc::Global;
 use uc_batch::Ended;
-use uc_opening::OpenError;
 use uc_oper::Operator;
-use uc_recovery::{Recovered, recover};
 use uc_version::{Options, Owned};
+use uc_version_open::{OpenError, Recovered, recover};
 
 /// A store that was opened from a log, and how far the log could be read.
 #[derive(Drop)]

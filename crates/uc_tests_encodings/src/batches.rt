@@ -5,8 +5,8 @@ use uc_batch::{
     Advance, BatchError, BatchReader, BatchWrites, Ended, Op, Write, fits_batch, read_batch,
     refusal_stands_in_batch, write_batch, written_batch_is_read, written_batch_is_spelled,
 };
+use uc_bytes::{MAX_SEQUENCE, OpRef, WriteRef};
 use uc_logrec::LogWriter;
-use uc_write::{MAX_SEQUENCE, OpRef, WriteRef};
 
 /// Sequence 1, and a count.
 const fn header(count: u8) -> [u8; 12] {

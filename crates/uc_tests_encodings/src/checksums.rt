@@ -1,6 +1,6 @@
 //! The checksum beside the division, and vectors of RFC 3720.
 use std::test::*;
-use uc_crc::{crc32c, division, extend, mask, unmask};
+use uc_logrec::{crc32c, division, extend, mask, unmask};
 
 /// The command of RFC 3720, appendix B.4.
 const READ_COMMAND: [u8; 48] = [

@@ -3,9 +3,8 @@
 use std::alloc::Global;
 use std::process::Abort;
 use std::test::Fail;
-use uc_bytes::Bytes;
+use uc_bytes::{Bytes, Op, OpKind};
 use uc_script::{Call, ScriptError, Seq, push_hex, push_number, read_script};
-use uc_write::{Op, OpKind};
 
 /// The line at fault, if there is one.
 fn fault(rt: &impl Abort, alloc: Global, text: &[u8]) -> Option<u64> {

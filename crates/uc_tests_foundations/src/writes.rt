@@ -1,8 +1,7 @@
 //! Copies of changes of each kind, owned and borrowed.
 use std::alloc::{AllocError, Global};
 use std::test::Fail;
-use uc_bytes::Bytes;
-use uc_write::{Op, OpKind, OpRef, Write, WriteRef};
+use uc_bytes::{Bytes, Op, OpKind, OpRef, Write, WriteRef};
 
 const KINDS: [OpKind; 4] = [
     OpKind::Put,

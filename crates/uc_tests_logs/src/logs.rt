@@ -4,9 +4,8 @@ use std::alloc::Global;
 use std::process::Abort;
 use std::test::Fail;
 use uc_batch::{BatchError, fits_batch, write_batch};
-use uc_bytes::Bytes;
+use uc_bytes::{Bytes, Op};
 use uc_logrec::{Ending, LogFault, crc32c, mask, unmask};
-use uc_write::Op;
 
 /// Texts and their checksums; the last is the type of a record and its data.
 const CHECKSUMS: [(&[u8], u32); 4] = [

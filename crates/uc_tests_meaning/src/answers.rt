@@ -1,15 +1,14 @@
 //! Lookups and scans of a few writes.
 use std::alloc::Global;
 use std::test::Fail;
-use uc_answer::{
+use uc_batch::Writes;
+use uc_bytes::{Bytes, Op, Write};
+use uc_oper::{Append, Counter};
+use uc_query_answer::{
     Answer, Query, Rows, answer_writes, equal_values_give_equal_answers,
     scan_is_answered_by_first_rows, scan_keys_are_named, scan_keys_rise, scan_rows_are_determined,
     scan_rows_are_first, unprotected_is_refused,
 };
-use uc_batch::Writes;
-use uc_bytes::Bytes;
-use uc_oper::{Append, Counter};
-use uc_write::{Op, Write};
 
 fn bytes(alloc: Global, text: &[u8]) -> Result<Bytes, Fail> {
     Ok(Bytes::from_slice(alloc, text)?)

@@ -1,7 +1,7 @@
 //! Values by sequence, and which keys are touched.
 use std::alloc::Global;
 use std::test::Fail;
-use uc_bytes::Bytes;
+use uc_bytes::{Bytes, Op, Write};
 use uc_model::{
     each_write_changes_what_it_touches, effect_at, effect_continues_value, effect_gives_value,
     effects_of_parts_compose, effects_of_stripes_compose, keys_are_touched_by_name_or_range,
@@ -9,7 +9,6 @@ use uc_model::{
     value_is_given,
 };
 use uc_oper::{Append, Counter, Effect, Maximum};
-use uc_write::{Op, Write};
 
 fn bytes(alloc: Global, text: &[u8]) -> Result<Bytes, Fail> {
     Ok(Bytes::from_slice(alloc, text)?)

@@ -6,9 +6,9 @@ use std::marker::Sync;
 use std::test::Fail;
 use std::thread::Threads;
 use uc_oper::{Append, Counter};
-use uc_pick::Options;
 use uc_tests_shared::options::small;
 use uc_tool_io::Done;
+use uc_version_pick::Options;
 
 /// Texts that merges join by a comma.
 const JOINED: [Row; 7] = [

@@ -5,10 +5,10 @@ use std::process::Abort;
 use std::str;
 use std::thread::Threads;
 use uc_oper::Operator;
-use uc_pick::Options;
 use uc_tests_shared::options::small;
 use uc_tool_io::Done;
 use uc_tool_play::play;
+use uc_version_pick::Options;
 
 /// A script, and what it prints.
 pub type Row = (&'static str, &'static str);

@@ -5,14 +5,13 @@ use std::marker::Sync;
 use std::process::Abort;
 use std::test::Fail;
 use std::thread::Threads;
-use uc_answer::{Answer, Query, answer_writes};
 use uc_batch::Writes;
-use uc_bytes::Bytes;
+use uc_bytes::{Bytes, Op, Write};
 use uc_oper::{Append, Counter, Maximum, Operator};
+use uc_query_answer::{Answer, Query, answer_writes};
 use uc_tests_shared::lines::{field, op_line};
 use uc_tests_shared::options::small;
 use uc_tool_io::Done;
-use uc_write::{Op, Write};
 
 /// A linear congruential generator, with the constants of Knuth's MMIX.
 #[derive(Drop)]

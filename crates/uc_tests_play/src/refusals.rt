@@ -5,9 +5,9 @@ use std::marker::Sync;
 use std::process::Abort;
 use std::thread::Threads;
 use uc_oper::{Append, Counter};
-use uc_pick::Options;
 use uc_tests_shared::options::small;
 use uc_tool_io::Done;
+use uc_version_pick::Options;
 
 /// A script, and the line at fault.
 type Fault = (&'static str, &'static str);

@@ -2,11 +2,11 @@
 use std::alloc::Global;
 use std::test::Fail;
 use uc_bytes::{Bytes, Items};
-use uc_entry::{
+use uc_oper::Counter;
+use uc_run_entry::{
     Entry, Fragment, What, covering_fragment, is_run, plain_list_does_what_is_found,
     plain_list_is_in_order, stripes_of_plain_list_do_what_is_found,
 };
-use uc_oper::Counter;
 
 /// A point's key and sequence.
 type PointAt = (&'static [u8], u64);

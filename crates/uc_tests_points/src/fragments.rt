@@ -1,8 +1,10 @@
 //! The fragments of some ranges, and the laws.
 use std::alloc::{AllocError, Global};
 use std::test::Fail;
-use uc_entry::Fragment;
-use uc_fragment::{Range, cut_ranges, fragments_are_in_order, fragments_cover_what_ranges_cover};
+use uc_run_entry::Fragment;
+use uc_run_fragment::{
+    Range, cut_ranges, fragments_are_in_order, fragments_cover_what_ranges_cover,
+};
 
 /// Ranges and the fragments of them: a begin and an end, with a sequence or with some.
 struct Cut {

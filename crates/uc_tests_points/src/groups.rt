@@ -1,14 +1,13 @@
 //! Runs of a few points, merged.
 ghost use Rattle.std.specs.Prelude.{IfOk};
 ghost use Rattle.std.specs.List.Sorted.{IsStrictlySortedBy};
-ghost use Rattle.uc_entry.specs.Order.{entry_cmp};
+ghost use Rattle.uc_run_entry.specs.Order.{entry_cmp};
 
 use std::alloc::Global;
 use std::test::Fail;
 use uc_bytes::Bytes;
-use uc_entry::{Entry, What, is_run};
-use uc_merge::Groups;
-use uc_point::Point;
+use uc_compact::Groups;
+use uc_run_entry::{Entry, Point, What, is_run};
 
 /// Points of keys of one byte, with sequences from 1 to 40, in order.
 fn points_of(alloc: Global, points: &[(u8, u64)]) -> Result<Vec<Point>, Fail>
@@ -23,7 +22,7 @@ fn points_of(alloc: Global, points: &[(u8, u64)]) -> Result<Vec<Point>, Fail>
         })?;
     }
     if is_run(1, 40, &entries, &[]) {
-        Ok(uc_point::points_of(alloc, &entries)?)
+        Ok(uc_run_entry::points_of(alloc, &entries)?)
     } else {
         Err(Fail::new("not in order"))
     }

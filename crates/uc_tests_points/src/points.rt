@@ -4,9 +4,8 @@ ghost use Rattle.std.specs.Prelude.{◌<◌, ◌^◌};
 use std::alloc::{AllocError, Global};
 use std::test::Fail;
 use uc_bytes::Bytes;
-use uc_entry::{Entry, What};
 use uc_oper::{Append, Effect};
-use uc_point::{Point, WhatRef, points_of};
+use uc_run_entry::{Entry, Point, What, WhatRef, points_of};
 
 /// Keys and texts: empty, as long as fit together, and longer.
 const TEXTS: [(&[u8], &[u8]); 6] = [

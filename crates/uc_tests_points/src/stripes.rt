@@ -2,14 +2,14 @@
 use std::alloc::Global;
 use std::test::Fail;
 use std::thread::Threads;
-use uc_oper::{Append, Counter};
-use uc_point::{Point, WhatRef};
-use uc_stripe::{
+use uc_compact_rules::{
     Keeping, are_of_one_key, compaction_gives_a_run, compaction_keeps_one_of_each_stripe,
     compaction_keeps_what_is_read, compaction_of_the_oldest_leaves_values, keeps_rise, kept_seqs,
     points_are_chosen_key_by_key, push_kept_points, runs_compose, seqs_are_from_one, seqs_fall,
     sequences_have_one_stripe,
 };
+use uc_oper::{Append, Counter};
+use uc_run_entry::{Point, WhatRef};
 
 /// A point of a test: its sequence, and what it says.
 type Given = (u8, WhatRef<'static>);

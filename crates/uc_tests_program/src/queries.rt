@@ -3,12 +3,11 @@ use std::alloc::Global;
 use std::process::Abort;
 use std::slice;
 use std::test::Fail;
-use uc_answer::{Answer, Query, answer_writes};
 use uc_batch::{Mode, Writes, fits_batch, read_writes, write_batch};
-use uc_bytes::Bytes;
+use uc_bytes::{Bytes, Op};
 use uc_logrec::LogWriter;
 use uc_oper::Append;
-use uc_write::Op;
+use uc_query_answer::{Answer, Query, answer_writes};
 
 /// A change, by its texts.
 #[derive(Clone, Copy)]

@@ -1,16 +1,15 @@
 //! Lines worked by hand.
 use std::alloc::Global;
 use std::test::Fail;
-use uc_answer::Answer;
 use uc_bytes::{Bytes, Items};
 use uc_fold::Totals;
-use uc_lines::{compacted_line, reply_lines};
-use uc_opening::OpenError;
-use uc_pick::Stretch;
-use uc_query::Reply;
-use uc_report::{Report, RunLine};
+use uc_query::{Reply, Report, RunLine};
+use uc_query_answer::Answer;
+use uc_tool_lines::{compacted_line, reply_lines};
 use uc_tool_opening::opening_refusal_line;
 use uc_version::{ClaimError, InstallError};
+use uc_version_open::OpenError;
+use uc_version_pick::Stretch;
 
 /// A reply of a test.
 #[derive(Clone, Copy)]

@@ -2,11 +2,10 @@
 use std::alloc::Global;
 use std::process::Abort;
 use std::test::Fail;
-use uc_block::{Run, next_key_is_the_least};
 use uc_bytes::{Bytes, Items};
-use uc_entry::{Entry, Fragment, What, is_run};
 use uc_oper::{Append, Effect};
-use uc_point::WhatRef;
+use uc_run_entry::{Entry, Fragment, What, WhatRef, is_run};
+use uc_run_table::{Run, next_key_is_the_least};
 
 fn bytes(alloc: Global, text: &[u8]) -> Result<Bytes, Fail> {
     Ok(Bytes::from_slice(alloc, text)?)

@@ -3,11 +3,11 @@ use std::alloc::Global;
 use std::sync::Arc;
 use std::test::Fail;
 use std::thread::Threads;
-use uc_block::Run;
 use uc_bytes::{Bytes, Items};
 use uc_compact::{Compacted, compact, inputs_stand};
-use uc_entry::{Entry, Fragment, What, is_run};
 use uc_oper::{Append, Counter, Operator};
+use uc_run_entry::{Entry, Fragment, What, is_run};
+use uc_run_table::Run;
 
 /// What a point of a test says.
 #[derive(Clone, Copy)]

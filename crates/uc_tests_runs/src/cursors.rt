@@ -2,10 +2,10 @@
 use std::alloc::Global;
 use std::process::Abort;
 use std::test::Fail;
-use uc_block::{Cursor, Run};
 use uc_bytes::{Bytes, Items};
-use uc_entry::{Entry, Fragment, What, is_run};
 use uc_oper::Append;
+use uc_run_entry::{Entry, Fragment, What, is_run};
+use uc_run_table::{Cursor, Run};
 
 fn bytes(alloc: Global, text: &[u8]) -> Result<Bytes, Fail> {
     Ok(Bytes::from_slice(alloc, text)?)

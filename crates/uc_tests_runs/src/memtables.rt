@@ -2,11 +2,10 @@
 use std::alloc::Global;
 use std::process::Abort;
 use std::test::Fail;
-use uc_bytes::{Bytes, Items};
+use uc_bytes::{Bytes, Items, MAX_SEQUENCE, Op, OpRef, Write, WriteRef};
 use uc_model::effect_at;
 use uc_oper::{Append, Counter, Effect, Operator};
 use uc_run::{Fragment, Memtable, Run, flush_keeps_every_effect, flushed_writes_are_a_run, is_run};
-use uc_write::{MAX_SEQUENCE, Op, OpRef, Write, WriteRef};
 
 fn bytes(alloc: Global, text: &[u8]) -> Result<Bytes, Fail> {
     Ok(Bytes::from_slice(alloc, text)?)

@@ -1,7 +1,6 @@
 //! Lines of scripts and dumps, written by a plain program of their own.
 use std::alloc::{AllocError, Global};
-use uc_bytes::Bytes;
-use uc_write::Op;
+use uc_bytes::{Bytes, Op};
 
 /// A field of bytes.
 pub fn field(alloc: Global, bytes: &Bytes) -> Result<String, AllocError> {

@@ -9,11 +9,10 @@ use std::process::Abort;
 use std::test::Fail;
 use std::thread::Threads;
 use uc_batch::Writes;
-use uc_bytes::{Bytes, Items};
+use uc_bytes::{Bytes, Items, Op, Write};
 use uc_oper::Append;
 use uc_query::{Answer, AskError, Call, Query, Reply, Report, run_calls};
 use uc_version::{ClaimError, InstallError, MOST_CLAIMS, Options, Owned, Stretch, open_plain};
-use uc_write::{Op, Write};
 
 /// The operator of the tests: texts joined by a comma.
 type Commas = Append<0x2C>;

@@ -5,11 +5,11 @@ use std::process::Abort;
 use std::sync::Arc;
 use std::test::Fail;
 use std::thread::Threads;
+use uc_bytes::{MAX_SEQUENCE, Write};
 use uc_compact::{compact, inputs_stand};
 use uc_model::{effect_at, value_at};
 use uc_oper::{Append, Counter, Maximum, Operator};
 use uc_run::{Memtable, Run};
-use uc_write::{MAX_SEQUENCE, Write};
 
 /// Runs, the newest first, the writes of all of them in order, and the last sequence.
 #[derive(Drop)]

@@ -1,8 +1,7 @@
 //! [`Dice`]: drawn numbers, keys and changes.
 use std::alloc::Global;
 use std::test::Fail;
-use uc_bytes::Bytes;
-use uc_write::Op;
+use uc_bytes::{Bytes, Op};
 
 /// The keys that are drawn.
 pub(crate) const KEYS: [&[u8]; 4] = [b"a", b"b", b"bb", b"c"];

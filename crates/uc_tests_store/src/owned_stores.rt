@@ -5,13 +5,12 @@ use std::marker::Sync;
 use std::process::Abort;
 use std::test::Fail;
 use std::thread::Threads;
-use uc_answer::{Query, answer_writes};
 use uc_batch::Writes;
-use uc_bytes::Bytes;
-use uc_lookup::answer_one;
+use uc_bytes::{Bytes, Write};
 use uc_oper::{Append, Counter, Maximum, Operator};
+use uc_query_answer::{Query, answer_writes};
+use uc_query_read::answer_one;
 use uc_version::{Options, Owned, OwnedClaim, Stretch, open_plain};
-use uc_write::Write;
 
 /// Up to 40 drawn writes, with gaps between their sequences.
 pub(crate) fn drawn_writes(alloc: Global, dice: &mut Dice) -> Result<Writes, Fail> {

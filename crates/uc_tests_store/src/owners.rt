@@ -6,12 +6,11 @@ use std::process::Abort;
 use std::test::Fail;
 use std::thread::Threads;
 use uc_batch::Writes;
-use uc_bytes::Bytes;
+use uc_bytes::{Bytes, Op, Write};
 use uc_oper::Append;
 use uc_version::{
     ClaimError, InstallError, MOST_SLOTS, Options, Owned, OwnedClaim, Stretch, open_plain, pick,
 };
-use uc_write::{Op, Write};
 
 /// The operator of the tests: texts joined by a comma.
 type Commas = Append<0x2C>;

@@ -3,15 +3,14 @@ use std::alloc::Global;
 use std::marker::Sync;
 use std::test::Fail;
 use std::thread::Threads;
-use uc_answer::{Answer, Query, Rows};
 use uc_batch::Writes;
-use uc_bytes::Bytes;
-use uc_history::Version;
-use uc_opening::open_version;
+use uc_bytes::{Bytes, Op, Write};
 use uc_oper::Append;
-use uc_pick::Options;
-use uc_workers::{AskError, answer_plain};
-use uc_write::{Op, Write};
+use uc_query_answer::{Answer, Query, Rows};
+use uc_query_workers::{AskError, answer_plain};
+use uc_version_open::open_version;
+use uc_version_pick::Options;
+use uc_version_state::Version;
 
 /// A change of a test.
 #[derive(Clone, Copy)]

@@ -5,12 +5,12 @@ use std::alloc::Global;
 use std::marker::Sync;
 use std::test::Fail;
 use std::thread::Threads;
-use uc_answer::{Answer, Query, answer_writes};
 use uc_batch::Writes;
 use uc_bytes::Bytes;
 use uc_oper::{Append, Counter, Operator};
+use uc_query_answer::{Answer, Query, answer_writes};
+use uc_query_workers::answer_plain;
 use uc_version::{Options, Version, open_version};
-use uc_workers::answer_plain;
 
 /// One of the keys, or one that sorts before them all.
 fn drawn_key(alloc: Global, dice: &mut Dice) -> Result<Bytes, Fail> {

@@ -3,11 +3,11 @@ use std::alloc::Global;
 use std::process::Abort;
 use std::test::Fail;
 use uc_batch::Writes;
-use uc_history::Version;
-use uc_opening::{OpenError, Opener, no_refusal_is_leave_to_open, open_version};
-use uc_pick::Options;
+use uc_bytes::{MAX_SEQUENCE, OpRef, WriteRef};
 use uc_run::Run;
-use uc_write::{MAX_SEQUENCE, OpRef, WriteRef};
+use uc_version_open::{OpenError, Opener, no_refusal_is_leave_to_open, open_version};
+use uc_version_pick::Options;
+use uc_version_state::Version;
 
 /// What an opening comes to: how many runs, the id of the newest, and the keeps.
 #[derive(Clone, Copy)]

@@ -1,7 +1,7 @@
 //! Picks worked by hand, and random ones beside a plain slow program.
 use std::alloc::{AllocError, Global};
 use std::test::Fail;
-use uc_pick::{
+use uc_version_pick::{
     Candidate, Options, Stretch, amplified_runs_are_all_picked, collected_is_the_greatest_number,
     nothing_is_picked_below_the_trigger, number_of_runs_picks_from_the_first_stretch, pick_among,
     picks_are_unclaimed_runs, size_ratio_picks_the_first_that_collects_enough,

@@ -3,12 +3,11 @@ use std::alloc::Global;
 use std::slice;
 use std::test::Fail;
 use uc_batch::{Ended, write_batch};
-use uc_bytes::Bytes;
-use uc_history::Version;
+use uc_bytes::{Bytes, Op};
 use uc_logrec::LogWriter;
-use uc_pick::Options;
-use uc_recovery::{Recovered, recover};
-use uc_write::Op;
+use uc_version_open::{Recovered, recover};
+use uc_version_pick::Options;
+use uc_version_state::Version;
 
 /// Deletes of these keys, a batch for each, from sequence 1 on.
 fn log_of(alloc: Global, keys: &[&[u8]]) -> Result<Vec<u8>, Fail> {

@@ -5,11 +5,10 @@ use std::process::Abort;
 use std::test::Fail;
 use std::thread::Threads;
 use uc_batch::Writes;
-use uc_bytes::Bytes;
-use uc_opening::open_version;
-use uc_pick::Options;
-use uc_report::{Report, RunLine, Totals, report};
-use uc_write::{Op, Write};
+use uc_bytes::{Bytes, Op, Write};
+use uc_query::{Report, RunLine, Totals, report};
+use uc_version_open::open_version;
+use uc_version_pick::Options;
 
 /// A change of a test: a put of a key, or a range deletion.
 #[derive(Clone, Copy)]

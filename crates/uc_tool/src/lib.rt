@@ -9,9 +9,9 @@
 //! Read `uc_tool_io`'s `specs/Output.antt` first, then the head of the subcommand that matters.
 #![tactic(auto)]
 
-pub use uc_pick::Options;
 pub use uc_tool_dump::dump;
 pub use uc_tool_io::Done;
 pub use uc_tool_play::{play, reads_are_answered_from_plain_writes};
 pub use uc_tool_report::{compactions_end_where_nothing_is_picked, report_log};
 pub use uc_tool_words::{OperatorName, Refusal};
+pub use uc_version_pick::Options;

@@ -1,11 +1,11 @@
 -- The lines of a log: what is written, and how far the log was read.
 use Rattle.std.specs.Prelude.{ℕ, List, [], ◌∷◌, ◌++◌, codes}
 use Rattle.std.specs.Fmt.{decimal}
-use Rattle.uc_write.specs.declared.op.Op.{Op}
-use Rattle.uc_write.specs.declared.op.Op.TheVariants.{Put, Delete, Merge, DeleteRange}
-use Rattle.uc_write.specs.declared.op_ref.OpKind.{OpKind}
-use Rattle.uc_write.specs.declared.op_ref.OpKind.TheVariants as kind
-use Rattle.uc_write.specs.declared.write.Write.{Write}
+use Rattle.uc_bytes.specs.declared.op.Op.{Op}
+use Rattle.uc_bytes.specs.declared.op.Op.TheVariants.{Put, Delete, Merge, DeleteRange}
+use Rattle.uc_bytes.specs.declared.op_ref.OpKind.{OpKind}
+use Rattle.uc_bytes.specs.declared.op_ref.OpKind.TheVariants as kind
+use Rattle.uc_bytes.specs.declared.write.Write.{Write}
 use Rattle.uc_logrec.specs.declared.fault.LogFault.{LogFault}
 use Rattle.uc_logrec.specs.declared.fault.LogFault.TheVariants as log
 use Rattle.uc_batch.specs.declared.ended.Ended.{Ended}

@@ -9,9 +9,9 @@ ghost use Rattle.uc_tool_log_lines.specs.LogLines.{op_text, write_line, batch_wo
 use crate::line::{numbered_line, push_counted};
 use std::alloc::{AllocError, Global};
 use uc_batch::{BatchError, BatchWrites, Ended};
+use uc_bytes::{OpKind, OpRef, WriteRef};
 use uc_logrec::LogFault;
 use uc_script::{push_hex, push_number};
-use uc_write::{OpKind, OpRef, WriteRef};
 
 /// What a kind of change is called, with a space before and after it.
 fn op_words(kind: OpKind) -> &'static [u8]

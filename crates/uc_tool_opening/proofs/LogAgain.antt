@@ -3,7 +3,7 @@ use Rattle.std.proofs.Common.{◌≡◌, ℕ, ◌+◌, ◌^◌, ◌<◌, ◌≤�
 use Rattle.std.specs.List.{AllByRecursion}
 use Rattle.std.proofs.lemmas.List.Elements.{recursion_from_All, All-cons, All-nil}
 use Rattle.std.proofs.lemmas.List.{drop_more}
-use Rattle.uc_write.specs.declared.op.Op.{Op}
+use Rattle.uc_bytes.specs.declared.op.Op.{Op}
 use Rattle.uc_logrec.specs.Log.{ending_of, log_text, IsReadAgain}
 use Rattle.uc_logrec.specs.declared.ending.Ending.TheVariants.{Clean}
 use Rattle.uc_batch.specs.declared.ended.Ended.TheVariants as ended

@@ -1,6 +1,6 @@
 -- A script's writes as a log: a batch for each write.
 use Rattle.std.specs.Prelude.{ℕ, ◌+◌, ◌≤◌, ◌^◌, List, [], ◌∷◌, length, All}
-use Rattle.uc_write.specs.declared.op.Op.{Op}
+use Rattle.uc_bytes.specs.declared.op.Op.{Op}
 use Rattle.uc_batch.specs.Spelling.{batch_text, FitsOp}
 
 -- a batch for each operation, the first with this sequence

@@ -5,22 +5,21 @@ ghost use Rattle.uc_logrec.specs.Log.{log_text};
 ghost use Rattle.uc_batch.specs.Batch.{numbered};
 ghost use Rattle.uc_batch.specs.Log.{log_writes};
 ghost use Rattle.uc_batch.specs.Rising.{IsRising};
-ghost use Rattle.uc_history.specs.Openings.{Opening, opened};
-ghost use Rattle.uc_opening.specs.Progress.{progress_of};
-ghost use Rattle.uc_opening.specs.Refusal.{opening_refusal};
-ghost use Rattle.uc_opening.specs.declared.open_error.OpenError.TheVariants.{Memory};
+ghost use Rattle.uc_version_state.specs.Openings.{Opening, opened};
+ghost use Rattle.uc_version_open.specs.Progress.{progress_of};
+ghost use Rattle.uc_version_open.specs.Refusal.{opening_refusal};
+ghost use Rattle.uc_version_open.specs.declared.open_error.OpenError.TheVariants.{Memory};
 ghost use Rattle.uc_tool_opening.specs.Opening.{batch_texts, FitsLog};
 
 use std::alloc::{AllocError, Global};
 use std::slice;
 use uc_batch::{write_batch, written_batch_is_read};
-use uc_history::Version;
+use uc_bytes::Op;
 use uc_logrec::{LogWriter, written_log_is_read};
-use uc_opening::{OpenError, Opener};
-use uc_pick::Options;
-use uc_recovery::{Recovered, recover};
 use uc_script::{Keeps, Ops};
-use uc_write::Op;
+use uc_version_open::{OpenError, Opener, Recovered, recover};
+use uc_version_pick::Options;
+use uc_version_state::Version;
 
 /// Writes the operations as a log, a batch for each, numbered from 1.
 fn write_log(alloc: Global, ops: &[Op]) -> Result<Vec<u8>, AllocError>

@@ -3,11 +3,11 @@ use Rattle.std.proofs.Common.{◌≡◌, ℕ, suc, List, [], ◌∷◌, All, len
 use Rattle.uc_oper.specs.Operation.{Operation}
 use Rattle.uc_script.specs.Names.{NameIsGood}
 use Rattle.uc_script.specs.declared.call.Call.{Call}
-use Rattle.uc_workers.specs.declared.ask_error.AskError.{AskError}
+use Rattle.uc_query_workers.specs.declared.ask_error.AskError.{AskError}
 use Rattle.uc_query.specs.Names.{State}
 use Rattle.uc_query.specs.Running.{run_of, unless_error}
 use Rattle.uc_query.specs.Turns.{Turn}
-use Rattle.uc_lines.specs.ReplyLines.{reply_lines}
+use Rattle.uc_tool_lines.specs.ReplyLines.{reply_lines}
 use Rattle.uc_tool_play.specs.Play.{call_of, replies_of}
 use Rattle.uc_tool_play.specs.Turn.{Turns}
 

@@ -5,19 +5,19 @@ use Rattle.std.specs.Prelude.{Option, None, IsOk}
 use Rattle.std.specs.List.{AllByRecursion, AllZip, flat_map}
 use Rattle.std.proofs.lemmas.List.{append-nil}
 use Rattle.uc_oper.specs.Operation.{Operation}
-use Rattle.uc_write.specs.declared.write.Write.{Write}
-use Rattle.uc_answer.specs.declared.answer.Answer.{Answer}
-use Rattle.uc_answer.specs.Answers.{answer_of}
-use Rattle.uc_answer.specs.declared.query.Query.TheVariants as query
+use Rattle.uc_bytes.specs.declared.write.Write.{Write}
+use Rattle.uc_query_answer.specs.declared.answer.Answer.{Answer}
+use Rattle.uc_query_answer.specs.Answers.{answer_of}
+use Rattle.uc_query_answer.specs.declared.query.Query.TheVariants as query
 use Rattle.uc_claims.specs.Holding.{AreDistinct}
-use Rattle.uc_pick.specs.declared.options.Options.{Options}
-use Rattle.uc_pick.specs.Options.{are_good}
-use Rattle.uc_history.specs.Versions.{Stored, IsVersion}
+use Rattle.uc_version_pick.specs.declared.options.Options.{Options}
+use Rattle.uc_version_pick.specs.Options.{are_good}
+use Rattle.uc_version_state.specs.Versions.{Stored, IsVersion}
 use Rattle.uc_version.specs.declared.held_stretch.HeldStretch.{HeldStretch}
 use Rattle.uc_version.specs.declared.held_stretch.TheConstants.{MOST_CLAIMS}
 use Rattle.uc_version.specs.Owners.{Owner, IsOwner, Stands, slots_held, unclaimed}
 use Rattle.uc_version.specs.Claiming.{Claim as HeldClaim}
-use Rattle.uc_workers.specs.declared.ask_error.AskError.{AskError}
+use Rattle.uc_query_workers.specs.declared.ask_error.AskError.{AskError}
 use Rattle.uc_query.specs.Names.{State, IsNamedHeld, AreHeld, numbers_of}
 use Rattle.uc_query.specs.Turns.{Turn, turn_of}
 use Rattle.uc_query.specs.Running.{run_of, unless_error, unnamed}
@@ -27,8 +27,8 @@ use Rattle.uc_query.specs.declared.reply.Reply.{Reply}
 use Rattle.uc_query.specs.declared.reply.Reply.TheVariants.{Answers}
 use Rattle.uc_script.specs.declared.call.Call.{Call}
 use Rattle.uc_script.specs.declared.call.Call.TheVariants.{Get, Scan, Claim, Install, Abandon, Compact, Pick, Report}
-use Rattle.uc_lines.specs.AnswerLines.{answer_lines}
-use Rattle.uc_lines.specs.ReplyLines.{reply_lines}
+use Rattle.uc_tool_lines.specs.AnswerLines.{answer_lines}
+use Rattle.uc_tool_lines.specs.ReplyLines.{reply_lines}
 use Rattle.uc_tool_play.specs.Play.{call_of, seq_at}
 use Rattle.uc_tool_play.specs.Reading.{IsRead}
 

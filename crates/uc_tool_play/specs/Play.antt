@@ -2,19 +2,19 @@
 use Rattle.std.specs.Prelude.{ℕ, List, [], ◌∷◌, map, codes, Option, Some, None, Result, Ok, Err}
 use Rattle.uc_oper.specs.Operation.{Operation}
 use Rattle.uc_batch.specs.Batch.{numbered}
-use Rattle.uc_answer.specs.declared.query.Query.{Query}
-use Rattle.uc_answer.specs.declared.query.Query.TheVariants as query
+use Rattle.uc_query_answer.specs.declared.query.Query.{Query}
+use Rattle.uc_query_answer.specs.declared.query.Query.TheVariants as query
 use Rattle.uc_script.specs.Script.{script_of}
 use Rattle.uc_script.specs.declared.call.Call.{Call}
 use Rattle.uc_script.specs.declared.call.Call.TheVariants.{Get, Scan, Claim, Install, Abandon, Compact, Pick, Report}
 use Rattle.uc_script.specs.declared.script.Script.{Script}
 use Rattle.uc_script.specs.declared.seq.Seq.{Seq}
 use Rattle.uc_script.specs.declared.seq.Seq.TheVariants.{Number, Last}
-use Rattle.uc_pick.specs.declared.options.Options.{Options}
-use Rattle.uc_history.specs.Versions.{Stored}
-use Rattle.uc_history.specs.Openings.{Opening, opened}
-use Rattle.uc_opening.specs.Refusal.{opening_refusal}
-use Rattle.uc_opening.specs.declared.open_error.OpenError.{OpenError}
+use Rattle.uc_version_pick.specs.declared.options.Options.{Options}
+use Rattle.uc_version_state.specs.Versions.{Stored}
+use Rattle.uc_version_state.specs.Openings.{Opening, opened}
+use Rattle.uc_version_open.specs.Refusal.{opening_refusal}
+use Rattle.uc_version_open.specs.declared.open_error.OpenError.{OpenError}
 use Rattle.uc_version.specs.Owners.{unclaimed}
 use Rattle.uc_query.specs.Names.{State}
 use Rattle.uc_query.specs.Running.{run_of, unnamed}
@@ -22,7 +22,7 @@ use Rattle.uc_query.specs.declared.call.Call.{Call as StoreCall}
 use Rattle.uc_query.specs.declared.call.Call.TheVariants as store
 use Rattle.uc_tool_log_lines.specs.Line.{numbered_line}
 use Rattle.uc_tool_opening.specs.Refusals.{opening_refusal_line}
-use Rattle.uc_lines.specs.ReplyLines.{reply_lines}
+use Rattle.uc_tool_lines.specs.ReplyLines.{reply_lines}
 use Rattle.uc_tool_io.specs.Output.{Output, refused}
 use Rattle.uc_tool_io.specs.declared.done.Done.TheVariants.{Fine}
 

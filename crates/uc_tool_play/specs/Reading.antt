@@ -1,12 +1,12 @@
 -- The replies to a script's reads.
 use Rattle.std.specs.Prelude.{◌≡◌, ℕ, ⊤, List}
 use Rattle.uc_oper.specs.Operation.{Operation}
-use Rattle.uc_write.specs.declared.write.Write.{Write}
-use Rattle.uc_answer.specs.Answers.{answer_of}
-use Rattle.uc_answer.specs.declared.query.Query.TheVariants as query
+use Rattle.uc_bytes.specs.declared.write.Write.{Write}
+use Rattle.uc_query_answer.specs.Answers.{answer_of}
+use Rattle.uc_query_answer.specs.declared.query.Query.TheVariants as query
 use Rattle.uc_script.specs.declared.call.Call.{Call}
 use Rattle.uc_script.specs.declared.call.Call.TheVariants.{Get, Scan, Claim, Install, Abandon, Compact, Pick, Report}
-use Rattle.uc_lines.specs.AnswerLines.{answer_lines}
+use Rattle.uc_tool_lines.specs.AnswerLines.{answer_lines}
 use Rattle.uc_tool_play.specs.Play.{seq_at}
 
 -- the lines of a read are those of the answer from these writes alone, which know no run and no compaction

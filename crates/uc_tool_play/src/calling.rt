@@ -15,13 +15,13 @@ use std::io::Write;
 use std::marker::Sync;
 use std::thread::Threads;
 use uc_bytes::Items;
-use uc_lines::reply_lines;
 use uc_oper::Operator;
-use uc_pick::Stretch;
 use uc_query::{AskError, NamedClaims, Query};
 use uc_script::{Call, Seq};
 use uc_tool_io::{RunError, write_bytes};
+use uc_tool_lines::reply_lines;
 use uc_version::Owned;
+use uc_version_pick::Stretch;
 
 /// The sequence that a script names.
 fn seq_at(last: u64, at: Seq) -> u64

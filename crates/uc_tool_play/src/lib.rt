@@ -6,7 +6,7 @@
 //! compacted and installed in between, they are answered from the plain writes alone.
 //!
 //! Read `specs/Play.antt` first, then `playing.rt` and, for the calls, `calling.rt`; `specs/Reading.antt` and `laws.rt` have
-//! the law. Opening and refusing stand in `uc_tool_opening`, the lines of replies in `uc_lines`.
+//! the law. Opening and refusing stand in `uc_tool_opening`, the lines of replies in `uc_tool_lines`.
 #![tactic(auto)]
 
 mod calling;

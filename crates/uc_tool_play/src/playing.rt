@@ -4,7 +4,7 @@ ghost use Rattle.std.specs.Prelude.{◌≡◌, ◌≤◌, All, Ok, true, vec_len
 ghost use Rattle.uc_script.specs.Names.{NameIsGood};
 ghost use Rattle.uc_script.specs.Reading.{Gives};
 ghost use Rattle.uc_script.specs.Script.{script_of};
-ghost use Rattle.uc_pick.specs.Options.{are_good};
+ghost use Rattle.uc_version_pick.specs.Options.{are_good};
 ghost use Rattle.uc_tool_io.specs.declared.input.TheConstants.{INPUT_LIMIT};
 ghost use Rattle.uc_tool_opening.specs.Opening.{FitsLog};
 ghost use Rattle.uc_tool_play.specs.Play.{output_of, script_output, play_of};
@@ -15,10 +15,7 @@ use std::alloc::Global;
 use std::io::{Read, Write};
 use std::marker::Sync;
 use std::thread::Threads;
-use uc_history::Version;
-use uc_opening::OpenError;
 use uc_oper::Operator;
-use uc_pick::Options;
 use uc_script::{
     Call, Script, ScriptError, a_script_names_no_more_than_it_has, names_are_in_range, read_script,
 };
@@ -28,6 +25,9 @@ use uc_tool_io::{
 use uc_tool_log_lines::numbered_line;
 use uc_tool_opening::{open_ops, print_refused_opening};
 use uc_version::Owned;
+use uc_version_open::OpenError;
+use uc_version_pick::Options;
+use uc_version_state::Version;
 
 /// Reads a script, and lets go of its text.
 fn script_in(alloc: Global, input: Vec<u8>) -> Result<Script, ScriptError>

@@ -4,14 +4,14 @@ use Rattle.std.specs.Prelude.{Option, Some, None}
 use Rattle.std.proofs.lemmas.Bool.{ltb-true, false≢true}
 use Rattle.std.proofs.lemmas.List.{length-map, length-append, length-take, length-drop}
 use Rattle.uc_oper.specs.Operation.{Operation}
-use Rattle.uc_pick.specs.declared.stretch.Stretch.{Stretch}
-use Rattle.uc_pick.specs.declared.options.Options.{Options}
-use Rattle.uc_pick.specs.declared.candidate.Candidate.{Candidate}
-use Rattle.uc_pick.specs.Options.{are_good}
-use Rattle.uc_pick.specs.Picks.{picked}
-use Rattle.uc_stripe.specs.Inputs.{Compaction, Stand}
-use Rattle.uc_history.specs.Versions.{PlacedRun, Stored}
-use Rattle.uc_history.specs.Installs.{Install, MayInstall, installed, place_in, inputs_in, slot_of}
+use Rattle.uc_version_pick.specs.declared.stretch.Stretch.{Stretch}
+use Rattle.uc_version_pick.specs.declared.options.Options.{Options}
+use Rattle.uc_version_pick.specs.declared.candidate.Candidate.{Candidate}
+use Rattle.uc_version_pick.specs.Options.{are_good}
+use Rattle.uc_version_pick.specs.Picks.{picked}
+use Rattle.uc_compact_rules.specs.Inputs.{Compaction, Stand}
+use Rattle.uc_version_state.specs.Versions.{PlacedRun, Stored}
+use Rattle.uc_version_state.specs.Installs.{Install, MayInstall, installed, place_in, inputs_in, slot_of}
 use Rattle.uc_version.specs.declared.claim_error.ClaimError.{ClaimError}
 use Rattle.uc_version.specs.Owners.{Owner, IsOwner, is_busy}
 use Rattle.uc_version.specs.Picking.{candidate_of, candidates_of}

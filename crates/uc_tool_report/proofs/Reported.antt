@@ -3,13 +3,13 @@ use Rattle.std.proofs.Common.{◌≡◌, ℕ, Bool, true, false, List, [], ◌�
 use Rattle.std.specs.Prelude.{OnOk, OnErr, IfErr}
 use Rattle.std.specs.Io.KnownBytes.{Appends}
 use Rattle.uc_oper.specs.Operation.{Operation}
-use Rattle.uc_write.specs.declared.write.Write.{Write}
+use Rattle.uc_bytes.specs.declared.write.Write.{Write}
 use Rattle.uc_batch.specs.Rising.{last_of}
-use Rattle.uc_pick.specs.Options.{are_good}
-use Rattle.uc_pick.specs.declared.options.Options.{Options}
-use Rattle.uc_history.specs.Versions.{Stored}
-use Rattle.uc_history.specs.Openings.{Opening, opened, memtables}
-use Rattle.uc_opening.specs.Refusal.{opening_refusal, first_refusal, first_ahead, are_few}
+use Rattle.uc_version_pick.specs.Options.{are_good}
+use Rattle.uc_version_pick.specs.declared.options.Options.{Options}
+use Rattle.uc_version_state.specs.Versions.{Stored}
+use Rattle.uc_version_state.specs.Openings.{Opening, opened, memtables}
+use Rattle.uc_version_open.specs.Refusal.{opening_refusal, first_refusal, first_ahead, are_few}
 use Rattle.uc_version.specs.Owners.{Owner, unclaimed}
 use Rattle.uc_tool_io.specs.Writing.{AppendsFront}
 use Rattle.uc_tool_io.specs.Output.{joined, Stops, Prints}

@@ -1,14 +1,14 @@
 -- A report on a log prints all of its output.
 use Rattle.std.proofs.Common.{ℕ, List, [], Option, Some, None}
 use Rattle.uc_oper.specs.Operation.{Operation}
-use Rattle.uc_write.specs.declared.write.Write.{Write}
+use Rattle.uc_bytes.specs.declared.write.Write.{Write}
 use Rattle.uc_batch.specs.Log.{log_writes}
 use Rattle.uc_batch.specs.declared.ended.Ended.{Ended}
 use Rattle.uc_batch.specs.declared.ended.Ended.TheVariants as ended
-use Rattle.uc_history.specs.Openings.{Opening}
-use Rattle.uc_opening.specs.Refusal.{opening_refusal}
-use Rattle.uc_opening.specs.declared.open_error.OpenError.{OpenError}
-use Rattle.uc_pick.specs.declared.options.Options.{Options}
+use Rattle.uc_version_state.specs.Openings.{Opening}
+use Rattle.uc_version_open.specs.Refusal.{opening_refusal}
+use Rattle.uc_version_open.specs.declared.open_error.OpenError.{OpenError}
+use Rattle.uc_version_pick.specs.declared.options.Options.{Options}
 use Rattle.uc_tool_io.specs.Ending.{IsWhole}
 use Rattle.uc_tool_report.specs.Report.{unless_refused, of_writes, unless_faulty, report_of}
 

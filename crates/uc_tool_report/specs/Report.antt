@@ -1,19 +1,19 @@
 -- What the report on a log prints.
 use Rattle.std.specs.Prelude.{ℕ, zero, suc, List, [], ◌∷◌, ◌++◌, length, Option, Some, None}
 use Rattle.uc_oper.specs.Operation.{Operation}
-use Rattle.uc_write.specs.declared.write.Write.{Write}
+use Rattle.uc_bytes.specs.declared.write.Write.{Write}
 use Rattle.uc_batch.specs.Log.{log_writes}
 use Rattle.uc_batch.specs.WriteLog.{WriteLog}
 use Rattle.uc_batch.specs.declared.ended.Ended.{Ended}
 use Rattle.uc_batch.specs.declared.ended.Ended.TheVariants as ended
-use Rattle.uc_pick.specs.Picks.{picked}
-use Rattle.uc_pick.specs.declared.options.Options.{Options}
-use Rattle.uc_pick.specs.declared.stretch.Stretch.{Stretch}
-use Rattle.uc_history.specs.Versions.{Stored}
-use Rattle.uc_history.specs.Openings.{Opening, opened}
-use Rattle.uc_opening.specs.Refusal.{opening_refusal}
-use Rattle.uc_opening.specs.declared.open_error.OpenError.{OpenError}
-use Rattle.uc_report.specs.Reports as reports
+use Rattle.uc_version_pick.specs.Picks.{picked}
+use Rattle.uc_version_pick.specs.declared.options.Options.{Options}
+use Rattle.uc_version_pick.specs.declared.stretch.Stretch.{Stretch}
+use Rattle.uc_version_state.specs.Versions.{Stored}
+use Rattle.uc_version_state.specs.Openings.{Opening, opened}
+use Rattle.uc_version_open.specs.Refusal.{opening_refusal}
+use Rattle.uc_version_open.specs.declared.open_error.OpenError.{OpenError}
+use Rattle.uc_query.specs.Reports as reports
 use Rattle.uc_version.specs.Owners.{Owner, is_busy, unclaimed}
 use Rattle.uc_version.specs.Picking.{candidates_of}
 use Rattle.uc_version.specs.Claiming.{claim_refusal}
@@ -22,8 +22,8 @@ use Rattle.uc_query.specs.Running.{unnamed}
 use Rattle.uc_query.specs.Turns.{Turn, compact_turn}
 use Rattle.uc_query.specs.declared.reply.Reply.{Reply}
 use Rattle.uc_query.specs.declared.reply.Reply.TheVariants.{Compacted}
-use Rattle.uc_lines.specs.ReplyLines.{reply_lines, compacted_line}
-use Rattle.uc_lines.specs.ReportLines.{report_lines}
+use Rattle.uc_tool_lines.specs.ReplyLines.{reply_lines, compacted_line}
+use Rattle.uc_tool_lines.specs.ReportLines.{report_lines}
 use Rattle.uc_tool_io.specs.Output.{Output, refused}
 use Rattle.uc_tool_opening.specs.Refusals.{opening_refusal_line, bad_log}
 use Rattle.uc_tool_io.specs.declared.done.Done.TheVariants.{Fine}

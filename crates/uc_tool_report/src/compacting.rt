@@ -11,10 +11,10 @@ use std::alloc::{AllocError, Global};
 use std::io::Write;
 use std::marker::Sync;
 use std::thread::Threads;
-use uc_lines::{compacted_line, reply_lines};
 use uc_oper::Operator;
 use uc_query::{AskError, Call, NamedClaims, Reply};
 use uc_tool_io::{RunError, write_bytes};
+use uc_tool_lines::{compacted_line, reply_lines};
 use uc_version::Owned;
 
 /// What is done next.

@@ -5,11 +5,11 @@ ghost use Rattle.uc_query.specs.Turns.{has_id};
 ghost use Rattle.uc_tool_report.specs.Report.{compactions_of, pick_of};
 
 use uc_oper::Operator;
-use uc_pick::picks_are_unclaimed_runs;
 use uc_version::{
     claims_are_held, claims_can_be_compacted, installs_are_events, owners_stay_owners,
     picks_can_be_claimed,
 };
+use uc_version_pick::picks_are_unclaimed_runs;
 
 /// The compactions of a report end because universal compaction picks nothing more, or because no id is left for another run.
 pub fn compactions_end_where_nothing_is_picked<O: Operator>()

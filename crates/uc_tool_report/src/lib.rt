@@ -6,7 +6,7 @@
 //! more is picked, or no id is left.
 //!
 //! Read `specs/Report.antt` first, then `reporting.rt` and, for the loop of compactions, `compacting.rt` with
-//! `specs/Compacting.antt`. Recovering and refusing stand in `uc_tool_opening`, the lines of reports in `uc_lines`.
+//! `specs/Compacting.antt`. Recovering and refusing stand in `uc_tool_opening`, the lines of reports in `uc_tool_lines`.
 #![tactic(auto)]
 
 mod compacting;

@@ -2,9 +2,9 @@
 
 ghost use Rattle.std.specs.Prelude.{◌≡◌, [], ◌∷◌, List, true, IfOk, IfSome};
 ghost use Rattle.uc_batch.specs.Rising.{IsRising};
-ghost use Rattle.uc_opening.specs.Progress.{progress_of};
-ghost use Rattle.uc_pick.specs.Options.{are_good};
-ghost use Rattle.uc_write.specs.declared.write.Write.{Write as WriteOf};
+ghost use Rattle.uc_version_open.specs.Progress.{progress_of};
+ghost use Rattle.uc_version_pick.specs.Options.{are_good};
+ghost use Rattle.uc_bytes.specs.declared.write.Write.{Write as WriteOf};
 ghost use Rattle.uc_version.specs.Owners.{unclaimed};
 ghost use Rattle.uc_tool_report.specs.Report.{store_lines, output_of, of_writes, report_of};
 ghost use Rattle.uc_tool_io.specs.Output.{Prints, HasWritten};
@@ -15,16 +15,15 @@ use std::io::{Read, Write};
 use std::marker::Sync;
 use std::thread::Threads;
 use uc_batch::Ended;
-use uc_history::Version;
-use uc_lines::report_lines;
-use uc_opening::{OpenError, Opener};
 use uc_oper::Operator;
-use uc_pick::Options;
-use uc_recovery::Recovered;
-use uc_report::report;
+use uc_query::report;
 use uc_tool_io::{Done, RunError, finish, finish_without_input, read_input, write_bytes};
+use uc_tool_lines::report_lines;
 use uc_tool_opening::{print_bad_log, print_refused_opening, recover_log};
 use uc_version::Owned;
+use uc_version_open::{OpenError, Opener, Recovered};
+use uc_version_pick::Options;
+use uc_version_state::Version;
 
 /// Prints what a version holds.
 fn print_report<W: Write>(

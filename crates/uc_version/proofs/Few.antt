@@ -6,9 +6,9 @@ use Rattle.std.proofs.lemmas.List.{length-map, length-take, length-drop}
 use Rattle.uc_claims.specs.Claims.{times}
 use Rattle.uc_claims.specs.Holding.{without}
 use Rattle.uc_claims.proofs.Times.{times-append, times-cons, one_same, times-distinct, times-without_other, times-without_same}
-use Rattle.uc_history.specs.Versions.{PlacedRun, Stored, IsVersion, slots_of}
-use Rattle.uc_history.specs.Installs.{part_of}
-use Rattle.uc_history.proofs.Once.{alone, times_of_all}
+use Rattle.uc_version_state.specs.Versions.{PlacedRun, Stored, IsVersion, slots_of}
+use Rattle.uc_version_state.specs.Installs.{part_of}
+use Rattle.uc_version_state.proofs.Once.{alone, times_of_all}
 use Rattle.uc_claims.specs.declared.table.TheConstants.{MOST_SLOTS}
 
 one_itself : (x k : ℕ) → x ≡ k → times k (x ∷ []) ≡ 1

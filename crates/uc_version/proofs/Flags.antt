@@ -7,7 +7,7 @@ use Rattle.std.proofs.lemmas.Bool.Decides.{nat_tests}
 use Rattle.uc_claims.specs.Claims.{times}
 use Rattle.uc_claims.specs.Holding.{IsFirstHeld}
 use Rattle.uc_claims.proofs.Times.{times-append, times-from_Contains, Contains-from_times, list_any-times}
-use Rattle.uc_history.specs.Versions.{PlacedRun, slots_of}
+use Rattle.uc_version_state.specs.Versions.{PlacedRun, slots_of}
 use Rattle.uc_version.specs.Claiming.{first_busy}
 use Rattle.uc_version.proofs.HeldClaims.{none_held}
 

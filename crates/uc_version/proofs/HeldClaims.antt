@@ -9,10 +9,10 @@ use Rattle.uc_claims.specs.Claims.{times}
 use Rattle.uc_claims.specs.Holding.{AreDistinct, NoneHeld}
 use Rattle.uc_claims.specs.declared.table.TheConstants.{MOST_SLOTS}
 use Rattle.uc_claims.proofs.Times.{times-append, times-distinct, Contains-from_times}
-use Rattle.uc_history.specs.Versions.{PlacedRun, Stored, IsVersion, slots_of}
-use Rattle.uc_history.specs.Installs.{part_of}
-use Rattle.uc_history.proofs.Once.{times_of_all, distinct-from_times, all-from_times}
-use Rattle.uc_history.proofs.Parts.{in_parts}
+use Rattle.uc_version_state.specs.Versions.{PlacedRun, Stored, IsVersion, slots_of}
+use Rattle.uc_version_state.specs.Installs.{part_of}
+use Rattle.uc_version_state.proofs.Once.{times_of_all, distinct-from_times, all-from_times}
+use Rattle.uc_version_state.proofs.Parts.{in_parts}
 use Rattle.uc_version.specs.declared.held_stretch.HeldStretch.{HeldStretch}
 use Rattle.uc_version.specs.Owners.{Owner, IsOwner, Stands, slots_held, claimed_slots}
 use Rattle.uc_version.specs.Claiming.{free_number}

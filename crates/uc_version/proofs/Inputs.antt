@@ -1,8 +1,8 @@
 -- Runs that were compacted, one by one beside those that are claimed.
 use Rattle.std.proofs.Common.{◌≡◌, ℕ, zero, suc, ◌+◌, ◌-◌, ◌<◌, List, [], ◌∷◌, ◌++◌, length, get_or, take, map, refl, sym, ap, ◌∙◌, arith}
 use Rattle.std.proofs.lemmas.List.{map-append, take_more, length-map}
-use Rattle.uc_entry.specs.Run.{Contents}
-use Rattle.uc_history.specs.Versions.{PlacedRun, contents_of, ids_of}
+use Rattle.uc_run_entry.specs.Run.{Contents}
+use Rattle.uc_version_state.specs.Versions.{PlacedRun, contents_of, ids_of}
 use Rattle.uc_version.specs.Owners.{last_id}
 
 at_map : {X Y : Type 0} (f : X → Y) (xs : List X) (i : ℕ) (y : Y) (d : X) → i < length xs → get_or (map f xs) i y ≡ f (get_or xs i d)

@@ -3,10 +3,10 @@ use Rattle.std.proofs.Common.{◌≡◌, ◌≢◌, ℕ, Bool, true, false, eqb,
 use Rattle.std.specs.Prelude.{Option, Some, None}
 use Rattle.std.proofs.lemmas.Bool.Decides.{nat_tests}
 use Rattle.uc_oper.specs.Operation.{Operation}
-use Rattle.uc_stripe.specs.Inputs.{Compaction}
-use Rattle.uc_stripe.specs.Output.{output_of}
-use Rattle.uc_history.specs.Versions.{PlacedRun, Stored, ids_of}
-use Rattle.uc_history.specs.Installs.{newest_id}
+use Rattle.uc_compact_rules.specs.Inputs.{Compaction}
+use Rattle.uc_compact_rules.specs.Output.{output_of}
+use Rattle.uc_version_state.specs.Versions.{PlacedRun, Stored, ids_of}
+use Rattle.uc_version_state.specs.Installs.{newest_id}
 use Rattle.uc_version.specs.declared.held_stretch.HeldStretch.{HeldStretch}
 use Rattle.uc_version.specs.Owners.{Owner, IsOwner, NotesItsRuns, Stands, last_id, runs_held, claimed_slots}
 use Rattle.uc_version.specs.Claiming.{Claim, has_ids, is_held}

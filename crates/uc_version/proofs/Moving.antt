@@ -9,10 +9,10 @@ use Rattle.std.proofs.Math.Seq.{drop-append-add}
 use Rattle.uc_claims.specs.Claims.{times}
 use Rattle.uc_claims.specs.Holding.{without}
 use Rattle.uc_claims.proofs.Times.{times-append, times-from_Contains}
-use Rattle.uc_entry.specs.Run.{Contents}
-use Rattle.uc_history.specs.Versions.{PlacedRun, Stored, IsVersion, ids_of, slots_of}
-use Rattle.uc_history.specs.Installs.{part_of, newest_id, slot_of, replaced}
-use Rattle.uc_history.proofs.Once.{distinct-from_times}
+use Rattle.uc_run_entry.specs.Run.{Contents}
+use Rattle.uc_version_state.specs.Versions.{PlacedRun, Stored, IsVersion, ids_of, slots_of}
+use Rattle.uc_version_state.specs.Installs.{part_of, newest_id, slot_of, replaced}
+use Rattle.uc_version_state.proofs.Once.{distinct-from_times}
 use Rattle.uc_version.specs.declared.held_stretch.HeldStretch.{HeldStretch}
 use Rattle.uc_version.specs.Owners.{Owner, IsOwner, last_id, Stands, runs_held, slots_held, claimed_slots}
 use Rattle.uc_version.specs.Installing.{moved_up}

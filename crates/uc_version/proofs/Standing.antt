@@ -2,11 +2,11 @@
 use Rattle.std.proofs.Common.{◌≡◌, ℕ, ◌+◌, ◌≤◌, Bool, List, [], ◌∷◌, ◌++◌, length, take, drop, map, refl, sym, ap, ◌∙◌, subst, arith}
 use Rattle.std.specs.List.{AllByRecursion}
 use Rattle.std.proofs.lemmas.List.{map-append}
-use Rattle.uc_entry.specs.Run.{Contents}
-use Rattle.uc_stripe.specs.Inputs.{AreNewestFirst, Stand}
-use Rattle.uc_history.specs.Versions.{PlacedRun, Stored, IsVersion, contents_of, slots_of}
-use Rattle.uc_history.specs.Installs.{part_of}
-use Rattle.uc_history.proofs.Parts.{in_parts, first-front, first-behind}
+use Rattle.uc_run_entry.specs.Run.{Contents}
+use Rattle.uc_compact_rules.specs.Inputs.{AreNewestFirst, Stand}
+use Rattle.uc_version_state.specs.Versions.{PlacedRun, Stored, IsVersion, contents_of, slots_of}
+use Rattle.uc_version_state.specs.Installs.{part_of}
+use Rattle.uc_version_state.proofs.Parts.{in_parts, first-front, first-behind}
 use Rattle.uc_version.specs.Picking.{candidate_of}
 use Rattle.uc_version.proofs.HeldClaims.{part_length}
 

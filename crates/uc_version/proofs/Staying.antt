@@ -11,13 +11,13 @@ use Rattle.uc_oper.specs.Operation.{Operation}
 use Rattle.uc_claims.specs.Claims.{times}
 use Rattle.uc_claims.specs.Holding.{NoneHeld}
 use Rattle.uc_claims.proofs.Times.{times-cons, one_same, times-from_Contains, list_any-times}
-use Rattle.uc_pick.specs.declared.stretch.Stretch.{Stretch}
-use Rattle.uc_stripe.specs.Inputs.{Compaction, Stand}
-use Rattle.uc_stripe.specs.Output.{output_of}
-use Rattle.uc_history.specs.Versions.{Stored, IsVersion, ids_of, slots_of}
-use Rattle.uc_history.specs.Installs.{Install, MayInstall, Terms, NothingBelow, terms_of, behind, part_of, installed}
-use Rattle.uc_history.specs.Refusals.{AreInPlace, first_unknown}
-use Rattle.uc_history.proofs.Found.{standing_is, behind_is}
+use Rattle.uc_version_pick.specs.declared.stretch.Stretch.{Stretch}
+use Rattle.uc_compact_rules.specs.Inputs.{Compaction, Stand}
+use Rattle.uc_compact_rules.specs.Output.{output_of}
+use Rattle.uc_version_state.specs.Versions.{Stored, IsVersion, ids_of, slots_of}
+use Rattle.uc_version_state.specs.Installs.{Install, MayInstall, Terms, NothingBelow, terms_of, behind, part_of, installed}
+use Rattle.uc_version_state.specs.Refusals.{AreInPlace, first_unknown}
+use Rattle.uc_version_state.proofs.Found.{standing_is, behind_is}
 use Rattle.uc_version.specs.declared.held_stretch.HeldStretch.{HeldStretch}
 use Rattle.uc_version.specs.declared.claim_error.ClaimError.{ClaimError}
 use Rattle.uc_version.specs.declared.claim_error.ClaimError.TheVariants.{Busy}

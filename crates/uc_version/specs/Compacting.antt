@@ -1,14 +1,14 @@
 -- Compactions of stretches, and what is installed in place of claimed runs, whoever claims them.
 use Rattle.std.specs.Prelude.{◌≡◌, ℕ, ◌+◌, ◌==◌, Some, List, length}
 use Rattle.uc_oper.specs.Operation.{Operation}
-use Rattle.uc_stripe.specs.Inputs.{Compaction}
-use Rattle.uc_stripe.specs.Output.{output_of}
-use Rattle.uc_pick.specs.declared.stretch.Stretch.{Stretch}
-use Rattle.uc_history.specs.Versions.{PlacedRun, Stored, contents_of, ids_of}
-use Rattle.uc_history.specs.Installs.{Install, KeepsKnown, NothingBelow, IdLeft, part_of, behind, terms_of}
-use Rattle.uc_history.specs.Refusals.{AreInPlace, AreReplaceable, first_unknown}
-use Rattle.uc_history.specs.declared.refusal.Refusal.{Refusal}
-use Rattle.uc_history.specs.declared.refusal.Refusal.TheVariants as refusal
+use Rattle.uc_compact_rules.specs.Inputs.{Compaction}
+use Rattle.uc_compact_rules.specs.Output.{output_of}
+use Rattle.uc_version_pick.specs.declared.stretch.Stretch.{Stretch}
+use Rattle.uc_version_state.specs.Versions.{PlacedRun, Stored, contents_of, ids_of}
+use Rattle.uc_version_state.specs.Installs.{Install, KeepsKnown, NothingBelow, IdLeft, part_of, behind, terms_of}
+use Rattle.uc_version_state.specs.Refusals.{AreInPlace, AreReplaceable, first_unknown}
+use Rattle.uc_version_state.specs.declared.refusal.Refusal.{Refusal}
+use Rattle.uc_version_state.specs.declared.refusal.Refusal.TheVariants as refusal
 use Rattle.uc_version.specs.declared.install_error.InstallError.{InstallError}
 use Rattle.uc_version.specs.declared.install_error.InstallError.TheVariants.{WrongInputs, WrongKeeps, Stale, IdsSpent, Memory}
 

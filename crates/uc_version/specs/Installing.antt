@@ -1,12 +1,12 @@
 -- Installs of what was compacted of claimed stretches.
 use Rattle.std.specs.Prelude.{◌≢◌, ℕ, ◌-◌, List, Option, Some, None, map, nat_lt, if◌then◌else◌}
 use Rattle.uc_oper.specs.Operation.{Operation}
-use Rattle.uc_stripe.specs.Inputs.{Compaction}
-use Rattle.uc_stripe.specs.Output.{output_of}
-use Rattle.uc_pick.specs.declared.stretch.Stretch.{Stretch}
-use Rattle.uc_history.specs.Versions.{PlacedRun, Stored}
-use Rattle.uc_history.specs.Installs as installs
-use Rattle.uc_history.specs.Installs.{Install, replaced}
+use Rattle.uc_compact_rules.specs.Inputs.{Compaction}
+use Rattle.uc_compact_rules.specs.Output.{output_of}
+use Rattle.uc_version_pick.specs.declared.stretch.Stretch.{Stretch}
+use Rattle.uc_version_state.specs.Versions.{PlacedRun, Stored}
+use Rattle.uc_version_state.specs.Installs as installs
+use Rattle.uc_version_state.specs.Installs.{Install, replaced}
 use Rattle.uc_version.specs.declared.held_stretch.HeldStretch.{HeldStretch}
 use Rattle.uc_version.specs.declared.install_error.InstallError.{InstallError}
 use Rattle.uc_version.specs.declared.install_error.InstallError.TheVariants.{Stale}

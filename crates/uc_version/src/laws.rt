@@ -1,10 +1,10 @@
 //! What holds of owners.
 ghost use Rattle.std.specs.Prelude.{◌≡◌, ◌≢◌, ◌≤◌, List, Some, None, true, length};
-ghost use Rattle.uc_pick.specs.declared.stretch.Stretch.{Stretch};
-ghost use Rattle.uc_pick.specs.Picks.{picked};
-ghost use Rattle.uc_stripe.specs.Inputs.{Compaction, Stand};
-ghost use Rattle.uc_history.specs.Versions.{PlacedRun, Stored, contents_of, ids_of};
-ghost use Rattle.uc_history.specs.Installs.{MayInstall, installed, newest_id, standing};
+ghost use Rattle.uc_version_pick.specs.declared.stretch.Stretch.{Stretch};
+ghost use Rattle.uc_version_pick.specs.Picks.{picked};
+ghost use Rattle.uc_compact_rules.specs.Inputs.{Compaction, Stand};
+ghost use Rattle.uc_version_state.specs.Versions.{PlacedRun, Stored, contents_of, ids_of};
+ghost use Rattle.uc_version_state.specs.Installs.{MayInstall, installed, newest_id, standing};
 ghost use Rattle.uc_version.specs.Owners.{Owner, IsOwner, is_busy, last_id};
 ghost use Rattle.uc_version.specs.Picking.{candidates_of};
 ghost use Rattle.uc_version.specs.Claiming.{Claim, is_held, claim_refusal, claim_of, with_claim, without_claim};
@@ -13,9 +13,9 @@ ghost use Rattle.uc_version.specs.Installing.{stretch_of, claimed_runs, compacti
 ghost use Rattle.uc_version.specs.declared.install_error.InstallError.{InstallError};
 ghost use Rattle.uc_version.specs.declared.install_error.InstallError.TheVariants.{IdsSpent};
 
-use uc_history::install_gives_a_version;
 use uc_oper::Operator;
-use uc_pick::picks_are_unclaimed_runs;
+use uc_version_pick::picks_are_unclaimed_runs;
+use uc_version_state::install_gives_a_version;
 
 /// What was compacted of claimed runs, and is installable in a version where the runs with their ids are the same still, is an
 /// event that may happen to that version.

@@ -1,9 +1,9 @@
 //! The store in one owner's hands: which stretches of runs are compacted, and what is put in their place.
 //!
 //! An [`Owned`] has a version, and the claims of those who compact stretches of its runs. Read `specs/Owners.antt` first,
-//! then `specs/Claiming.antt` and `specs/Installing.antt`, and `owned.rt`. What holds of compactions of any version's runs, and of
-//! their installs, whoever claims them, stands in `specs/Compacting.antt`, `stretches.rt` and `refusal.rt`. What a version is stands in `uc_history`, and
-//! the picker in `uc_pick`; their public items are given out here too.
+//! then `specs/Claiming.antt` and `specs/Installing.antt`, and `owned.rt`. What holds of compactions of any version's runs,
+//! and of their installs, whoever claims them, stands in `specs/Compacting.antt`, `stretches.rt` and `refusal.rt`. What a
+//! version is stands in `uc_version_state`, and the picker in `uc_version_pick`; their public items are given out here too.
 #![tactic(auto)]
 
 mod claim_error;
@@ -35,6 +35,6 @@ pub use refusal::{are_inputs, install_refusal, present_refusal};
 pub use runs::{run_ids, stretch_runs};
 pub use stretches::{compact_stretch, install_event};
 pub use uc_claims::MOST_SLOTS;
-pub use uc_history::{Event, Install, Placed, Refusal, Version};
-pub use uc_opening::{OpenError, Opener, open_version};
-pub use uc_pick::{Candidate, Options, Stretch};
+pub use uc_version_open::{OpenError, Opener, open_version};
+pub use uc_version_pick::{Candidate, Options, Stretch};
+pub use uc_version_state::{Event, Install, Placed, Refusal, Version};

@@ -1,18 +1,18 @@
 //! Why what was compacted isn't installed in place of claimed runs.
 ghost use Rattle.std.specs.Prelude.{◌≡◌, ◌≤◌, ◌↔◌, IsTrue, IfSome, IfNone, length};
 ghost use Rattle.uc_claims.specs.declared.table.TheConstants.{MOST_SLOTS};
-ghost use Rattle.uc_history.specs.Versions as versions;
-ghost use Rattle.uc_history.specs.Versions.{contents_of};
-ghost use Rattle.uc_history.specs.Installs.{terms_of};
-ghost use Rattle.uc_history.specs.Refusals.{AreReplaceable, IsRefused};
+ghost use Rattle.uc_version_state.specs.Versions as versions;
+ghost use Rattle.uc_version_state.specs.Versions.{contents_of};
+ghost use Rattle.uc_version_state.specs.Installs.{terms_of};
+ghost use Rattle.uc_version_state.specs.Refusals.{AreReplaceable, IsRefused};
 ghost use Rattle.uc_version.specs.Compacting as compacting;
 ghost use Rattle.uc_version.specs.Compacting.{IsInstallable, IsNotInstallable};
 
 use crate::install_error::InstallError;
 use crate::runs::run_ids;
 use uc_compact::Compacted;
-use uc_history::{Placed, Refusal, Terms, Version};
 use uc_oper::Operator;
+use uc_version_state::{Placed, Refusal, Terms, Version};
 
 /// Whether these runs were compacted: as many, with the same points, fragments and ranges. It goes over their points.
 pub fn are_inputs<O: Operator>(made: &Compacted<O>, runs: &[Placed]) -> bool

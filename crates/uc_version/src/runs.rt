@@ -2,10 +2,10 @@
 ghost use Rattle.std.specs.Prelude.{◌≡◌, ◌+◌, ◌≤◌, Some, None, IfOk, IfErr, length, map, take};
 ghost use Rattle.std.specs.Arc.{arc_value};
 ghost use Rattle.uc_claims.specs.declared.table.TheConstants.{MOST_SLOTS};
-ghost use Rattle.uc_history.specs.Versions as versions;
-ghost use Rattle.uc_history.specs.Versions.{contents_of, ids_of};
-ghost use Rattle.uc_history.specs.Installs as installs;
-ghost use Rattle.uc_history.specs.Installs.{part_of};
+ghost use Rattle.uc_version_state.specs.Versions as versions;
+ghost use Rattle.uc_version_state.specs.Versions.{contents_of, ids_of};
+ghost use Rattle.uc_version_state.specs.Installs as installs;
+ghost use Rattle.uc_version_state.specs.Installs.{part_of};
 ghost use Rattle.uc_version.specs.Claiming.{range_refusal};
 ghost use Rattle.uc_version.specs.Compacting.{runs_at};
 ghost use Rattle.uc_version.specs.Owners as owners;
@@ -16,9 +16,9 @@ use crate::held_stretch::HeldStretch;
 use std::alloc::{AllocError, Global};
 use std::sync::Arc;
 use uc_claims::MOST_SLOTS;
-use uc_history::{Placed, Version};
-use uc_pick::Stretch;
 use uc_run::Run;
+use uc_version_pick::Stretch;
+use uc_version_state::{Placed, Version};
 
 /// The runs of a stretch that may be claimed, where they are two or more that are there.
 pub(crate) fn runs_of(runs: &[Placed], stretch: Stretch) -> Result<&[Placed], ClaimError>

@@ -1,7 +1,7 @@
 //! What is compacted of a stretch, and the event that puts it in place.
 ghost use Rattle.std.specs.Prelude.{◌≡◌, ◌+◌, ◌≤◌, ◌==◌, IfOk, length};
-ghost use Rattle.uc_history.specs.declared.event.Event.TheVariants as event;
-ghost use Rattle.uc_history.specs.Versions.{ids_of};
+ghost use Rattle.uc_version_state.specs.declared.event.Event.TheVariants as event;
+ghost use Rattle.uc_version_state.specs.Versions.{ids_of};
 ghost use Rattle.uc_version.specs.Compacting.{compaction_at, install_for};
 
 use crate::runs::{shared_runs, stretch_runs};
@@ -9,9 +9,9 @@ use std::alloc::{AllocError, Global};
 use std::marker::Sync;
 use std::thread::Threads;
 use uc_compact::{Compacted, compact};
-use uc_history::{Event, Install, Placed, Version};
 use uc_oper::Operator;
-use uc_pick::Stretch;
+use uc_version_pick::Stretch;
+use uc_version_state::{Event, Install, Placed, Version};
 
 /// Whether the last run of a stretch is the oldest of all.
 fn has_oldest(version: &Version, stretch: Stretch) -> bool

@@ -1,5 +1,5 @@
 use Rattle.std.proofs.Common.{◌≡◌, ltb, length, map, filter}
-use Rattle.uc_stripe.specs.Output.{fragment_kept}
+use Rattle.uc_compact_rules.specs.Output.{fragment_kept}
 use Rattle.uc_compact.proofs.fragments.fragments_kept.Given as goal
 
 abbrev pub invariant-loop-fragment : goal.invariant-loop-fragment

@@ -1,6 +1,6 @@
 use Rattle.std.proofs.Common.{subst}
 use Rattle.std.specs.Arc.{arc_value}
-use Rattle.uc_entry.specs.Run.{Contents, IsRun}
+use Rattle.uc_run_entry.specs.Run.{Contents, IsRun}
 use Rattle.uc_compact.proofs.Together.{one_more}
 use Rattle.uc_compact.proofs.inputs.are_runs.Goals as goal
 

@@ -1,6 +1,6 @@
 use Rattle.std.proofs.Common.{ap, ◌∙◌}
 use Rattle.std.specs.Arc.{arc_value}
-use Rattle.uc_entry.specs.Run.{Contents}
+use Rattle.uc_run_entry.specs.Run.{Contents}
 use Rattle.uc_compact.proofs.Together.{low_of_last}
 use Rattle.uc_compact.proofs.inputs.low_seq.Goals as goal
 

@@ -1,6 +1,6 @@
 use Rattle.std.proofs.Common.{map}
 use Rattle.std.specs.Arc.{arc_value}
-use Rattle.uc_stripe.specs.Inputs.{points_of}
+use Rattle.uc_compact_rules.specs.Inputs.{points_of}
 use Rattle.uc_compact.proofs.Grouping.{sorted_by, groups_are, each_by, kept_by}
 use Rattle.uc_compact.proofs.points.points_kept.Goals as goal
 

@@ -1,5 +1,5 @@
 use Rattle.std.proofs.Common.{◌≡◌, ◌++◌, take}
-use Rattle.uc_stripe.specs.Inputs.{ranges_over}
+use Rattle.uc_compact_rules.specs.Inputs.{ranges_over}
 use Rattle.uc_compact.proofs.ranges.push_fragment.Given as goal
 
 abbrev pub invariant-loop-seq : goal.invariant-loop-seq

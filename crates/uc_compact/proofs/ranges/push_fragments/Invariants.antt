@@ -1,6 +1,6 @@
 use Rattle.std.proofs.Common.{◌≡◌, ◌++◌, take}
 use Rattle.std.specs.List.{flat_map}
-use Rattle.uc_stripe.specs.Inputs.{ranges_over}
+use Rattle.uc_compact_rules.specs.Inputs.{ranges_over}
 use Rattle.uc_compact.proofs.ranges.push_fragments.Given as goal
 
 abbrev pub invariant-loop-fragment : goal.invariant-loop-fragment

@@ -1,6 +1,6 @@
 use Rattle.std.proofs.Common.{◌≡◌, ◌+◌, List, ◌∷◌, [], ◌++◌, take, ◌⊎◌, inr, subst, arith, rules}
 use Rattle.std.specs.Prelude.{Ok, Err, IsOk}
-use Rattle.uc_workers.specs.declared.ask_error.AskError.TheVariants.{Memory}
+use Rattle.uc_query_workers.specs.declared.ask_error.AskError.TheVariants.{Memory}
 use Rattle.uc_query.specs.declared.call.Call.{Call}
 use Rattle.uc_query.specs.declared.reply.Reply.{Reply}
 use Rattle.uc_query.specs.Names.{State}

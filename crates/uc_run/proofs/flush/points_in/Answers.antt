@@ -1,4 +1,4 @@
-use Rattle.uc_write.specs.declared.write.Write.{Write}
+use Rattle.uc_bytes.specs.declared.write.Write.{Write}
 use Rattle.uc_run.specs.Flush.{point_of}
 use Rattle.uc_run.proofs.Slots.{part_pushed, part_missing}
 use Rattle.uc_run.proofs.flush.points_in.Goals as goal

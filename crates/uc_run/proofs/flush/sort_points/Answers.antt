@@ -2,9 +2,9 @@ use Rattle.std.proofs.Common.{rules}
 use Rattle.std.specs.Ordering.{is_lt}
 use Rattle.std.proofs.lemmas.Fn.{always_returns_same}
 use Rattle.std.proofs.lemmas.List.Sorted.{ranks_by}
-use Rattle.uc_entry.specs.declared.entry.Entry.{Entry}
-use Rattle.uc_entry.specs.Order.{entry_cmp}
-use Rattle.uc_entry.proofs.Sorted.{entry_total}
+use Rattle.uc_run_entry.specs.declared.entry.Entry.{Entry}
+use Rattle.uc_run_entry.specs.Order.{entry_cmp}
+use Rattle.uc_run_entry.proofs.Sorted.{entry_total}
 use Rattle.uc_run.proofs.ByKey.{sorted_is_by_key}
 use Rattle.uc_run.proofs.flush.sort_points.Goals as goal
 

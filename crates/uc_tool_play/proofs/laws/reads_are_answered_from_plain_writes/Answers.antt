@@ -1,7 +1,7 @@
 use Rattle.std.proofs.Common.{[], length, map, take, refl, subst}
 use Rattle.std.proofs.lemmas.List.{append-nil}
 use Rattle.uc_batch.specs.Batch.{numbered}
-use Rattle.uc_history.specs.Openings.{opened}
+use Rattle.uc_version_state.specs.Openings.{opened}
 use Rattle.uc_version.specs.Owners.{unclaimed}
 use Rattle.uc_query.specs.Running.{run_of, unnamed}
 use Rattle.uc_query.specs.Answered.{IsAnswered}

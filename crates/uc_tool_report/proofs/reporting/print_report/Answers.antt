@@ -1,5 +1,5 @@
 use Rattle.std.proofs.Common.{ap, ◌∙◌}
-use Rattle.uc_lines.specs.ReportLines.{report_lines}
+use Rattle.uc_tool_lines.specs.ReportLines.{report_lines}
 use Rattle.uc_tool_report.specs.Report.{store_lines}
 use Rattle.uc_tool_report.proofs.Reported.{one_reply}
 use Rattle.uc_tool_report.proofs.reporting.print_report.Goals as goal

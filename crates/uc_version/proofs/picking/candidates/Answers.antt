@@ -1,6 +1,6 @@
 use Rattle.std.proofs.Common.{◌<◌, sym, subst}
 use Rattle.uc_claims.specs.declared.table.TheConstants.{MOST_SLOTS}
-use Rattle.uc_history.specs.Versions.{PlacedRun}
+use Rattle.uc_version_state.specs.Versions.{PlacedRun}
 use Rattle.uc_version.proofs.Flags.{slot_of_one}
 use Rattle.uc_version.proofs.picking.candidates.Goals as goal
 

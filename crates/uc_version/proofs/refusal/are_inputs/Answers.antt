@@ -1,7 +1,7 @@
 use Rattle.std.proofs.Common.{refl, sym, ap, ◌∙◌}
 use Rattle.std.proofs.lemmas.Bool.{false≢true}
 use Rattle.std.specs.Arc.{arc_value}
-use Rattle.uc_history.specs.Versions.{PlacedRun}
+use Rattle.uc_version_state.specs.Versions.{PlacedRun}
 use Rattle.uc_version.proofs.Inputs.{not_inputs, inputs_on}
 use Rattle.uc_version.proofs.refusal.are_inputs.Goals as goal
 

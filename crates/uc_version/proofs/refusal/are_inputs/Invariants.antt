@@ -1,6 +1,6 @@
 use Rattle.std.proofs.Common.{◌≡◌, map, take}
 use Rattle.std.specs.Arc.{arc_value}
-use Rattle.uc_history.specs.Versions.{contents_of}
+use Rattle.uc_version_state.specs.Versions.{contents_of}
 use Rattle.uc_version.proofs.refusal.are_inputs.Given as goal
 
 abbrev pub invariant-loop-place : goal.invariant-loop-place

@@ -1,9 +1,9 @@
 use Rattle.std.proofs.Common.{◌≡◌, ℕ, Bool, List, ◌∙◌, ap, subst}
 use Rattle.std.specs.Prelude.{IfSome}
-use Rattle.uc_entry.specs.Run.{Contents}
-use Rattle.uc_history.specs.Versions as versions
-use Rattle.uc_history.specs.Installs.{Terms, terms_of}
-use Rattle.uc_history.specs.Refusals.{IsRefused}
+use Rattle.uc_run_entry.specs.Run.{Contents}
+use Rattle.uc_version_state.specs.Versions as versions
+use Rattle.uc_version_state.specs.Installs.{Terms, terms_of}
+use Rattle.uc_version_state.specs.Refusals.{IsRefused}
 use Rattle.uc_version.proofs.refusal.present_refusal.Goals as goal
 
 pub returns-clause-some : goal.returns-clause-some

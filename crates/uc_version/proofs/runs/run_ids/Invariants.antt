@@ -1,6 +1,6 @@
 use Rattle.std.proofs.Common.{◌≡◌, length, take}
 use Rattle.uc_claims.specs.declared.table.TheConstants.{MOST_SLOTS}
-use Rattle.uc_history.specs.Versions.{ids_of}
+use Rattle.uc_version_state.specs.Versions.{ids_of}
 use Rattle.uc_version.proofs.runs.run_ids.Given as goal
 
 abbrev pub invariant-loop-place : goal.invariant-loop-place

@@ -1,6 +1,6 @@
 use Rattle.std.proofs.Common.{◌≡◌, map, take}
 use Rattle.std.specs.Arc.{arc_value}
-use Rattle.uc_history.specs.Versions.{contents_of}
+use Rattle.uc_version_state.specs.Versions.{contents_of}
 use Rattle.uc_version.proofs.runs.shared_runs.Given as goal
 
 abbrev pub invariant-loop-placed : goal.invariant-loop-placed

@@ -1,6 +1,6 @@
 use Rattle.std.proofs.Common.{◌≡◌, length, take}
 use Rattle.uc_claims.specs.declared.table.TheConstants.{MOST_SLOTS}
-use Rattle.uc_history.specs.Versions as versions
+use Rattle.uc_version_state.specs.Versions as versions
 use Rattle.uc_version.proofs.runs.slots_of.Given as goal
 
 abbrev pub invariant-loop-place : goal.invariant-loop-place

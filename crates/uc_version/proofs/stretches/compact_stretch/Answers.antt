@@ -1,9 +1,9 @@
 use Rattle.std.proofs.Common.{ℕ, List, ap, ◌∙◌, sym, subst}
 use Rattle.std.specs.Prelude.{map}
 use Rattle.std.specs.Arc.{arc_value}
-use Rattle.uc_entry.specs.Run.{Contents}
-use Rattle.uc_stripe.specs.Inputs.{Stand}
-use Rattle.uc_history.specs.Versions.{contents_of}
+use Rattle.uc_run_entry.specs.Run.{Contents}
+use Rattle.uc_compact_rules.specs.Inputs.{Stand}
+use Rattle.uc_version_state.specs.Versions.{contents_of}
 use Rattle.uc_version.proofs.Standing.{part_stands}
 use Rattle.uc_version.proofs.stretches.compact_stretch.Goals as goal
 

@@ -1,5 +1,5 @@
 use Rattle.std.proofs.Common.{◌≡◌, take}
-use Rattle.uc_history.specs.Versions.{ids_of}
+use Rattle.uc_version_state.specs.Versions.{ids_of}
 use Rattle.uc_version.proofs.stretches.ids_in.Given as goal
 
 abbrev pub invariant-loop-placed : goal.invariant-loop-placed

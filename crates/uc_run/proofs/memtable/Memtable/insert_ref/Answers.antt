@@ -1,6 +1,6 @@
 use Rattle.std.proofs.Common.{◌≡◌, ◌<◌, ◌^◌, ◌-◌, ◌+◌, ◌++◌, ◌∷◌, [], ℕ, List, min, ap, sym, ◌∙◌, subst}
-use Rattle.uc_write.specs.declared.op.Op.{Op}
-use Rattle.uc_write.specs.declared.write.Write.{Write}
+use Rattle.uc_bytes.specs.declared.op.Op.{Op}
+use Rattle.uc_bytes.specs.declared.write.Write.{Write}
 use Rattle.uc_batch.specs.Rising.{IsRising, last_of}
 use Rattle.uc_run.specs.Size.{op_size, memtable_size, write_size}
 use Rattle.uc_run.specs.Slots.{slot_writes}

@@ -3,7 +3,7 @@ use Rattle.std.specs.Prelude.{All, Contains, Some, None, slice_set}
 use Rattle.uc_claims.specs.Claims.{times}
 use Rattle.uc_claims.specs.Holding.{Holding, AreDistinct, without}
 use Rattle.uc_claims.specs.declared.table.TheConstants.{MOST_SLOTS}
-use Rattle.uc_history.specs.Versions.{PlacedRun, slots_of}
+use Rattle.uc_version_state.specs.Versions.{PlacedRun, slots_of}
 use Rattle.uc_version.specs.Owners.{claimed_slots}
 use Rattle.uc_version.specs.Claiming.{Claim, held_by}
 use Rattle.uc_version.specs.Held.{owner, IsOwned}

@@ -3,8 +3,8 @@ use Rattle.std.specs.Prelude.{Some, None, slice_set}
 use Rattle.std.specs.List.{AllByRecursion}
 use Rattle.uc_claims.specs.Holding.{Holding, AreDistinct}
 use Rattle.uc_claims.specs.declared.table.TheConstants.{MOST_SLOTS}
-use Rattle.uc_history.specs.Versions.{PlacedRun, slots_of}
-use Rattle.uc_history.specs.Installs.{part_of}
+use Rattle.uc_version_state.specs.Versions.{PlacedRun, slots_of}
+use Rattle.uc_version_state.specs.Installs.{part_of}
 use Rattle.uc_version.specs.Owners.{Owner}
 use Rattle.uc_version.specs.Claiming.{claim_refusal, claim_of, with_claim}
 use Rattle.uc_version.specs.Held.{owner, IsOwned}

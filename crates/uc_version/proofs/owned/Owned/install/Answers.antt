@@ -4,9 +4,9 @@ use Rattle.std.specs.Arc.{arc_value}
 use Rattle.uc_claims.specs.Claims.{times}
 use Rattle.uc_claims.specs.Holding.{Holding, AreDistinct, without}
 use Rattle.uc_claims.specs.declared.table.TheConstants.{MOST_SLOTS}
-use Rattle.uc_entry.specs.Run.{Contents}
-use Rattle.uc_history.specs.Versions.{PlacedRun, Stored, IsVersion, slots_of}
-use Rattle.uc_history.specs.Installs.{replaced}
+use Rattle.uc_run_entry.specs.Run.{Contents}
+use Rattle.uc_version_state.specs.Versions.{PlacedRun, Stored, IsVersion, slots_of}
+use Rattle.uc_version_state.specs.Installs.{replaced}
 use Rattle.uc_version.specs.declared.held_stretch.HeldStretch.{HeldStretch}
 use Rattle.uc_version.specs.Owners.{Owner, claimed_slots}
 use Rattle.uc_version.specs.Claiming.{Claim, held_by}

@@ -1,0 +1,118 @@
+//! [`OpRef`]: a change whose texts are borrowed.
+ghost use Rattle.std.specs.Prelude.{◌≡◌, [], IfOk};
+ghost use Rattle.uc_bytes.specs.declared.op.Op.TheVariants as changes;
+ghost use Rattle.uc_bytes.specs.Borrowed.{op_of};
+
+use crate::bytes::Bytes;
+use crate::op::Op;
+use std::alloc::{AllocError, Global};
+use std::marker::Model;
+
+/// What a change does.
+#[derive(Clone, Copy, Debug, PartialEq, Eq)]
+pub enum OpKind {
+    /// Sets a key to a value.
+    Put,
+    /// Removes a key.
+    Delete,
+    /// Combines a key with an operand.
+    Merge,
+    /// Removes each key from a begin to below an end.
+    DeleteRange,
+}
+
+/// An [`Op`] whose texts are borrowed, so that it takes no memory. A contract sees it as the `Op`.
+#[derive(Debug, Drop)]
+pub struct OpRef<'a> {
+    kind: OpKind,
+    first: &'a [u8],
+    // Empty where the kind has one text alone.
+    second: &'a [u8],
+}
+
+impl<'a> Model for OpRef<'a> {
+    ghost use Rattle.uc_bytes.specs.declared.op.Op.{Op};
+    ghost use Rattle.uc_bytes.specs.Borrowed.{op_of};
+
+    ghost Value = { Op };
+
+    ghost view = { λ o. op_of o.kind o.first.now o.second.now };
+}
+
+impl<'a> OpRef<'a> {
+    /// The same with its texts borrowed.
+    pub fn of(op: &'a Op) -> OpRef<'a>
+        ensures { result ≡ op.now }
+    {
+        match op {
+            Op::Put(key, value) => OpRef::put(key.as_slice(), value.as_slice()),
+            Op::Delete(key) => OpRef::delete(key.as_slice()),
+            Op::Merge(key, operand) => OpRef::merge(key.as_slice(), operand.as_slice()),
+            Op::DeleteRange(begin, end) => OpRef::delete_range(begin.as_slice(), end.as_slice()),
+        }
+    }
+
+    /// Sets a key to a value.
+    pub fn put(key: &'a [u8], value: &'a [u8]) -> OpRef<'a>
+        ensures { result ≡ changes.Put key.now value.now }
+    {
+        OpRef {
+            kind: OpKind::Put,
+            first: key,
+            second: value,
+        }
+    }
+
+    /// Removes a key.
+    pub fn delete(key: &'a [u8]) -> OpRef<'a>
+        ensures { result ≡ changes.Delete key.now }
+    {
+        OpRef {
+            kind: OpKind::Delete,
+            first: key,
+            second: &[],
+        }
+    }
+
+    /// Combines a key with an operand.
+    pub fn merge(key: &'a [u8], operand: &'a [u8]) -> OpRef<'a>
+        ensures { result ≡ changes.Merge key.now operand.now }
+    {
+        OpRef {
+            kind: OpKind::Merge,
+            first: key,
+            second: operand,
+        }
+    }
+
+    /// Removes each key from `begin` to below `end`.
+    pub fn delete_range(begin: &'a [u8], end: &'a [u8]) -> OpRef<'a>
+        ensures { result ≡ changes.DeleteRange begin.now end.now }
+    {
+        OpRef {
+            kind: OpKind::DeleteRange,
+            first: begin,
+            second: end,
+        }
+    }
+
+    /// What it does, and its texts in the order of [`Op`]'s. Where `Op` has one, the second is of no account.
+    pub fn parts(&self) -> (OpKind, &'a [u8], &'a [u8])
+        ensures { op_of result.0 result.1.now result.2.now ≡ self.now }
+    {
+        (self.kind, self.first, self.second)
+    }
+
+    /// A copy that owns its texts. It fails only for want of memory.
+    pub fn to_op(&self, alloc: Global) -> Result<Op, AllocError>
+        ensures { IfOk result (λ op. op ≡ self.now) }
+    {
+        let first = Bytes::from_slice(alloc, self.first)?;
+        Ok(match self.kind {
+            OpKind::Put => Op::Put(first, Bytes::from_slice(alloc, self.second)?),
+            OpKind::Delete => Op::Delete(first),
+            OpKind::Merge => Op::Merge(first, Bytes::from_slice(alloc, self.second)?),
+            OpKind::DeleteRange => Op::DeleteRange(first, Bytes::from_slice(alloc, self.second)?),
+        })
+    }
+}

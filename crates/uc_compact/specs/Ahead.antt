@@ -1,0 +1,15 @@
+-- What is ahead of a merge.
+use Rattle.std.specs.Prelude.{List}
+use Rattle.std.specs.List.{AllByRecursion, flat_map}
+use Rattle.std.specs.List.Sorted.{IsStrictlySortedBy}
+use Rattle.uc_run_entry.specs.Order.{entry_cmp}
+use Rattle.uc_compact.specs.Groups.{Group, groups_of}
+use Rattle.uc_compact.specs.declared.groups.Groups.TheInside.{Inside}
+
+-- the groups of the points that are ahead of all cursors
+abbrev pub ahead : Inside → List Group
+ahead g = groups_of (flat_map (λ points. points) g.cursors.items)
+
+-- each cursor's points stand in order
+abbrev pub AreSorted : Inside → Type 0
+AreSorted g = AllByRecursion (IsStrictlySortedBy entry_cmp) g.cursors.items

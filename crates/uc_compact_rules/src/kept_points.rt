@@ -1,0 +1,141 @@
+//! [`push_kept_points`]: what is kept of one key's points.
+ghost use Rattle.std.specs.Prelude.{◌≡◌, ◌<◌, ◌↔◌, ◌++◌, [], map, nat_lt, IsTrue, IfOk, OnOk};
+ghost use Rattle.std.specs.List.{AllByRecursion, cons_option};
+ghost use Rattle.std.specs.List.Sorted.{IsStrictlySortedBy};
+ghost use Rattle.std.specs.Ordering.{nat_cmp};
+ghost use Rattle.uc_run_entry.specs.Order.{IsFalling};
+ghost use Rattle.uc_compact_rules.specs.Choice as choice;
+ghost use Rattle.uc_compact_rules.specs.Choice.{AreOfOneKey, PointsFall, points_for};
+ghost use Rattle.uc_compact_rules.specs.Output as output;
+
+use crate::folding::effect_above_newest;
+use crate::keeping::Keeping;
+use std::alloc::{AllocError, Global};
+use std::marker::Sync;
+use std::thread::Threads;
+use uc_oper::{Effect, Operator};
+use uc_run_entry::{Point, What, WhatRef};
+
+/// What a point says that stands for an effect. No value needs no point where something else clears the key.
+fn what_of(effect: Effect, cleared: bool) -> Option<What>
+    ensures { result ≡ output.what_of effect cleared }
+{
+    match effect {
+        Effect::Keep => None,
+        Effect::Fold(operand) => Some(What::Merge(operand)),
+        Effect::Set(Some(value)) => Some(What::Put(value)),
+        Effect::Set(None) if cleared => None,
+        Effect::Set(None) => Some(What::Delete),
+    }
+}
+
+/// What stands for a stripe's effect. In the bottom stripe it is the value that the effect makes of none.
+fn what_kept<O: Operator>(
+    alloc: Global,
+    bottom: bool,
+    effect: Effect,
+    cleared: bool,
+) -> Result<Option<What>, AllocError>
+    ensures { IfOk result (λ what. what ≡ output.what_kept O.meaning bottom effect cleared) }
+{
+    if bottom {
+        let value = effect.apply::<O>(alloc, None)?;
+        Ok(what_of(Effect::Set(value), true))
+    } else {
+        Ok(what_of(effect, cleared))
+    }
+}
+
+/// Whether the newest of the range deletions is above a sequence.
+fn is_cleared(seq: u64, seqs: &[u64]) -> bool
+    requires { IsFalling seqs.now }
+    ensures { result ≡ nat_lt seq (output.greatest seqs.now) }
+{
+    match seqs.first() {
+        None => false,
+        Some(newest) => seq < *newest,
+    }
+}
+
+/// Whether the range deletions are all below a sequence.
+fn are_below(seqs: &[u64], seq: u64) -> bool
+    requires { IsFalling seqs.now }
+    ensures { IsTrue result ↔ AllByRecursion (λ n. n < seq) seqs.now }
+{
+    match seqs.first() {
+        None => true,
+        Some(newest) => *newest < seq,
+    }
+}
+
+/// The point that stands for a stripe's points of a key, where they need one.
+fn point_for<O: Operator + Sync>(
+    rt: &(impl Threads + Sync),
+    alloc: Global,
+    bottom: bool,
+    key: &[u8],
+    points: &[&Point],
+    seqs: &[u64],
+) -> Result<Option<Point>, AllocError>
+    requires fall { PointsFall (map (λ p. p.now) points.now) }
+    requires from_one { AllByRecursion (λ p. 0 < p.seq) (map (λ p. p.now) points.now) }
+    requires seqs_fall { IsFalling seqs.now }
+    ensures { IfOk result (λ point. point ≡ choice.point_for O.meaning bottom key.now (map (λ p. p.now) points.now) seqs.now) }
+{
+    let Some(newest) = points.first() else {
+        return Ok(None);
+    };
+    let seq = newest.seq();
+    // A put that nothing hides stands as it is, so its value is copied once.
+    if let WhatRef::Put(value) = newest.what()
+        && are_below(seqs, seq)
+    {
+        return Ok(Some(Point::new(alloc, key, seq, WhatRef::Put(value))?));
+    }
+    let effect = effect_above_newest::<O>(rt, alloc, points, seqs)?;
+    let cleared = is_cleared(seq, seqs);
+    match what_kept::<O>(alloc, bottom, effect, cleared)? {
+        None => Ok(None),
+        Some(what) => Ok(Some(Point::new(alloc, key, seq, WhatRef::of(&what))?)),
+    }
+}
+
+/// Pushes a point where there is one.
+fn push_some(kept: &mut Vec<Point>, point: Option<Point>) -> Result<(), AllocError>
+    ensures { OnOk result (kept.new.items ≡ kept.old.items ++ cons_option point []) }
+{
+    if let Some(point) = point {
+        kept.push(point)?;
+    }
+    Ok(())
+}
+
+/// Pushes the points that stand for a key's points: at most one for each stripe, which has the sequence of the newest
+/// point there. The key's points and the sequences of the range deletions over it come the newest first.
+///
+/// It takes time for the stripes that have points, and not for the others. Of the points of a stripe it reads those
+/// that no newer put, delete or range deletion hides; many of them are folded by halves in two threads.
+pub fn push_kept_points<O: Operator + Sync>(
+    rt: &(impl Threads + Sync),
+    alloc: Global,
+    kept: &mut Vec<Point>,
+    key: &[u8],
+    points: &[&Point],
+    seqs: &[u64],
+    keeping: &Keeping<'_>,
+) -> Result<(), AllocError>
+    requires of_one_key { AreOfOneKey (map (λ p. p.now) points.now) seqs.now }
+    requires keeps_rise { IsStrictlySortedBy nat_cmp keeping.now.keeps }
+    ensures { OnOk result (kept.new.items ≡ kept.old.items ++ points_for O.meaning keeping.now key.now (map (λ p. p.now) points.now) seqs.now) }
+{
+    let mut rest = points;
+    while let Some(newest) = rest.first() {
+        let stripe = keeping.stripe_of(newest.seq());
+        let (own, count) = stripe.own_points(rest);
+        let (over, _) = stripe.split_seqs(seqs);
+        let bottom = keeping.is_bottom(&stripe);
+        push_some(kept, point_for::<O>(rt, alloc, bottom, key, own, over)?)?;
+        rest = &rest[count..];
+    }
+    Ok(())
+}

@@ -1,0 +1,91 @@
+//! [`Stripe`]: the sequences between two neighbouring keeps.
+ghost use Rattle.std.specs.Prelude.{◌≡◌, ◌<◌, ◌≤◌, ◌-◌, ◌^◌, ◌∷◌, length, map, drop, filter, nat_le};
+ghost use Rattle.std.specs.List.{slice_index_or};
+ghost use Rattle.std.specs.List.Sorted.{IsStrictlySortedBy};
+ghost use Rattle.std.specs.Ordering.{nat_cmp};
+ghost use Rattle.uc_run_entry.specs.Order.{IsFalling};
+ghost use Rattle.uc_compact_rules.specs.Choice.{PointsFall};
+ghost use Rattle.uc_compact_rules.specs.Stripes as stripes;
+
+use crate::parts::{part_seqs, points_above};
+use std::marker::Model;
+use uc_bytes::MAX_SEQUENCE;
+use uc_run_entry::Point;
+
+/// The sequences above one, up to another and with it.
+#[derive(Debug, Drop)]
+pub(crate) struct Stripe {
+    above: u64,
+    upto: u64,
+}
+
+impl Model for Stripe {
+    ghost use Rattle.uc_compact_rules.specs.Stripes.{Stripe};
+
+    ghost Value = { Stripe };
+
+    ghost view = { λ s. record { above = s.above; upto = s.upto } };
+}
+
+/// The keep before a place, or 0 at the first one.
+fn keep_before(keeps: &[u64], place: usize) -> u64
+    requires { place ≤ length keeps.now }
+    ensures { result ≡ slice_index_or (0 ∷ keeps.now) place 0 }
+{
+    if place == 0 { 0 } else { keeps[place - 1] }
+}
+
+/// The keep at a place, or the greatest sequence of all behind the last one.
+fn keep_at(keeps: &[u64], place: usize) -> u64
+    ensures { result ≡ slice_index_or keeps.now place (2 ^ 56 - 1) }
+{
+    match keeps.get(place) {
+        None => MAX_SEQUENCE,
+        Some(keep) => *keep,
+    }
+}
+
+impl Stripe {
+    /// The stripe of a sequence. It looks at as many keeps as the logarithm of their number.
+    pub(crate) fn of(keeps: &[u64], seq: u64) -> Stripe
+        requires { IsStrictlySortedBy nat_cmp keeps.now }
+        ensures { result ≡ stripes.stripe_of keeps.now seq }
+    {
+        let place = keeps.partition_point(|keep| *keep < seq);
+        Stripe {
+            above: keep_before(keeps, place),
+            upto: keep_at(keeps, place),
+        }
+    }
+
+    /// Whether the stripe has a sequence.
+    pub(crate) fn has(&self, seq: u64) -> bool
+        ensures { result ≡ stripes.is_in self.now seq }
+    {
+        self.above < seq && seq <= self.upto
+    }
+
+    /// The points of the stripe, and how many points aren't below it. They come first.
+    pub(crate) fn own_points<'b, 'a>(&self, points: &'b [&'a Point]) -> (&'b [&'a Point], usize)
+        requires { PointsFall (map (λ p. p.now) points.now) }
+        ensures own { map (λ p. p.now) result.0.now ≡ filter (λ p. stripes.is_in self.now p.seq) (map (λ p. p.now) points.now) }
+        ensures bound { result.1 ≤ length points.now }
+        ensures below { map (λ p. p.now) (drop result.1 points.now) ≡ filter (λ p. nat_le p.seq self.now.above) (map (λ p. p.now) points.now) }
+    {
+        let count = points_above(points, self.above);
+        let (newer, _) = points.split_at(count);
+        let (_, own) = newer.split_at(points_above(newer, self.upto));
+        (own, count)
+    }
+
+    /// The sequences of the stripe, and those below it.
+    pub(crate) fn split_seqs<'b>(&self, seqs: &'b [u64]) -> (&'b [u64], &'b [u64])
+        requires { IsFalling seqs.now }
+        ensures own { result.0.now ≡ filter (stripes.is_in self.now) seqs.now }
+        ensures below { result.1.now ≡ filter (λ n. nat_le n self.now.above) seqs.now }
+    {
+        let (newer, below) = part_seqs(seqs, self.above);
+        let (_, own) = part_seqs(newer, self.upto);
+        (own, below)
+    }
+}

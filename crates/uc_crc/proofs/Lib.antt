@@ -1,9 +1,0 @@
-pub mod BitLists
-pub mod Checksums
-pub mod Dividing
-pub mod Masks
-pub mod Numbers
-pub mod Quotients
-pub mod Remainders
-pub mod Shifts
-pub mod Words

@@ -1,6 +1,0 @@
-use Rattle.std.proofs.Common.{◌∙◌, sym}
-use Rattle.uc_crc.proofs.Checksums.{crc_of-extended}
-use Rattle.uc_crc.proofs.checksum.crc32c.Goals as goal
-
-pub returns : goal.returns
-returns c = c.extend.ensures.exact ∙ sym (crc_of-extended c.args.bytes.now)

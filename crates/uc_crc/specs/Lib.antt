@@ -1,4 +1,0 @@
-pub mod Bits
-pub mod Division
-pub mod Crc
-pub mod Mask

@@ -1,6 +1,0 @@
-pub mod Order
-pub mod Run
-pub mod PlainList
-pub mod Size
-pub mod Seek
-pub mod Lookup

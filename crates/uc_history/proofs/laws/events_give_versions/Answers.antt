@@ -1,5 +1,0 @@
-use Rattle.uc_history.proofs.Along.{version_stays}
-use Rattle.uc_history.proofs.laws.events_give_versions.Goals as goal
-
-pub returns : goal.returns
-returns g c v e is_version may = version_stays g.O.Operator.meaning g.met.O.Operator.lawful v e is_version may

@@ -1,5 +1,0 @@
-use Rattle.uc_history.proofs.Opened.{opened_is_version}
-use Rattle.uc_history.proofs.laws.opening_gives_a_version.Goals as goal
-
-pub returns : goal.returns
-returns c o may = opened_is_version c.flushed_writes_are_a_run.ensures o may

@@ -1,0 +1,13 @@
+//! What holds of the definitions alone.
+ghost use Rattle.std.specs.Prelude.{◌≡◌, ◌≤◌, Bool, List, length};
+ghost use Rattle.uc_logrec.specs.Division.{IsDivision, remainder};
+
+/// The division by which a checksum is defined is division: a polynomial over GF(2) of 32
+/// coefficients or more is a multiple of the divisor plus its remainder, and no other remainder will
+/// do. The contract is the law, and a call does nothing.
+pub fn division()
+    ensures exists { (bits : List Bool) → 32 ≤ length bits
+        → (quotient : List Bool) × IsDivision bits quotient (remainder bits) }
+    ensures unique { (bits quotient rest : List Bool) → IsDivision bits quotient rest
+        → rest ≡ remainder bits }
+{}

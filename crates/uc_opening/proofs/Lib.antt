@@ -1,5 +1,0 @@
-pub mod Grown
-pub mod Newest
-pub mod Ended
-pub mod Refused
-pub mod Taken

@@ -1,0 +1,80 @@
+//! [`report`]: what a version holds.
+ghost use Rattle.std.specs.Prelude.{◌≡◌, map, IfOk};
+ghost use Rattle.uc_query.specs.Reports as reports;
+
+use crate::run_line::RunLine;
+use crate::summary::Report;
+use std::alloc::{AllocError, Global};
+use std::marker::Sync;
+use std::thread::Threads;
+use uc_bytes::Items;
+use uc_fold::{Sums, Totals, fold_all};
+use uc_version_state::{Placed, Version};
+
+/// A run in numbers.
+fn line_of(placed: &Placed) -> RunLine
+    ensures { result ≡ reports.line_of placed.now }
+{
+    let run = placed.run();
+    RunLine {
+        id: placed.id(),
+        slot: placed.slot(),
+        points: run.points(),
+        fragments: run.fragments().len() as u64,
+        size: run.size(),
+        low: run.low_seq(),
+        high: run.high_seq(),
+    }
+}
+
+/// What a run adds to the totals.
+fn totals_of(placed: &Placed) -> Totals
+    ensures { result ≡ reports.totals_of placed.now }
+{
+    let run = placed.run();
+    Totals {
+        points: run.points(),
+        fragments: run.fragments().len() as u64,
+        size: run.size(),
+    }
+}
+
+/// A line for each run.
+fn lines_of(alloc: Global, runs: &[Placed]) -> Result<Vec<RunLine>, AllocError>
+    ensures { IfOk result (λ lines. lines.items ≡ map reports.line_of runs.now) }
+{
+    let mut lines = Vec::with_capacity(alloc, runs.len())?;
+    for placed in runs {
+        lines.push(line_of(placed))?;
+    }
+    Ok(lines)
+}
+
+/// What each run adds to the totals.
+fn parts_of(alloc: Global, runs: &[Placed]) -> Result<Vec<Totals>, AllocError>
+    ensures { IfOk result (λ parts. parts.items ≡ map reports.totals_of runs.now) }
+{
+    let mut parts = Vec::with_capacity(alloc, runs.len())?;
+    for placed in runs {
+        parts.push(totals_of(placed))?;
+    }
+    Ok(parts)
+}
+
+/// What a version holds: a line for each run, the newest first, their sums, the sequences that it keeps, and the last one.
+/// It fails only for want of memory.
+pub fn report(
+    rt: &(impl Threads + Sync),
+    alloc: Global,
+    version: &Version,
+) -> Result<Report, AllocError>
+    ensures { IfOk result (λ report. report ≡ reports.report_of version.now) }
+{
+    let runs = version.runs();
+    Ok(Report {
+        lines: Items::from(lines_of(alloc, runs)?),
+        total: fold_all::<Sums>(rt, alloc, parts_of(alloc, runs)?)?,
+        keeps: Items::from(version.keeps().to_vec(alloc)?),
+        last: version.last(),
+    })
+}

@@ -1,0 +1,49 @@
+-- What runs together do to a key, the newest first.
+use Rattle.std.proofs.Common.{◌≡◌, ℕ, ◌+◌, ◌<◌, List, [], ◌∷◌, ◌++◌, length, map, get_or, take, drop, sym, ap, ◌∙◌, append_assoc}
+use Rattle.std.proofs.lemmas.List.{append-nil, take_more, take-append-drop}
+use Rattle.std.specs.Prelude.{Option}
+use Rattle.uc_oper.specs.Operation.{Operation}
+use Rattle.uc_oper.specs.Composition.{composed}
+use Rattle.uc_oper.specs.declared.effect.Effect.{Effect}
+use Rattle.uc_oper.specs.declared.effect.Effect.TheVariants.{Set}
+use Rattle.uc_bytes.specs.declared.write.Write.{Write}
+use Rattle.uc_model.specs.Meaning.{effect_on}
+use Rattle.uc_run_entry.specs.Run.{Contents}
+use Rattle.uc_run_entry.specs.PlainList.{plain_list}
+use Rattle.uc_compact_rules.specs.Inputs.{writes_of}
+
+module _ {X : Type 0} (run_of : X → Contents) where
+  abbrev writes_in : List X → List Write
+  writes_in runs = writes_of (map run_of runs)
+
+  -- the writes of the older runs come first
+  writes-append : (xs ys : List X) → writes_in (xs ++ ys) ≡ writes_in ys ++ writes_in xs
+  writes-append [] ys = sym (append-nil (writes_in ys))
+  writes-append (x ∷ xs) ys =
+      ap (λ (ws : List Write). ws ++ plain_list (run_of x)) (writes-append xs ys) ∙ append_assoc (writes_in ys) (writes_in xs) (plain_list (run_of x))
+
+  module _ (m : Operation) (parts : (older newer : List Write) (key : List ℕ) (at : ℕ) → effect_on m (older ++ newer) key at ≡ composed m (effect_on m older key at) (effect_on m newer key at)) (key : List ℕ) (at : ℕ) where
+    abbrev effect : List X → Effect
+    effect runs = effect_on m (writes_in runs) key at
+
+    effect-append : (xs ys : List X) → effect (xs ++ ys) ≡ composed m (effect ys) (effect xs)
+    effect-append xs ys =
+        ap (λ (ws : List Write). effect_on m ws key at) (writes-append xs ys) ∙ parts (writes_in ys) (writes_in xs) key at
+
+    -- one run more, which is older
+    with_older : (runs : List X) (i : ℕ) (r : X) → i < length runs → r ≡ get_or runs i r → effect (take (i + 1) runs) ≡ composed m (effect_on m (plain_list (run_of r)) key at) (effect (take i runs))
+    with_older runs i r lt is =
+        ap effect (take_more runs i r lt ∙ ap (λ (x : X). take i runs ++ x ∷ []) (sym is)) ∙ effect-append (take i runs) (r ∷ [])
+
+    pub one_older : (runs : List X) (i : ℕ) (r : X) (run : Contents) (older before after : Effect) → i < length runs → r ≡ get_or runs i r → run ≡ run_of r → older ≡ effect_on m (plain_list run) key at → before ≡ effect (take i runs) → after ≡ composed m older before →
+        after ≡ effect (take (i + 1) runs)
+    one_older runs i r run older before after lt is same found had made =
+        made
+        ∙ ap (λ (e : Effect). composed m e before) (found ∙ ap (λ (x : Contents). effect_on m (plain_list x) key at) same)
+        ∙ ap (composed m (effect_on m (plain_list (run_of r)) key at)) had
+        ∙ sym (with_older runs i r lt is)
+
+    -- where the newer runs set the value, the older ones are of no account
+    pub set_stays : (runs : List X) (i : ℕ) (value : Option (List ℕ)) → effect (take i runs) ≡ Set value → effect runs ≡ Set value
+    set_stays runs i value set =
+        ap effect (sym (take-append-drop i runs)) ∙ effect-append (take i runs) (drop i runs) ∙ ap (composed m (effect (drop i runs))) set

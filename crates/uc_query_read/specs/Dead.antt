@@ -1,0 +1,28 @@
+-- Keys without a value, behind which a walk goes on at one step.
+use Rattle.std.specs.Prelude.{◌≡◌, ℕ, ◌+◌, ◌<◌, List, Some, None, length, take}
+use Rattle.std.specs.List.{AllByRecursion, AllWithin, HoldsAt}
+use Rattle.std.specs.declared.cmp.Ordering.TheVariants.{Less}
+use Rattle.uc_bytes.specs.Bytes.{bytes_cmp}
+use Rattle.uc_oper.specs.Operation.{Operation}
+use Rattle.uc_bytes.specs.declared.write.Write.{Write}
+use Rattle.uc_model.specs.Meaning.{value_of}
+use Rattle.uc_run_entry.specs.Run.{IsRun}
+use Rattle.uc_run_table.specs.Cursors.{Standing}
+use Rattle.uc_run_table.specs.Hiding.{hidden_to}
+
+-- the contents over which a cursor goes make a run
+abbrev pub IsOfRun : Standing → Type 0
+IsOfRun c = IsRun c.run.low c.run.high c.run.points c.run.fragments
+
+-- The first of the cursors' runs that hides a key, by its place, and where that ends.
+pub record IsHidden (cursors : List Standing) (key : List ℕ) (at place : ℕ) (end : List ℕ) : Type 0 where
+  pub within : place < length cursors
+  pub hides : HoldsAt (λ c. hidden_to c.run key at ≡ Some end) cursors place
+  pub first : AllWithin (λ c. hidden_to c.run key at ≡ None) cursors 0 place
+  -- it and the newer ones are runs
+  pub are_runs : AllByRecursion IsOfRun (take (place + 1) cursors)
+
+-- A bound is above a key, and no key between them has a value at a sequence.
+pub record AreDead (m : Operation) (writes : List Write) (at : ℕ) (key bound : List ℕ) : Type 0 where
+  pub above : bytes_cmp key bound ≡ Less
+  pub dead : (x : List ℕ) → bytes_cmp key x ≡ Less → bytes_cmp x bound ≡ Less → value_of m writes x at ≡ None

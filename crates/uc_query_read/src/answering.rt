@@ -1,0 +1,99 @@
+//! The answer to a query of a version.
+ghost use Rattle.std.specs.Prelude.{◌≡◌, IfOk};
+ghost use Rattle.std.specs.List.Sorted.{IsStrictlySortedBy};
+ghost use Rattle.std.specs.Ordering.{nat_cmp};
+ghost use Rattle.uc_query_answer.specs.Answers as answers;
+ghost use Rattle.uc_query_answer.specs.declared.query.Query.TheVariants as query;
+ghost use Rattle.uc_compact_rules.specs.Inputs.{writes_of};
+ghost use Rattle.uc_version_state.specs.Versions.{contents_of, writes_in};
+
+use crate::lookup::value_of_runs;
+use crate::scan::rows_of_runs;
+use std::alloc::{AllocError, Global};
+use uc_oper::Operator;
+use uc_query_answer::{Answer, Query};
+use uc_version_state::{Placed, Version};
+
+/// Whether a snapshot protects the sequence, by a search of the kept ones, which rise.
+fn is_protected(keeps: &[u64], at: u64) -> bool
+    requires { IsStrictlySortedBy nat_cmp keeps.now }
+    ensures { result ≡ answers.is_protected keeps.now at }
+{
+    keeps.binary_search(&at).is_ok()
+}
+
+/// What is read of runs, the newest first, at a sequence that is protected.
+fn reading<O: Operator>(alloc: Global, runs: &[Placed], query: &Query) -> Result<Answer, AllocError>
+    ensures { IfOk result (λ answer. answer ≡ answers.reading O.meaning (writes_of (contents_of runs.now)) query.now) }
+{
+    match query {
+        Query::Get { key, at } => {
+            let value = value_of_runs::<O>(alloc, runs, key.as_slice(), *at)?;
+            Ok(Answer::Value(value))
+        }
+        Query::Scan {
+            low,
+            high,
+            at,
+            limit,
+        } => {
+            let rows = rows_of_runs::<O>(alloc, runs, low.as_slice(), high, *at, *limit)?;
+            Ok(Answer::Rows(rows))
+        }
+    }
+}
+
+/// The answer to a query, from runs, the newest first, and the kept sequences, which rise.
+pub(crate) fn answer_of_runs<O: Operator>(
+    alloc: Global,
+    runs: &[Placed],
+    keeps: &[u64],
+    query: &Query,
+) -> Result<Answer, AllocError>
+    requires { IsStrictlySortedBy nat_cmp keeps.now }
+    ensures { IfOk result (λ answer. answer ≡ answers.answer_of O.meaning (writes_of (contents_of runs.now)) keeps.now query.now) }
+{
+    let at = query.at();
+    if is_protected(keeps, at) {
+        reading::<O>(alloc, runs, query)
+    } else {
+        Ok(Answer::NotProtected(at))
+    }
+}
+
+/// The answer to a query, from a version's runs: what `uc_query_answer` answers from the plain writes that the version stands
+/// for. A sequence that the version doesn't keep is answered `NotProtected`.
+///
+/// A lookup costs in each run, from the newest on, what [`Run::effect`](uc_run::Run::effect) does, and looks no further than
+/// the first run that puts or deletes the key. A scan costs a search in each run at its start, and then for each key of a
+/// point in its range, up to the last row's, a step in each run and what [`Cursor::effect`](uc_run_table::Cursor::effect)
+/// does. It fails only for want of memory.
+pub fn answer_one<O: Operator>(
+    alloc: Global,
+    version: &Version,
+    query: &Query,
+) -> Result<Answer, AllocError>
+    ensures { IfOk result (λ answer. answer ≡ answers.answer_of O.meaning (writes_in version.now) version.now.keeps query.now) }
+{
+    version.is_one();
+    answer_of_runs::<O>(alloc, version.runs(), version.keeps(), query)
+}
+
+/// The answer to a lookup, as [`answer_one`] gives it to a [`Query::Get`], of a key that is lent: the value that the key has
+/// at the sequence, or `NotProtected`. It fails only for want of memory.
+pub fn get<O: Operator>(
+    alloc: Global,
+    version: &Version,
+    key: &[u8],
+    at: u64,
+) -> Result<Answer, AllocError>
+    ensures { IfOk result (λ answer. answer ≡ answers.answer_of O.meaning (writes_in version.now) version.now.keeps (query.Get key.now at)) }
+{
+    version.is_one();
+    if is_protected(version.keeps(), at) {
+        let value = value_of_runs::<O>(alloc, version.runs(), key, at)?;
+        Ok(Answer::Value(value))
+    } else {
+        Ok(Answer::NotProtected(at))
+    }
+}

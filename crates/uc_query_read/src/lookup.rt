@@ -1,0 +1,46 @@
+//! The value of a key in runs.
+ghost use Rattle.std.specs.Prelude.{◌≡◌, IfOk};
+ghost use Rattle.uc_model.specs.Meaning.{effect_on, value_of};
+ghost use Rattle.uc_compact_rules.specs.Inputs.{writes_of};
+ghost use Rattle.uc_version_state.specs.Versions.{contents_of};
+
+use std::alloc::{AllocError, Global};
+use uc_bytes::Bytes;
+use uc_model::{effect_gives_value, effects_of_parts_compose};
+use uc_oper::{Effect, Operator};
+use uc_version_state::Placed;
+
+/// What the writes of runs, the newest first, at or below a sequence together do to a key. It looks no further than the first
+/// run that puts or deletes the key: what is older is overwritten. It fails only for want of memory.
+fn effect_of_runs<O: Operator>(
+    alloc: Global,
+    runs: &[Placed],
+    key: &[u8],
+    at: u64,
+) -> Result<Effect, AllocError>
+    ensures { IfOk result (λ effect. effect ≡ effect_on O.meaning (writes_of (contents_of runs.now)) key.now at) }
+{
+    effects_of_parts_compose::<O>();
+    let mut newer = Effect::Keep;
+    for placed in runs {
+        let older = placed.run().effect::<O>(alloc, key, at)?;
+        newer = older.then::<O>(alloc, newer)?;
+        if let Effect::Set(_) = newer {
+            return Ok(newer);
+        }
+    }
+    Ok(newer)
+}
+
+/// The value that a key has in runs, the newest first, at a sequence. It fails only for want of memory.
+pub(crate) fn value_of_runs<O: Operator>(
+    alloc: Global,
+    runs: &[Placed],
+    key: &[u8],
+    at: u64,
+) -> Result<Option<Bytes>, AllocError>
+    ensures { IfOk result (λ value. value ≡ value_of O.meaning (writes_of (contents_of runs.now)) key.now at) }
+{
+    effect_gives_value::<O>();
+    effect_of_runs::<O>(alloc, runs, key, at)?.apply::<O>(alloc, None)
+}

@@ -1,0 +1,68 @@
+//! The rows of a scan of runs.
+ghost use Rattle.std.specs.Prelude.{◌≡◌, false, IfOk};
+ghost use Rattle.uc_query_answer.specs.Answers as answers;
+ghost use Rattle.uc_query_answer.specs.Answers.{named_keys};
+ghost use Rattle.uc_compact_rules.specs.Inputs.{writes_of, points_of};
+ghost use Rattle.uc_version_state.specs.Versions.{contents_of};
+ghost use Rattle.uc_query_read.specs.Ahead.{keys_ahead};
+
+use crate::cursors::Cursors;
+use std::alloc::{AllocError, Global};
+use uc_bytes::Bytes;
+use uc_model::value_is_given;
+use uc_oper::Operator;
+use uc_query_answer::{Rows, scan_keys_are_named, scan_keys_rise, scan_rows_are_first};
+use uc_run::plain_list_is_in_order;
+use uc_version_state::Placed;
+
+/// The first of the keys of the runs' points in the range that have a value at the sequence, with it. A key without one
+/// doesn't count.
+fn first_rows<O: Operator>(
+    alloc: Global,
+    runs: &[Placed],
+    low: &[u8],
+    high: &Option<Bytes>,
+    at: u64,
+    limit: u64,
+) -> Result<Vec<(Bytes, Bytes)>, AllocError>
+    ensures { IfOk result (λ rows. rows.items ≡ answers.first_rows O.meaning (writes_of (contents_of runs.now)) at limit
+        (keys_ahead (points_of (contents_of runs.now)) low.now false high.now)) }
+{
+    let mut rows = Vec::new(alloc);
+    let mut cursors = Cursors::from(alloc, runs, low, high)?;
+    while (rows.len() as u64) < limit {
+        let Some((key, value)) = cursors.next::<O>(alloc, at)? else {
+            break;
+        };
+        match value {
+            Some(value) => rows.push((Bytes::from_slice(alloc, key)?, value))?,
+            None => cursors.skip_dead::<O>(at),
+        }
+    }
+    Ok(rows)
+}
+
+/// The rows of a scan of runs, which stand newest first: the first of the keys in the range that a put or a merge names
+/// and that have a value at the sequence.
+pub(crate) fn rows_of_runs<O: Operator>(
+    alloc: Global,
+    runs: &[Placed],
+    low: &[u8],
+    high: &Option<Bytes>,
+    at: u64,
+    limit: u64,
+) -> Result<Rows, AllocError>
+    ensures { IfOk result (λ rows. rows ≡ answers.first_rows O.meaning (writes_of (contents_of runs.now)) at limit
+        (named_keys (writes_of (contents_of runs.now)) low.now high.now)) }
+{
+    plain_list_is_in_order();
+    scan_keys_rise();
+    scan_keys_are_named();
+    scan_rows_are_first::<O>();
+    value_is_given::<O>();
+    let rows = first_rows::<O>(alloc, runs, low, high, at, limit)?;
+    match Rows::of(rows) {
+        Some(rows) => Ok(rows),
+        None => unreachable!(),
+    }
+}

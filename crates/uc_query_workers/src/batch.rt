@@ -1,0 +1,97 @@
+//! [`Batch`]: queries of a version, cut into pieces.
+ghost use Rattle.std.specs.Prelude.{◌≡◌, ◌*◌, ◌<◌, ◌≤◌, ◌++◌, length, OnOk};
+ghost use Rattle.uc_query_workers.specs.Asking as asking;
+ghost use Rattle.uc_query_workers.specs.Pieces as pieces;
+ghost use Rattle.uc_query_workers.specs.Pieces.{AreNumbers};
+
+use std::alloc::{AllocError, Global};
+use std::marker::Model;
+use uc_oper::Operator;
+use uc_query_answer::{Answer, Query};
+use uc_query_read::answer_one;
+use uc_version_state::Version;
+
+/// Queries of a version, cut into pieces of so many queries; the last one may have fewer. A contract sees it as these.
+#[derive(Drop)]
+pub(crate) struct Batch<'a> {
+    version: &'a Version,
+    queries: &'a [Query],
+    piece: usize,
+}
+
+impl<'a> Model for Batch<'a> {
+    ghost use Rattle.std.specs.Prelude.{◌<◌};
+    ghost use Rattle.uc_query_workers.specs.Pieces.{Batch};
+
+    ghost Value = { Batch };
+
+    ghost view = { λ b. record { version = b.version.now; queries = b.queries.now; piece = b.piece } };
+
+    ghost invariant = { λ b. 0 < b.piece };
+}
+
+/// Appends the answers to queries. Want of memory leaves some of them there.
+fn push_each<O: Operator>(
+    alloc: Global,
+    version: &Version,
+    queries: &[Query],
+    answers: &mut Vec<Answer>,
+) -> Result<(), AllocError>
+    ensures { OnOk result (answers.new.items ≡ answers.old.items ++ asking.answers_of O.meaning version.now queries.now) }
+{
+    for query in queries {
+        answers.push(answer_one::<O>(alloc, version, query)?)?;
+    }
+    Ok(())
+}
+
+impl<'a> Batch<'a> {
+    /// Queries of a version in pieces of so many.
+    pub(crate) fn new(version: &'a Version, queries: &'a [Query], piece: usize) -> Batch<'a>
+        requires { 0 < piece }
+        ensures { result ≡ record { version = version.now; queries = queries.now; piece = piece } }
+    {
+        Batch {
+            version,
+            queries,
+            piece,
+        }
+    }
+
+    /// How many queries there are.
+    pub(crate) fn len(&self) -> usize
+        ensures { result ≡ length self.now.queries }
+    {
+        self.queries.len()
+    }
+
+    /// How many pieces there are.
+    pub(crate) fn pieces(&self) -> usize
+        ensures numbers { AreNumbers self.now result }
+        ensures enough { length self.now.queries ≤ result * self.now.piece }
+    {
+        self.queries.len().div_ceil(self.piece)
+    }
+
+    /// The piece with a number, from 0.
+    pub(crate) fn piece_of(&self, number: usize) -> &[Query]
+        requires { number * self.now.piece < length self.now.queries }
+        ensures { result.now ≡ pieces.piece_of self.now number }
+    {
+        let rest = &self.queries[number * self.piece..];
+        &rest[..self.piece.min(rest.len())]
+    }
+
+    /// Appends the answers to the piece with a number. Want of memory leaves some of them there.
+    pub(crate) fn push_answers<O: Operator>(
+        &self,
+        alloc: Global,
+        number: usize,
+        answers: &mut Vec<Answer>,
+    ) -> Result<(), AllocError>
+        requires { number * self.now.piece < length self.now.queries }
+        ensures { OnOk result (answers.new.items ≡ answers.old.items ++ pieces.piece_answers O.meaning self.now number) }
+    {
+        push_each::<O>(alloc, self.version, self.piece_of(number), answers)
+    }
+}

@@ -1,0 +1,89 @@
+//! The answers to a batch, put together from what workers drew.
+ghost use Rattle.std.specs.Prelude.{◌≡◌, ◌≢◌, ◌*◌, ◌<◌, ◌++◌, ℕ, Some, slice_get, IfSome, IfNone, IfOk, OnOk, List, take, drop, length};
+ghost use Rattle.std.specs.List.{All, AllByRecursion, HoldsAt};
+ghost use Rattle.uc_query_answer.specs.declared.answer.Answer.{Answer as AnswerOf};
+ghost use Rattle.uc_query_workers.specs.Asking as asking;
+ghost use Rattle.uc_query_workers.specs.Pieces.{IsDrawn};
+ghost use Rattle.uc_query_workers.specs.Pieces as pieces;
+
+use crate::batch::Batch;
+use crate::drawing::Drawn;
+use std::alloc::{AllocError, Global};
+use std::collections::VecDeque;
+use uc_oper::Operator;
+use uc_query_answer::Answer;
+
+/// Moves so many answers from the front of `answers` behind those of `all`. Want of memory loses some of them.
+fn move_answers(
+    answers: &mut VecDeque<Answer>,
+    count: usize,
+    all: &mut Vec<Answer>,
+) -> Result<(), AllocError>
+    ensures moved { OnOk result (all.new.items ≡ all.old.items ++ take count answers.old.items) }
+    ensures rest { OnOk result (answers.new.items ≡ drop count answers.old.items) }
+{
+    for _ in 0..count {
+        if let Some(answer) = answers.pop_front() {
+            all.push(answer)?;
+        }
+    }
+    Ok(())
+}
+
+/// The place of the first of what the workers drew whose first piece that is left is the one with a number.
+fn holder_of(draws: &[Drawn], number: usize) -> Option<usize>
+    ensures some { IfSome result (λ place. (place < length draws.now) × HoldsAt (λ d. slice_get d.numbers.items 0 ≡ Some number) draws.now place) }
+    ensures none { IfNone result (All (λ d. slice_get d.numbers.items 0 ≢ Some number) draws.now) }
+{
+    draws
+        .iter()
+        .position(|drawn| drawn.numbers.front() == Some(&number))
+}
+
+/// Moves the answers to the first piece that is left of what a worker drew, which are so many, behind those of `all`. Want of
+/// memory loses some of them.
+fn take_first(drawn: &mut Drawn, count: usize, all: &mut Vec<Answer>) -> Result<(), AllocError>
+    ensures { (f : ℕ → List AnswerOf) (number : ℕ) → slice_get drawn.old.numbers.items 0 ≡ Some number → length (f number) ≡ count →
+        IsDrawn f drawn.old → OnOk result (IsDrawn f drawn.new × (all.new.items ≡ all.old.items ++ f number)) }
+{
+    let _ = drawn.numbers.pop_front();
+    move_answers(&mut drawn.answers, count, all)?;
+    Ok(())
+}
+
+/// Appends the answers to the piece with a number: those of the worker who drew it or, where nobody did, those that are made
+/// here. Want of memory loses some of them.
+fn push_piece<O: Operator>(
+    alloc: Global,
+    batch: &Batch<'_>,
+    number: usize,
+    draws: &mut Vec<Drawn>,
+    all: &mut Vec<Answer>,
+) -> Result<(), AllocError>
+    requires { number * batch.now.piece < length batch.now.queries }
+    ensures { AllByRecursion (IsDrawn (pieces.piece_answers O.meaning batch.now)) draws.old.items →
+        OnOk result (AllByRecursion (IsDrawn (pieces.piece_answers O.meaning batch.now)) draws.new.items ×
+        (all.new.items ≡ all.old.items ++ pieces.piece_answers O.meaning batch.now number)) }
+{
+    let Some(place) = holder_of(draws, number) else {
+        return batch.push_answers::<O>(alloc, number, all);
+    };
+    take_first(&mut draws[place], batch.piece_of(number).len(), all)?;
+    Ok(())
+}
+
+/// The answers to all pieces, in their order.
+pub(crate) fn joined<O: Operator>(
+    alloc: Global,
+    batch: &Batch<'_>,
+    mut draws: Vec<Drawn>,
+) -> Result<Vec<Answer>, AllocError>
+    requires { AllByRecursion (IsDrawn (pieces.piece_answers O.meaning batch.now)) draws.items }
+    ensures { IfOk result (λ answers. answers.items ≡ asking.answers_of O.meaning batch.now.version batch.now.queries) }
+{
+    let mut all = Vec::with_capacity(alloc, batch.len())?;
+    for number in 0..batch.pieces() {
+        push_piece::<O>(alloc, batch, number, &mut draws, &mut all)?;
+    }
+    Ok(all)
+}

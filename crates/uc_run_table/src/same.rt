@@ -1,0 +1,22 @@
+//! Whether points and fragments are equal.
+ghost use Rattle.std.specs.Prelude.{◌≡◌, ◌↔◌, IsTrue};
+
+use uc_run_entry::{Fragment, Point};
+
+/// Whether points are equal.
+pub(crate) fn same_points(points: &[Point], others: &[Point]) -> bool
+    ensures { IsTrue result ↔ (points.now ≡ others.now) }
+{
+    points.len() == others.len()
+        && points
+            .iter()
+            .zip(others)
+            .all(|(point, other)| point.same(other))
+}
+
+/// Whether fragments are equal.
+pub(crate) fn same_fragments(fragments: &[Fragment], others: &[Fragment]) -> bool
+    ensures { IsTrue result ↔ (fragments.now ≡ others.now) }
+{
+    fragments == others
+}

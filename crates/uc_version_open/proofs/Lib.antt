@@ -1,0 +1,6 @@
+pub mod Grown
+pub mod Newest
+pub mod Ended
+pub mod Refused
+pub mod Taken
+pub mod Inserting

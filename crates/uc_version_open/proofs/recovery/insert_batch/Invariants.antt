@@ -1,0 +1,12 @@
+use Rattle.std.proofs.Common.{◌≡◌, List, ◌++◌}
+use Rattle.uc_bytes.specs.declared.write.Write.{Write}
+use Rattle.uc_batch.specs.Rising.{IsRising}
+use Rattle.uc_version_pick.specs.declared.options.Options.{Options}
+use Rattle.uc_version_open.specs.Progress.{progress_of}
+use Rattle.uc_version_open.proofs.recovery.insert_batch.Given as goal
+
+abbrev pub invariant-loop-write : goal.invariant-loop-write
+invariant-loop-write l = record {
+  rising : IsRising l.opener.last l.write-iterator;
+  progress : (options : Options) (before : List Write) → l.fn.opener ≡ progress_of options before → l.opener ≡ progress_of options (before ++ l.yielded);
+}

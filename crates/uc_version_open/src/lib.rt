@@ -1,0 +1,25 @@
+//! A log's writes made into a store's first version.
+//!
+//! An [`Opener`] takes the writes of a log one after the other, so that no list of them is ever held: a full memtable
+//! becomes a run when the next write comes. It refuses nothing before its end, since a fault of the log comes before a
+//! refused opening. Read `specs/Refusal.antt` first, which says when a store isn't opened, then
+//! `specs/Progress.antt` and `opener.rt`. What a store opens with is `opened` in `uc_version_state`.
+//!
+//! [`recover`] goes once through a write-ahead log and hands each write, borrowed from the bytes where it stands, to an
+//! opener. Read `recovery.rt`.
+#![tactic(auto)]
+
+mod keeping;
+mod laws;
+mod memtables;
+mod open_error;
+mod opener;
+mod opening;
+mod placing;
+mod recovery;
+
+pub use laws::no_refusal_is_leave_to_open;
+pub use open_error::OpenError;
+pub use opener::Opener;
+pub use opening::open_version;
+pub use recovery::{Recovered, recover};

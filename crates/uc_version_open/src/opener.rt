@@ -1,0 +1,135 @@
+//! [`Opener`]: a store that is being opened.
+ghost use Rattle.std.specs.Prelude.{◌≡◌, ◌≢◌, ◌<◌, ◌^◌, ◌∷◌, ◌++◌, [], List, Some, None, IfOk, IfErr, OnOk, OnErr};
+ghost use Rattle.uc_bytes.specs.declared.write.Write.{Write as WriteOf};
+ghost use Rattle.uc_batch.specs.Rising.{IsRising};
+ghost use Rattle.uc_version_pick.specs.declared.options.Options.{Options as OptionsOf};
+ghost use Rattle.uc_version_state.specs.Versions.{IsVersion};
+ghost use Rattle.uc_version_state.specs.Openings.{Opening as OpeningOf, opened};
+ghost use Rattle.uc_version_open.specs.Progress.{progress_of};
+ghost use Rattle.uc_version_open.specs.Refusal.{opening_refusal};
+ghost use Rattle.uc_version_open.specs.Steps as steps;
+ghost use Rattle.uc_version_open.specs.declared.open_error.OpenError.TheVariants.{Memory};
+
+use crate::keeping::{first_ahead, kept};
+use crate::laws::no_refusal_is_leave_to_open;
+use crate::memtables::{Memtables, hold_write};
+use crate::open_error::OpenError;
+use crate::placing::placed_runs;
+use std::alloc::{AllocError, Global};
+use std::marker::Model;
+use uc_bytes::WriteRef;
+use uc_version_pick::Options;
+use uc_version_state::{Version, opening_gives_a_version};
+
+/// A store that is being opened, by the writes of a log one after the other.
+///
+/// It refuses nothing before [`finish`](Opener::finish), since a fault of the log comes before a refused opening. What it
+/// holds is the runs so far and one memtable, and neither where the store can't open any more.
+#[derive(Debug, Drop)]
+pub struct Opener {
+    options: Options,
+    last: u64,
+    memtables: Option<Memtables>,
+}
+
+impl Model for Opener {
+    ghost use Rattle.uc_version_open.specs.Progress.{Progress};
+    ghost use Rattle.uc_version_open.specs.Held.{progress, HasProgressed};
+
+    ghost Value = { Progress };
+
+    ghost view = { progress };
+
+    ghost invariant = { HasProgressed };
+}
+
+/// The version of memtables.
+fn version_of(
+    alloc: Global,
+    first_id: u64,
+    last: u64,
+    memtables: Memtables,
+    keeps: &[u64],
+) -> Result<Version, AllocError>
+    requires { IsVersion (steps.version_of first_id last memtables keeps.now) }
+    ensures { IfOk result (λ version. version ≡ steps.version_of first_id last memtables keeps.now) }
+{
+    let runs = memtables.into_runs(alloc)?;
+    let next_id = first_id + runs.len() as u64;
+    let runs = placed_runs(alloc, first_id, runs)?;
+    let keeps = kept(alloc, keeps, last)?;
+    Ok(Version::new(runs, keeps, last, next_id))
+}
+
+impl Opener {
+    /// A store of which nothing has come yet. Whatever the options are, it is refused at the end alone. It takes no memory.
+    pub fn new(alloc: Global, options: Options) -> Opener
+        ensures { result ≡ progress_of options [] }
+    {
+        Opener {
+            options,
+            last: 0,
+            memtables: if options.are_good() {
+                Some(Memtables::new(alloc))
+            } else {
+                None
+            },
+        }
+    }
+
+    /// The last sequence, or 0 where no write has come.
+    pub fn last(&self) -> u64
+        ensures { result ≡ self.now.last }
+    {
+        self.last
+    }
+
+    /// Takes the next write of the log, whose sequence is above all before it and at most
+    /// [`MAX_SEQUENCE`](uc_bytes::MAX_SEQUENCE). It costs a copy of the texts, amortized, and the flush of a memtable where
+    /// that is full. It fails only for want of memory, and then takes nothing.
+    pub fn insert(&mut self, alloc: Global, write: &WriteRef<'_>) -> Result<(), AllocError>
+        requires above { self.old.last < write.now.seq }
+        requires below { write.now.seq < 2 ^ 56 }
+        ensures ok { (options : OptionsOf) (writes : List WriteOf) → self.old ≡ progress_of options writes →
+            OnOk result (self.new ≡ progress_of options (writes ++ write.now ∷ [])) }
+        ensures last { OnOk result (self.new.last ≡ write.now.seq) }
+        ensures err { OnErr result (self.new ≡ self.old) }
+    {
+        hold_write(alloc, self.options.memtable, &mut self.memtables, write)?;
+        self.last = write.seq();
+        Ok(())
+    }
+
+    /// The version of the writes that came, which keeps these sequences and the last one. It is refused for the first of
+    /// these: an option out of its range, a sequence above the last one, more memtables than slots; and, where none of these
+    /// holds, for want of memory. For k sequences it takes k log k steps.
+    pub fn finish(self, alloc: Global, keeps: &[u64]) -> Result<Version, OpenError>
+        ensures ok { (options : OptionsOf) (writes : List WriteOf) → IsRising 0 writes → self ≡ progress_of options writes →
+            let opening : OpeningOf = record { writes = writes; keeps = keeps.now; options = options } in
+            IfOk result (λ version. (version ≡ opened opening) × (opening_refusal opening ≡ None)) }
+        ensures err { (options : OptionsOf) (writes : List WriteOf) → IsRising 0 writes → self ≡ progress_of options writes →
+            let opening : OpeningOf = record { writes = writes; keeps = keeps.now; options = options } in
+            IfErr result (λ error. error ≢ Memory → opening_refusal opening ≡ Some error) }
+        ensures memory { (options : OptionsOf) (writes : List WriteOf) → IsRising 0 writes → self ≡ progress_of options writes →
+            let opening : OpeningOf = record { writes = writes; keeps = keeps.now; options = options } in
+            IfErr result (λ error. error ≡ Memory → opening_refusal opening ≡ None) }
+    {
+        no_refusal_is_leave_to_open();
+        opening_gives_a_version();
+        let Opener {
+            options,
+            last,
+            memtables,
+        } = self;
+        if !options.are_good() {
+            return Err(OpenError::BadOption);
+        }
+        if let Some(ahead) = first_ahead(keeps, last) {
+            return Err(OpenError::SnapshotAhead(ahead));
+        }
+        let Some(memtables) = memtables else {
+            return Err(OpenError::TooManyRuns);
+        };
+        Ok(version_of(alloc, options.first_id, last, memtables, keeps)?)
+    }
+}

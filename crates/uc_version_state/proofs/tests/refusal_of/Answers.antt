@@ -1,0 +1,10 @@
+use Rattle.std.proofs.Common.{ℕ, List, [], nat_cmp, sym, subst}
+use Rattle.std.specs.List.Sorted.{IsStrictlySortedBy}
+use Rattle.uc_version_state.proofs.tests.refusal_of.Goals as goal
+
+none : IsStrictlySortedBy nat_cmp []
+unfolding IsStrictlySortedBy
+none = tt
+
+pub new-install-requires-clause-keeps_rise : goal.new-install-requires-clause-keeps_rise
+new-install-requires-clause-keeps_rise c = subst (λ (keeps : List ℕ). IsStrictlySortedBy nat_cmp keeps) (sym c.new.ensures.items) none

@@ -1,0 +1,128 @@
+//! What holds of versions and of what happens to them.
+ghost use Rattle.std.specs.Prelude.{◌≡◌, ◌≢◌, ◌≤◌, ◌<◌, ◌⊎◌, ◌↔◌, ◌+◌, ◌++◌, ◌∷◌, [], ℕ, List, Contains, length};
+ghost use Rattle.std.specs.List.{flat_map};
+ghost use Rattle.std.specs.List.Sorted.{IsStrictlySortedBy};
+ghost use Rattle.std.specs.Ordering.{nat_cmp};
+ghost use Rattle.uc_bytes.specs.declared.write.Write.{Write};
+ghost use Rattle.uc_batch.specs.Rising.{last_of};
+ghost use Rattle.uc_claims.specs.Holding.{AreDistinct};
+ghost use Rattle.uc_model.specs.Meaning.{effect_on, value_of};
+ghost use Rattle.uc_run.specs.Size.{memtable_size};
+ghost use Rattle.uc_version_state.specs.Versions.{PlacedRun, Stored, IsVersion, ids_of, writes_in};
+ghost use Rattle.uc_version_state.specs.Openings.{Opening, MayOpen, memtables, opened};
+ghost use Rattle.uc_version_state.specs.Installs.{Install, MayInstall, installed, part_of, standing};
+ghost use Rattle.uc_version_state.specs.declared.event.Event.{Event};
+ghost use Rattle.uc_version_state.specs.Histories.{MayHappen, after, ids_replaced, History, IsLegal, version_after, writes_given, all_ids_given, all_ids_replaced};
+
+use uc_oper::Operator;
+use uc_run::{flush_keeps_every_effect, flushed_writes_are_a_run};
+
+/// Memtables are filled one after the other: together they hold the writes, in order, and none is empty. All but the last
+/// have reached the limit, and none, where the limit is 1 byte or more, had reached it before its last write.
+pub fn memtables_are_filled_in_turn()
+    ensures joined { (limit : ℕ) (writes : List Write) → flat_map (λ (part : List Write). part) (memtables limit writes) ≡ writes }
+    ensures some { (limit : ℕ) (writes part : List Write) → Contains (memtables limit writes) part → part ≢ [] }
+    ensures full { (limit : ℕ) (writes : List Write) (front : List (List Write)) (part next : List Write) (behind : List (List Write)) →
+        memtables limit writes ≡ front ++ part ∷ next ∷ behind → limit ≤ memtable_size part }
+    ensures not_before { (limit : ℕ) (writes part front : List Write) (w : Write) → 1 ≤ limit →
+        Contains (memtables limit writes) part → part ≡ front ++ w ∷ [] → memtable_size front < limit }
+{}
+
+/// A store opens with the keeps that it was given and the last sequence, each once and in order.
+pub fn opened_keeps_are_those_given()
+    ensures given { (o : Opening) (seq : ℕ) → Contains (opened o).keeps seq ↔ (Contains o.keeps seq ⊎ (seq ≡ last_of 0 o.writes)) }
+    ensures in_order { (o : Opening) → IsStrictlySortedBy nat_cmp (opened o).keeps }
+{}
+
+/// What a store opens with is a version.
+pub fn opening_gives_a_version()
+    ensures { (o : Opening) → MayOpen o → IsVersion (opened o) }
+{
+    flushed_writes_are_a_run();
+}
+
+/// An opening loses nothing: its version's plain writes do to every key, at every sequence, what the writes of the log do.
+pub fn opening_keeps_every_effect<O: Operator>()
+    ensures { (o : Opening) (key : List ℕ) (at : ℕ) → MayOpen o →
+        effect_on O.meaning (writes_in (opened o)) key at ≡ effect_on O.meaning o.writes key at }
+{
+    flushed_writes_are_a_run();
+    flush_keeps_every_effect::<O>();
+}
+
+/// An install changes nothing that is read: at each sequence that the version keeps, and from its last on, every key has
+/// the value that it had.
+pub fn install_keeps_what_is_read<O: Operator>()
+    ensures { (v : Stored) (i : Install) (key : List ℕ) (at : ℕ) → IsVersion v → MayInstall O.meaning v i →
+        Contains v.keeps at ⊎ (v.last ≤ at) →
+        value_of O.meaning (writes_in (installed i v)) key at ≡ value_of O.meaning (writes_in v) key at }
+{}
+
+/// What an install leaves is a version again.
+pub fn install_gives_a_version<O: Operator>()
+    ensures { (v : Stored) (i : Install) → IsVersion v → MayInstall O.meaning v i → IsVersion (installed i v) }
+{}
+
+/// What an event leaves is a version again.
+pub fn events_give_versions<O: Operator>()
+    ensures { (v : Stored) (e : Event) → IsVersion v → MayHappen O.meaning v e → IsVersion (after v e) }
+{}
+
+/// Whatever happened to a store, what it holds is a version, and at each sequence that it keeps every key has the value
+/// that the plain writes give it.
+pub fn histories_keep_what_is_read<O: Operator>()
+    ensures version { (h : History) → IsLegal O.meaning h → IsVersion (version_after h) }
+    ensures values { (h : History) (key : List ℕ) (at : ℕ) → IsLegal O.meaning h → Contains (version_after h).keeps at →
+        value_of O.meaning (writes_in (version_after h)) key at ≡ value_of O.meaning (writes_given h) key at }
+{
+    opening_gives_a_version();
+    opening_keeps_every_effect::<O>();
+}
+
+/// Whatever happened to a store, no id was given twice, and no run was replaced twice.
+pub fn runs_are_replaced_once<O: Operator>()
+    ensures given { (h : History) → IsLegal O.meaning h → AreDistinct (all_ids_given h) }
+    ensures replaced { (h : History) → IsLegal O.meaning h → AreDistinct (all_ids_replaced h) }
+{
+    opening_gives_a_version();
+}
+
+/// What may happen to the version after a history goes behind it: the longer history is legal too, and the version after
+/// it is the one after that event.
+pub fn histories_grow_by_events<O: Operator>()
+    ensures legal { (h : History) (e : Event) → IsLegal O.meaning h → MayHappen O.meaning (version_after h) e →
+        IsLegal O.meaning (record h { events = h.events ++ e ∷ [] }) }
+    ensures after { (h : History) (e : Event) → version_after (record h { events = h.events ++ e ∷ [] }) ≡ after (version_after h) e }
+{}
+
+/// What stands of a legal history so far is a legal history.
+pub fn beginnings_are_legal<O: Operator>()
+    ensures { (h : History) (later : List Event) → IsLegal O.meaning (record h { events = h.events ++ later }) → IsLegal O.meaning h }
+{}
+
+/// A run that an event doesn't replace stays in the version, with its id, its slot and its contents.
+pub fn runs_stay_until_replaced<O: Operator>()
+    ensures { (v : Stored) (e : Event) (run : PlacedRun) → MayHappen O.meaning v e → Contains v.runs run →
+        ¬ Contains (ids_replaced e) run.id → Contains (after v e).runs run }
+{}
+
+/// Along a history a run keeps its slot and its contents: where runs with one id stand in the versions after a history and
+/// after a longer one that begins with it, they are the same.
+pub fn runs_keep_their_contents<O: Operator>()
+    ensures { (h : History) (later : List Event) (run again : PlacedRun) → IsLegal O.meaning (record h { events = h.events ++ later }) →
+        Contains (version_after h).runs run → Contains (version_after (record h { events = h.events ++ later })).runs again →
+        run.id ≡ again.id → run ≡ again }
+{
+    opening_gives_a_version();
+}
+
+/// An event changes neither the keeps nor the last sequence.
+pub fn events_keep_keeps_and_last()
+    ensures { (v : Stored) (e : Event) → ((after v e).keeps ≡ v.keeps) × ((after v e).last ≡ v.last) }
+{}
+
+/// Neighbours are found by their ids: as many runs as there are ids, from the one with the newest of them on, are these runs.
+pub fn neighbours_stand_where_their_ids_say()
+    ensures { (v : Stored) (first count : ℕ) → IsVersion v → 0 < count → first + count ≤ length v.runs →
+        standing (ids_of (part_of first count v.runs)) v.runs ≡ part_of first count v.runs }
+{}

@@ -1,0 +1,34 @@
+//! [`Terms`]: what a compaction asks of a version.
+ghost use Rattle.std.specs.Prelude.{◌≡◌};
+
+use std::marker::Model;
+
+/// What a compaction asks of a version: under which keeps it was made, whether for the oldest run of all too, and the
+/// greatest sequence of its inputs.
+#[derive(Debug, Drop)]
+pub struct Terms<'a> {
+    pub(crate) keeps: &'a [u64],
+    pub(crate) oldest: bool,
+    pub(crate) high: u64,
+}
+
+impl<'a> Model for Terms<'a> {
+    ghost use Rattle.uc_version_state.specs.Installs as installs;
+
+    ghost Value = { installs.Terms };
+
+    ghost view = { λ t. record { keeps = t.keeps.now; oldest = t.oldest; high = t.high } };
+}
+
+impl<'a> Terms<'a> {
+    /// The terms of a compaction.
+    pub fn new(keeps: &'a [u64], oldest: bool, high: u64) -> Terms<'a>
+        ensures { result ≡ record { keeps = keeps.now; oldest = oldest; high = high } }
+    {
+        Terms {
+            keeps,
+            oldest,
+            high,
+        }
+    }
+}

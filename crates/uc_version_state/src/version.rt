@@ -1,0 +1,78 @@
+//! [`Version`]: what a store holds at a moment.
+ghost use Rattle.std.specs.Prelude.{◌≡◌};
+ghost use Rattle.uc_version_state.specs.Versions.{IsVersion};
+
+use crate::placed::Placed;
+use std::marker::Model;
+
+/// What a store holds at a moment (RocksDB wiki, "Universal Compaction", "Snapshot"): sorted runs, the newest first; the
+/// kept sequences, which reads are made at; the last sequence; and the number of the next run.
+#[derive(Debug, Drop)]
+pub struct Version {
+    pub(crate) runs: Vec<Placed>,
+    keeps: Vec<u64>,
+    last: u64,
+    pub(crate) next_id: u64,
+}
+
+impl Model for Version {
+    ghost use Rattle.uc_version_state.specs.Versions.{Stored};
+    ghost use Rattle.uc_version_state.specs.Held.{stored, HoldsVersion};
+
+    ghost Value = { Stored };
+
+    ghost view = { stored };
+
+    ghost invariant = { HoldsVersion };
+}
+
+impl Version {
+    /// A version of these runs, the newest first, and keeps, which rise.
+    pub fn new(runs: Vec<Placed>, keeps: Vec<u64>, last: u64, next_id: u64) -> Version
+        requires { IsVersion (record { runs = runs.items; keeps = keeps.items; last = last; next_id = next_id }) }
+        ensures { result ≡ record { runs = runs.items; keeps = keeps.items; last = last; next_id = next_id } }
+    {
+        Version {
+            runs,
+            keeps,
+            last,
+            next_id,
+        }
+    }
+
+    /// Its runs, the newest first.
+    pub fn runs(&self) -> &[Placed]
+        ensures { result.now ≡ self.now.runs }
+    {
+        &self.runs
+    }
+
+    /// The sequences that reads are made at, which rise.
+    pub fn keeps(&self) -> &[u64]
+        ensures { result.now ≡ self.now.keeps }
+    {
+        &self.keeps
+    }
+
+    /// The last sequence; 0 where nothing was written.
+    pub fn last(&self) -> u64
+        ensures { result ≡ self.now.last }
+    {
+        self.last
+    }
+
+    /// The number that the next run gets.
+    pub fn next_id(&self) -> u64
+        ensures { result ≡ self.now.next_id }
+    {
+        self.next_id
+    }
+
+    /// What holds of every version: its runs are runs and stand newest first, no two have one slot or one id, and its
+    /// keeps rise. It does nothing.
+    pub fn is_one(&self)
+        ensures { IsVersion self.now }
+    {
+        let _ = &self.last;
+    }
+}
