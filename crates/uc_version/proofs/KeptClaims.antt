@@ -1,14 +1,14 @@
 -- Claims keep their runs.
-use Rattle.std.proofs.Common.{◌≡◌, ◌≢◌, ℕ, Bool, true, false, eqb, ◌&&◌, List, [], get_or, refl, sym, ap, ◌∙◌, subst, arith}
+use Rattle.std.proofs.Common.{◌≡◌, ◌≢◌, ℕ, Bool, true, false, eqb, ◌&&◌, [], get_or, refl, sym, ◌∙◌, subst, arith}
 use Rattle.std.specs.Prelude.{Option, Some, None}
 use Rattle.std.proofs.lemmas.Bool.Decides.{nat_tests}
 use Rattle.uc_oper.specs.Operation.{Operation}
 use Rattle.uc_compact_rules.specs.Inputs.{Compaction}
 use Rattle.uc_compact_rules.specs.Output.{output_of}
-use Rattle.uc_version_state.specs.Versions.{PlacedRun, Stored, ids_of}
+use Rattle.uc_version_state.specs.Versions.{Stored, ids_of}
 use Rattle.uc_version_state.specs.Installs.{newest_id}
 use Rattle.uc_version.specs.declared.held_stretch.HeldStretch.{HeldStretch}
-use Rattle.uc_version.specs.Owners.{Owner, IsOwner, NotesItsRuns, Stands, last_id, runs_held, claimed_slots}
+use Rattle.uc_version.specs.Owners.{Owner, IsOwner, Stands, last_id, runs_held, claimed_slots}
 use Rattle.uc_version.specs.Claiming.{Claim, has_ids, is_held}
 use Rattle.uc_version.specs.Installing.{stretch_in, stretch_of, claimed_runs, after_install}
 use Rattle.uc_version.proofs.HeldClaims.{all_at, held_below}

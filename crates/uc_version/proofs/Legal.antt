@@ -1,5 +1,5 @@
 -- An install for a claim is an event that may happen.
-use Rattle.std.proofs.Common.{◌≡◌, ℕ, ◌+◌, ◌-◌, ◌<◌, ◌≤◌, Bool, List, [], length, set, drop, map, refl, sym, ap, ◌∙◌, subst, arith}
+use Rattle.std.proofs.Common.{◌≡◌, ℕ, ◌+◌, ◌-◌, ◌<◌, ◌≤◌, List, [], length, set, map, refl, sym, ap, ◌∙◌, subst, arith}
 use Rattle.std.specs.Prelude.{Option, None}
 use Rattle.std.proofs.lemmas.List.{length-map}
 use Rattle.uc_oper.specs.Operation.{Operation}
@@ -7,7 +7,7 @@ use Rattle.uc_run_entry.specs.Run.{Contents}
 use Rattle.uc_compact_rules.specs.Inputs.{Compaction, Stand, high_of}
 use Rattle.uc_compact_rules.specs.Output.{output_of}
 use Rattle.uc_version_state.specs.Versions.{PlacedRun, Stored, IsVersion, contents_of, ids_of}
-use Rattle.uc_version_state.specs.Installs.{Install, MayInstall, MayReplace as MayBeReplaced, standing, inputs_in, older_in, compaction_in, replaced, installed}
+use Rattle.uc_version_state.specs.Installs.{Install, MayInstall, MayReplace as MayBeReplaced, standing, older_in, replaced, installed}
 use Rattle.uc_version_state.proofs.Found.{first_is, count_is, standing_is}
 use Rattle.uc_version.specs.declared.held_stretch.HeldStretch.{HeldStretch}
 use Rattle.uc_version.specs.Owners.{Owner, runs_held}
