@@ -1,5 +1,6 @@
 //! [`BatchWrites`]: the writes of a batch, lent one at a time.
-ghost use Rattle.std.specs.Prelude.{◌≡◌, ◌<◌, ◌≤◌, ◌+◌, ◌^◌, ◌++◌, [], ℕ, length, drop, option_to_list, Ok, Err, OnOk, IfOk, IfErr, IfNone};
+ghost use Rattle.std.specs.Prelude.{◌≡◌, ◌<◌, ◌≤◌, ◌+◌, ◌^◌, ◌++◌, [], ℕ, length, drop, option_to_list, Ok};
+ghost use Rattle.std.specs.Prelude.{Err, OnOk, IfOk, IfErr, IfNone};
 ghost use Rattle.std.specs.Iterator.{YieldsFirst, item_count};
 ghost use Rattle.uc_batch.specs.Reads.{Exactly};
 ghost use Rattle.uc_batch.specs.Records.{operations};
@@ -32,13 +33,15 @@ impl<'a> Model for BatchWrites<'a> {
 
     ghost view = { λ w. numbered w.sequence (ops_in w.records.total w.records.rest.now) };
 
-    ghost invariant = { λ w. AreCounted w.count w.records.total w.records.rest.now × (0 < w.count → w.sequence + w.count ≤ 2 ^ 56) };
+    ghost invariant = { λ w. AreCounted w.count w.records.total w.records.rest.now
+        × (0 < w.count → w.sequence + w.count ≤ 2 ^ 56) };
 }
 
 /// Reads all records, and refuses the first fault or a wrong count.
 fn judge_records(mut batch: Cursor<'_>, count: u32) -> Result<(), BatchError>
     ensures ok { OnOk result (AreCounted count batch.entry.total batch.entry.rest.now) }
-    ensures err { IfErr result (λ e. (sequence : ℕ) → counted_of sequence count batch.entry.total batch.entry.rest.now ≡ Err e) }
+    ensures err { IfErr result (λ e.
+        (sequence : ℕ) → counted_of sequence count batch.entry.total batch.entry.rest.now ≡ Err e) }
 {
     let mut counted = 0;
     while !batch.is_empty() {
@@ -56,7 +59,8 @@ fn judge_records(mut batch: Cursor<'_>, count: u32) -> Result<(), BatchError>
 fn next_op<'a>(batch: &mut Cursor<'a>) -> Option<OpRef<'a>>
     requires { operations batch.old.total batch.old.rest.now ≡ Ok (ops_in batch.old.total batch.old.rest.now) }
     ensures fine { operations batch.new.total batch.new.rest.now ≡ Ok (ops_in batch.new.total batch.new.rest.now) }
-    ensures ops { ops_in batch.old.total batch.old.rest.now ≡ option_to_list result ++ ops_in batch.new.total batch.new.rest.now }
+    ensures ops { ops_in batch.old.total batch.old.rest.now ≡
+        option_to_list result ++ ops_in batch.new.total batch.new.rest.now }
     ensures none { IfNone result (ops_in batch.new.total batch.new.rest.now ≡ []) }
 {
     while !batch.is_empty() {

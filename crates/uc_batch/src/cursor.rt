@@ -42,7 +42,8 @@ impl<'a> Cursor<'a> {
 
     /// Reads a number of 32 bits, of the record whose tag is at `start`.
     pub(crate) fn read_number(&mut self, start: u64) -> Result<u32, BatchError>
-        ensures value { Exactly (λ number. (number, self.new.rest.now)) result (varint_from 4 start (self.old.total - length self.old.rest.now) self.old.rest.now) }
+        ensures value { Exactly (λ number. (number, self.new.rest.now)) result
+            (varint_from 4 start (self.old.total - length self.old.rest.now) self.old.rest.now) }
         ensures total { self.new.total ≡ self.old.total }
         ensures shorter { length self.new.rest.now ≤ length self.old.rest.now }
     {
@@ -54,7 +55,8 @@ impl<'a> Cursor<'a> {
     /// Reads a length and that many bytes, of the record whose tag is at `start`.
     #[tactic(auto, unfolding(crate::specs::Records::string_at))]
     pub(crate) fn read_string(&mut self, start: u64) -> Result<&'a [u8], BatchError>
-        ensures value { Exactly (λ text. (text.now, self.new.rest.now)) result (string_at self.old.total start self.old.rest.now) }
+        ensures value { Exactly (λ text. (text.now, self.new.rest.now)) result
+            (string_at self.old.total start self.old.rest.now) }
         ensures total { self.new.total ≡ self.old.total }
         ensures shorter { length self.new.rest.now ≤ length self.old.rest.now }
     {

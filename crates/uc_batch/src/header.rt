@@ -29,8 +29,10 @@ impl Header {
     /// The header at the front, and the bytes behind it; nothing where there are fewer than its 12 bytes.
     pub(crate) fn split(bytes: &[u8]) -> Option<(Header, &[u8])>
         ensures long { MatchOption result (length bytes.now < 12) (λ found. 12 ≤ length bytes.now) }
-        ensures sequence { MatchOption result (length bytes.now < 12) (λ found. found.0.sequence ≡ from_le_bytes w64 (take 8 bytes.now)) }
-        ensures count { MatchOption result (length bytes.now < 12) (λ found. found.0.count ≡ from_le_bytes w32 (take 4 (drop 8 bytes.now))) }
+        ensures sequence { MatchOption result (length bytes.now < 12) (λ found.
+            found.0.sequence ≡ from_le_bytes w64 (take 8 bytes.now)) }
+        ensures count { MatchOption result (length bytes.now < 12) (λ found.
+            found.0.count ≡ from_le_bytes w32 (take 4 (drop 8 bytes.now))) }
         ensures body { MatchOption result (length bytes.now < 12) (λ found. found.1.now ≡ drop 12 bytes.now) }
     {
         let (sequence, rest) = bytes.split_first_chunk::<8>()?;

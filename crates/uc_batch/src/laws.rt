@@ -23,5 +23,6 @@ pub fn written_batch_is_spelled()
 /// What a batch is refused for stands there: the sequence, the first record from the left that has a fault, behind
 /// records without one, or, where all are records, their number.
 pub fn refusal_stands_in_batch()
-    ensures { (last : ℕ) (bytes : List ℕ) (fault : Fault) → AreBytes bytes → batch_of last bytes ≡ Err fault → IsRefused last bytes fault }
+    ensures { (last : ℕ) (bytes : List ℕ) (fault : Fault) → AreBytes bytes →
+        batch_of last bytes ≡ Err fault → IsRefused last bytes fault }
 {}

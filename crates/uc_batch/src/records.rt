@@ -25,7 +25,8 @@ fn read_family(batch: &mut Cursor<'_>, start: u64) -> Result<(), BatchError>
 /// Passes over the family's number, where there is one.
 #[tactic(auto, unfolding(crate::specs::Records::after_family))]
 fn skip_family(batch: &mut Cursor<'_>, has_family: bool, start: u64) -> Result<(), BatchError>
-    ensures value { Exactly (λ _. batch.new.rest.now) result (after_family has_family batch.old.total start batch.old.rest.now) }
+    ensures value { Exactly (λ _. batch.new.rest.now) result
+        (after_family has_family batch.old.total start batch.old.rest.now) }
     ensures total { batch.new.total ≡ batch.old.total }
     ensures shorter { length batch.new.rest.now ≤ length batch.old.rest.now }
 {
@@ -38,7 +39,8 @@ fn skip_family(batch: &mut Cursor<'_>, has_family: bool, start: u64) -> Result<(
 /// Reads two strings, which it borrows.
 #[tactic(auto, unfolding(crate::specs::Records::strings_at))]
 fn read_strings<'a>(batch: &mut Cursor<'a>, start: u64) -> Result<(&'a [u8], &'a [u8]), BatchError>
-    ensures value { Exactly (λ two. ((two.0.now, two.1.now), batch.new.rest.now)) result (strings_at batch.old.total start batch.old.rest.now) }
+    ensures value { Exactly (λ two. ((two.0.now, two.1.now), batch.new.rest.now)) result
+        (strings_at batch.old.total start batch.old.rest.now) }
     ensures total { batch.new.total ≡ batch.old.total }
     ensures shorter { length batch.new.rest.now ≤ length batch.old.rest.now }
 {
@@ -54,7 +56,8 @@ fn read_body<'a>(
     form: Form,
     start: u64,
 ) -> Result<Option<OpRef<'a>>, BatchError>
-    ensures value { Exactly (λ op. (op, batch.new.rest.now)) result (body_at form batch.old.total start batch.old.rest.now) }
+    ensures value { Exactly (λ op. (op, batch.new.rest.now)) result
+        (body_at form batch.old.total start batch.old.rest.now) }
     ensures total { batch.new.total ≡ batch.old.total }
     ensures shorter { length batch.new.rest.now ≤ length batch.old.rest.now }
 {

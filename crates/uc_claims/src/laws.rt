@@ -9,5 +9,6 @@ ghost use Rattle.uc_claims.specs.declared.rule.Claimant.{Claimant};
 /// It does nothing: it stands for its contract, which speaks of the rule alone.
 pub fn no_slot_in_two_lists()
     ensures apart { (count : ℕ) (words : List ℕ) (seats : List Claimant) → Claims count words seats → AreApart seats }
-    ensures words { (count : ℕ) (words : List ℕ) (seats : List Claimant) → Claims count words seats → All (λ word. word ≤ 1) words }
+    ensures words { (count : ℕ) (words : List ℕ) (seats : List Claimant) →
+        Claims count words seats → All (λ word. word ≤ 1) words }
 {}

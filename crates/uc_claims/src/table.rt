@@ -1,5 +1,6 @@
 //! The table of claim words, and all that is done with it.
-ghost use Rattle.std.specs.Prelude.{◌≡◌, ℕ, ◌<◌, ◌≤◌, ◌++◌, true, false, [], ◌∷◌, All, Contains, IfOk, IfErr, IsOk, OnOk, MatchBool, nat_lt, slice_index, slice_index_or};
+ghost use Rattle.std.specs.Prelude.{◌≡◌, ℕ, ◌<◌, ◌≤◌, ◌++◌, true, false, [], ◌∷◌, All, Contains, IfOk};
+ghost use Rattle.std.specs.Prelude.{IfErr, IsOk, OnOk, MatchBool, nat_lt, slice_index, slice_index_or};
 ghost use Rattle.std.specs.Slots.{slots_items, slots_len, IsFull};
 ghost use Rattle.std.specs.Bool.{OnTrue, OnFalse};
 ghost use Rattle.uc_claims.specs.Claims.{ShowsTaken};
@@ -217,7 +218,9 @@ impl ClaimTable {
     fn try_take(&self, held: &mut HeldSlots, slot: usize) -> bool
         requires table { held.old.table ≡ self.now.table }
         requires below { slot < self.now.count }
-        ensures held { MatchBool result (held.new ≡ record held.old { slots = held.old.slots ++ slot ∷ [] }) (held.new ≡ held.old) }
+        ensures held { MatchBool result
+            (held.new ≡ record held.old { slots = held.old.slots ++ slot ∷ [] })
+            (held.new ≡ held.old) }
         ensures won { OnTrue result (¬ Contains held.old.slots slot) }
         ensures lost { OnFalse result (held.old.whole ≡ true → Contains held.old.slots slot) }
     {
@@ -247,7 +250,9 @@ impl ClaimTable {
 fn taken_flags(closed: &Closed<(), Global>, count: usize) -> [bool; MOST_SLOTS]
     requires counts { (count ≡ slots_len closed.now.words) × (count ≤ MOST_SLOTS) }
     requires full { IsFull closed.now.words }
-    ensures { (slot : ℕ) → slice_index_or result slot false ≡ nat_lt 0 (slice_index (slots_items closed.now.words) slot) }
+    ensures { (slot : ℕ) →
+        slice_index_or result slot false ≡
+        nat_lt 0 (slice_index (slots_items closed.now.words) slot) }
 {
     let mut flags = [false; MOST_SLOTS];
     for slot in 0..count {

@@ -82,10 +82,13 @@ impl<O: Operator> Compacted<O> {
     /// writes do to every key what theirs do; with the oldest run among them they give the values that theirs give. It
     /// does nothing.
     pub fn stands_for_inputs(&self)
-        ensures effects { (key : List ℕ) (at : ℕ) → self.now.oldest ≡ false → Contains self.now.keeps at ⊎ (high_of self.now.inputs ≤ at) →
-            effect_on O.meaning (plain_list (output_of O.meaning self.now)) key at ≡ effect_on O.meaning (writes_of self.now.inputs) key at }
+        ensures effects { (key : List ℕ) (at : ℕ) → self.now.oldest ≡ false → Contains self.now.keeps at
+            ⊎ (high_of self.now.inputs ≤ at) →
+            effect_on O.meaning (plain_list (output_of O.meaning self.now)) key at ≡
+            effect_on O.meaning (writes_of self.now.inputs) key at }
         ensures values { (key : List ℕ) (at : ℕ) → Contains self.now.keeps at ⊎ (high_of self.now.inputs ≤ at) →
-            value_of O.meaning (plain_list (output_of O.meaning self.now)) key at ≡ value_of O.meaning (writes_of self.now.inputs) key at }
+            value_of O.meaning (plain_list (output_of O.meaning self.now)) key at ≡
+            value_of O.meaning (writes_of self.now.inputs) key at }
     {
         compaction_keeps_what_is_read::<O>();
         self.stands();

@@ -34,7 +34,10 @@ fn output_of<O: Operator + Sync>(
     oldest: bool,
 ) -> Result<Run, AllocError>
     requires { Stand (map arc_value inputs.now) keeps.now }
-    ensures { IfOk result (λ run. run ≡ output.output_of O.meaning (record { inputs = map arc_value inputs.now; keeps = keeps.now; oldest = oldest })) }
+    ensures { IfOk result (λ run.
+        run ≡
+        output.output_of O.meaning
+        (record { inputs = map arc_value inputs.now; keeps = keeps.now; oldest = oldest })) }
 {
     are_runs(inputs);
     compaction_gives_a_run::<O>();
@@ -61,7 +64,8 @@ pub fn compact<O: Operator + Sync>(
     oldest: bool,
 ) -> Result<Compacted<O>, AllocError>
     requires { Stand (map arc_value inputs.now) keeps.now }
-    ensures { IfOk result (λ made. made ≡ record { inputs = map arc_value inputs.now; keeps = keeps.now; oldest = oldest }) }
+    ensures { IfOk result (λ made.
+        made ≡ record { inputs = map arc_value inputs.now; keeps = keeps.now; oldest = oldest }) }
 {
     are_runs(inputs);
     let output = output_of::<O>(rt, alloc, inputs, keeps, oldest)?;

@@ -68,7 +68,10 @@ impl<'a> Cursor<'a> {
         key: &[u8],
         points: &mut Vec<&'a Point>,
     ) -> Result<(), AllocError>
-        ensures taken { OnOk result (map (λ p. p.now) points.new.items ≡ map (λ p. p.now) points.old.items ++ take (heads.first_named key.now self.old) self.old) }
+        ensures taken { OnOk result
+            (map (λ p. p.now) points.new.items ≡
+            map (λ p. p.now) points.old.items
+            ++ take (heads.first_named key.now self.old) self.old) }
         ensures left { OnOk result (self.new ≡ drop (heads.first_named key.now self.old) self.old) }
     {
         let count = first_named(self.ahead, key);

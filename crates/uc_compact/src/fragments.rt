@@ -39,7 +39,9 @@ pub(crate) fn fragments_kept(
 ) -> Result<Vec<Fragment>, AllocError>
     requires are { AllByRecursion IsFragment cut.items }
     requires keeps_rise { IsStrictlySortedBy nat_cmp keeping.now.keeps }
-    ensures { IfOk result (λ kept. kept.items ≡ filter (λ f. nat_lt 0 (length f.seqs)) (map (fragment_kept keeping.now) cut.items)) }
+    ensures { IfOk result (λ kept.
+        kept.items ≡
+        filter (λ f. nat_lt 0 (length f.seqs)) (map (fragment_kept keeping.now) cut.items)) }
 {
     let mut kept = Vec::new(alloc);
     for fragment in cut {

@@ -33,7 +33,8 @@ impl<'a> Model for Groups<'a> {
 
 /// The lesser of two keys, where there are two.
 fn lesser<'a>(key: Option<&'a [u8]>, other: Option<&'a [u8]>) -> Option<&'a [u8]>
-    ensures { option_map (λ k. k.now) result ≡ heads.lesser_of (option_map (λ k. k.now) key.entry) (option_map (λ k. k.now) other.entry) }
+    ensures { option_map (λ k. k.now) result ≡
+        heads.lesser_of (option_map (λ k. k.now) key.entry) (option_map (λ k. k.now) other.entry) }
 {
     match (key, other) {
         (Some(key), Some(other)) => {
@@ -65,7 +66,10 @@ fn take_from_each<'a>(
     key: &[u8],
     points: &mut Vec<&'a Point>,
 ) -> Result<(), AllocError>
-    ensures taken { OnOk result (map (λ p. p.now) points.new.items ≡ map (λ p. p.now) points.old.items ++ flat_map (λ ps. take (heads.first_named key.now ps) ps) cursors.old) }
+    ensures taken { OnOk result
+        (map (λ p. p.now) points.new.items ≡
+        map (λ p. p.now) points.old.items
+        ++ flat_map (λ ps. take (heads.first_named key.now ps) ps) cursors.old) }
     ensures left { OnOk result (cursors.new ≡ map (λ ps. drop (heads.first_named key.now ps) ps) cursors.old) }
 {
     for cursor in cursors.iter_mut() {
@@ -90,7 +94,9 @@ impl<'a> Groups<'a> {
     /// The next key. Its points take the place of those in `points`, none where there is no key. Where memory is wanting
     /// nothing is ahead any more.
     pub fn next_into(&mut self, points: &mut Vec<&'a Point>) -> Result<Option<&'a [u8]>, AllocError>
-        ensures comes { IfOk result (λ key. Comes self.old (option_map (λ k. k.now) key) (map (λ p. p.now) points.new.items) self.new) }
+        ensures comes { IfOk result (λ key.
+            Comes self.old (option_map (λ k. k.now) key) (map (λ p. p.now) points.new.items)
+            self.new) }
         ensures err { OnErr result (self.new ≡ []) }
     {
         points.clear();

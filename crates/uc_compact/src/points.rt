@@ -44,7 +44,13 @@ fn push_groups<O: Operator + Sync>(
     requires order { AreInOrder fragments.now }
     requires keeps_rise { IsStrictlySortedBy nat_cmp keeping.now.keeps }
     requires each { AllByRecursion (λ g. AreOfOneKey g.points (choice.seqs_over g.key fragments.now)) groups.old }
-    ensures { OnOk result (kept.new.items ≡ kept.old.items ++ flat_map (λ g. points_for O.meaning keeping.now g.key g.points (choice.seqs_over g.key fragments.now)) groups.old) }
+    ensures { OnOk result
+        (kept.new.items ≡
+        kept.old.items
+        ++ flat_map
+        (λ g.
+        points_for O.meaning keeping.now g.key g.points
+        (choice.seqs_over g.key fragments.now)) groups.old) }
 {
     let mut points = Vec::new(alloc);
     while let Some(key) = groups.next_into(&mut points)? {
@@ -76,8 +82,17 @@ pub(crate) fn points_kept<O: Operator + Sync>(
     requires runs { AreRuns (map arc_value inputs.now) }
     requires order { AreInOrder fragments.now }
     requires keeps_rise { IsStrictlySortedBy nat_cmp keeping.now.keeps }
-    requires each { (key : List ℕ) → AreOfOneKey (points_named key (points_of (map arc_value inputs.now))) (choice.seqs_over key fragments.now) }
-    ensures { IfOk result (λ kept. kept.items ≡ flat_map (λ key. points_for O.meaning keeping.now key (points_named key (points_of (map arc_value inputs.now))) (choice.seqs_over key fragments.now)) (keys_of (points_of (map arc_value inputs.now)))) }
+    requires each { (key : List ℕ) →
+        AreOfOneKey (points_named key (points_of (map arc_value inputs.now)))
+        (choice.seqs_over key fragments.now) }
+    ensures { IfOk result (λ kept.
+        kept.items ≡
+        flat_map
+        (λ key.
+        points_for O.meaning keeping.now key
+        (points_named key (points_of (map arc_value inputs.now)))
+        (choice.seqs_over key fragments.now))
+        (keys_of (points_of (map arc_value inputs.now)))) }
 {
     let mut kept = Vec::new(alloc);
     let mut groups = Groups::over(alloc, &points_in(alloc, inputs)?)?;

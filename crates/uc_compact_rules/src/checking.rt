@@ -52,7 +52,9 @@ fn is_apart(point: &Point, seqs: &[u64]) -> bool
 
 /// Whether no point has one of the sequences.
 fn are_apart(points: &[&Point], seqs: &[u64]) -> bool
-    ensures { IsTrue result ↔ AllByRecursion (λ p. AllByRecursion (λ n. n ≢ p.seq) seqs.now) (map (λ p. p.now) points.now) }
+    ensures { IsTrue result ↔
+        AllByRecursion (λ p. AllByRecursion (λ n. n ≢ p.seq) seqs.now)
+        (map (λ p. p.now) points.now) }
 {
     points.iter().all(|point| is_apart(point, seqs))
 }

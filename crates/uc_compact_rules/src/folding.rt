@@ -17,7 +17,9 @@ const MANY: usize = 5_000;
 
 /// The points, the newest first, but those that a newer one overwrites.
 fn lasting<'b, 'a>(points: &'b [&'a Point]) -> &'b [&'a Point]
-    ensures { (m : Operation) (before : EffectOf) → lookup.points_effect m before (map (λ p. p.now) result.now) ≡ lookup.points_effect m before (map (λ p. p.now) points.now) }
+    ensures { (m : Operation) (before : EffectOf) →
+        lookup.points_effect m before (map (λ p. p.now) result.now) ≡
+        lookup.points_effect m before (map (λ p. p.now) points.now) }
 {
     match points.iter().position(|point| point.overwrites()) {
         None => points,

@@ -13,7 +13,9 @@ use std::alloc::{AllocError, Global};
 fn newest_kept(own: &[u64], bottom: bool) -> Option<u64>
     requires fall { IsFalling own.now }
     requires from_one { AllByRecursion (λ n. 0 < n) own.now }
-    ensures { result ≡ (if bottom then None else if nat_lt 0 (greatest own.now) then Some (greatest own.now) else None) }
+    ensures { result ≡
+        (if bottom then None else if nat_lt 0 (greatest own.now) then Some (greatest own.now) else
+        None) }
 {
     if bottom { None } else { own.first().copied() }
 }

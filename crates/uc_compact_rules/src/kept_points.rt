@@ -80,7 +80,8 @@ fn point_for<O: Operator + Sync>(
     requires fall { PointsFall (map (λ p. p.now) points.now) }
     requires from_one { AllByRecursion (λ p. 0 < p.seq) (map (λ p. p.now) points.now) }
     requires seqs_fall { IsFalling seqs.now }
-    ensures { IfOk result (λ point. point ≡ choice.point_for O.meaning bottom key.now (map (λ p. p.now) points.now) seqs.now) }
+    ensures { IfOk result (λ point.
+        point ≡ choice.point_for O.meaning bottom key.now (map (λ p. p.now) points.now) seqs.now) }
 {
     let Some(newest) = points.first() else {
         return Ok(None);
@@ -126,7 +127,11 @@ pub fn push_kept_points<O: Operator + Sync>(
 ) -> Result<(), AllocError>
     requires of_one_key { AreOfOneKey (map (λ p. p.now) points.now) seqs.now }
     requires keeps_rise { IsStrictlySortedBy nat_cmp keeping.now.keeps }
-    ensures { OnOk result (kept.new.items ≡ kept.old.items ++ points_for O.meaning keeping.now key.now (map (λ p. p.now) points.now) seqs.now) }
+    ensures { OnOk result
+        (kept.new.items ≡
+        kept.old.items
+        ++ points_for O.meaning keeping.now key.now (map (λ p. p.now) points.now)
+        seqs.now) }
 {
     let mut rest = points;
     while let Some(newest) = rest.first() {

@@ -12,7 +12,8 @@ ghost use Rattle.uc_model.specs.Meaning.{effect_on, value_of};
 ghost use Rattle.uc_compact_rules.specs.Stripes.{is_in, stripes, is_bottom};
 ghost use Rattle.uc_run_fragment.specs.Cutting.{fragments_of};
 ghost use Rattle.uc_compact_rules.specs.Choice.{points_for, points_named, seqs_over, AreOfOneKey};
-ghost use Rattle.uc_compact_rules.specs.Inputs.{Compaction, AreRuns, AreNewestFirst, Stand, high_of, writes_of, points_of, ranges_of, keeping_of};
+ghost use Rattle.uc_compact_rules.specs.Inputs.{Compaction, AreRuns, AreNewestFirst, Stand, high_of};
+ghost use Rattle.uc_compact_rules.specs.Inputs.{writes_of, points_of, ranges_of, keeping_of};
 ghost use Rattle.uc_compact_rules.specs.Output.{keys_of, output_of};
 ghost use Rattle.uc_compact_rules.specs.Values.{IsPut};
 
@@ -37,14 +38,16 @@ pub fn sequences_have_one_stripe()
 /// The output is a run, whose range of sequences goes from the oldest input's least to the newest input's greatest.
 pub fn compaction_gives_a_run<O: Operator>()
     ensures { (c : Compaction) → AreRuns c.inputs → Stand c.inputs c.keeps →
-        IsRun (output_of O.meaning c).low (output_of O.meaning c).high (output_of O.meaning c).points (output_of O.meaning c).fragments }
+        IsRun (output_of O.meaning c).low (output_of O.meaning c).high
+        (output_of O.meaning c).points (output_of O.meaning c).fragments }
 {}
 
 /// At each kept sequence, and at and above the greatest of the inputs, the output's writes do to every key what the
 /// inputs' writes do. With the oldest run among the inputs, nothing stands below, and they give every key the value
 /// that the inputs' writes give it.
 pub fn compaction_keeps_what_is_read<O: Operator>()
-    ensures effects { (c : Compaction) (key : List ℕ) (at : ℕ) → AreRuns c.inputs → Stand c.inputs c.keeps → c.oldest ≡ false →
+    ensures effects { (c : Compaction) (key : List ℕ) (at : ℕ) → AreRuns c.inputs → Stand c.inputs c.keeps →
+        c.oldest ≡ false →
         Contains c.keeps at ⊎ (high_of c.inputs ≤ at) →
         effect_on O.meaning (plain_list (output_of O.meaning c)) key at ≡ effect_on O.meaning (writes_of c.inputs) key at }
     ensures values { (c : Compaction) (key : List ℕ) (at : ℕ) → AreRuns c.inputs → Stand c.inputs c.keeps →
@@ -55,9 +58,13 @@ pub fn compaction_keeps_what_is_read<O: Operator>()
 /// The output has at most one point for each key and stripe, and each of its fragments has at most one sequence of each.
 pub fn compaction_keeps_one_of_each_stripe<O: Operator>()
     ensures points { (c : Compaction) (key : List ℕ) → AreRuns c.inputs → Stand c.inputs c.keeps →
-        AllByRecursion (λ s. length (filter (λ p. is_in s p.seq && same_bytes p.key key) (output_of O.meaning c).points) ≤ 1) (stripes c.keeps) }
+        AllByRecursion (λ s.
+        length (filter (λ p. is_in s p.seq && same_bytes p.key key) (output_of O.meaning c).points) ≤ 1)
+        (stripes c.keeps) }
     ensures fragments { (c : Compaction) → AreRuns c.inputs → Stand c.inputs c.keeps →
-        AllByRecursion (λ s. AllByRecursion (λ f. length (filter (is_in s) f.seqs) ≤ 1) (output_of O.meaning c).fragments) (stripes c.keeps) }
+        AllByRecursion (λ s.
+        AllByRecursion (λ f. length (filter (is_in s) f.seqs) ≤ 1) (output_of O.meaning c).fragments)
+        (stripes c.keeps) }
 {}
 
 /// In the bottom stripe of a compaction with the oldest run only values are left: no delete, no merge and no range
@@ -65,10 +72,13 @@ pub fn compaction_keeps_one_of_each_stripe<O: Operator>()
 pub fn compaction_of_the_oldest_leaves_values<O: Operator>()
     ensures points { (c : Compaction) (key : List ℕ) → AreRuns c.inputs → Stand c.inputs c.keeps →
         AllByRecursion (λ s. is_bottom (keeping_of c) s ≡ true →
-        AllByRecursion (λ p. IsPut p.what) (filter (λ p. is_in s p.seq && same_bytes p.key key) (output_of O.meaning c).points)) (stripes c.keeps) }
+        AllByRecursion (λ p. IsPut p.what)
+        (filter (λ p. is_in s p.seq && same_bytes p.key key) (output_of O.meaning c).points))
+        (stripes c.keeps) }
     ensures fragments { (c : Compaction) → AreRuns c.inputs → Stand c.inputs c.keeps →
         AllByRecursion (λ s. is_bottom (keeping_of c) s ≡ true →
-        AllByRecursion (λ f. filter (is_in s) f.seqs ≡ []) (output_of O.meaning c).fragments) (stripes c.keeps) }
+        AllByRecursion (λ f. filter (is_in s) f.seqs ≡ []) (output_of O.meaning c).fragments)
+        (stripes c.keeps) }
 {}
 
 /// What a compaction keeps of the points, key by key: it depends on no more than the key's points, the newest first, and

@@ -9,8 +9,10 @@ use uc_run_entry::Point;
 pub(crate) fn points_above(points: &[&Point], seq: u64) -> usize
     requires { PointsFall (map (λ p. p.now) points.now) }
     ensures bound { result ≤ length points.now }
-    ensures newer { map (λ p. p.now) (take result points.now) ≡ filter (λ p. nat_lt seq p.seq) (map (λ p. p.now) points.now) }
-    ensures older { map (λ p. p.now) (drop result points.now) ≡ filter (λ p. nat_le p.seq seq) (map (λ p. p.now) points.now) }
+    ensures newer { map (λ p. p.now) (take result points.now) ≡
+        filter (λ p. nat_lt seq p.seq) (map (λ p. p.now) points.now) }
+    ensures older { map (λ p. p.now) (drop result points.now) ≡
+        filter (λ p. nat_le p.seq seq) (map (λ p. p.now) points.now) }
 {
     points.partition_point(|point| seq < point.seq())
 }

@@ -34,7 +34,10 @@ pub fn effects_act_in_turn<O: Operator>()
 
 /// Each total is the sum over all parts, or 2^64 - 1 where that is less.
 pub fn sums_are_held()
-    ensures points { (parts : List TotalsOf) → (fold added nothing parts).points ≡ min (sum_by (λ t. t.points) parts) (2 ^ 64 - 1) }
-    ensures fragments { (parts : List TotalsOf) → (fold added nothing parts).fragments ≡ min (sum_by (λ t. t.fragments) parts) (2 ^ 64 - 1) }
-    ensures size { (parts : List TotalsOf) → (fold added nothing parts).size ≡ min (sum_by (λ t. t.size) parts) (2 ^ 64 - 1) }
+    ensures points { (parts : List TotalsOf) →
+        (fold added nothing parts).points ≡ min (sum_by (λ t. t.points) parts) (2 ^ 64 - 1) }
+    ensures fragments { (parts : List TotalsOf) →
+        (fold added nothing parts).fragments ≡ min (sum_by (λ t. t.fragments) parts) (2 ^ 64 - 1) }
+    ensures size { (parts : List TotalsOf) →
+        (fold added nothing parts).size ≡ min (sum_by (λ t. t.size) parts) (2 ^ 64 - 1) }
 {}

@@ -86,10 +86,12 @@ fn is_zero(bytes: &[u8]) -> bool
 #[tactic(auto, unfolding(crate::specs::Format::record_of))]
 pub(crate) fn read_record(place: usize, rest: &[u8]) -> Result<(Record<'_>, &[u8]), Stop>
     requires { 7 ≤ format.room place }
-    ensures found { IfOk result (λ found. record_of (format.room place) rest.now ≡ Ok (found.0.kind, length found.0.fragment.now)) }
+    ensures found { IfOk result (λ found.
+        record_of (format.room place) rest.now ≡ Ok (found.0.kind, length found.0.fragment.now)) }
     ensures none { IfErr result (λ stop. record_of (format.room place) rest.now ≡ Err stop) }
     ensures within { IfOk result (λ found. 7 + length found.0.fragment.now ≤ length rest.now) }
-    ensures fragment { IfOk result (λ found. found.0.fragment.now ≡ take (length found.0.fragment.now) (drop 7 rest.now)) }
+    ensures fragment { IfOk result (λ found.
+        found.0.fragment.now ≡ take (length found.0.fragment.now) (drop 7 rest.now)) }
     ensures behind { IfOk result (λ found. found.1.now ≡ drop (length found.0.fragment.now) (drop 7 rest.now)) }
 {
     if is_zero(rest) {

@@ -1,5 +1,6 @@
 //! What holds of the meaning of reads, under every operator.
-ghost use Rattle.std.specs.Prelude.{◌≡◌, ◌<◌, ◌≤◌, ◌&&◌, ◌++◌, ◌↔◌, [], ◌∷◌, ℕ, List, Option, Some, None, false, nat_le, IsTrue, Any, if◌then◌else◌};
+ghost use Rattle.std.specs.Prelude.{◌≡◌, ◌<◌, ◌≤◌, ◌&&◌, ◌++◌, ◌↔◌, [], ◌∷◌, ℕ, List, Option, Some, None};
+ghost use Rattle.std.specs.Prelude.{false, nat_le, IsTrue, Any, if◌then◌else◌};
 ghost use Rattle.std.specs.List.{AllByRecursion};
 ghost use Rattle.std.specs.List.Sorted.{IsNonDecreasingBy};
 ghost use Rattle.std.specs.Ordering.{is_lt, is_le};

@@ -7,7 +7,9 @@ use crate::operator::Operator;
 
 /// Effects in turn may be grouped either way, under every operator.
 pub fn then_is_associative<O: Operator>()
-    ensures { (a b c : EffectOf) → composed O.meaning (composed O.meaning a b) c ≡ composed O.meaning a (composed O.meaning b c) }
+    ensures { (a b c : EffectOf) →
+        composed O.meaning (composed O.meaning a b) c ≡
+        composed O.meaning a (composed O.meaning b c) }
 {}
 
 /// To keep the value changes nothing, before an effect and after it.

@@ -24,8 +24,21 @@ pub(crate) fn answer_batch<O: Operator + Sync>(
     workers: usize,
     piece: usize,
 ) -> Result<Reply, AskError>
-    ensures ok { (names : List (Option Claim)) → IfOk result (λ reply. ask_turn O.meaning (record { owner = owned.now; names = names }) queries.now (ask_refusal workers piece) ≡ Ok (record { reply = reply; state = record { owner = owned.now; names = names } })) }
-    ensures err { (names : List (Option Claim)) → IfErr result (λ error. (ask_turn O.meaning (record { owner = owned.now; names = names }) queries.now (ask_refusal workers piece) ≡ Err error) ⊎ ((error ≡ Memory) × IsOk (ask_turn O.meaning (record { owner = owned.now; names = names }) queries.now (ask_refusal workers piece)))) }
+    ensures ok { (names : List (Option Claim)) →
+        IfOk result (λ reply.
+        ask_turn O.meaning (record { owner = owned.now; names = names }) queries.now
+        (ask_refusal workers piece) ≡
+        Ok
+        (record { reply = reply; state = record { owner = owned.now; names = names } })) }
+    ensures err { (names : List (Option Claim)) →
+        IfErr result (λ error.
+        (ask_turn O.meaning (record { owner = owned.now; names = names }) queries.now
+        (ask_refusal workers piece) ≡
+        Err error)
+        ⊎ ((error ≡ Memory)
+        × IsOk
+        (ask_turn O.meaning (record { owner = owned.now; names = names })
+        queries.now (ask_refusal workers piece)))) }
 {
     match answer_plain::<O>(
         rt,

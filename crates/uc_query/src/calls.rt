@@ -27,8 +27,12 @@ fn replies_to<O: Operator + Sync>(
     requires names { AllByRecursion HasName calls.now }
     requires held { AreHeld owned.old claims.old }
     ensures held { AreHeld owned.new claims.new }
-    ensures ok { IfOk result (λ replies. RunsTo O.meaning (record { owner = owned.old; names = claims.old }) calls.now replies.items (record { owner = owned.new; names = claims.new })) }
-    ensures err { IfErr result (λ error. Halts O.meaning (record { owner = owned.old; names = claims.old }) calls.now error (record { owner = owned.new; names = claims.new })) }
+    ensures ok { IfOk result (λ replies.
+        RunsTo O.meaning (record { owner = owned.old; names = claims.old }) calls.now replies.items
+        (record { owner = owned.new; names = claims.new })) }
+    ensures err { IfErr result (λ error.
+        Halts O.meaning (record { owner = owned.old; names = claims.old }) calls.now error
+        (record { owner = owned.new; names = claims.new })) }
 {
     let mut replies = match Vec::with_capacity(alloc, calls.len()) {
         Ok(replies) => replies,

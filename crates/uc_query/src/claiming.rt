@@ -19,7 +19,9 @@ pub(crate) fn claim_under<O: Operator>(
     requires name { name < MOST }
     requires held { AreHeld owned.old claims.old }
     ensures held { AreHeld owned.new claims.new }
-    ensures turn { claim_turn (record { owner = owned.old; names = claims.old }) name stretch (slice_index_or claims.old name None) ≡ record { reply = result; state = record { owner = owned.new; names = claims.new } } }
+    ensures turn { claim_turn (record { owner = owned.old; names = claims.old }) name stretch
+        (slice_index_or claims.old name None) ≡
+        record { reply = result; state = record { owner = owned.new; names = claims.new } } }
 {
     owned.is_one();
     claims_are_held();
@@ -45,7 +47,9 @@ pub(crate) fn abandon_under<O: Operator>(
     requires name { name < MOST }
     requires held { AreHeld owned.old claims.old }
     ensures held { AreHeld owned.new claims.new }
-    ensures turn { abandon_turn (record { owner = owned.old; names = claims.old }) name (slice_index_or claims.old name None) ≡ record { reply = result; state = record { owner = owned.new; names = claims.new } } }
+    ensures turn { abandon_turn (record { owner = owned.old; names = claims.old }) name
+        (slice_index_or claims.old name None) ≡
+        record { reply = result; state = record { owner = owned.new; names = claims.new } } }
 {
     match claims[usize::from(name)].take() {
         None => Reply::NoClaim(name),

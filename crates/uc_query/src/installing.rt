@@ -1,5 +1,6 @@
 //! What is claimed, compacted and put in place.
-ghost use Rattle.std.specs.Prelude.{◌≡◌, ◌≢◌, ◌<◌, Bool, true, false, Option, List, None, Some, IfOk, IfErr, OnErr, slice_index_or};
+ghost use Rattle.std.specs.Prelude.{◌≡◌, ◌≢◌, ◌<◌, Bool, true, false, Option, List, None, Some, IfOk};
+ghost use Rattle.std.specs.Prelude.{IfErr, OnErr, slice_index_or};
 ghost use Rattle.uc_version.specs.declared.held_stretch.TheConstants.{MOST_CLAIMS as MOST};
 ghost use Rattle.uc_version.specs.Owners.{Owner};
 ghost use Rattle.uc_version.specs.Claiming as claiming;
@@ -27,7 +28,9 @@ fn put_in_place<O: Operator>(
 ) -> Result<u64, OwnedClaim>
     requires held { claiming.is_held owned.old claim ≡ true }
     requires made { made ≡ compaction_of owned.old.version (stretch_of owned.old claim) }
-    ensures ok { IfOk result (λ id. (has_id owned.old.version ≡ true) × (id ≡ owned.old.version.next_id) × (owned.new ≡ compacted O.meaning owned.old claim)) }
+    ensures ok { IfOk result (λ id.
+        (has_id owned.old.version ≡ true) × (id ≡ owned.old.version.next_id)
+        × (owned.new ≡ compacted O.meaning owned.old claim)) }
     ensures err { IfErr result (λ back. (has_id owned.old.version ≡ false) × (back ≡ claim) × (owned.new ≡ owned.old)) }
 {
     owned.is_one();
@@ -47,9 +50,12 @@ fn put_named_in_place<O: Operator>(
 ) -> Reply
     requires name { name < MOST }
     requires held { AreHeld owned.old claims.old }
-    requires made { (c : Claim) → slice_index_or claims.old name None ≡ Some c → made ≡ compaction_of owned.old.version (stretch_of owned.old c) }
+    requires made { (c : Claim) → slice_index_or claims.old name None ≡ Some c →
+        made ≡ compaction_of owned.old.version (stretch_of owned.old c) }
     ensures held { AreHeld owned.new claims.new }
-    ensures turn { install_turn O.meaning (record { owner = owned.old; names = claims.old }) name (slice_index_or claims.old name None) ≡ record { reply = result; state = record { owner = owned.new; names = claims.new } } }
+    ensures turn { install_turn O.meaning (record { owner = owned.old; names = claims.old }) name
+        (slice_index_or claims.old name None) ≡
+        record { reply = result; state = record { owner = owned.new; names = claims.new } } }
 {
     let place = usize::from(name);
     let Some(claim) = claims[place].take() else {
@@ -75,7 +81,10 @@ pub(crate) fn install_under<O: Operator + Sync>(
     requires name { name < MOST }
     requires held { AreHeld owned.old claims.old }
     ensures held { AreHeld owned.new claims.new }
-    ensures turn { IfOk result (λ reply. install_turn O.meaning (record { owner = owned.old; names = claims.old }) name (slice_index_or claims.old name None) ≡ record { reply = reply; state = record { owner = owned.new; names = claims.new } }) }
+    ensures turn { IfOk result (λ reply.
+        install_turn O.meaning (record { owner = owned.old; names = claims.old }) name
+        (slice_index_or claims.old name None) ≡
+        record { reply = reply; state = record { owner = owned.new; names = claims.new } }) }
     ensures unchanged { OnErr result ((owned.new ≡ owned.old) × (claims.new ≡ claims.old)) }
 {
     let Some(claim) = &claims[usize::from(name)] else {
@@ -93,7 +102,11 @@ pub(crate) fn compact_at_once<O: Operator + Sync>(
     stretch: Stretch,
 ) -> Result<Reply, AllocError>
     ensures held { (names : List (Option Claim)) → AreHeld owned.old names → AreHeld owned.new names }
-    ensures turn { (names : List (Option Claim)) → IfOk result (λ reply. compact_turn O.meaning (record { owner = owned.old; names = names }) stretch (claiming.claim_refusal owned.old stretch) ≡ record { reply = reply; state = record { owner = owned.new; names = names } }) }
+    ensures turn { (names : List (Option Claim)) →
+        IfOk result (λ reply.
+        compact_turn O.meaning (record { owner = owned.old; names = names }) stretch
+        (claiming.claim_refusal owned.old stretch) ≡
+        record { reply = reply; state = record { owner = owned.new; names = names } }) }
     ensures unchanged { OnErr result (owned.new ≡ owned.old) }
 {
     owned.is_one();

@@ -23,7 +23,8 @@ use uc_version_state::histories_grow_by_events;
 
 /// Whatever calls are made to a store, its version is the one after its history so far and some legal events more.
 pub fn calls_extend_histories<O: Operator>()
-    ensures { (h : History) (s : State) (calls : List Call) → IsLegal O.meaning h → IsOwner s.owner → AreHeld s.owner s.names →
+    ensures { (h : History) (s : State) (calls : List Call) → IsLegal O.meaning h → IsOwner s.owner →
+        AreHeld s.owner s.names →
         s.owner.version ≡ version_after h →
         (events : List Event) × IsLegal O.meaning (record h { events = h.events ++ events }) ×
         ((run_of O.meaning s calls).state.owner.version ≡ version_after (record h { events = h.events ++ events })) }
@@ -51,7 +52,8 @@ pub fn installs_replace_what_was_claimed<O: Operator>()
 /// Wherever queries are asked between claims, installs and compactions, they are answered as from the plain writes that the
 /// store was given, and the sequences that it keeps.
 pub fn asks_are_answered_from_plain_writes<O: Operator>()
-    ensures { (h : History) (s : State) (calls : List Call) → IsLegal O.meaning h → IsOwner s.owner → AreHeld s.owner s.names →
+    ensures { (h : History) (s : State) (calls : List Call) → IsLegal O.meaning h → IsOwner s.owner →
+        AreHeld s.owner s.names →
         s.owner.version ≡ version_after h →
         AllZip (IsAnswered O.meaning (writes_given h) (version_after h).keeps)
         (take (length (run_of O.meaning s calls).replies) calls) (run_of O.meaning s calls).replies }

@@ -56,8 +56,17 @@ impl NamedClaims {
         requires name { HasName call.now }
         requires held { AreHeld owned.old self.old }
         ensures held { AreHeld owned.new self.new }
-        ensures ok { IfOk result (λ reply. turn_of O.meaning (record { owner = owned.old; names = self.old }) call.now ≡ Ok (record { reply = reply; state = record { owner = owned.new; names = self.new } })) }
-        ensures err { IfErr result (λ error. (turn_of O.meaning (record { owner = owned.old; names = self.old }) call.now ≡ Err error) ⊎ ((error ≡ Memory) × IsOk (turn_of O.meaning (record { owner = owned.old; names = self.old }) call.now))) }
+        ensures ok { IfOk result (λ reply.
+            turn_of O.meaning (record { owner = owned.old; names = self.old }) call.now ≡
+            Ok
+            (record { reply = reply; state = record { owner = owned.new; names = self.new } })) }
+        ensures err { IfErr result (λ error.
+            (turn_of O.meaning (record { owner = owned.old; names = self.old }) call.now ≡
+            Err error)
+            ⊎ ((error ≡ Memory)
+            × IsOk
+            (turn_of O.meaning (record { owner = owned.old; names = self.old })
+            call.now))) }
         ensures unchanged { IfErr result (λ error. (owned.new ≡ owned.old) × (self.new ≡ self.old)) }
     {
         match call {

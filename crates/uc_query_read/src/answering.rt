@@ -51,7 +51,9 @@ pub(crate) fn answer_of_runs<O: Operator>(
     query: &Query,
 ) -> Result<Answer, AllocError>
     requires { IsStrictlySortedBy nat_cmp keeps.now }
-    ensures { IfOk result (λ answer. answer ≡ answers.answer_of O.meaning (writes_of (contents_of runs.now)) keeps.now query.now) }
+    ensures { IfOk result (λ answer.
+        answer ≡
+        answers.answer_of O.meaning (writes_of (contents_of runs.now)) keeps.now query.now) }
 {
     let at = query.at();
     if is_protected(keeps, at) {
@@ -73,7 +75,8 @@ pub fn answer_one<O: Operator>(
     version: &Version,
     query: &Query,
 ) -> Result<Answer, AllocError>
-    ensures { IfOk result (λ answer. answer ≡ answers.answer_of O.meaning (writes_in version.now) version.now.keeps query.now) }
+    ensures { IfOk result (λ answer.
+        answer ≡ answers.answer_of O.meaning (writes_in version.now) version.now.keeps query.now) }
 {
     version.is_one();
     answer_of_runs::<O>(alloc, version.runs(), version.keeps(), query)
@@ -87,7 +90,10 @@ pub fn get<O: Operator>(
     key: &[u8],
     at: u64,
 ) -> Result<Answer, AllocError>
-    ensures { IfOk result (λ answer. answer ≡ answers.answer_of O.meaning (writes_in version.now) version.now.keeps (query.Get key.now at)) }
+    ensures { IfOk result (λ answer.
+        answer ≡
+        answers.answer_of O.meaning (writes_in version.now) version.now.keeps
+        (query.Get key.now at)) }
 {
     version.is_one();
     if is_protected(version.keeps(), at) {

@@ -45,7 +45,8 @@ impl<'a> Model for Cursors<'a> {
 
 /// The lesser of two keys, where there are two.
 pub(crate) fn lesser<'a>(key: Option<&'a [u8]>, other: Option<&'a [u8]>) -> Option<&'a [u8]>
-    ensures { option_map (λ k. k.now) result ≡ heads.lesser_of (option_map (λ k. k.now) key.entry) (option_map (λ k. k.now) other.entry) }
+    ensures { option_map (λ k. k.now) result ≡
+        heads.lesser_of (option_map (λ k. k.now) key.entry) (option_map (λ k. k.now) other.entry) }
 {
     match (key, other) {
         (Some(key), Some(other)) => {
@@ -182,7 +183,8 @@ impl<'a> Cursors<'a> {
         at: u64,
     ) -> Result<Option<(&'a [u8], Option<Bytes>)>, AllocError>
         ensures comes { IfOk result (λ row. Comes self.old.keys (option_map (λ r. r.0.now) row) self.new.keys) }
-        ensures value { IfOk result (λ row. IfSome row (λ r. r.1 ≡ value_of O.meaning (writes_of self.old.runs) r.0.now at)) }
+        ensures value { IfOk result (λ row.
+            IfSome row (λ r. r.1 ≡ value_of O.meaning (writes_of self.old.runs) r.0.now at)) }
         ensures runs { self.new.runs ≡ self.old.runs }
     {
         let Some(key) = least_key(&self.cursors) else {

@@ -37,7 +37,9 @@ fn push_each<O: Operator>(
     queries: &[Query],
     answers: &mut Vec<Answer>,
 ) -> Result<(), AllocError>
-    ensures { OnOk result (answers.new.items ≡ answers.old.items ++ asking.answers_of O.meaning version.now queries.now) }
+    ensures { OnOk result
+        (answers.new.items ≡
+        answers.old.items ++ asking.answers_of O.meaning version.now queries.now) }
 {
     for query in queries {
         answers.push(answer_one::<O>(alloc, version, query)?)?;
@@ -90,7 +92,9 @@ impl<'a> Batch<'a> {
         answers: &mut Vec<Answer>,
     ) -> Result<(), AllocError>
         requires { number * self.now.piece < length self.now.queries }
-        ensures { OnOk result (answers.new.items ≡ answers.old.items ++ pieces.piece_answers O.meaning self.now number) }
+        ensures { OnOk result
+            (answers.new.items ≡
+            answers.old.items ++ pieces.piece_answers O.meaning self.now number) }
     {
         push_each::<O>(alloc, self.version, self.piece_of(number), answers)
     }

@@ -76,7 +76,8 @@ pub(crate) fn drawn_by_workers<O: Operator + Sync, R: Threads + Sync>(
     let one = move || draw_pieces::<O>(alloc, batch, next, answers);
     let others = move || -> Result<Vec<Drawn>, AllocError>
         requires { IsSync R.row × IsSync O.row }
-        ensures { IfOk result (λ drawn. AllByRecursion (IsDrawn (pieces.piece_answers O.meaning batch.entry.now)) drawn.items) }
+        ensures { IfOk result (λ drawn.
+            AllByRecursion (IsDrawn (pieces.piece_answers O.meaning batch.entry.now)) drawn.items) }
     { drawn_by_workers::<O, R>(rt, alloc, batch, next, room, fewer) };
     let (drawn, others) = join(rt, one, others);
     let mut all = others?;

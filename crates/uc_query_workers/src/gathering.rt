@@ -1,5 +1,6 @@
 //! The answers to a batch, put together from what workers drew.
-ghost use Rattle.std.specs.Prelude.{◌≡◌, ◌≢◌, ◌*◌, ◌<◌, ◌++◌, ℕ, Some, slice_get, IfSome, IfNone, IfOk, OnOk, List, take, drop, length};
+ghost use Rattle.std.specs.Prelude.{◌≡◌, ◌≢◌, ◌*◌, ◌<◌, ◌++◌, ℕ, Some, slice_get, IfSome, IfNone, IfOk};
+ghost use Rattle.std.specs.Prelude.{OnOk, List, take, drop, length};
 ghost use Rattle.std.specs.List.{All, AllByRecursion, HoldsAt};
 ghost use Rattle.uc_query_answer.specs.declared.answer.Answer.{Answer as AnswerOf};
 ghost use Rattle.uc_query_workers.specs.Asking as asking;
@@ -32,7 +33,9 @@ fn move_answers(
 
 /// The place of the first of what the workers drew whose first piece that is left is the one with a number.
 fn holder_of(draws: &[Drawn], number: usize) -> Option<usize>
-    ensures some { IfSome result (λ place. (place < length draws.now) × HoldsAt (λ d. slice_get d.numbers.items 0 ≡ Some number) draws.now place) }
+    ensures some { IfSome result (λ place.
+        (place < length draws.now)
+        × HoldsAt (λ d. slice_get d.numbers.items 0 ≡ Some number) draws.now place) }
     ensures none { IfNone result (All (λ d. slice_get d.numbers.items 0 ≢ Some number) draws.now) }
 {
     draws
@@ -43,7 +46,8 @@ fn holder_of(draws: &[Drawn], number: usize) -> Option<usize>
 /// Moves the answers to the first piece that is left of what a worker drew, which are so many, behind those of `all`. Want of
 /// memory loses some of them.
 fn take_first(drawn: &mut Drawn, count: usize, all: &mut Vec<Answer>) -> Result<(), AllocError>
-    ensures { (f : ℕ → List AnswerOf) (number : ℕ) → slice_get drawn.old.numbers.items 0 ≡ Some number → length (f number) ≡ count →
+    ensures { (f : ℕ → List AnswerOf) (number : ℕ) → slice_get drawn.old.numbers.items 0 ≡ Some number →
+        length (f number) ≡ count →
         IsDrawn f drawn.old → OnOk result (IsDrawn f drawn.new × (all.new.items ≡ all.old.items ++ f number)) }
 {
     let _ = drawn.numbers.pop_front();

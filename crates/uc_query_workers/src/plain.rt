@@ -68,8 +68,12 @@ pub fn answer_plain<O: Operator + Sync>(
     workers: usize,
     piece: usize,
 ) -> Result<Vec<Answer>, AskError>
-    ensures ok { IfOk result (λ answers. (asking.ask_refusal workers piece ≡ None) × (answers.items ≡ asking.answers_of O.meaning version.now queries.now)) }
-    ensures err { IfErr result (λ error. (asking.ask_refusal workers piece ≡ Some error) ⊎ ((asking.ask_refusal workers piece ≡ None) × (error ≡ Memory))) }
+    ensures ok { IfOk result (λ answers.
+        (asking.ask_refusal workers piece ≡ None)
+        × (answers.items ≡ asking.answers_of O.meaning version.now queries.now)) }
+    ensures err { IfErr result (λ error.
+        (asking.ask_refusal workers piece ≡ Some error)
+        ⊎ ((asking.ask_refusal workers piece ≡ None) × (error ≡ Memory))) }
 {
     if let Some(error) = ask_refusal(workers, piece) {
         return Err(error);

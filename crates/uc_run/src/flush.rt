@@ -16,7 +16,8 @@ use uc_run_fragment::Range;
 /// The texts of a slot in the arena.
 fn texts_at<'a>(text: &'a [u8], slot: &Slot) -> (&'a [u8], &'a [u8])
     requires { LiesWithin (length text.now) slot.now }
-    ensures { slot_write text.now slot.now ≡ record { seq = slot.now.seq; op = op_of slot.now.kind result.0.now result.1.now } }
+    ensures { slot_write text.now slot.now ≡
+        record { seq = slot.now.seq; op = op_of slot.now.kind result.0.now result.1.now } }
 {
     let begin = slot.start + slot.first;
     (&text[slot.start..begin], &text[begin..begin + slot.second])
@@ -113,7 +114,8 @@ pub(crate) fn points_by_key(
 ) -> Result<Vec<Point>, AllocError>
     requires within { LieWithin text.now slots.now }
     requires own { HaveOwnSeqs (flush.points_in (slot_writes text.now slots.now)) }
-    requires below { AllByRecursion (λ p. p.seq < 2 ^ 56) (flush.by_key (flush.points_in (slot_writes text.now slots.now))) }
+    requires below { AllByRecursion (λ p. p.seq < 2 ^ 56)
+        (flush.by_key (flush.points_in (slot_writes text.now slots.now))) }
     ensures { IfOk result (λ points. points.items ≡ flush.by_key (flush.points_in (slot_writes text.now slots.now))) }
 {
     let mut points = points_in(alloc, text, slots)?;

@@ -1,5 +1,6 @@
 //! Which points and fragments make a run.
-ghost use Rattle.std.specs.Prelude.{◌≡◌, ◌&&◌, [], ◌∷◌, filter, IfSome, IfNone, MatchOption, if◌then◌else◌, ◌↔◌, true, Contains, IsTrue};
+ghost use Rattle.std.specs.Prelude.{◌≡◌, ◌&&◌, [], ◌∷◌, filter, IfSome, IfNone, MatchOption, if◌then◌else◌};
+ghost use Rattle.std.specs.Prelude.{◌↔◌, true, Contains, IsTrue};
 ghost use Rattle.std.specs.List.{AllByRecursion};
 ghost use Rattle.std.specs.List.Sorted.{IsStrictlySortedBy};
 ghost use Rattle.std.specs.Ordering.{is_lt, is_le};
@@ -54,7 +55,9 @@ fn has_keys(fragment: &Fragment) -> bool
 
 /// Whether a fragment ends at or before the begin of another, which has keys.
 fn is_followed_by(fragment: &Fragment, next: &Fragment) -> bool
-    ensures { result ≡ (is_le (bytes_cmp fragment.now.end next.now.begin) && is_lt (bytes_cmp next.now.begin next.now.end)) }
+    ensures { result ≡
+        (is_le (bytes_cmp fragment.now.end next.now.begin) && is_lt
+        (bytes_cmp next.now.begin next.now.end)) }
 {
     fragment.end <= next.begin && has_keys(next)
 }

@@ -29,7 +29,8 @@ fn cut_points<'a>(alloc: Global, ranges: &[Range<'a>]) -> Result<BTreeSet<&'a [u
 
 /// The pieces between neighbouring cut points, without sequences.
 fn pieces_between<'a>(alloc: Global, cuts: BTreeSet<&'a [u8]>) -> Result<Vec<Piece<'a>>, AllocError>
-    ensures { IfOk result (λ made. made.items ≡ map (fragment_over []) (pieces (map (λ cut. cut.now) cuts.entry.keys))) }
+    ensures { IfOk result (λ made.
+        made.items ≡ map (fragment_over []) (pieces (map (λ cut. cut.now) cuts.entry.keys))) }
 {
     let mut made = Vec::new(alloc);
     let mut ends = cuts.into_iter();

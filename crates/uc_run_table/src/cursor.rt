@@ -58,7 +58,8 @@ impl<'a> Cursor<'a> {
 
     /// The key of the first point that isn't passed, without a search.
     pub fn key(&self) -> Option<&'a [u8]>
-        ensures { option_map (λ key. key.now) result ≡ option_map (λ p. p.key) (slice_get self.now.run.points self.now.place) }
+        ensures { option_map (λ key. key.now) result ≡
+            option_map (λ p. p.key) (slice_get self.now.run.points self.now.place) }
     {
         let point = self.run.entries().get(self.place)?;
         Some(point.key())
@@ -106,7 +107,12 @@ impl<'a> Cursor<'a> {
     /// Passes the points that who looks for the keys from `low` on or, where strict, behind `low`, passes over: a few of them
     /// one by one, and more by a search by the fences.
     fn pass_to(&mut self, low: &[u8], strict: bool)
-        ensures { self.new ≡ record { run = self.old.run; place = max self.old.place (seek_place self.old.run.points low.now strict) } }
+        ensures { self.new ≡
+            record {
+              run = self.old.run;
+              place = max self.old.place
+                  (seek_place self.old.run.points low.now strict);
+            } }
     {
         self.run.is_one();
         self.place = passed_from(
@@ -121,7 +127,12 @@ impl<'a> Cursor<'a> {
 
     /// Passes the points at and below a key: a few of them one by one, and more by a search by the fences.
     pub fn pass(&mut self, key: &[u8])
-        ensures { self.new ≡ record { run = self.old.run; place = max self.old.place (seek_place self.old.run.points key.now true) } }
+        ensures { self.new ≡
+            record {
+              run = self.old.run;
+              place = max self.old.place
+                  (seek_place self.old.run.points key.now true);
+            } }
     {
         self.pass_to(key, true);
     }
@@ -129,7 +140,12 @@ impl<'a> Cursor<'a> {
     /// Passes the points below a key: a few of them one by one, and more by a search by the fences. Where the next key is at or
     /// above it, that costs one comparison.
     pub fn seek(&mut self, low: &[u8])
-        ensures { self.new ≡ record { run = self.old.run; place = max self.old.place (seek_place self.old.run.points low.now false) } }
+        ensures { self.new ≡
+            record {
+              run = self.old.run;
+              place = max self.old.place
+                  (seek_place self.old.run.points low.now false);
+            } }
     {
         self.pass_to(low, false);
     }

@@ -15,7 +15,8 @@ use uc_run_entry::{Fragment, Point, covering_fragment};
 
 /// The points, the newest first, but those that a newer one overwrites.
 fn lasting(points: &[Point]) -> &[Point]
-    ensures { (m : Operation) (before : EffectOf) → lookup.points_effect m before result.now ≡ lookup.points_effect m before points.now }
+    ensures { (m : Operation) (before : EffectOf) →
+        lookup.points_effect m before result.now ≡ lookup.points_effect m before points.now }
 {
     match points.iter().position(Point::overwrites) {
         None => points,
@@ -44,7 +45,10 @@ fn points_effect<O: Operator>(
 fn newest_over(fragments: &[Fragment], key: &[u8], at: u64) -> Option<u64>
     requires order { AreInOrder fragments.now }
     requires falling { AllByRecursion (λ f. IsFalling f.seqs) fragments.now }
-    ensures { result ≡ slice_get (filter (λ seq. nat_le seq at) (flat_map (λ f. f.seqs) (filter (λ f. covers f key.now) fragments.now))) 0 }
+    ensures { result ≡
+        slice_get
+        (filter (λ seq. nat_le seq at)
+        (flat_map (λ f. f.seqs) (filter (λ f. covers f key.now) fragments.now))) 0 }
 {
     let fragment = covering_fragment(fragments, key)?;
     greatest_at(fragment.seqs.as_slice(), at)

@@ -55,7 +55,15 @@ impl Run {
         fragments: Vec<Fragment>,
     ) -> Result<Run, AllocError>
         requires { IsRun low high points.items fragments.items }
-        ensures { IfOk result (λ run. run ≡ record { low = low; high = high; points = points.items; fragments = fragments.items }) }
+        ensures { IfOk result (λ run.
+            run ≡
+            record {
+              low = low;
+              high = high;
+              points = points.items;
+              fragments =
+                  fragments.items;
+            }) }
     {
         let points = points_of(alloc, &points)?;
         Run::from_points(alloc, low, high, points, fragments)
@@ -70,7 +78,15 @@ impl Run {
         fragments: Vec<Fragment>,
     ) -> Result<Run, AllocError>
         requires { IsRun low high points.items fragments.items }
-        ensures { IfOk result (λ run. run ≡ record { low = low; high = high; points = points.items; fragments = fragments.items }) }
+        ensures { IfOk result (λ run.
+            run ≡
+            record {
+              low = low;
+              high = high;
+              points = points.items;
+              fragments =
+                  fragments.items;
+            }) }
     {
         let size = size_of(&points, &fragments);
         let fences = fences_of(alloc, &points)?;
@@ -128,7 +144,9 @@ impl Run {
 
     /// The point at a place in the order of key, the newest of a key first: its key, its sequence, and what it says.
     pub fn point(&self, place: u64) -> Option<(&[u8], u64, WhatRef<'_>)>
-        ensures { option_map (λ p. record { key = p.0.now; seq = p.1; what = packed.what_of p.2 }) result ≡ slice_get self.now.points place }
+        ensures { option_map (λ p. record { key = p.0.now; seq = p.1; what = packed.what_of p.2 })
+            result ≡
+            slice_get self.now.points place }
     {
         let point = self.points.get(usize::try_from(place).ok()?)?;
         Some((point.key(), point.seq(), point.what()))
@@ -181,7 +199,9 @@ impl Run {
 
     /// The least key of a point that is at or above `low` or, where strict, above it.
     pub fn next_key(&self, low: &[u8], strict: bool) -> Option<&[u8]>
-        ensures { option_map (λ key. key.now) result ≡ option_map (λ p. p.key) (slice_get self.now.points (seek.seek_place self.now.points low.now strict)) }
+        ensures { option_map (λ key. key.now) result ≡
+            option_map (λ p. p.key)
+            (slice_get self.now.points (seek.seek_place self.now.points low.now strict)) }
     {
         let point = self
             .points

@@ -31,12 +31,15 @@ pub fn open_log<O: Operator>(
     keeps: &[u64],
     options: Options,
 ) -> Result<OpenedLog<O>, OpenError>
-    ensures store { let opening : Opening = record { writes = (log_writes log.now).list; keeps = keeps.now; options = options } in
+    ensures store { let opening : Opening =
+        record { writes = (log_writes log.now).list; keeps = keeps.now; options = options } in
         IfOk result (λ opened_log. opened_log.store ≡ unclaimed (opened opening) options) }
     ensures ended { IfOk result (λ opened_log. opened_log.ended ≡ (log_writes log.now).ended) }
-    ensures may { let opening : Opening = record { writes = (log_writes log.now).list; keeps = keeps.now; options = options } in
+    ensures may { let opening : Opening =
+        record { writes = (log_writes log.now).list; keeps = keeps.now; options = options } in
         IfOk result (λ _. opening_refusal opening ≡ None) }
-    ensures err { let opening : Opening = record { writes = (log_writes log.now).list; keeps = keeps.now; options = options } in
+    ensures err { let opening : Opening =
+        record { writes = (log_writes log.now).list; keeps = keeps.now; options = options } in
         IfErr result (λ error. error ≢ Memory → opening_refusal opening ≡ Some error) }
 {
     let Recovered { opener, ended } = recover(alloc, log, options)?;

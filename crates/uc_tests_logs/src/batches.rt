@@ -187,7 +187,8 @@ const KINDS_PAYLOAD: Payload<'static> = Payload {
     start: 0,
     end: 72,
     bytes: KINDS,
-    lines: "1 delete 61\n2 delete 62\n3 put 63 64\n4 merge 65 .\n5 range 68 69\n6 delete 6a\n7 put 6b 6c\n8 merge 6d 6e\n9 delete 6f\n10 range 70 71\n",
+    lines: "1 delete 61\n2 delete 62\n3 put 63 64\n4 merge 65 .\n5 range 68 69\n6 delete 6a\n\
+                7 put 6b 6c\n8 merge 6d 6e\n9 delete 6f\n10 range 70 71\n",
 };
 
 /// Where the last record begins that the batch has where it is cut.

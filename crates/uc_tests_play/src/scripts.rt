@@ -25,7 +25,8 @@ const COUNTED: [Row; 7] = [
         "opened 3\nnot protected 2\nvalue 0c00000000000000\n",
     ),
     (
-        "put 6b 0a00000000000000\nmerge 6b 0100000000000000\nrange 6a 6c\nmerge 6b 0400000000000000\nkeep 2\nopen\nget 6b 2\nget 6b 4\nget 6b 3\n",
+        "put 6b 0a00000000000000\nmerge 6b 0100000000000000\nrange 6a 6c\nmerge 6b 0400000000000000\nkeep 2\nopen\n\
+            get 6b 2\nget 6b 4\nget 6b 3\n",
         "opened 4\nvalue 0b00000000000000\nvalue 0400000000000000\nnot protected 3\n",
     ),
     (

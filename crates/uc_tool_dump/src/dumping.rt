@@ -31,7 +31,8 @@ fn print_writes<W: io::Write>(
 /// Prints the writes of a log, up to its first fault, and gives how far it was read. A write is printed from
 /// the bytes where it stands in the log.
 fn print_log<W: io::Write>(alloc: Global, input: &[u8], writer: &mut W) -> Result<Ended, RunError>
-    ensures printed { Prints (map write_line (log_writes input.now).list) (W.contents writer.old) (W.contents writer.new) result }
+    ensures printed { Prints (map write_line (log_writes input.now).list) (W.contents writer.old)
+        (W.contents writer.new) result }
     ensures ended { IfOk result (λ ended. ended ≡ (log_writes input.now).ended) }
 {
     let mut batches = BatchReader::new(alloc, input);

@@ -51,7 +51,8 @@ fn read_more<R: Read>(
 ) -> Result<usize, InputError>
     requires some { 0 < length chunk.old }
     requires short { vec_len input.old ≤ INPUT_LIMIT }
-    ensures added { IfOk result (λ _. Adds (R.remaining reader.old) (R.remaining reader.new) input.old.items input.new.items) }
+    ensures added { IfOk result (λ _.
+        Adds (R.remaining reader.old) (R.remaining reader.new) input.old.items input.new.items) }
     ensures end { result ≡ Ok 0 → IsAtEnd (R.remaining reader.new) }
     ensures short { OnOk result (vec_len input.new ≤ INPUT_LIMIT) }
     ensures long { IsErrOf result InputError.TooLong →

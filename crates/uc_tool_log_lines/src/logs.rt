@@ -97,7 +97,8 @@ fn push_batch_words(out: &mut Vec<u8>, fault: BatchError) -> Result<(), AllocErr
 
 /// The line of a refused batch.
 fn batch_line(alloc: Global, number: u64, fault: BatchError) -> Result<Vec<u8>, AllocError>
-    ensures { IfOk result (λ line. line.items ≡ codes "batch fault " ++ decimal number ++ batch_words fault ++ 10 ∷ []) }
+    ensures { IfOk result (λ line.
+        line.items ≡ codes "batch fault " ++ decimal number ++ batch_words fault ++ 10 ∷ []) }
 {
     let mut line = Vec::from_slice(alloc, b"batch fault ")?;
     push_number(&mut line, number)?;

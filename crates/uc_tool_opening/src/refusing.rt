@@ -31,7 +31,8 @@ pub fn print_refused_opening<W: Write>(
     error: OpenError,
     writer: &mut W,
 ) -> Result<Done, RunError>
-    ensures printed { Prints (refused (lines.opening_refusal_line error)).replies (W.contents writer.old) (W.contents writer.new) result }
+    ensures printed { Prints (refused (lines.opening_refusal_line error)).replies
+        (W.contents writer.old) (W.contents writer.new) result }
     ensures done { IfOk result (λ done. done ≡ Done.Refused) }
 {
     let line = opening_refusal_line(alloc, error)?;

@@ -89,7 +89,9 @@ fn reply_to<O: Operator + Sync>(
     requires name { NameIsGood call }
     requires held { AreHeld owned.old claims.old }
     ensures held { AreHeld owned.new claims.new }
-    ensures turn { IfOk result (λ lines. Turns O.meaning (record { owner = owned.old; names = claims.old }) (plays.call_of last call) lines.items (record { owner = owned.new; names = claims.new })) }
+    ensures turn { IfOk result (λ lines.
+        Turns O.meaning (record { owner = owned.old; names = claims.old }) (plays.call_of last call)
+        lines.items (record { owner = owned.new; names = claims.new })) }
 {
     let call = call_of(alloc, last, call)?;
     match claims.call(rt, alloc, owned, &call) {
@@ -110,7 +112,8 @@ pub fn print_replies<O: Operator + Sync, W: Write>(
 ) -> Result<(), RunError>
     requires names { All NameIsGood calls.items }
     requires held { AreHeld owned.old (replicate MOST_CLAIMS None) }
-    ensures { Prints (replies_of O.meaning (unnamed owned.old) last calls.items) (W.contents writer.old) (W.contents writer.new) result }
+    ensures { Prints (replies_of O.meaning (unnamed owned.old) last calls.items)
+        (W.contents writer.old) (W.contents writer.new) result }
 {
     let mut claims = NamedClaims::new();
     for call in calls {

@@ -54,7 +54,8 @@ fn print_opened<O: Operator + Sync, W: Write>(
 ) -> Result<Done, RunError>
     requires good { are_good options.now ≡ true }
     requires names { All NameIsGood calls.items }
-    ensures printed { Prints (output_of O.meaning version options.now calls.items).replies (W.contents writer.old) (W.contents writer.new) result }
+    ensures printed { Prints (output_of O.meaning version options.now calls.items).replies
+        (W.contents writer.old) (W.contents writer.new) result }
     ensures done { IfOk result (λ done. done ≡ Done.Fine) }
 {
     let last = version.last();
@@ -75,7 +76,8 @@ fn print_script<O: Operator + Sync, W: Write>(
 ) -> Result<Done, RunError>
     requires fits { FitsLog script.ops }
     requires names { All NameIsGood script.calls }
-    ensures printed { Prints (script_output O.meaning options.now script).replies (W.contents writer.old) (W.contents writer.new) result }
+    ensures printed { Prints (script_output O.meaning options.now script).replies
+        (W.contents writer.old) (W.contents writer.new) result }
     ensures done { IfOk result (λ done. done ≡ (script_output O.meaning options.now script).done) }
 {
     let Script { ops, keeps, calls } = script;
@@ -97,7 +99,8 @@ fn run<O: Operator + Sync, W: Write>(
     writer: &mut W,
 ) -> Result<Done, RunError>
     requires { vec_len input ≤ INPUT_LIMIT }
-    ensures printed { Prints (play_of O.meaning options.now input.items).replies (W.contents writer.old) (W.contents writer.new) result }
+    ensures printed { Prints (play_of O.meaning options.now input.items).replies
+        (W.contents writer.old) (W.contents writer.new) result }
     ensures done { IfOk result (λ done. done ≡ (play_of O.meaning options.now input.items).done) }
 {
     match script_in(alloc, input) {

@@ -37,7 +37,9 @@ fn compact_picked<O: Operator + Sync>(
 ) -> Result<Step, AllocError>
     requires held { AreHeld owned.old claims.old }
     ensures held { AreHeld owned.new claims.new }
-    ensures step { IfOk result (λ step. IsStep O.meaning (record { owner = owned.old; names = claims.old }) step (record { owner = owned.new; names = claims.new })) }
+    ensures step { IfOk result (λ step.
+        IsStep O.meaning (record { owner = owned.old; names = claims.old }) step
+        (record { owner = owned.new; names = claims.new })) }
 {
     let Some(stretch) = owned.pick() else {
         return Ok(Step::Nothing);
@@ -58,7 +60,8 @@ pub fn print_compactions<O: Operator + Sync, W: Write>(
     writer: &mut W,
 ) -> Result<(), RunError>
     requires held { AreHeld owned.old (replicate MOST_CLAIMS None) }
-    ensures printed { Prints (compactions_of O.meaning owned.old).lines (W.contents writer.old) (W.contents writer.new) result }
+    ensures printed { Prints (compactions_of O.meaning owned.old).lines (W.contents writer.old)
+        (W.contents writer.new) result }
     ensures left { IfOk result (λ _. owned.new ≡ (compactions_of O.meaning owned.old).state.owner) }
 {
     let mut claims = NamedClaims::new();

@@ -48,7 +48,8 @@ fn print_reports<O: Operator + Sync, W: Write>(
     writer: &mut W,
 ) -> Result<Done, RunError>
     requires { are_good options.now ≡ true }
-    ensures printed { Prints (output_of O.meaning (unclaimed version options.now)).replies (W.contents writer.old) (W.contents writer.new) result }
+    ensures printed { Prints (output_of O.meaning (unclaimed version options.now)).replies
+        (W.contents writer.old) (W.contents writer.new) result }
     ensures done { IfOk result (λ done. done ≡ Done.Fine) }
 {
     let mut owned = Owned::<O>::new(alloc, version, *options)?;
@@ -87,7 +88,8 @@ fn run<O: Operator + Sync, W: Write>(
     options: &Options,
     writer: &mut W,
 ) -> Result<Done, RunError>
-    ensures printed { Prints (report_of O.meaning options.now input.items).replies (W.contents writer.old) (W.contents writer.new) result }
+    ensures printed { Prints (report_of O.meaning options.now input.items).replies
+        (W.contents writer.old) (W.contents writer.new) result }
     ensures done { IfOk result (λ done. done ≡ (report_of O.meaning options.now input.items).done) }
 {
     let Recovered { opener, ended } = recover_log(alloc, input, *options)?;

@@ -9,7 +9,8 @@ ghost use Rattle.uc_version.specs.Owners.{Owner, IsOwner, is_busy, last_id};
 ghost use Rattle.uc_version.specs.Picking.{candidates_of};
 ghost use Rattle.uc_version.specs.Claiming.{Claim, is_held, claim_refusal, claim_of, with_claim, without_claim};
 ghost use Rattle.uc_version.specs.Compacting.{IsInstallable, install_for};
-ghost use Rattle.uc_version.specs.Installing.{stretch_of, claimed_runs, compaction_of, IdLeft, MayReplace, IsRefused, after_install, install_of};
+ghost use Rattle.uc_version.specs.Installing.{stretch_of, claimed_runs, compaction_of, IdLeft, MayReplace};
+ghost use Rattle.uc_version.specs.Installing.{IsRefused, after_install, install_of};
 ghost use Rattle.uc_version.specs.declared.install_error.InstallError.{InstallError};
 ghost use Rattle.uc_version.specs.declared.install_error.InstallError.TheVariants.{IdsSpent};
 
@@ -20,18 +21,23 @@ use uc_version_state::install_gives_a_version;
 /// What was compacted of claimed runs, and is installable in a version where the runs with their ids are the same still, is an
 /// event that may happen to that version.
 pub fn what_fits_may_be_installed<O: Operator>()
-    ensures { (v : Stored) (claimed : List PlacedRun) (made : Compaction) → 2 ≤ length claimed → Stand made.inputs made.keeps →
+    ensures { (v : Stored) (claimed : List PlacedRun) (made : Compaction) → 2 ≤ length claimed →
+        Stand made.inputs made.keeps →
         contents_of (standing (ids_of claimed) v.runs) ≡ contents_of claimed → IsInstallable v claimed made →
         MayInstall O.meaning v (install_for O.meaning claimed made) }
 {}
 
 /// An install for a claim that is held is an event that may happen to the version, and leaves the version after it.
 pub fn installs_are_events<O: Operator>()
-    ensures may { (o : Owner) (c : Claim) (made : Compaction) → IsOwner o → is_held o c ≡ true → Stand made.inputs made.keeps →
-        MayReplace o.version (stretch_of o c) made → MayInstall O.meaning o.version (install_of O.meaning o.version (stretch_of o c) made) }
-    ensures after { (o : Owner) (c : Claim) (made : Compaction) → IsOwner o → is_held o c ≡ true → Stand made.inputs made.keeps →
+    ensures may { (o : Owner) (c : Claim) (made : Compaction) → IsOwner o → is_held o c ≡ true →
+        Stand made.inputs made.keeps →
         MayReplace o.version (stretch_of o c) made →
-        (after_install O.meaning o c made).version ≡ installed (install_of O.meaning o.version (stretch_of o c) made) o.version }
+        MayInstall O.meaning o.version (install_of O.meaning o.version (stretch_of o c) made) }
+    ensures after { (o : Owner) (c : Claim) (made : Compaction) → IsOwner o → is_held o c ≡ true →
+        Stand made.inputs made.keeps →
+        MayReplace o.version (stretch_of o c) made →
+        (after_install O.meaning o c made).version ≡
+        installed (install_of O.meaning o.version (stretch_of o c) made) o.version }
 {}
 
 /// What is picked can be claimed: it is there, has two runs or more, and nobody has claimed any of them.
@@ -44,9 +50,11 @@ pub fn picks_can_be_claimed()
 
 /// What an owner is left by claims, by giving them back and by installs is an owner again.
 pub fn owners_stay_owners<O: Operator>()
-    ensures claimed { (o : Owner) (s : Stretch) → IsOwner o → claim_refusal o s ≡ None → IsOwner (with_claim o (claim_of o s) s) }
+    ensures claimed { (o : Owner) (s : Stretch) → IsOwner o → claim_refusal o s ≡ None →
+        IsOwner (with_claim o (claim_of o s) s) }
     ensures given_back { (o : Owner) (c : Claim) → IsOwner o → is_held o c ≡ true → IsOwner (without_claim o c) }
-    ensures installed { (o : Owner) (c : Claim) (made : Compaction) → IsOwner o → is_held o c ≡ true → Stand made.inputs made.keeps →
+    ensures installed { (o : Owner) (c : Claim) (made : Compaction) → IsOwner o → is_held o c ≡ true →
+        Stand made.inputs made.keeps →
         MayReplace o.version (stretch_of o c) made → IsOwner (after_install O.meaning o c made) }
 {
     install_gives_a_version::<O>();
@@ -56,13 +64,15 @@ pub fn owners_stay_owners<O: Operator>()
 pub fn claims_keep_their_runs<O: Operator>()
     ensures notes { (o : Owner) (c : Claim) → IsOwner o → is_held o c ≡ true →
         (c.newest ≡ newest_id (ids_of (claimed_runs o c))) × (c.oldest ≡ last_id (ids_of (claimed_runs o c))) }
-    ensures kept { (o : Owner) (c other : Claim) (made : Compaction) → IsOwner o → is_held o c ≡ true → is_held o other ≡ true →
+    ensures kept { (o : Owner) (c other : Claim) (made : Compaction) → IsOwner o → is_held o c ≡ true →
+        is_held o other ≡ true →
         other.number ≢ c.number → claimed_runs (after_install O.meaning o c made) other ≡ claimed_runs o other }
 {}
 
 /// A claim that isn't refused is held from then on.
 pub fn claims_are_held()
-    ensures { (o : Owner) (s : Stretch) → IsOwner o → claim_refusal o s ≡ None → is_held (with_claim o (claim_of o s) s) (claim_of o s) ≡ true }
+    ensures { (o : Owner) (s : Stretch) → IsOwner o → claim_refusal o s ≡ None →
+        is_held (with_claim o (claim_of o s) s) (claim_of o s) ≡ true }
 {}
 
 /// What is claimed can be compacted under the keeps of the moment, and be installed where an id is left. For nothing else is it
@@ -73,5 +83,6 @@ pub fn claims_can_be_compacted()
     ensures may { (o : Owner) (c : Claim) → IsOwner o → is_held o c ≡ true → IdLeft o.version →
         MayReplace o.version (stretch_of o c) (compaction_of o.version (stretch_of o c)) }
     ensures refused { (o : Owner) (c : Claim) (error : InstallError) → IsOwner o → is_held o c ≡ true →
-        IsRefused o.version (stretch_of o c) (compaction_of o.version (stretch_of o c)) error → (error ≡ IdsSpent) × ¬ IdLeft o.version }
+        IsRefused o.version (stretch_of o c) (compaction_of o.version (stretch_of o c)) error →
+        (error ≡ IdsSpent) × ¬ IdLeft o.version }
 {}

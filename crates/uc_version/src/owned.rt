@@ -113,8 +113,12 @@ impl<O: Operator> Owned<O> {
     /// Claims a stretch, so that it may be compacted. It is refused where the stretch isn't all there, has fewer than two
     /// runs, or has a run that is claimed, the newest of which is named; the store is then as it was. It takes no memory.
     pub fn claim(&mut self, stretch: Stretch) -> Result<OwnedClaim, ClaimError>
-        ensures ok { IfOk result (λ claim. (claiming.claim_refusal self.old stretch ≡ None) × (claim ≡ claiming.claim_of self.old stretch) × (self.new ≡ claiming.with_claim self.old claim stretch)) }
-        ensures err { IfErr result (λ error. (claiming.claim_refusal self.old stretch ≡ Some error) × (self.new ≡ self.old)) }
+        ensures ok { IfOk result (λ claim.
+            (claiming.claim_refusal self.old stretch ≡ None)
+            × (claim ≡ claiming.claim_of self.old stretch)
+            × (self.new ≡ claiming.with_claim self.old claim stretch)) }
+        ensures err { IfErr result (λ error.
+            (claiming.claim_refusal self.old stretch ≡ Some error) × (self.new ≡ self.old)) }
     {
         let runs = match runs_of(self.version.runs(), stretch) {
             Ok(runs) => runs,
@@ -160,7 +164,10 @@ impl<O: Operator> Owned<O> {
     where
         O: Sync,
         requires { claiming.is_held self.now claim.now ≡ true }
-        ensures { IfOk result (λ made. made ≡ installing.compaction_of self.now.version (installing.stretch_of self.now claim.now)) }
+        ensures { IfOk result (λ made.
+            made ≡
+            installing.compaction_of self.now.version
+            (installing.stretch_of self.now claim.now)) }
     {
         let held = held_stretch(&self.claims, claim);
         compact_stretch::<O>(rt, alloc, &self.version, held.place())
@@ -175,8 +182,15 @@ impl<O: Operator> Owned<O> {
         made: Compacted<O>,
     ) -> Result<u64, (OwnedClaim, Compacted<O>, InstallError)>
         requires { claiming.is_held self.old claim ≡ true }
-        ensures ok { IfOk result (λ id. installing.MayReplace self.old.version (installing.stretch_of self.old claim) made × (id ≡ self.old.version.next_id) × (self.new ≡ installing.after_install O.meaning self.old claim made)) }
-        ensures err { IfErr result (λ refused. (refused.0 ≡ claim) × (refused.1 ≡ made) × installing.IsRefused self.old.version (installing.stretch_of self.old claim) made refused.2 × (self.new ≡ self.old)) }
+        ensures ok { IfOk result (λ id.
+            installing.MayReplace self.old.version (installing.stretch_of self.old claim) made
+            × (id ≡ self.old.version.next_id)
+            × (self.new ≡ installing.after_install O.meaning self.old claim made)) }
+        ensures err { IfErr result (λ refused.
+            (refused.0 ≡ claim) × (refused.1 ≡ made)
+            × installing.IsRefused self.old.version (installing.stretch_of self.old claim) made
+            refused.2
+            × (self.new ≡ self.old)) }
     {
         made.stands();
         install_gives_a_version::<O>();

@@ -51,7 +51,8 @@ pub fn present_refusal<O: Operator>(
 ) -> Option<Refusal>
     requires { length claimed.now ≤ MOST_SLOTS }
     ensures none { IfNone result (AreReplaceable present.now (versions.ids_of claimed.now) (terms_of made.now)) }
-    ensures some { IfSome result (λ refusal. IsRefused present.now (versions.ids_of claimed.now) (terms_of made.now) refusal) }
+    ensures some { IfSome result (λ refusal.
+        IsRefused present.now (versions.ids_of claimed.now) (terms_of made.now) refusal) }
 {
     let ids = run_ids(claimed);
     let terms = Terms::new(made.keeps(), made.oldest(), made.output().high_seq());

@@ -22,7 +22,9 @@ use uc_version_state::{Placed, Version};
 
 /// The runs of a stretch that may be claimed, where they are two or more that are there.
 pub(crate) fn runs_of(runs: &[Placed], stretch: Stretch) -> Result<&[Placed], ClaimError>
-    ensures ok { IfOk result (λ part. (range_refusal (length runs.now) stretch ≡ None) × (part.now ≡ part_of stretch.first stretch.count runs.now)) }
+    ensures ok { IfOk result (λ part.
+        (range_refusal (length runs.now) stretch ≡ None)
+        × (part.now ≡ part_of stretch.first stretch.count runs.now)) }
     ensures err { IfErr result (λ error. range_refusal (length runs.now) stretch ≡ Some error) }
 {
     if runs.len() < stretch.first || runs.len() - stretch.first < stretch.count {

@@ -1,5 +1,6 @@
 //! The claim words of an owner's runs.
-ghost use Rattle.std.specs.Prelude.{◌≡◌, ◌≤◌, ◌<◌, ◌==◌, ◌++◌, ℕ, Some, None, true, false, All, Contains, IfErr, OnOk, length, option_map, slice_index_or};
+ghost use Rattle.std.specs.Prelude.{◌≡◌, ◌≤◌, ◌<◌, ◌==◌, ◌++◌, ℕ, Some, None, true, false, All, Contains};
+ghost use Rattle.std.specs.Prelude.{IfErr, OnOk, length, option_map, slice_index_or};
 ghost use Rattle.std.specs.List.{AllByRecursion, list_any};
 ghost use Rattle.uc_claims.specs.Holding.{AreDistinct, NoneHeld, without};
 ghost use Rattle.uc_claims.specs.declared.table.TheConstants.{MOST_SLOTS};
@@ -27,7 +28,10 @@ pub(crate) fn claim_slots(
     ensures ok { OnOk result (held.new ≡ record held.old { slots = held.old.slots ++ versions.slots_of runs.now }) }
     ensures apart { OnOk result (NoneHeld (versions.slots_of runs.now) held.old.slots) }
     ensures none { OnOk result (first_busy held.old.slots (versions.slots_of runs.now) ≡ None) }
-    ensures err { IfErr result (λ error. (held.new ≡ held.old) × (option_map Busy (first_busy held.old.slots (versions.slots_of runs.now)) ≡ Some error)) }
+    ensures err { IfErr result (λ error.
+        (held.new ≡ held.old)
+        × (option_map Busy (first_busy held.old.slots (versions.slots_of runs.now)) ≡
+        Some error)) }
 {
     let slots = slots_of(runs);
     match table.take_more_in_place(held, &slots[..runs.len()]) {
@@ -50,7 +54,8 @@ pub(crate) fn give_slots(table: &ClaimTable, held: &mut HeldSlots, runs: &[Place
 
 /// A flag for each slot: whether it is held.
 pub(crate) fn busy_slots(held: &HeldSlots) -> [bool; MOST_SLOTS]
-    ensures { (slot : ℕ) → slot < MOST_SLOTS → slice_index_or result slot false ≡ list_any (λ s. s == slot) held.now.slots }
+    ensures { (slot : ℕ) → slot < MOST_SLOTS →
+        slice_index_or result slot false ≡ list_any (λ s. s == slot) held.now.slots }
 {
     let mut busy = [false; MOST_SLOTS];
     for slot in 0..MOST_SLOTS {

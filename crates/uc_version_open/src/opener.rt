@@ -110,7 +110,8 @@ impl Opener {
         ensures err { (options : OptionsOf) (writes : List WriteOf) → IsRising 0 writes → self ≡ progress_of options writes →
             let opening : OpeningOf = record { writes = writes; keeps = keeps.now; options = options } in
             IfErr result (λ error. error ≢ Memory → opening_refusal opening ≡ Some error) }
-        ensures memory { (options : OptionsOf) (writes : List WriteOf) → IsRising 0 writes → self ≡ progress_of options writes →
+        ensures memory { (options : OptionsOf) (writes : List WriteOf) → IsRising 0 writes →
+            self ≡ progress_of options writes →
             let opening : OpeningOf = record { writes = writes; keeps = keeps.now; options = options } in
             IfErr result (λ error. error ≡ Memory → opening_refusal opening ≡ None) }
     {

@@ -27,7 +27,17 @@ impl Options {
     /// The options where none are given: memtables of 4 MiB, 4 runs, 1 percent, 200 percent, at
     /// least 2 runs and no limit to them, numbers from 1.
     pub fn usual() -> Options
-        ensures { result ≡ record { memtable = 4194304; trigger = 4; ratio = 1; percent = 200; least = 2; greatest = 4294967295; first_id = 1 } }
+        ensures { result ≡
+            record {
+              memtable = 4194304;
+              trigger = 4;
+              ratio = 1;
+              percent = 200;
+              least = 2;
+              greatest =
+                  4294967295;
+              first_id = 1;
+            } }
     {
         Options {
             memtable: 4_194_304,

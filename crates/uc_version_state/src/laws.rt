@@ -12,7 +12,9 @@ ghost use Rattle.uc_version_state.specs.Versions.{PlacedRun, Stored, IsVersion, 
 ghost use Rattle.uc_version_state.specs.Openings.{Opening, MayOpen, memtables, opened};
 ghost use Rattle.uc_version_state.specs.Installs.{Install, MayInstall, installed, part_of, standing};
 ghost use Rattle.uc_version_state.specs.declared.event.Event.{Event};
-ghost use Rattle.uc_version_state.specs.Histories.{MayHappen, after, ids_replaced, History, IsLegal, version_after, writes_given, all_ids_given, all_ids_replaced};
+ghost use Rattle.uc_version_state.specs.Histories.{MayHappen, after, ids_replaced, History, IsLegal};
+ghost use Rattle.uc_version_state.specs.Histories.{version_after, writes_given, all_ids_given};
+ghost use Rattle.uc_version_state.specs.Histories.{all_ids_replaced};
 
 use uc_oper::Operator;
 use uc_run::{flush_keeps_every_effect, flushed_writes_are_a_run};
@@ -20,7 +22,8 @@ use uc_run::{flush_keeps_every_effect, flushed_writes_are_a_run};
 /// Memtables are filled one after the other: together they hold the writes, in order, and none is empty. All but the last
 /// have reached the limit, and none, where the limit is 1 byte or more, had reached it before its last write.
 pub fn memtables_are_filled_in_turn()
-    ensures joined { (limit : ℕ) (writes : List Write) → flat_map (λ (part : List Write). part) (memtables limit writes) ≡ writes }
+    ensures joined { (limit : ℕ) (writes : List Write) →
+        flat_map (λ (part : List Write). part) (memtables limit writes) ≡ writes }
     ensures some { (limit : ℕ) (writes part : List Write) → Contains (memtables limit writes) part → part ≢ [] }
     ensures full { (limit : ℕ) (writes : List Write) (front : List (List Write)) (part next : List Write) (behind : List (List Write)) →
         memtables limit writes ≡ front ++ part ∷ next ∷ behind → limit ≤ memtable_size part }
@@ -30,7 +33,8 @@ pub fn memtables_are_filled_in_turn()
 
 /// A store opens with the keeps that it was given and the last sequence, each once and in order.
 pub fn opened_keeps_are_those_given()
-    ensures given { (o : Opening) (seq : ℕ) → Contains (opened o).keeps seq ↔ (Contains o.keeps seq ⊎ (seq ≡ last_of 0 o.writes)) }
+    ensures given { (o : Opening) (seq : ℕ) →
+        Contains (opened o).keeps seq ↔ (Contains o.keeps seq ⊎ (seq ≡ last_of 0 o.writes)) }
     ensures in_order { (o : Opening) → IsStrictlySortedBy nat_cmp (opened o).keeps }
 {}
 
@@ -92,12 +96,14 @@ pub fn runs_are_replaced_once<O: Operator>()
 pub fn histories_grow_by_events<O: Operator>()
     ensures legal { (h : History) (e : Event) → IsLegal O.meaning h → MayHappen O.meaning (version_after h) e →
         IsLegal O.meaning (record h { events = h.events ++ e ∷ [] }) }
-    ensures after { (h : History) (e : Event) → version_after (record h { events = h.events ++ e ∷ [] }) ≡ after (version_after h) e }
+    ensures after { (h : History) (e : Event) →
+        version_after (record h { events = h.events ++ e ∷ [] }) ≡ after (version_after h) e }
 {}
 
 /// What stands of a legal history so far is a legal history.
 pub fn beginnings_are_legal<O: Operator>()
-    ensures { (h : History) (later : List Event) → IsLegal O.meaning (record h { events = h.events ++ later }) → IsLegal O.meaning h }
+    ensures { (h : History) (later : List Event) →
+        IsLegal O.meaning (record h { events = h.events ++ later }) → IsLegal O.meaning h }
 {}
 
 /// A run that an event doesn't replace stays in the version, with its id, its slot and its contents.
@@ -109,7 +115,8 @@ pub fn runs_stay_until_replaced<O: Operator>()
 /// Along a history a run keeps its slot and its contents: where runs with one id stand in the versions after a history and
 /// after a longer one that begins with it, they are the same.
 pub fn runs_keep_their_contents<O: Operator>()
-    ensures { (h : History) (later : List Event) (run again : PlacedRun) → IsLegal O.meaning (record h { events = h.events ++ later }) →
+    ensures { (h : History) (later : List Event) (run again : PlacedRun) →
+        IsLegal O.meaning (record h { events = h.events ++ later }) →
         Contains (version_after h).runs run → Contains (version_after (record h { events = h.events ++ later })).runs again →
         run.id ≡ again.id → run ≡ again }
 {

@@ -32,7 +32,15 @@ fn remove_runs(runs: &mut Vec<Placed>, first: usize, count: usize)
 fn replace_runs(runs: &mut Vec<Placed>, first: usize, count: usize, id: u64, run: Arc<Run>)
     requires some { 0 < count }
     requires within { first + count ≤ length runs.old.items }
-    ensures { runs.new.items ≡ take first runs.old.items ++ record { id = id; slot = slot_of (part_of first count runs.old.items); run = arc_value run } ∷ drop (first + count) runs.old.items }
+    ensures { runs.new.items ≡
+        take first runs.old.items
+        ++ record {
+          id = id;
+          slot = slot_of (part_of first count runs.old.items);
+          run = arc_value
+              run;
+        }
+        ∷ drop (first + count) runs.old.items }
 {
     let slot = runs[first].slot;
     runs[first] = Placed { id, slot, run };

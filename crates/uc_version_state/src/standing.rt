@@ -63,7 +63,9 @@ pub(crate) fn are_in_place(runs: &[Placed], ids: &[u64]) -> bool
 impl Version {
     /// Where runs with these ids stand as neighbours in this order: behind so many runs. It takes no memory.
     pub fn place_of(&self, ids: &[u64]) -> Option<usize>
-        ensures some { IfSome result (λ first. (first + length ids.now ≤ length self.now.runs) × (ids_of (part_of first (length ids.now) self.now.runs) ≡ ids.now)) }
+        ensures some { IfSome result (λ first.
+            (first + length ids.now ≤ length self.now.runs)
+            × (ids_of (part_of first (length ids.now) self.now.runs) ≡ ids.now)) }
         ensures none { IfNone result ((first : ℕ) → ids_of (part_of first (length ids.now) self.now.runs) ≢ ids.now) }
     {
         self.is_one();

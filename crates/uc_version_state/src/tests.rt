@@ -31,7 +31,17 @@ fn three_runs(
     middle: Arc<Run>,
     oldest: Arc<Run>,
 ) -> Result<Version, Fail>
-    ensures { IfOk result (λ version. version ≡ record { runs = record { id = 6; slot = 2; run = arc_value newest } ∷ record { id = 4; slot = 5; run = arc_value middle } ∷ record { id = 3; slot = 0; run = arc_value oldest } ∷ []; keeps = 2 ∷ 5 ∷ []; last = 5; next_id = 8 }) }
+    ensures { IfOk result (λ version.
+        version ≡
+        record {
+          runs = record { id = 6; slot = 2; run = arc_value newest }
+              ∷ record { id = 4; slot = 5; run = arc_value middle }
+              ∷ record { id = 3; slot = 0; run = arc_value oldest } ∷ [];
+          keeps = 2 ∷ 5
+              ∷ [];
+          last = 5;
+          next_id = 8;
+        }) }
 {
     newest.is_one();
     middle.is_one();
