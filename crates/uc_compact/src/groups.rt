@@ -92,12 +92,13 @@ impl<'a> Groups<'a> {
     }
 
     /// The next key. Its points take the place of those in `points`, none where there is no key. Where memory is wanting
-    /// nothing is ahead any more.
+    /// `points` is empty, and nothing is ahead any more.
     pub fn next_into(&mut self, points: &mut Vec<&'a Point>) -> Result<Option<&'a [u8]>, AllocError>
         ensures comes { IfOk result (λ key.
             Comes self.old (option_map (λ k. k.now) key) (map (λ p. p.now) points.new.items)
             self.new) }
         ensures err { OnErr result (self.new ≡ []) }
+        ensures none_named { OnErr result (points.new.items ≡ []) }
     {
         points.clear();
         let Some(key) = least_key(&self.cursors) else {
@@ -105,6 +106,7 @@ impl<'a> Groups<'a> {
         };
         if let Err(error) = take_from_each(&mut self.cursors, key, points) {
             self.cursors.clear();
+            points.clear();
             return Err(error);
         }
         Ok(Some(key))

@@ -273,6 +273,12 @@ module _ (m : Operation) (laws : IsLawful m) (c : Compaction) (are : AreRuns c.i
   not_bottom : (s : Stripe) → c.oldest ≡ false → is_bottom (keeping_of c) s ≡ false
   not_bottom s e = ap (λ b. has_bottom (cond b (Some (low_of c.inputs)) None) s) e
 
+  pub effects_stay_in_stripes : AllByRecursion (λ s. is_bottom (keeping_of c) s ≡ false → found s ≡ wanted s) (stripes c.keeps)
+  effects_stay_in_stripes = all-map FoundIn (λ s. is_bottom (keeping_of c) s ≡ false → found s ≡ wanted s) (λ s f e. f ∙ same_effect s e) (stripes c.keeps) all_found
+
+  pub values_stay_in_stripes : AllByRecursion (λ s. is_bottom (keeping_of c) s ≡ true → applied m (found s) None ≡ applied m (wanted s) None) (stripes c.keeps)
+  values_stay_in_stripes = all-map FoundIn (λ s. is_bottom (keeping_of c) s ≡ true → applied m (found s) None ≡ applied m (wanted s) None) (λ s f e. ap (λ (effect : Effect). applied m effect None) f ∙ same_value s e) (stripes c.keeps) all_found
+
   pub effects_stay : c.oldest ≡ false → (at : ℕ) → Contains c.keeps at ⊎ (high_of c.inputs ≤ at) → effect_on m V key at ≡ effect_on m W key at
   effects_stay e at kept =
       equal_at (effect_on m V key) (effect_on m W key) c.keeps stand.keeps_rise (none_below 0 zero_below V V_within ∙ sym (none_below 0 zero_below W W_within))

@@ -115,7 +115,8 @@ fn push_some(kept: &mut Vec<Point>, point: Option<Point>) -> Result<(), AllocErr
 /// point there. The key's points and the sequences of the range deletions over it come the newest first.
 ///
 /// It takes time for the stripes that have points, and not for the others. Of the points of a stripe it reads those
-/// that no newer put, delete or range deletion hides; many of them are folded by halves in two threads.
+/// that no newer put, delete or range deletion hides; many of them are folded by halves in two threads. Where memory is
+/// wanting, what `kept` then holds is of no use.
 pub fn push_kept_points<O: Operator + Sync>(
     rt: &(impl Threads + Sync),
     alloc: Global,

@@ -1,14 +1,15 @@
 //! What holds of a compaction's output, under every operator.
-ghost use Rattle.std.specs.Prelude.{◌≡◌, ℕ, ◌<◌, ◌≤◌, ◌^◌, ◌&&◌, ◌⊎◌, [], ◌∷◌, List, Contains, false, true, filter, length};
+ghost use Rattle.std.specs.Prelude.{◌≡◌, ℕ, ◌<◌, ◌≤◌, ◌^◌, ◌&&◌, ◌⊎◌, [], ◌∷◌, List, Contains, None};
+ghost use Rattle.std.specs.Prelude.{false, true, filter, length};
 ghost use Rattle.std.specs.List.{AllByRecursion, flat_map};
 ghost use Rattle.std.specs.List.Sorted.{IsStrictlySortedBy, IsNonDecreasingBy};
 ghost use Rattle.std.specs.Ordering.{nat_cmp};
 ghost use Rattle.uc_bytes.specs.Bytes.{same_bytes};
-ghost use Rattle.uc_oper.specs.Composition.{composed};
+ghost use Rattle.uc_oper.specs.Composition.{applied, composed};
 ghost use Rattle.uc_bytes.specs.declared.write.Write.{Write};
 ghost use Rattle.uc_run_entry.specs.Run.{Contents, IsRun};
 ghost use Rattle.uc_run_entry.specs.PlainList.{plain_list};
-ghost use Rattle.uc_model.specs.Meaning.{effect_on, value_of};
+ghost use Rattle.uc_model.specs.Meaning.{effect_on, effect_within, value_of};
 ghost use Rattle.uc_compact_rules.specs.Stripes.{is_in, stripes, is_bottom};
 ghost use Rattle.uc_run_fragment.specs.Cutting.{fragments_of};
 ghost use Rattle.uc_compact_rules.specs.Choice.{points_for, points_named, seqs_over, AreOfOneKey};
@@ -53,6 +54,19 @@ pub fn compaction_keeps_what_is_read<O: Operator>()
     ensures values { (c : Compaction) (key : List ℕ) (at : ℕ) → AreRuns c.inputs → Stand c.inputs c.keeps →
         Contains c.keeps at ⊎ (high_of c.inputs ≤ at) →
         value_of O.meaning (plain_list (output_of O.meaning c)) key at ≡ value_of O.meaning (writes_of c.inputs) key at }
+{}
+
+/// What the output's writes of a stripe do to a key is what the inputs' writes of that stripe do, wherever something may
+/// stand below. In the bottom stripe of a compaction with the oldest run nothing does: there they give the same value.
+pub fn compaction_keeps_each_stripe<O: Operator>()
+    ensures effects { (c : Compaction) (key : List ℕ) → AreRuns c.inputs → Stand c.inputs c.keeps →
+        AllByRecursion (λ s. is_bottom (keeping_of c) s ≡ false →
+        effect_within O.meaning (plain_list (output_of O.meaning c)) key s.above s.upto ≡
+        effect_within O.meaning (writes_of c.inputs) key s.above s.upto) (stripes c.keeps) }
+    ensures bottom { (c : Compaction) (key : List ℕ) → AreRuns c.inputs → Stand c.inputs c.keeps →
+        AllByRecursion (λ s. is_bottom (keeping_of c) s ≡ true →
+        applied O.meaning (effect_within O.meaning (plain_list (output_of O.meaning c)) key s.above s.upto) None ≡
+        applied O.meaning (effect_within O.meaning (writes_of c.inputs) key s.above s.upto) None) (stripes c.keeps) }
 {}
 
 /// The output has at most one point for each key and stripe, and each of its fragments has at most one sequence of each.

@@ -19,7 +19,7 @@ pub use fragment_seqs::kept_seqs;
 pub use keeping::Keeping;
 pub use kept_points::push_kept_points;
 pub use laws::{
-    compaction_gives_a_run, compaction_keeps_one_of_each_stripe, compaction_keeps_what_is_read,
-    compaction_of_the_oldest_leaves_values, points_are_chosen_key_by_key, runs_compose,
-    sequences_have_one_stripe,
+    compaction_gives_a_run, compaction_keeps_each_stripe, compaction_keeps_one_of_each_stripe,
+    compaction_keeps_what_is_read, compaction_of_the_oldest_leaves_values,
+    points_are_chosen_key_by_key, runs_compose, sequences_have_one_stripe,
 };

@@ -23,7 +23,7 @@ mod slot;
 pub use laws::{flush_keeps_every_effect, flushed_writes_are_a_run};
 pub use memtable::Memtable;
 pub use uc_run_entry::{
-    Entry, Fragment, What, covering_fragment, is_run, plain_list_does_what_is_found,
+    Entry, Fragment, What, WhatRef, covering_fragment, is_run, plain_list_does_what_is_found,
     plain_list_is_in_order, stripes_of_plain_list_do_what_is_found,
 };
 pub use uc_run_fragment::{

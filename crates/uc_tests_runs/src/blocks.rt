@@ -245,6 +245,30 @@ static EFFECTS: [(u64, Option<&[u8]>); 6] = [
     (6, Some(b"f,g")),
 ];
 
+/// Whether each key of such a run of so many puts has its value from 1 on and nothing at 0, and the next key has none.
+fn has_each_effect(alloc: Global, run: &Run, count: u8) -> Result<bool, Fail> {
+    for key in 0..count {
+        let effect = run.effect::<Append<44>>(alloc, &[key], 1)?;
+        if !sets(&effect, Some(&[key])) {
+            return Ok(false);
+        }
+        if run.effect::<Append<44>>(alloc, &[key], 0)? != Effect::Keep {
+            return Ok(false);
+        }
+    }
+    Ok(run.effect::<Append<44>>(alloc, &[count], 1)? == Effect::Keep)
+}
+
+#[test]
+fn effects_in_blocks(rt: HostRuntime) -> Result<(), Fail> {
+    let alloc = rt.alloc();
+    for (count, _) in &BLOCKS {
+        let run = puts(alloc, *count)?;
+        assert!(rt; has_each_effect(alloc, &run, *count)?);
+    }
+    Ok(())
+}
+
 /// Whether each sequence has its effect.
 fn has_effects(alloc: Global, run: &Run) -> Result<bool, Fail> {
     for (at, value) in &EFFECTS {

@@ -415,6 +415,76 @@ fn counters_add_up_within_stripes(rt: HostRuntime) -> Result<(), Fail> {
     Ok(())
 }
 
+/// A delete of a key beside a range deletion over it, both in one stripe, and the size of what they become.
+const DELETES: [(Case, u64); 2] = [
+    // The range deletion is newer, and hides the delete.
+    (
+        Case {
+            runs: &[
+                Given {
+                    low: 3,
+                    high: 3,
+                    points: &[],
+                    ranges: &[(b"k", b"l", 3)],
+                },
+                Given {
+                    low: 2,
+                    high: 2,
+                    points: &[(b"k", 2, Says::Delete)],
+                    ranges: &[],
+                },
+            ],
+            keeps: &[3],
+            oldest: false,
+            wanted: Given {
+                low: 2,
+                high: 3,
+                points: &[],
+                ranges: &[(b"k", b"l", 3)],
+            },
+        },
+        10,
+    ),
+    // The delete is newer, and stays beside the range deletion.
+    (
+        Case {
+            runs: &[
+                Given {
+                    low: 3,
+                    high: 3,
+                    points: &[(b"k", 3, Says::Delete)],
+                    ranges: &[],
+                },
+                Given {
+                    low: 2,
+                    high: 2,
+                    points: &[],
+                    ranges: &[(b"k", b"l", 2)],
+                },
+            ],
+            keeps: &[3],
+            oldest: false,
+            wanted: Given {
+                low: 2,
+                high: 3,
+                points: &[(b"k", 3, Says::Delete)],
+                ranges: &[(b"k", b"l", 2)],
+            },
+        },
+        19,
+    ),
+];
+
+#[test]
+fn deletes_beside_range_deletions(rt: HostRuntime) -> Result<(), Fail> {
+    let alloc = rt.alloc();
+    for (case, size) in &DELETES {
+        assert!(rt; passes::<Append<0x2C>>(&rt, alloc, case)?);
+        assert_eq!(rt; run_of(alloc, &case.wanted)?.size(), *size);
+    }
+    Ok(())
+}
+
 /// A run with a merge of one at each of 5,000 sequences from `low` on, all of one key.
 fn ones(alloc: Global, low: u64) -> Result<Arc<Run>, Fail> {
     let mut points = Vec::new(alloc);
