@@ -1,0 +1,4 @@
+mod Places
+mod Noted
+mod Counted
+mod Kept
