@@ -301,7 +301,7 @@ module _ (m : Operation) (laws : IsLawful m) where
     acts (Giving left) (Give slot) is may = gives m s keeps c lt left slot is may
     acts _ _ is may = absurd may
 
-  keeps_on : (s : Machine) (step : Step) → Keeps m s → MayStep m s step → Keeps m (after_step s step)
+  pub keeps_on : (s : Machine) (step : Step) → Keeps m s → MayStep m s step → Keeps m (after_step s step)
   keeps_on s (Acts c action) keeps may = acts s keeps c may.0 (phase_of c s) action refl may.1
 
   pub keeps_along : (s : Machine) (steps : List Step) → Keeps m s → MayCome m s steps → Keeps m (fold after_step s steps)

@@ -2,3 +2,4 @@ mod Places
 mod Noted
 mod Counted
 mod Kept
+mod Lone

@@ -1,8 +1,10 @@
 -- Steps of any number of compactors, one after the other, from an opening on.
-use Rattle.std.specs.Prelude.{ℕ, ◌<◌, ⊤, List, [], ◌∷◌, length, fold, replicate}
+use Rattle.std.specs.Prelude.{◌≡◌, ℕ, ◌<◌, ⊤, List, [], ◌∷◌, length, fold, replicate}
 use Rattle.uc_oper.specs.Operation.{Operation}
 use Rattle.uc_claims.specs.declared.table.TheConstants.{MOST_SLOTS}
 use Rattle.uc_version_state.specs.Openings.{Opening, MayOpen}
+use Rattle.uc_version_state.specs.Installs.{Install}
+use Rattle.uc_version_state.specs.declared.event.Event.TheVariants.{Installed}
 use Rattle.uc_version_steps.specs.Machine.{Idle, Machine, Action, MayAct, phase_of, after_action}
 
 -- one step: an action of the compactor with a number
@@ -42,3 +44,11 @@ pub record IsPossible (m : Operation) (course : Course) : Type 0 where
 -- where it leads
 abbrev pub machine_after : Course → Machine
 machine_after course = fold after_step (started course.opening course.compactors) course.steps
+
+-- a course of one compactor that installs just this
+pub record InstallsAlone (m : Operation) (o : Opening) (i : Install) : Type 0 where
+  pub course : Course
+  pub opens_so : course.opening ≡ o
+  pub alone : course.compactors ≡ 1
+  pub possible : IsPossible m course
+  pub installed : (machine_after course).history.events ≡ Installed i ∷ []

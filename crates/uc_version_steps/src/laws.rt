@@ -1,13 +1,14 @@
 //! What holds of every course of steps.
-ghost use Rattle.std.specs.Prelude.{◌≡◌, ◌≢◌, ◌≤◌, ◌<◌, ℕ, List, Contains};
+ghost use Rattle.std.specs.Prelude.{◌≡◌, ◌≢◌, ◌≤◌, ◌+◌, ℕ, List, Contains, length};
 ghost use Rattle.uc_oper.specs.Operation.{Operation, IsLawful};
 ghost use Rattle.uc_version_state.specs.Versions.{PlacedRun, ids_of};
-ghost use Rattle.uc_version_state.specs.Installs.{Install, standing};
+ghost use Rattle.uc_version_state.specs.Openings.{Opening, MayOpen, opened};
+ghost use Rattle.uc_version_state.specs.Installs.{Install, part_of, standing};
 ghost use Rattle.uc_version_state.specs.Refusals.{AreInPlace};
 ghost use Rattle.uc_version_state.specs.declared.event.Event.TheVariants.{Installed};
 ghost use Rattle.uc_version_state.specs.Histories.{IsLegal, MayHappen};
 ghost use Rattle.uc_version_steps.specs.Machine.{Checked, IsMadeFor, present, phase_of, slots_held};
-ghost use Rattle.uc_version_steps.specs.Courses.{Course, IsPossible, machine_after};
+ghost use Rattle.uc_version_steps.specs.Courses.{Course, IsPossible, machine_after, InstallsAlone};
 
 use uc_version_state::opening_gives_a_version;
 
@@ -31,6 +32,16 @@ pub fn never_stale()
         MayHappen m (present (machine_after course)) (Installed i) }
     ensures legal { (m : Operation) (course : Course) →
         IsLawful m → IsPossible m course → IsLegal m (machine_after course).history }
+{
+    opening_gives_a_version();
+}
+
+/// The machine isn't empty: a compactor that goes through its phases alone installs what it made, of any stretch of any
+/// opening.
+pub fn a_lone_compactor_installs()
+    ensures { (m : Operation) (o : Opening) (first count : ℕ) (i : Install) → IsLawful m → MayOpen o →
+        2 ≤ count → first + count ≤ length (opened o).runs →
+        IsMadeFor m (opened o) (part_of first count (opened o).runs) i → InstallsAlone m o i }
 {
     opening_gives_a_version();
 }

@@ -6,4 +6,4 @@
 
 mod laws;
 
-pub use laws::never_stale;
+pub use laws::{a_lone_compactor_installs, never_stale};
