@@ -1,0 +1,111 @@
+//! [`Runs`]: the runs of a version, or some that were noted.
+
+/// As many runs as a store has at the most, and as many slots.
+pub(crate) const MOST: usize = 8;
+
+/// A run without its contents.
+#[derive(Clone, Copy)]
+pub(crate) struct Placed {
+    pub(crate) id: u64,
+    pub(crate) slot: usize,
+}
+
+/// A few runs, the newest first.
+#[derive(Clone, Copy)]
+pub(crate) struct Runs {
+    places: [Placed; MOST],
+    count: usize,
+}
+
+impl Runs {
+    /// None.
+    pub(crate) fn none() -> Runs {
+        Runs {
+            places: [Placed { id: 0, slot: 0 }; MOST],
+            count: 0,
+        }
+    }
+
+    /// As many as there are slots, as a store opens.
+    pub(crate) fn opened() -> Runs {
+        let mut runs = Runs::none();
+        for slot in (0..MOST).rev() {
+            let id = slot as u64;
+            runs.push(Placed { id, slot });
+        }
+        runs
+    }
+
+    /// All of them.
+    pub(crate) fn all(&self) -> &[Placed] {
+        &self.places[..self.count.min(MOST)]
+    }
+
+    /// One more behind them.
+    pub(crate) fn push(&mut self, placed: Placed) {
+        if self.count < MOST {
+            self.places[self.count] = placed;
+            self.count += 1;
+        }
+    }
+
+    /// So many behind the first ones, as far as they are there.
+    pub(crate) fn part(&self, first: usize, count: usize) -> Runs {
+        let mut part = Runs::none();
+        for placed in self.all().iter().skip(first).take(count) {
+            part.push(*placed);
+        }
+        part
+    }
+
+    /// The others, without the one at a place.
+    pub(crate) fn without(&self, place: usize) -> Runs {
+        let mut others = Runs::none();
+        for (at, placed) in self.all().iter().enumerate() {
+            if at != place {
+                others.push(*placed);
+            }
+        }
+        others
+    }
+
+    /// The slot of the one at a place.
+    pub(crate) fn slot(&self, place: usize) -> Option<usize> {
+        self.all().get(place).map(|placed| placed.slot)
+    }
+
+    /// How many stand in front of the newest of the noted ones.
+    fn place_of(&self, noted: &Runs) -> usize {
+        let newest = noted.all().first().map_or(0, |placed| placed.id);
+        let place = self.all().iter().position(|placed| placed.id == newest);
+        place.unwrap_or(MOST)
+    }
+
+    /// Whether the noted ones stand here as neighbours, in order.
+    pub(crate) fn has(&self, noted: &Runs) -> bool {
+        let part = self.part(self.place_of(noted), noted.all().len());
+        if part.all().len() != noted.all().len() {
+            return false;
+        }
+        for (place, placed) in part.all().iter().enumerate() {
+            if noted.all().get(place).map(|other| other.id) != Some(placed.id) {
+                return false;
+            }
+        }
+        true
+    }
+
+    /// One with the id in place of the noted ones, with the slot of the newest of them.
+    pub(crate) fn replaced(&self, noted: &Runs, id: u64) -> Runs {
+        let first = self.place_of(noted);
+        let mut runs = self.part(0, first);
+        if let Some(slot) = self.slot(first) {
+            runs.push(Placed { id, slot });
+        }
+        let behind = first.wrapping_add(noted.all().len());
+        for placed in self.all().iter().skip(behind) {
+            runs.push(*placed);
+        }
+        runs
+    }
+}

@@ -1,0 +1,5 @@
+mod Places
+mod Noted
+mod Counted
+mod Kept
+mod Lone
