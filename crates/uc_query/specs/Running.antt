@@ -7,7 +7,7 @@ use Rattle.uc_query_workers.specs.declared.ask_error.AskError.{AskError}
 use Rattle.uc_query_workers.specs.declared.ask_error.AskError.TheVariants.{Memory}
 use Rattle.uc_query.specs.declared.call.Call.{Call}
 use Rattle.uc_query.specs.declared.reply.Reply.{Reply}
-use Rattle.uc_query.specs.Names.{State, released}
+use Rattle.uc_query.specs.Names.{State, named, released}
 use Rattle.uc_query.specs.Turns.{Turn, turn_of}
 
 -- the replies, what is then, and the error that ended it, if one did
@@ -32,7 +32,7 @@ run_of m s (call ∷ calls) = unless_error s (turn_of m s call) (λ next. run_of
 
 -- a store where no name stands for a claim
 abbrev pub unnamed : Owner → State
-unnamed o = record { owner = o; names = replicate MOST_CLAIMS None }
+unnamed o = named o (replicate MOST_CLAIMS None)
 
 -- all calls had a reply, and the claims that were still under names were given back
 pub record RunsAll (m : Operation) (old : Owner) (calls : List Call) (replies : List Reply) (new : Owner) : Type 0 where

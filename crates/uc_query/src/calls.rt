@@ -1,7 +1,7 @@
 //! [`run_calls`]: a list of calls to a store.
 ghost use Rattle.std.specs.Prelude.{IfOk, IfErr};
 ghost use Rattle.std.specs.List.{AllByRecursion};
-ghost use Rattle.uc_query.specs.Names.{AreHeld};
+ghost use Rattle.uc_query.specs.Names.{AreHeld, named};
 ghost use Rattle.uc_query.specs.Turns.{HasName};
 ghost use Rattle.uc_query.specs.Running.{RunsAll, Stops};
 ghost use Rattle.uc_query.specs.Stepping.{RunsTo, Halts};
@@ -28,11 +28,9 @@ fn replies_to<O: Operator + Sync>(
     requires held { AreHeld owned.old claims.old }
     ensures held { AreHeld owned.new claims.new }
     ensures ok { IfOk result (λ replies.
-        RunsTo O.meaning (record { owner = owned.old; names = claims.old }) calls.now replies.items
-        (record { owner = owned.new; names = claims.new })) }
+        RunsTo O.meaning (named owned.old claims.old) calls.now replies.items (named owned.new claims.new)) }
     ensures err { IfErr result (λ error.
-        Halts O.meaning (record { owner = owned.old; names = claims.old }) calls.now error
-        (record { owner = owned.new; names = claims.new })) }
+        Halts O.meaning (named owned.old claims.old) calls.now error (named owned.new claims.new)) }
 {
     let mut replies = match Vec::with_capacity(alloc, calls.len()) {
         Ok(replies) => replies,
