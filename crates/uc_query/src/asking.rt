@@ -28,7 +28,8 @@ pub(crate) fn answer_batch<O: Operator + Sync>(
         ask_turn O.meaning (named owned.now names) queries.now (ask_refusal workers piece)
         ≡ Ok (replied (named owned.now names) reply)) }
     ensures err { (names : List (Option Claim)) → IfErr result (λ error.
-        FailsWith (ask_turn O.meaning (named owned.now names) queries.now (ask_refusal workers piece)) error) }
+        FailsWith (ask_turn O.meaning (named owned.now names) queries.now (ask_refusal workers piece))
+        error) }
 {
     match answer_plain::<O>(
         rt,

@@ -31,7 +31,8 @@ fn put_in_place<O: Operator>(
     ensures ok { IfOk result (λ id.
         (has_id owned.old.version ≡ true) × (id ≡ owned.old.version.next_id)
         × (owned.new ≡ compacted O.meaning owned.old claim)) }
-    ensures err { IfErr result (λ back. (has_id owned.old.version ≡ false) × (back ≡ claim) × (owned.new ≡ owned.old)) }
+    ensures err { IfErr result (λ back.
+        (has_id owned.old.version ≡ false) × (back ≡ claim) × (owned.new ≡ owned.old)) }
 {
     owned.is_one();
     claims_can_be_compacted();

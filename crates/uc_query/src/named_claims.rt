@@ -56,8 +56,10 @@ impl NamedClaims {
         requires held { AreHeld owned.old self.old }
         ensures held { AreHeld owned.new self.new }
         ensures ok { IfOk result (λ reply.
-            turn_of O.meaning (named owned.old self.old) call.now ≡ Ok (replied (named owned.new self.new) reply)) }
-        ensures err { IfErr result (λ error. FailsWith (turn_of O.meaning (named owned.old self.old) call.now) error) }
+            turn_of O.meaning (named owned.old self.old) call.now
+            ≡ Ok (replied (named owned.new self.new) reply)) }
+        ensures err { IfErr result (λ error.
+            FailsWith (turn_of O.meaning (named owned.old self.old) call.now) error) }
         ensures unchanged { IfErr result (λ error. (owned.new ≡ owned.old) × (self.new ≡ self.old)) }
     {
         match call {
