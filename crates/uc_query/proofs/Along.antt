@@ -1,19 +1,18 @@
 -- Lists of calls, one more call at a time.
-use Rattle.std.proofs.Common.{◌≡◌, ◌≢◌, ℕ, zero, suc, ◌+◌, ◌<◌, ◌≤◌, List, [], ◌∷◌, ◌++◌, length, get_or, take, drop, ◌⊎◌, inl, inr, refl, sym, ap, ◌∙◌, subst, arith}
-use Rattle.std.specs.Prelude.{Option, Some, None, Result, Ok, Err, IsOk}
+use Rattle.std.proofs.Common.{◌≡◌, ℕ, zero, suc, ◌+◌, ◌<◌, ◌≤◌, List, [], ◌∷◌, ◌++◌, length, get_or, take, drop, refl, sym, ap, ◌∙◌, subst, arith}
+use Rattle.std.specs.Prelude.{Option, None, Result, Ok, Err}
 use Rattle.std.specs.List.{AllByRecursion}
 use Rattle.std.proofs.lemmas.List.{take-append-drop, drop_more, take_more, take_all}
 use Rattle.uc_oper.specs.Operation.{Operation}
 use Rattle.uc_version.specs.Owners.{Owner}
 use Rattle.uc_version.specs.Claiming.{Claim}
 use Rattle.uc_query_workers.specs.declared.ask_error.AskError.{AskError}
-use Rattle.uc_query_workers.specs.declared.ask_error.AskError.TheVariants.{BadWorkers, BadPiece, Memory}
 use Rattle.uc_query.specs.declared.call.Call.{Call}
 use Rattle.uc_query.specs.declared.reply.Reply.{Reply}
 use Rattle.uc_query.specs.Names.{State}
-use Rattle.uc_query.specs.Turns.{Turn, turn_of}
+use Rattle.uc_query.specs.Turns.{Turn, FailsWith, turn_of}
 use Rattle.uc_query.specs.Running.{Ran, unless_error, run_of}
-use Rattle.uc_query.specs.Stepping.{RunsTo, HaltsAt, HaltsBehind, Halts}
+use Rattle.uc_query.specs.Stepping.{RunsTo, Halts}
 
 -- what comes of calls behind others
 abbrev pub behind_all : Ran → Ran → Ran
@@ -33,9 +32,6 @@ module _ (m : Operation) where
   -- one call alone
   one_more : (s : State) (x : Call) (turn : Turn) → turn_of m s x ≡ Ok turn → run_of m s (x ∷ []) ≡ record { replies = turn.reply ∷ []; state = turn.state; error = None }
   one_more s x turn is = ap (λ (t : Result Turn AskError). unless_error s t (λ next. run_of m next [])) is
-
-  one_error : (s : State) (x : Call) (xs : List Call) (error : AskError) → turn_of m s x ≡ Err error → run_of m s (x ∷ xs) ≡ record { replies = []; state = s; error = Some error }
-  one_error s x xs error is = ap (λ (t : Result Turn AskError). unless_error s t (λ next. run_of m next xs)) is
 
   module _ (s : State) where
     -- so far, nothing went wrong
@@ -57,21 +53,6 @@ module _ (m : Operation) where
         turn_here : turn_of m (run_of m s calls).state x ≡ Ok (record { reply = reply; state = next })
         turn_here = sym (ap (λ (t : State). turn_of m t x) so_far.left) ∙ turn
 
-    -- a call that can't be made so
-    pub halts_at : (calls : List Call) (x : Call) (rest : List Call) (replies : List Reply) (now : State) (error : AskError) → RunsTo m s calls replies now → error ≢ Memory → turn_of m now x ≡ Err error →
-        HaltsAt m s (calls ++ x ∷ rest) error now
-    halts_at calls x rest replies now error so_far other turn =
-        let last = one_error (run_of m s calls).state x rest error turn_here in
-        let whole = run-append calls (x ∷ rest) s so_far.no_error ∙ ap (behind_all (run_of m s calls)) last in
-        record { other = other; stopped = ap (λ (ran : Ran). ran.error) whole; left = so_far.left ∙ sym (ap (λ (ran : Ran). ran.state) whole) }
-      where
-        turn_here : turn_of m (run_of m s calls).state x ≡ Err error
-        turn_here = sym (ap (λ (t : State). turn_of m t x) so_far.left) ∙ turn
-
-    -- memory that ran out behind some calls
-    pub halts_behind : (calls : List Call) (n : ℕ) (replies : List Reply) (now : State) → n ≤ length calls → RunsTo m s (take n calls) replies now → HaltsBehind m s calls Memory n now
-    halts_behind calls n replies now few so_far = record { memory = refl; few = few; no_error = so_far.no_error; left = so_far.left }
-
     -- ---- the loop's steps: the calls before a place were made
 
     module _ (calls : List Call) (i : ℕ) (d : Call) (room : i < length calls) where
@@ -83,12 +64,17 @@ module _ (m : Operation) where
       parts : take i calls ++ get_or calls i d ∷ drop (i + 1) calls ≡ calls
       parts = ap (λ (cs : List Call). take i calls ++ cs) (sym (drop_more calls i d room)) ∙ take-append-drop i calls
 
-      pub step_halts : (replies : List Reply) (now : State) (error : AskError) → RunsTo m s (take i calls) replies now →
-          (turn_of m now (get_or calls i d) ≡ Err error) ⊎ ((error ≡ Memory) × IsOk (turn_of m now (get_or calls i d))) → Halts m s calls error now
-      step_halts replies now BadWorkers so_far (inl turn) = inl (subst (λ (cs : List Call). HaltsAt m s cs BadWorkers now) parts (halts_at (take i calls) (get_or calls i d) (drop (i + 1) calls) replies now BadWorkers so_far (λ e. absurd cc) turn))
-      step_halts replies now BadPiece so_far (inl turn) = inl (subst (λ (cs : List Call). HaltsAt m s cs BadPiece now) parts (halts_at (take i calls) (get_or calls i d) (drop (i + 1) calls) replies now BadPiece so_far (λ e. absurd cc) turn))
-      step_halts replies now Memory so_far (inl turn) = inr (i, halts_behind calls i replies now (omega (arith, room)) so_far)
-      step_halts replies now error so_far (inr memory) = inr (i, subst (λ (e : AskError). HaltsBehind m s calls e i now) (sym memory.0) (halts_behind calls i replies now (omega (arith, room)) so_far))
+      -- the call at the place fails
+      pub step_halts : (replies : List Reply) (now : State) (error : AskError) → RunsTo m s (take i calls) replies now → FailsWith (turn_of m now (get_or calls i d)) error → Halts m s calls error now
+      step_halts replies now error so_far why = record {
+        made = take i calls;
+        failed = get_or calls i d;
+        others = drop (i + 1) calls;
+        in_order = sym parts;
+        no_error = so_far.no_error;
+        why = subst (λ (t : State). FailsWith (turn_of m t (get_or calls i d)) error) so_far.left why;
+        left = so_far.left;
+      }
 
     pub runs_whole : (calls : List Call) (i : ℕ) (replies : List Reply) (now : State) → length calls ≤ i → RunsTo m s (take i calls) replies now → RunsTo m s calls replies now
     runs_whole calls i replies now all so_far = subst (λ (cs : List Call). RunsTo m s cs replies now) (take_all i calls all) so_far
@@ -103,3 +89,14 @@ call_at P (c ∷ cs) (suc i) d h lt = call_at P cs i d h.1 (omega (arith, lt))
 pub same_state : (P : State → Type 0) (o p : Owner) (names others : List (Option Claim)) → p ≡ o → others ≡ names → P (record { owner = o; names = names }) → P (record { owner = p; names = others })
 same_state P o p names others owner_is names_are h =
     subst (λ (ns : List (Option Claim)). P (record { owner = p; names = ns })) (sym names_are) (subst (λ (q : Owner). P (record { owner = q; names = names })) (sym owner_is) h)
+
+-- where no call failed there is a reply to each
+pub all_replied : (m : Operation) (calls : List Call) (s : State) → (run_of m s calls).error ≡ None → length (run_of m s calls).replies ≡ length calls
+all_replied m [] s fine = refl
+all_replied m (x ∷ xs) s fine = by_turn (turn_of m s x) fine (λ next rest. all_replied m xs next rest)
+  where
+    by_turn : (t : Result Turn AskError) → (unless_error s t (λ next. run_of m next xs)).error ≡ None →
+        ((next : State) → (run_of m next xs).error ≡ None → length (run_of m next xs).replies ≡ length xs) →
+        length (unless_error s t (λ next. run_of m next xs)).replies ≡ suc (length xs)
+    by_turn (Err error) e later = absurd cc
+    by_turn (Ok turn) e later = ap suc (later turn.state e)

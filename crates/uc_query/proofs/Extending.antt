@@ -22,7 +22,7 @@ use Rattle.uc_query.specs.declared.reply.Reply.TheVariants.{Answers}
 use Rattle.uc_query.specs.Names.{State, AreHeld}
 use Rattle.uc_query.specs.Turns.{Turn, ask_turn, turn_of}
 use Rattle.uc_query.specs.Running.{unless_error, run_of}
-use Rattle.uc_query.specs.Answered.{IsAnswered}
+use Rattle.uc_query.specs.Answered.{IsAnswered, LeadsTo}
 use Rattle.uc_query.proofs.Turning.{Known, Moves, Steps, StepsIfOk, steps}
 
 -- what is known of histories
@@ -33,10 +33,6 @@ pub record Grows (m : Operation) : Type 0 where
 -- one install more
 abbrev pub longer : History → Install → History
 longer h i = record h { events = h.events ++ Installed i ∷ [] }
-
--- some legal events behind a history lead to a version
-abbrev pub Extends : Operation → History → Stored → Type 0
-Extends m h v = (events : List Event) × IsLegal m (record h { events = h.events ++ events }) × (v ≡ version_after (record h { events = h.events ++ events }))
 
 none_more : (i : Install) (es : List Event) → flat_map writes_brought (es ++ Installed i ∷ []) ≡ flat_map writes_brought es
 none_more i [] = refl
@@ -56,7 +52,7 @@ module _ (m : Operation) (known : Known m) (grows : Grows m) where
     longer_writes : writes_given (longer h i) ≡ writes_given h
     longer_writes = ap (λ (ws : List Write). h.opening.writes ++ ws) (none_more i h.events)
 
-    longer_extends : (u : Stored) → Extends m (longer h i) u → Extends m h u
+    longer_extends : (u : Stored) → LeadsTo m (longer h i) u → LeadsTo m h u
     longer_extends u more =
         let same : longer_events more.0 ≡ h.events ++ Installed i ∷ more.0 = append_assoc h.events (Installed i ∷ []) more.0 in (
           Installed i ∷ more.0,
@@ -67,7 +63,7 @@ module _ (m : Operation) (known : Known m) (grows : Grows m) where
         longer_events : List Event → List Event
         longer_events es = (h.events ++ Installed i ∷ []) ++ es
 
-  none_extends : (h : History) (v : Stored) → IsLegal m h → v ≡ version_after h → Extends m h v
+  none_extends : (h : History) (v : Stored) → IsLegal m h → v ≡ version_after h → LeadsTo m h v
   none_extends h v legal version = (
     [],
     subst (λ (es : List Event). IsLegal m (record h { events = es })) (sym (append-nil h.events)) legal,
@@ -75,14 +71,14 @@ module _ (m : Operation) (known : Known m) (grows : Grows m) where
   )
 
   pub extend : (calls : List Call) (h : History) (s : State) → IsLegal m h → IsOwner s.owner → AreHeld s.owner s.names → s.owner.version ≡ version_after h →
-      Extends m h (run_of m s calls).state.owner.version
+      LeadsTo m h (run_of m s calls).state.owner.version
   extend [] h s legal is_owner are version = none_extends h s.owner.version legal version
   extend (x ∷ xs) h s legal is_owner are version =
       by_turn (turn_of m s x) (steps m known s is_owner are x) (λ g t l o a v. extend xs g t l o a v)
     where
       by_move : (t : State) → Steps m s t → Moves m s.owner.version t.owner.version →
-          ((g : History) (u : State) → IsLegal m g → IsOwner u.owner → AreHeld u.owner u.names → u.owner.version ≡ version_after g → Extends m g (run_of m u xs).state.owner.version) →
-          Extends m h (run_of m t xs).state.owner.version
+          ((g : History) (u : State) → IsLegal m g → IsOwner u.owner → AreHeld u.owner u.names → u.owner.version ≡ version_after g → LeadsTo m g (run_of m u xs).state.owner.version) →
+          LeadsTo m h (run_of m t xs).state.owner.version
       by_move t step (inl same) later = later h t legal step.owner step.held (same ∙ version)
       by_move t step (inr install) later =
           longer_extends h install.0 s.owner.version t.owner.version legal version install.1 install.2 (run_of m t xs).state.owner.version
@@ -90,8 +86,8 @@ module _ (m : Operation) (known : Known m) (grows : Grows m) where
           (longer_version h install.0 s.owner.version t.owner.version legal version install.1 install.2))
 
       by_turn : (r : Result Turn AskError) → StepsIfOk m s r →
-          ((g : History) (u : State) → IsLegal m g → IsOwner u.owner → AreHeld u.owner u.names → u.owner.version ≡ version_after g → Extends m g (run_of m u xs).state.owner.version) →
-          Extends m h (unless_error s r (λ next. run_of m next xs)).state.owner.version
+          ((g : History) (u : State) → IsLegal m g → IsOwner u.owner → AreHeld u.owner u.names → u.owner.version ≡ version_after g → LeadsTo m g (run_of m u xs).state.owner.version) →
+          LeadsTo m h (unless_error s r (λ next. run_of m next xs)).state.owner.version
       by_turn (Err error) step later = none_extends h s.owner.version legal version
       by_turn (Ok turn) step later = by_move turn.state step step.version later
 

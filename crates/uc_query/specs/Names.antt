@@ -12,6 +12,10 @@ pub record State : Type 0 where
   pub owner : Owner
   pub names : List (Option Claim)
 
+-- a store with this owner, where names stand for these claims
+abbrev pub named : Owner → List (Option Claim) → State
+named o names = record { owner = o; names = names }
+
 -- the claim that a name stands for
 abbrev pub claim_named : State → ℕ → Option Claim
 claim_named s name = slice_index_or s.names name None

@@ -1,5 +1,5 @@
 -- What a report says of a version.
-use Rattle.std.specs.Prelude.{ℕ, List, length, map, fold}
+use Rattle.std.specs.Prelude.{List, length, map, fold}
 use Rattle.uc_run_entry.specs.Size.{size_of}
 use Rattle.uc_fold.specs.declared.totals.Totals.{Totals}
 use Rattle.uc_fold.specs.Adding.{nothing, added}

@@ -1,14 +1,13 @@
 -- What a list of calls does.
-use Rattle.std.specs.Prelude.{◌≡◌, ◌≢◌, ℕ, ◌≤◌, List, [], ◌∷◌, Option, Some, None, Result, Ok, Err, length, take, replicate, ◌⊎◌}
+use Rattle.std.specs.Prelude.{◌≡◌, List, [], ◌∷◌, ◌++◌, Option, Some, None, Result, Ok, Err, replicate}
 use Rattle.uc_oper.specs.Operation.{Operation}
 use Rattle.uc_version.specs.declared.held_stretch.TheConstants.{MOST_CLAIMS}
 use Rattle.uc_version.specs.Owners.{Owner}
 use Rattle.uc_query_workers.specs.declared.ask_error.AskError.{AskError}
-use Rattle.uc_query_workers.specs.declared.ask_error.AskError.TheVariants.{Memory}
 use Rattle.uc_query.specs.declared.call.Call.{Call}
 use Rattle.uc_query.specs.declared.reply.Reply.{Reply}
-use Rattle.uc_query.specs.Names.{State, released}
-use Rattle.uc_query.specs.Turns.{Turn, turn_of}
+use Rattle.uc_query.specs.Names.{State, named, released}
+use Rattle.uc_query.specs.Turns.{Turn, FailsWith, turn_of}
 
 -- the replies, what is then, and the error that ended it, if one did
 pub record Ran : Type 0 where
@@ -32,7 +31,7 @@ run_of m s (call ∷ calls) = unless_error s (turn_of m s call) (λ next. run_of
 
 -- a store where no name stands for a claim
 abbrev pub unnamed : Owner → State
-unnamed o = record { owner = o; names = replicate MOST_CLAIMS None }
+unnamed o = named o (replicate MOST_CLAIMS None)
 
 -- all calls had a reply, and the claims that were still under names were given back
 pub record RunsAll (m : Operation) (old : Owner) (calls : List Call) (replies : List Reply) (new : Owner) : Type 0 where
@@ -40,18 +39,13 @@ pub record RunsAll (m : Operation) (old : Owner) (calls : List Call) (replies : 
   pub replied : replies ≡ (run_of m (unnamed old) calls).replies
   pub left : new ≡ released (run_of m (unnamed old) calls).state
 
--- the calls before one stand, that one changes nothing, and the claims that were still under names were given back
-pub record StopsAt (m : Operation) (old : Owner) (calls : List Call) (error : AskError) (new : Owner) : Type 0 where
-  pub stopped : (run_of m (unnamed old) calls).error ≡ Some error
-  pub left : new ≡ released (run_of m (unnamed old) calls).state
-
--- the same where memory ran out: so many calls stand
-pub record RunsFirst (m : Operation) (old : Owner) (calls : List Call) (n : ℕ) (new : Owner) : Type 0 where
-  pub few : n ≤ length calls
-  pub no_error : (run_of m (unnamed old) (take n calls)).error ≡ None
-  pub left : new ≡ released (run_of m (unnamed old) (take n calls)).state
-
--- how a list of calls ends with an error
-abbrev pub Stops : Operation → Owner → List Call → AskError → Owner → Type 0
-Stops m old calls error new =
-    ((error ≢ Memory) × StopsAt m old calls error new) ⊎ ((error ≡ Memory) × ((n : ℕ) × RunsFirst m old calls n new))
+-- Some calls were made, and the next one failed: as its turn says, or for want of memory where it has one. Those before it
+-- stand, it changes nothing, and the claims that were still under names were given back.
+pub record Stops (m : Operation) (old : Owner) (calls : List Call) (error : AskError) (new : Owner) : Type 0 where
+  pub made : List Call
+  pub failed : Call
+  pub others : List Call
+  pub in_order : calls ≡ made ++ failed ∷ others
+  pub no_error : (run_of m (unnamed old) made).error ≡ None
+  pub why : FailsWith (turn_of m (run_of m (unnamed old) made).state failed) error
+  pub left : new ≡ released (run_of m (unnamed old) made).state

@@ -1,5 +1,5 @@
 -- What a call does: its reply, and what the store and the names are then.
-use Rattle.std.specs.Prelude.{ℕ, ◌-◌, ◌^◌, ◌<◌, Bool, ⊤, List, Option, Some, None, Result, Ok, Err, nat_lt, if◌then◌else◌}
+use Rattle.std.specs.Prelude.{◌≡◌, ◌⊎◌, IsOk, ℕ, ◌-◌, ◌^◌, ◌<◌, Bool, ⊤, List, Option, Some, None, Result, Ok, Err, nat_lt, if◌then◌else◌}
 use Rattle.uc_oper.specs.Operation.{Operation}
 use Rattle.uc_query_answer.specs.declared.query.Query.{Query}
 use Rattle.uc_version_pick.specs.declared.stretch.Stretch.{Stretch}
@@ -14,6 +14,7 @@ use Rattle.uc_version.specs.Claiming.{Claim, claim_refusal, claim_of, with_claim
 use Rattle.uc_version.specs.Installing.{stretch_of, compaction_of, after_install}
 use Rattle.uc_query.specs.Reports.{report_of}
 use Rattle.uc_query_workers.specs.declared.ask_error.AskError.{AskError}
+use Rattle.uc_query_workers.specs.declared.ask_error.AskError.TheVariants.{Memory}
 use Rattle.uc_query_workers.specs.Asking.{ask_refusal, answers_of}
 use Rattle.uc_query.specs.declared.call.Call.{Call}
 use Rattle.uc_query.specs.declared.call.Call.TheVariants as call
@@ -36,7 +37,7 @@ pub record Turn : Type 0 where
   pub reply : Reply
   pub state : State
 
--- a reply that changes nothing
+-- a reply, where this is then
 abbrev pub replied : State → Reply → Turn
 replied s reply = record { reply = reply; state = s }
 
@@ -101,3 +102,7 @@ turn_of m s (call.Compact stretch) = Ok (compact_turn m s stretch (claim_refusal
 turn_of m s call.Pick = Ok (replied s (Picked (picked s.owner.options (candidates_of s.owner.version (is_busy s.owner)))))
 turn_of m s call.Report = Ok (replied s (Reported (report_of s.owner.version)))
 turn_of m s (call.Ask queries workers piece) = ask_turn m s queries (ask_refusal workers piece)
+
+-- Why a call fails: as its turn says, or for want of memory where it has one.
+abbrev pub FailsWith : Result Turn AskError → AskError → Type 0
+FailsWith turn error = (turn ≡ Err error) ⊎ ((error ≡ Memory) × IsOk turn)

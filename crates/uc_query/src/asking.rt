@@ -1,9 +1,9 @@
 //! What is asked of a store, which changes nothing.
-ghost use Rattle.std.specs.Prelude.{◌≡◌, ◌⊎◌, Ok, Err, IfOk, IfErr, IsOk, List, Option};
+ghost use Rattle.std.specs.Prelude.{◌≡◌, Ok, IfOk, IfErr, List, Option};
 ghost use Rattle.uc_version.specs.Claiming.{Claim};
 ghost use Rattle.uc_query_workers.specs.Asking.{ask_refusal};
-ghost use Rattle.uc_query_workers.specs.declared.ask_error.AskError.TheVariants.{Memory};
-ghost use Rattle.uc_query.specs.Turns.{ask_turn};
+ghost use Rattle.uc_query.specs.Names.{named};
+ghost use Rattle.uc_query.specs.Turns.{FailsWith, ask_turn, replied};
 
 use crate::reply::Reply;
 use std::alloc::Global;
@@ -24,21 +24,12 @@ pub(crate) fn answer_batch<O: Operator + Sync>(
     workers: usize,
     piece: usize,
 ) -> Result<Reply, AskError>
-    ensures ok { (names : List (Option Claim)) →
-        IfOk result (λ reply.
-        ask_turn O.meaning (record { owner = owned.now; names = names }) queries.now
-        (ask_refusal workers piece) ≡
-        Ok
-        (record { reply = reply; state = record { owner = owned.now; names = names } })) }
-    ensures err { (names : List (Option Claim)) →
-        IfErr result (λ error.
-        (ask_turn O.meaning (record { owner = owned.now; names = names }) queries.now
-        (ask_refusal workers piece) ≡
-        Err error)
-        ⊎ ((error ≡ Memory)
-        × IsOk
-        (ask_turn O.meaning (record { owner = owned.now; names = names })
-        queries.now (ask_refusal workers piece)))) }
+    ensures ok { (names : List (Option Claim)) → IfOk result (λ reply.
+        ask_turn O.meaning (named owned.now names) queries.now (ask_refusal workers piece)
+        ≡ Ok (replied (named owned.now names) reply)) }
+    ensures err { (names : List (Option Claim)) → IfErr result (λ error.
+        FailsWith (ask_turn O.meaning (named owned.now names) queries.now (ask_refusal workers piece))
+        error) }
 {
     match answer_plain::<O>(
         rt,

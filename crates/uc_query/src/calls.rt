@@ -1,20 +1,37 @@
 //! [`run_calls`]: a list of calls to a store.
-ghost use Rattle.std.specs.Prelude.{IfOk, IfErr};
+ghost use Rattle.std.specs.Prelude.{◌≡◌, IfOk, IfErr};
 ghost use Rattle.std.specs.List.{AllByRecursion};
-ghost use Rattle.uc_query.specs.Names.{AreHeld};
-ghost use Rattle.uc_query.specs.Turns.{HasName};
+ghost use Rattle.uc_oper.specs.Operation.{Operation};
+ghost use Rattle.uc_version_state.specs.Histories.{History, IsLegal, version_after};
+ghost use Rattle.uc_query.specs.Names.{State, AreHeld, named};
+ghost use Rattle.uc_query.specs.Turns.{FailsWith, HasName, turn_of};
+ghost use Rattle.uc_query.specs.Answered.{AreAnswered, LeadsTo};
 ghost use Rattle.uc_query.specs.Running.{RunsAll, Stops};
 ghost use Rattle.uc_query.specs.Stepping.{RunsTo, Halts};
 
 use crate::call::Call;
+use crate::laws::{asks_are_answered_from_plain_writes, calls_extend_histories};
 use crate::named_claims::NamedClaims;
 use crate::reply::Reply;
 use std::alloc::Global;
 use std::marker::Sync;
 use std::thread::Threads;
 use uc_oper::Operator;
-use uc_query_workers::AskError;
+use uc_query_workers::{AskError, ask_refusal};
 use uc_version::Owned;
+
+/// Why a call fails that has no memory for its reply: its queries can't be asked so, which comes first, or that.
+fn failure_without_memory(call: &Call) -> AskError
+    ensures { (m : Operation) (s : State) → FailsWith (turn_of m s call.now) result }
+{
+    match call {
+        Call::Ask(_, workers, piece) => match ask_refusal(*workers, *piece) {
+            Some(error) => error,
+            None => AskError::Memory,
+        },
+        _ => AskError::Memory,
+    }
+}
 
 /// The replies to calls, in their order, up to the first one that can't be made so or that is refused memory.
 fn replies_to<O: Operator + Sync>(
@@ -28,24 +45,21 @@ fn replies_to<O: Operator + Sync>(
     requires held { AreHeld owned.old claims.old }
     ensures held { AreHeld owned.new claims.new }
     ensures ok { IfOk result (λ replies.
-        RunsTo O.meaning (record { owner = owned.old; names = claims.old }) calls.now replies.items
-        (record { owner = owned.new; names = claims.new })) }
+        RunsTo O.meaning (named owned.old claims.old) calls.now replies.items (named owned.new claims.new)) }
     ensures err { IfErr result (λ error.
-        Halts O.meaning (record { owner = owned.old; names = claims.old }) calls.now error
-        (record { owner = owned.new; names = claims.new })) }
+        Halts O.meaning (named owned.old claims.old) calls.now error (named owned.new claims.new)) }
 {
-    let mut replies = match Vec::with_capacity(alloc, calls.len()) {
-        Ok(replies) => replies,
-        Err(_) => return Err(AskError::Memory),
-    };
+    let mut replies = Vec::new(alloc);
     for call in calls {
+        // The reply has room before the call changes anything.
+        if replies.reserve(1).is_err() {
+            return Err(failure_without_memory(call));
+        }
         let reply = match claims.call(rt, alloc, owned, call) {
             Ok(reply) => reply,
             Err(error) => return Err(error),
         };
-        if replies.push(reply).is_err() {
-            return Err(AskError::Memory);
-        }
+        replies.push_reserved(reply);
     }
     Ok(replies)
 }
@@ -53,7 +67,11 @@ fn replies_to<O: Operator + Sync>(
 /// The replies to a list of calls, in their order. At the end the claims that are still held under names are given back.
 ///
 /// The first batch of queries that can't be asked so, or the first want of memory, ends the list: the calls before it stand,
-/// that call changes nothing, and the claims are given back too.
+/// that call changes nothing, and the claims are given back too. A batch that can't be asked so is told as that, whatever
+/// memory there is.
+///
+/// Whatever is claimed, compacted and installed in between, each batch has the answers of the plain writes that the store was
+/// given, and the store goes on along its history.
 pub fn run_calls<O: Operator + Sync>(
     rt: &(impl Threads + Sync),
     alloc: Global,
@@ -63,7 +81,14 @@ pub fn run_calls<O: Operator + Sync>(
     requires { AllByRecursion HasName calls.now }
     ensures ok { IfOk result (λ replies. RunsAll O.meaning owned.old calls.now replies.items owned.new) }
     ensures err { IfErr result (λ error. Stops O.meaning owned.old calls.now error owned.new) }
+    ensures answered { (h : History) → IsLegal O.meaning h → owned.old.version ≡ version_after h →
+        IfOk result (λ replies. AreAnswered O.meaning h calls.now replies.items) }
+    ensures goes_on { (h : History) → IsLegal O.meaning h → owned.old.version ≡ version_after h →
+        LeadsTo O.meaning h owned.new.version }
 {
+    owned.is_one();
+    calls_extend_histories::<O>();
+    asks_are_answered_from_plain_writes::<O>();
     let mut claims = NamedClaims::new();
     let replies = replies_to(rt, alloc, &mut claims, owned, calls);
     claims.release(owned);

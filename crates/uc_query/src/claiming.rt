@@ -2,8 +2,8 @@
 ghost use Rattle.std.specs.Prelude.{◌≡◌, ◌<◌, Option, List, None, slice_index_or};
 ghost use Rattle.uc_version.specs.Claiming.{Claim};
 ghost use Rattle.uc_version.specs.declared.held_stretch.TheConstants.{MOST_CLAIMS as MOST};
-ghost use Rattle.uc_query.specs.Names.{AreHeld, IsNamedHeld, given_back, released};
-ghost use Rattle.uc_query.specs.Turns.{claim_turn, abandon_turn};
+ghost use Rattle.uc_query.specs.Names.{AreHeld, IsNamedHeld, given_back, named, released};
+ghost use Rattle.uc_query.specs.Turns.{claim_turn, abandon_turn, replied};
 
 use crate::reply::Reply;
 use uc_oper::Operator;
@@ -19,9 +19,8 @@ pub(crate) fn claim_under<O: Operator>(
     requires name { name < MOST }
     requires held { AreHeld owned.old claims.old }
     ensures held { AreHeld owned.new claims.new }
-    ensures turn { claim_turn (record { owner = owned.old; names = claims.old }) name stretch
-        (slice_index_or claims.old name None) ≡
-        record { reply = result; state = record { owner = owned.new; names = claims.new } } }
+    ensures turn { claim_turn (named owned.old claims.old) name stretch (slice_index_or claims.old name None)
+        ≡ replied (named owned.new claims.new) result }
 {
     owned.is_one();
     claims_are_held();
@@ -47,9 +46,8 @@ pub(crate) fn abandon_under<O: Operator>(
     requires name { name < MOST }
     requires held { AreHeld owned.old claims.old }
     ensures held { AreHeld owned.new claims.new }
-    ensures turn { abandon_turn (record { owner = owned.old; names = claims.old }) name
-        (slice_index_or claims.old name None) ≡
-        record { reply = result; state = record { owner = owned.new; names = claims.new } } }
+    ensures turn { abandon_turn (named owned.old claims.old) name (slice_index_or claims.old name None)
+        ≡ replied (named owned.new claims.new) result }
 {
     match claims[usize::from(name)].take() {
         None => Reply::NoClaim(name),
@@ -76,7 +74,7 @@ pub(crate) fn give_all_back<O: Operator>(
     owned: &mut Owned<O>,
 )
     requires { AreHeld owned.old claims }
-    ensures { owned.new ≡ released (record { owner = owned.old; names = claims }) }
+    ensures { owned.new ≡ released (named owned.old claims) }
 {
     for claim in claims {
         give_back(owned, claim);

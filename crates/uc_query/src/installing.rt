@@ -6,8 +6,8 @@ ghost use Rattle.uc_version.specs.Owners.{Owner};
 ghost use Rattle.uc_version.specs.Claiming as claiming;
 ghost use Rattle.uc_version.specs.Claiming.{Claim};
 ghost use Rattle.uc_version.specs.Installing.{stretch_of, compaction_of};
-ghost use Rattle.uc_query.specs.Names.{AreHeld};
-ghost use Rattle.uc_query.specs.Turns.{has_id, compacted, install_turn, compact_turn};
+ghost use Rattle.uc_query.specs.Names.{AreHeld, named};
+ghost use Rattle.uc_query.specs.Turns.{has_id, compacted, replied, install_turn, compact_turn};
 
 use crate::reply::Reply;
 use std::alloc::{AllocError, Global};
@@ -31,7 +31,8 @@ fn put_in_place<O: Operator>(
     ensures ok { IfOk result (λ id.
         (has_id owned.old.version ≡ true) × (id ≡ owned.old.version.next_id)
         × (owned.new ≡ compacted O.meaning owned.old claim)) }
-    ensures err { IfErr result (λ back. (has_id owned.old.version ≡ false) × (back ≡ claim) × (owned.new ≡ owned.old)) }
+    ensures err { IfErr result (λ back.
+        (has_id owned.old.version ≡ false) × (back ≡ claim) × (owned.new ≡ owned.old)) }
 {
     owned.is_one();
     claims_can_be_compacted();
@@ -53,9 +54,8 @@ fn put_named_in_place<O: Operator>(
     requires made { (c : Claim) → slice_index_or claims.old name None ≡ Some c →
         made ≡ compaction_of owned.old.version (stretch_of owned.old c) }
     ensures held { AreHeld owned.new claims.new }
-    ensures turn { install_turn O.meaning (record { owner = owned.old; names = claims.old }) name
-        (slice_index_or claims.old name None) ≡
-        record { reply = result; state = record { owner = owned.new; names = claims.new } } }
+    ensures turn { install_turn O.meaning (named owned.old claims.old) name (slice_index_or claims.old name None)
+        ≡ replied (named owned.new claims.new) result }
 {
     let place = usize::from(name);
     let Some(claim) = claims[place].take() else {
@@ -82,9 +82,8 @@ pub(crate) fn install_under<O: Operator + Sync>(
     requires held { AreHeld owned.old claims.old }
     ensures held { AreHeld owned.new claims.new }
     ensures turn { IfOk result (λ reply.
-        install_turn O.meaning (record { owner = owned.old; names = claims.old }) name
-        (slice_index_or claims.old name None) ≡
-        record { reply = reply; state = record { owner = owned.new; names = claims.new } }) }
+        install_turn O.meaning (named owned.old claims.old) name (slice_index_or claims.old name None)
+        ≡ replied (named owned.new claims.new) reply) }
     ensures unchanged { OnErr result ((owned.new ≡ owned.old) × (claims.new ≡ claims.old)) }
 {
     let Some(claim) = &claims[usize::from(name)] else {
@@ -102,11 +101,9 @@ pub(crate) fn compact_at_once<O: Operator + Sync>(
     stretch: Stretch,
 ) -> Result<Reply, AllocError>
     ensures held { (names : List (Option Claim)) → AreHeld owned.old names → AreHeld owned.new names }
-    ensures turn { (names : List (Option Claim)) →
-        IfOk result (λ reply.
-        compact_turn O.meaning (record { owner = owned.old; names = names }) stretch
-        (claiming.claim_refusal owned.old stretch) ≡
-        record { reply = reply; state = record { owner = owned.new; names = names } }) }
+    ensures turn { (names : List (Option Claim)) → IfOk result (λ reply.
+        compact_turn O.meaning (named owned.old names) stretch (claiming.claim_refusal owned.old stretch)
+        ≡ replied (named owned.new names) reply) }
     ensures unchanged { OnErr result (owned.new ≡ owned.old) }
 {
     owned.is_one();

@@ -1,7 +1,6 @@
 //! What holds of lists of calls.
-ghost use Rattle.std.specs.Prelude.{◌≡◌, ◌++◌, ℕ, Some, true, List, length, take};
+ghost use Rattle.std.specs.Prelude.{◌≡◌, ℕ, Some, true, List, length, take};
 ghost use Rattle.std.specs.List.{AllZip};
-ghost use Rattle.uc_version_state.specs.declared.event.Event.{Event};
 ghost use Rattle.uc_version_state.specs.Histories.{History, IsLegal, version_after, writes_given};
 ghost use Rattle.uc_version_state.specs.Versions.{ids_of};
 ghost use Rattle.uc_version_state.specs.Installs.{Install, MayInstall, installed};
@@ -12,7 +11,7 @@ ghost use Rattle.uc_query.specs.declared.call.Call.{Call};
 ghost use Rattle.uc_query.specs.Names.{State, AreHeld, claim_named};
 ghost use Rattle.uc_query.specs.Turns.{has_id, install_turn};
 ghost use Rattle.uc_query.specs.Running.{run_of};
-ghost use Rattle.uc_query.specs.Answered.{IsAnswered};
+ghost use Rattle.uc_query.specs.Answered.{IsAnswered, LeadsTo};
 
 use uc_oper::Operator;
 use uc_query_read::histories_keep_answers;
@@ -26,8 +25,7 @@ pub fn calls_extend_histories<O: Operator>()
     ensures { (h : History) (s : State) (calls : List Call) → IsLegal O.meaning h → IsOwner s.owner →
         AreHeld s.owner s.names →
         s.owner.version ≡ version_after h →
-        (events : List Event) × IsLegal O.meaning (record h { events = h.events ++ events }) ×
-        ((run_of O.meaning s calls).state.owner.version ≡ version_after (record h { events = h.events ++ events })) }
+        LeadsTo O.meaning h (run_of O.meaning s calls).state.owner.version }
 {
     owners_stay_owners::<O>();
     claims_are_held();

@@ -1,9 +1,8 @@
 //! [`NamedClaims`]: claims under names, and what calls do with them.
-ghost use Rattle.std.specs.Prelude.{◌≡◌, ◌≢◌, ◌⊎◌, Ok, Err, None, IfOk, IfErr, IsOk, replicate};
+ghost use Rattle.std.specs.Prelude.{◌≡◌, Ok, None, IfOk, IfErr, replicate};
 ghost use Rattle.uc_version.specs.declared.held_stretch.TheConstants.{MOST_CLAIMS as MOST};
-ghost use Rattle.uc_query_workers.specs.declared.ask_error.AskError.TheVariants.{Memory};
-ghost use Rattle.uc_query.specs.Names.{AreHeld, released};
-ghost use Rattle.uc_query.specs.Turns.{HasName, turn_of};
+ghost use Rattle.uc_query.specs.Names.{AreHeld, named, released};
+ghost use Rattle.uc_query.specs.Turns.{HasName, FailsWith, replied, turn_of};
 
 use crate::asking::answer_batch;
 use crate::call::Call;
@@ -57,16 +56,10 @@ impl NamedClaims {
         requires held { AreHeld owned.old self.old }
         ensures held { AreHeld owned.new self.new }
         ensures ok { IfOk result (λ reply.
-            turn_of O.meaning (record { owner = owned.old; names = self.old }) call.now ≡
-            Ok
-            (record { reply = reply; state = record { owner = owned.new; names = self.new } })) }
+            turn_of O.meaning (named owned.old self.old) call.now
+            ≡ Ok (replied (named owned.new self.new) reply)) }
         ensures err { IfErr result (λ error.
-            (turn_of O.meaning (record { owner = owned.old; names = self.old }) call.now ≡
-            Err error)
-            ⊎ ((error ≡ Memory)
-            × IsOk
-            (turn_of O.meaning (record { owner = owned.old; names = self.old })
-            call.now))) }
+            FailsWith (turn_of O.meaning (named owned.old self.old) call.now) error) }
         ensures unchanged { IfErr result (λ error. (owned.new ≡ owned.old) × (self.new ≡ self.old)) }
     {
         match call {
@@ -87,7 +80,7 @@ impl NamedClaims {
     /// Gives all claims back. It takes no memory.
     pub fn release<O: Operator>(self, owned: &mut Owned<O>)
         requires { AreHeld owned.old self }
-        ensures { owned.new ≡ released (record { owner = owned.old; names = self }) }
+        ensures { owned.new ≡ released (named owned.old self) }
     {
         give_all_back(self.claims, owned);
     }

@@ -12,4 +12,4 @@ mod gathering;
 mod plain;
 
 pub use ask_error::{AskError, MOST_WORKERS};
-pub use plain::answer_plain;
+pub use plain::{answer_plain, ask_refusal};

@@ -15,8 +15,8 @@ use uc_oper::Operator;
 use uc_query_answer::{Answer, Query};
 use uc_version_state::Version;
 
-/// Why a batch can't be answered by so many workers in pieces of so many queries.
-fn ask_refusal(workers: usize, piece: usize) -> Option<AskError>
+/// Why a batch can't be answered by so many workers in pieces of so many queries: the workers are looked at first.
+pub fn ask_refusal(workers: usize, piece: usize) -> Option<AskError>
     ensures { result ≡ asking.ask_refusal workers piece }
 {
     if workers == 0 || workers > MOST_WORKERS {

@@ -3,7 +3,7 @@
 ghost use Rattle.std.specs.Prelude.{◌≡◌, All, None, replicate, IfOk};
 ghost use Rattle.uc_version.specs.declared.held_stretch.TheConstants.{MOST_CLAIMS};
 ghost use Rattle.uc_script.specs.Names.{NameIsGood};
-ghost use Rattle.uc_query.specs.Names.{AreHeld};
+ghost use Rattle.uc_query.specs.Names.{AreHeld, named};
 ghost use Rattle.uc_query.specs.Running.{unnamed};
 ghost use Rattle.uc_tool_io.specs.Output.{Prints};
 ghost use Rattle.uc_tool_play.specs.Play as plays;
@@ -90,8 +90,8 @@ fn reply_to<O: Operator + Sync>(
     requires held { AreHeld owned.old claims.old }
     ensures held { AreHeld owned.new claims.new }
     ensures turn { IfOk result (λ lines.
-        Turns O.meaning (record { owner = owned.old; names = claims.old }) (plays.call_of last call)
-        lines.items (record { owner = owned.new; names = claims.new })) }
+        Turns O.meaning (named owned.old claims.old) (plays.call_of last call) lines.items
+        (named owned.new claims.new)) }
 {
     let call = call_of(alloc, last, call)?;
     match claims.call(rt, alloc, owned, &call) {

@@ -2,7 +2,7 @@
 
 ghost use Rattle.std.specs.Prelude.{◌≡◌, ◌≤◌, None, length, replicate, IfOk};
 ghost use Rattle.uc_version.specs.declared.held_stretch.TheConstants.{MOST_CLAIMS};
-ghost use Rattle.uc_query.specs.Names.{AreHeld};
+ghost use Rattle.uc_query.specs.Names.{AreHeld, named};
 ghost use Rattle.uc_tool_report.specs.Compacting.{IsStep};
 ghost use Rattle.uc_tool_report.specs.Report.{compactions_of};
 ghost use Rattle.uc_tool_io.specs.Output.{Prints};
@@ -38,8 +38,7 @@ fn compact_picked<O: Operator + Sync>(
     requires held { AreHeld owned.old claims.old }
     ensures held { AreHeld owned.new claims.new }
     ensures step { IfOk result (λ step.
-        IsStep O.meaning (record { owner = owned.old; names = claims.old }) step
-        (record { owner = owned.new; names = claims.new })) }
+        IsStep O.meaning (named owned.old claims.old) step (named owned.new claims.new)) }
 {
     let Some(stretch) = owned.pick() else {
         return Ok(Step::Nothing);
