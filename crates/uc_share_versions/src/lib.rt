@@ -1,0 +1,20 @@
+//! The versions of a store that threads share: one history, which every reader has seen a beginning of.
+//!
+//! A [`Front`] is a beginning of the store's history that somebody has seen, a [`Book`] what all threads of a store add events to,
+//! and a [`Name`] says which store it is. What is shown to readers is a version with the history that leads to it ([`Shown`]); a
+//! [`Reader`] pins it without waiting for anybody. Read `specs/Fronts.antt` first, then `front.rt`, `shown.rt` and `reader.rt`.
+#![tactic(auto)]
+
+mod front;
+mod name;
+mod pin;
+mod reader;
+mod rule;
+mod shown;
+
+pub use front::{Book, Front, Opening};
+pub use name::Name;
+pub use pin::Pin;
+pub use reader::Reader;
+pub use rule::{Law, Rises};
+pub use shown::Shown;
