@@ -1,7 +1,5 @@
 -- The rules of the history and of what is shown, and what their steps tell.
-use Rattle.std.specs.Prelude.{ℕ, ◌≡◌, ◌≤◌, ◌==◌, true, List, [], ◌∷◌, ◌++◌, length, MatchBool}
-use mathlib.Core.Option.{some}
-use lib.ListN.{get_elem?}
+use Rattle.std.specs.Prelude.{ℕ, ◌≡◌, ◌==◌, true, List, [], ◌∷◌, ◌++◌, length, MatchBool}
 use Rattle.logbook.specs.Pages.{Cell, Step, View, Book, Named}
 use Rattle.uc_version_state.specs.declared.event.Event.{Event}
 
@@ -15,7 +13,3 @@ head_of b = record { tracked = true; key = 0; book = b }
 -- the event was added to all that had been seen; or the history was longer, and its length was found
 abbrev pub Adds : Step Event → View Event ℕ → ℕ → View Event ℕ → Type 0
 Adds s v found w = MatchBool (found == s.old) (w.0 ≡ v.0 ++ s.ask ∷ []) (length w.0 ≡ found)
-
--- no view is above n
-abbrev pub AllWithin : ℕ → List ℕ → Type 0
-AllWithin n views = (seat v : ℕ) → get_elem? views seat ≡ some v → v ≤ n

@@ -59,9 +59,9 @@ pub struct Book<N: Name> {
 /// A beginning of the history that was seen. Contracts see it as its events, of which no list is kept.
 #[derive(Drop)]
 pub struct Front<N: Name> {
-    count: u64,
-    seen: Seen<Event, u64, Law>,
-    of: PhantomData<N>,
+    pub(crate) count: u64,
+    pub(crate) seen: Seen<Event, u64, Law>,
+    pub(crate) of: PhantomData<N>,
 }
 
 impl<N: Name> Model for Front<N> {

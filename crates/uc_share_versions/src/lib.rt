@@ -8,6 +8,7 @@
 mod front;
 mod name;
 mod pin;
+mod publisher;
 mod reader;
 mod rule;
 mod shown;
@@ -15,6 +16,7 @@ mod shown;
 pub use front::{Book, Front, Opening};
 pub use name::Name;
 pub use pin::Pin;
+pub use publisher::Publisher;
 pub use reader::Reader;
 pub use rule::{Law, Rises};
 pub use shown::Shown;

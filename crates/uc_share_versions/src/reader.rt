@@ -3,6 +3,7 @@ ghost use Rattle.std.specs.Prelude.{◌≡◌, ◌≤◌, [], length, fold, IfOk
 ghost use mathlib.Core.List.{IsPrefix};
 ghost use Rattle.left_right.specs.Sides.{view};
 ghost use Rattle.uc_version_state.specs.Histories.{MayFollow, after};
+ghost use Rattle.uc_share_versions.specs.Fronts.{IsMoment};
 
 use crate::front::Front;
 use crate::name::Name;
@@ -15,7 +16,7 @@ use std::marker::Model;
 use uc_oper::Operator;
 
 /// A reader's place at what is shown.
-pub(crate) type Place<O, N> = reader::Reader<Shown<O, N>, u64, Rises>;
+pub(crate) type Place<O, N> = reader::Reader<Shown, u64, Rises<O, N>>;
 
 /// A thread's reader. It pins versions, and has seen a beginning of the store's history. Contracts see that beginning: the
 /// events since the version that the store was opened with. It is legal behind every history with which that version stands.
@@ -39,11 +40,12 @@ impl<O: Operator, N: Name> Model for Reader<O, N> {
 }
 
 /// Looks at what is shown, and takes a copy of it. It waits for nobody.
-fn look<O: Operator, N: Name>(place: Place<O, N>) -> (Place<O, N>, Result<Shown<O, N>, AllocError>)
+fn look<O: Operator, N: Name>(place: Place<O, N>) -> (Place<O, N>, Result<Shown, AllocError>)
     ensures rises { view place.place ≤ view result.0.place }
-    ensures shown { IfOk result.1 (λ shown. view result.0.place ≡ length shown.events) }
+    ensures shown { IfOk result.1 (λ shown.
+        (view result.0.place ≡ length shown.events) × IsMoment O.meaning N.book N.base shown) }
 {
-    match place.enter_as::<Sees>() {
+    match place.enter_as::<Sees<O, N>>() {
         Err(place) => (place, Err(AllocError)),
         Ok(reading) => {
             let shown = reading.get().again();
@@ -75,18 +77,19 @@ impl<O: Operator, N: Name> Reader<O, N> {
     /// nobody. It is refused where the version is shared too often, and the reader may have seen more then.
     pub fn pin(&mut self) -> Result<Pin<O>, AllocError>
         ensures seen { IsPrefix self.old self.new }
+        ensures legal { MayFollow O.meaning N.base self.new }
         ensures pinned { IfOk result (λ pin. pin ≡ fold after N.base self.new) }
     {
+        self.is_one();
         let Some(place) = self.place.take() else {
             return Err(AllocError);
         };
         let (place, shown) = look(place);
         self.place = Some(place);
         let shown = shown?;
-        shown.is_one();
-        let (version, front) = shown.into_parts();
+        let front = shown.front::<N>();
         self.front.begins(&front);
         self.front = front;
-        Ok(Pin::new(version))
+        Ok(Pin::new(shown.into_version()))
     }
 }

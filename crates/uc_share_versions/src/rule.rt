@@ -6,11 +6,13 @@
 //! | Kind of step | Made by | What it does |
 //! |---|---|---|
 //! | add | `Front::add` | an event goes behind the history, where the caller has seen all of it |
+//! | publish | `Publisher::publish` | the version after that event is shown, with the history up to it |
 //! | enter | `Reader::pin` | the reader sees the history that is shown, and what it knew is a beginning of that |
 use crate::name::Name;
 use crate::shown::Shown;
 use crossbeam_utils::rule::{Outcome, Protocol};
 use logbook::{Gain, Plain, Play, Rule};
+use std::marker::PhantomData;
 use uc_oper::Operator;
 use uc_version_state::Event;
 
@@ -62,23 +64,26 @@ impl Plain<Event, Event, u64> for Add {
     ghost state = { λ event. None };
 }
 
-/// The rule of what is shown: a view is a number of events, and no view is above the number of those that are shown.
-pub struct Rises;
+/// The rule of what is shown. A view is a number of events: no reader has seen more than is shown.
+pub struct Rises<O, N> {
+    of: PhantomData<(O, N)>,
+}
 
-impl<O: Operator, N: Name> Protocol<Shown<O, N>, u64> for Rises {
-    ghost use Rattle.std.specs.Prelude.{length};
-    ghost use Rattle.uc_share_versions.specs.Rules.{AllWithin};
+impl<O: Operator, N: Name> Protocol<Shown, u64> for Rises<O, N> {
+    ghost use Rattle.uc_share_versions.specs.Fronts.{IsRuled};
 
-    ghost holds = { λ shown. AllWithin (length shown.events) };
+    ghost holds = { IsRuled O.meaning N.book N.base };
 
     ghost first = { 0 };
 }
 
 /// A step after which the caller knows how many events are shown.
-pub(crate) struct Sees;
+pub(crate) struct Sees<O, N> {
+    of: PhantomData<(O, N)>,
+}
 
-impl<O: Operator, N: Name> Outcome<Shown<O, N>, u64> for Sees {
-    ghost use Rattle.std.specs.Prelude.{◌≡◌, ◌≤◌, length};
+impl<O: Operator, N: Name> Outcome<Shown, u64> for Sees<O, N> {
+    ghost use Rattle.uc_share_versions.specs.Fronts.{Tells};
 
-    ghost then = { λ v x y w. (v ≤ length x.events) × (w ≡ length y.events) };
+    ghost then = { Tells O.meaning N.book N.base };
 }

@@ -1,57 +1,60 @@
 //! [`Shown`]: what readers are shown.
 ghost use Rattle.std.specs.Prelude.{◌≡◌, IfOk};
 ghost use Rattle.std.specs.Arc.{arc_value};
-ghost use Rattle.uc_share_versions.specs.Fronts.{IsMoment, moment};
+ghost use Rattle.uc_share_versions.specs.Fronts.{moment};
 
 use crate::front::Front;
 use crate::name::Name;
+use crate::rule::Law;
 use left_right::Absorb;
+use logbook::Seen;
 use std::alloc::AllocError;
 use std::marker::{Model, PhantomData};
 use std::sync::Arc;
-use uc_oper::Operator;
-use uc_version_state::Version;
+use uc_version_state::{Event, Version};
 
-/// What readers are shown: a version, with the history that leads to it from the store's opening.
+/// What readers are shown: a version, with the history that leads to it from the store's opening. Contracts see both, and which
+/// store's history it is. That it leads there is the rule of what is shown.
 #[derive(Drop)]
-pub struct Shown<O: Operator, N: Name> {
+pub struct Shown {
     version: Arc<Version>,
-    front: Front<N>,
-    operator: PhantomData<O>,
+    count: u64,
+    seen: Seen<Event, u64, Law>,
 }
 
-impl<O: Operator, N: Name> Model for Shown<O, N> {
+impl Model for Shown {
+    ghost use Rattle.std.specs.Prelude.{◌≡◌, length};
     ghost use Rattle.std.specs.Arc.{arc_value};
-    ghost use Rattle.uc_share_versions.specs.Fronts.{Moment, IsMoment, moment};
+    ghost use Rattle.uc_share_versions.specs.Fronts.{Moment, moment};
 
     ghost Value = { Moment };
 
-    ghost view = { λ s. moment (arc_value s.version) s.front };
+    ghost view = { λ s. moment s.seen.book (arc_value s.version) s.seen.log };
 
-    ghost invariant = { λ s. IsMoment O.meaning N.base (moment (arc_value s.version) s.front) };
+    ghost invariant = { λ s. s.count ≡ length s.seen.log };
 }
 
-impl<O: Operator, N: Name> Shown<O, N> {
+impl Shown {
     /// A version with the history that leads to it.
-    pub fn new(version: Arc<Version>, front: Front<N>) -> Shown<O, N>
-        requires { IsMoment O.meaning N.base (moment (arc_value version) front) }
-        ensures { result ≡ moment (arc_value version) front }
+    pub fn new<N: Name>(version: Arc<Version>, front: Front<N>) -> Shown
+        ensures { result ≡ moment N.book (arc_value version) front }
     {
+        let Front { count, seen, of: _ } = front;
         Shown {
             version,
-            front,
-            operator: PhantomData,
+            count,
+            seen,
         }
     }
 
     /// A copy, which shares the version. It fails only where the version is shared too often.
-    pub fn again(&self) -> Result<Shown<O, N>, AllocError>
+    pub fn again(&self) -> Result<Shown, AllocError>
         ensures { IfOk result (λ copy. copy ≡ self.now) }
     {
         Ok(Shown {
             version: self.version.clone()?,
-            front: self.front.again(),
-            operator: PhantomData,
+            count: self.count,
+            seen: self.seen.again(),
         })
     }
 
@@ -63,42 +66,39 @@ impl<O: Operator, N: Name> Shown<O, N> {
     }
 
     /// The history that leads to it.
-    pub fn front(&self) -> &Front<N>
-        ensures { result.now ≡ self.now.events }
+    pub fn front<N: Name>(&self) -> Front<N>
+        requires { self.now.book ≡ N.book }
+        ensures { result ≡ self.now.events }
     {
-        &self.front
+        Front {
+            count: self.count,
+            seen: self.seen.again(),
+            of: PhantomData,
+        }
     }
 
-    /// What holds of all that is shown: the history is legal, and leads to the version. It does nothing.
-    pub fn is_one(&self)
-        ensures { IsMoment O.meaning N.base self.now }
-    {
-        let _ = &self.front;
-    }
-
-    /// Its parts.
-    pub fn into_parts(self) -> (Arc<Version>, Front<N>)
-        ensures version { arc_value result.0 ≡ self.version }
-        ensures front { result.1 ≡ self.events }
+    /// The version, to hold on to.
+    pub fn into_version(self) -> Arc<Version>
+        ensures { arc_value result ≡ self.version }
     {
         let Shown {
             version,
-            front,
-            operator: _,
+            count: _,
+            seen: _seen,
         } = self;
-        (version, front)
+        version
     }
 }
 
 /// What is shown next takes the place of what was shown, whole.
-impl<O: Operator, N: Name> Absorb<Shown<O, N>> for Shown<O, N> {
-    type State = Shown<O, N>;
+impl Absorb<Shown> for Shown {
+    type State = Shown;
 
     ghost state = { λ s. s };
 
     ghost applied = { λ old next. next };
 
-    fn absorb_first(&mut self, operation: &Shown<O, N>, _other: &Shown<O, N>) -> Result<(), AllocError> {
+    fn absorb_first(&mut self, operation: &Shown, _other: &Shown) -> Result<(), AllocError> {
         let next = operation.again()?;
         *self = next;
         Ok(())
