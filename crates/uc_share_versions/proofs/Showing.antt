@@ -1,5 +1,5 @@
 -- The steps of readers and of the writer keep the rule of what is shown.
-use Rattle.std.proofs.Common.{◌≡◌, ℕ, ◌≤◌, ◌≢◌, List, [], ◌∷◌, ◌++◌, fold, length, refl, sym, ap, ◌∙◌, subst, ⊎_elim, le_refl, le_trans, zero-le, length-append, arith}
+use Rattle.std.proofs.Common.{◌≡◌, ℕ, ◌≤◌, ◌≢◌, List, [], ◌∷◌, ◌++◌, fold, length, refl, sym, ap, ◌∙◌, subst, ⊎_elim, le_refl, le_trans, zero-le}
 use Rattle.std.specs.Prelude.{Result, Ok, Err, MatchResult, OnOk}
 use mathlib.Core.Option.{some, some-ne-none}
 use lib.ListN.{get_elem?}
@@ -9,9 +9,9 @@ use Rattle.logbook.specs.Pages.{Book}
 use Rattle.uc_oper.specs.Operation.{Operation}
 use Rattle.uc_version_state.specs.Versions.{Stored}
 use Rattle.uc_version_state.specs.declared.event.Event.{Event}
-use Rattle.uc_version_state.specs.Histories.{MayHappen, MayFollow, after}
+use Rattle.uc_version_state.specs.Histories.{MayHappen, after}
 use Rattle.uc_version_state.proofs.Growing.{follow-append, after-append}
-use Rattle.uc_share_versions.specs.Fronts.{Moment, IsMoment, AllWithin, IsRuled, Tells, Goes, after_event}
+use Rattle.uc_share_versions.specs.Fronts.{Moment, IsMoment, AllWithin, IsRuled, Tells, after_event}
 
 -- the first reader has seen nothing
 pub first_within : (n : ℕ) → AllWithin n (0 ∷ [])
@@ -25,8 +25,11 @@ module _ (m : Operation) (book : Book) (base : Stored) where
   pub rises : (seat v : ℕ) (x y : Moment) → length x.events ≤ length y.events → IsMoment m book base y → TurnsAt (IsRuled m book base) seat v x y (Tells m book base)
   rises seat v x y up is views h at = (
     length y.events,
-    (is, λ j u e. ⊎_elim (λ (t : (j ≡ seat) × (length y.events ≡ u)). subst (λ (z : ℕ). z ≤ length y.events) t.1 (le_refl (length y.events)))
-        (λ (t : (j ≢ seat) × (get_elem? views j ≡ some u)). le_trans (h.1 j u t.1) up) (at_set views seat j (length y.events) u e)),
+    (
+      is,
+      λ j u e. ⊎_elim (λ (t : (j ≡ seat) × (length y.events ≡ u)). subst (λ (z : ℕ). z ≤ length y.events) t.1 (le_refl (length y.events)))
+          (λ (t : (j ≢ seat) × (get_elem? views j ≡ some u)). le_trans (h.1 j u t.1) up) (at_set views seat j (length y.events) u e),
+    ),
     (h.1 seat v at, refl, is),
   )
 

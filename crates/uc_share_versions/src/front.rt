@@ -108,7 +108,9 @@ impl<N: Name> Front<N> {
         requires { length self.old < 2 ^ 62 }
         ensures { OnTrue result (self.new ≡ self.old ++ event.now ∷ []) }
     {
-        let mut offer: Offer<Event, u64, Law, Nothing> = self.seen.plain::<Nothing, Event, Add>(event);
+        let mut offer: Offer<Event, u64, Law, Nothing> = self
+            .seen
+            .plain::<Nothing, Event, Add>(event);
         let mut pen = self.seen.no_pen();
         let count = self.count;
         let found = book

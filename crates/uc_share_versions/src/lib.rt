@@ -2,7 +2,8 @@
 //!
 //! A [`Front`] is a beginning of the store's history that somebody has seen, a [`Book`] what all threads of a store add events to,
 //! and a [`Name`] says which store it is. What is shown to readers is a version with the history that leads to it ([`Shown`]); a
-//! [`Reader`] pins it without waiting for anybody. Read `specs/Fronts.antt` first, then `front.rt`, `shown.rt` and `reader.rt`.
+//! [`Reader`] pins it without waiting for anybody, and a [`Publisher`] shows the next one. Read `specs/Fronts.antt` first, then
+//! `rule.rt`, `front.rt`, `reader.rt` and `publisher.rt`.
 #![tactic(auto)]
 
 mod front;

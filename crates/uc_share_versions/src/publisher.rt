@@ -67,7 +67,8 @@ fn next_shown<O: Operator, N: Name>(
 }
 
 impl<O: Operator, N: Name, W: Wait + Drop> Publisher<O, N, W> {
-    /// Shows the version that a store is opened with, to so many readers.
+    /// Shows the version that a store is opened with, to so many readers. What is to be shown again is of no account: it takes
+    /// the room that later publications need, so that none of them is refused once its event stands in the history.
     pub fn new(
         alloc: Global,
         rt: W,
@@ -83,7 +84,12 @@ impl<O: Operator, N: Name, W: Wait + Drop> Publisher<O, N, W> {
     {
         let first = Shown::new(Arc::new(alloc, version)?, front);
         let second = first.again()?;
-        let writer = Writer::new(alloc, first, second, readers)?;
+        let third = first.again()?;
+        let mut writer = Writer::new(alloc, first, second, readers)?;
+        if writer.append(third).is_err() {
+            drop(writer.take(&rt));
+            return Err(AllocError);
+        }
         Ok(Publisher { writer, rt })
     }
 
@@ -128,7 +134,10 @@ fn show<O: Operator, N: Name, W: Wait>(
     rt: &W,
     mut writer: Writer<Shown, Shown, u64, Rises<O, N>>,
     next: Shown,
-) -> (Writer<Shown, Shown, u64, Rises<O, N>>, Result<(), AllocError>)
+) -> (
+    Writer<Shown, Shown, u64, Rises<O, N>>,
+    Result<(), AllocError>,
+)
     requires moment { IsMoment O.meaning N.book N.base next }
     requires longer { length writer.desk.shown.value.events ≤ length next.events }
     ensures ok { OnOk result.1 (result.0.desk.shown.value ≡ next) }

@@ -1,4 +1,4 @@
-use Rattle.std.proofs.Common.{◌≤◌, ap, subst, arith, length, List}
+use Rattle.std.proofs.Common.{ap, subst, List}
 use mathlib.Core.List.{IsPrefix}
 use Rattle.uc_version_state.specs.declared.event.Event.{Event}
 use Rattle.uc_share_versions.proofs.Prefixes.{prefix_shorter}
