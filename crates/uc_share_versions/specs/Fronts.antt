@@ -1,0 +1,45 @@
+-- What is shown to readers, and the history that leads to it.
+use Rattle.std.specs.Prelude.{◌≡◌, ℕ, ◌≤◌, List, [], ◌∷◌, ◌++◌, length, fold}
+use mathlib.Core.Option.{some}
+use lib.ListN.{get_elem?}
+use Rattle.logbook.specs.Pages.{Book}
+use Rattle.uc_oper.specs.Operation.{Operation}
+use Rattle.uc_version_state.specs.Versions.{Stored}
+use Rattle.uc_version_state.specs.Histories.{MayFollow, after}
+use Rattle.uc_version_state.specs.declared.event.Event.{Event}
+
+-- a version, and the events since the store was opened, of the history in a book
+pub record Moment : Type 0 where
+  pub book : Book
+  pub version : Stored
+  pub events : List Event
+
+abbrev pub moment : Book → Stored → List Event → Moment
+moment book v events = record { book = book; version = v; events = events }
+
+-- it is of this book's history; the events may follow one another from the version that the store was opened with, and lead to
+-- the version
+pub record IsMoment (m : Operation) (book : Book) (base : Stored) (s : Moment) : Type 0 where
+  pub book_is : s.book ≡ book
+  pub legal : MayFollow m base s.events
+  pub version_is : s.version ≡ fold after base s.events
+
+-- no view is above n
+abbrev pub AllWithin : ℕ → List ℕ → Type 0
+AllWithin n views = (seat v : ℕ) → get_elem? views seat ≡ some v → v ≤ n
+
+-- The rule of what is shown: it is the store's, and no reader has seen more of the history than is shown
+abbrev pub IsRuled : Operation → Book → Stored → Moment → List ℕ → Type 0
+IsRuled m book base s views = IsMoment m book base s × AllWithin (length s.events) views
+
+-- what a step tells: no less is shown than was seen, and all of it is then seen
+abbrev pub Tells : Operation → Book → Stored → ℕ → Moment → Moment → ℕ → Type 0
+Tells m book base v x y w = (v ≤ length x.events) × (w ≡ length y.events) × IsMoment m book base y
+
+-- what is shown after an event
+abbrev pub after_event : Event → Moment → Moment
+after_event e s = moment s.book (after s.version e) (s.events ++ e ∷ [])
+
+-- it is shown after an event, and is the store's still
+abbrev pub Goes : Operation → Book → Stored → Moment → Event → Moment → Type 0
+Goes m book base s e t = (t ≡ after_event e s) × IsMoment m book base t

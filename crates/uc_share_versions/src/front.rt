@@ -1,0 +1,128 @@
+//! [`Front`]: a beginning of a store's history that was seen, and [`Book`], what events are added to.
+ghost use Rattle.std.specs.Prelude.{◌≡◌, ◌<◌, ◌≤◌, ◌^◌, ◌++◌, ◌∷◌, [], length};
+ghost use Rattle.std.specs.Bool.{OnTrue};
+ghost use mathlib.Core.List.{IsPrefix};
+ghost use Rattle.uc_share_versions.specs.Rules.{head_of};
+
+use crate::name::Name;
+use crate::rule::{Add, Law, Nothing};
+use logbook::{Offer, Seen, Start, Word};
+use std::marker::{Model, PhantomData};
+use uc_version_state::Event;
+
+/// A history without an event, which has no name yet.
+pub struct Opening {
+    head: Word<Event, u64, Law>,
+    pub(crate) seen: Seen<Event, u64, Law>,
+    pub ghost empty: { seen.log ≡ [] },
+    pub ghost head_is: { head ≡ head_of seen.book },
+}
+
+impl Opening {
+    /// A history without an event.
+    pub fn new() -> Opening {
+        let (seen, mut first, _second) = Seen::open(Start::alone(), 0, 0);
+        Opening {
+            head: Word::tracked(0, &mut first),
+            seen,
+        }
+    }
+
+    /// The history under its name, and the front that has seen nothing.
+    pub fn named<N: Name>(self) -> (Book<N>, Front<N>)
+        requires { self.seen.book ≡ N.book }
+        ensures { result.1 ≡ [] }
+    {
+        let Opening { head, seen } = self;
+        (
+            Book {
+                head,
+                of: PhantomData,
+            },
+            Front {
+                count: 0,
+                seen,
+                of: PhantomData,
+            },
+        )
+    }
+}
+
+/// What all threads of a store add events to: the length of the history.
+#[derive(Drop)]
+pub struct Book<N: Name> {
+    head: Word<Event, u64, Law>,
+    of: PhantomData<N>,
+    ghost head_is: { head ≡ head_of N.book },
+}
+
+/// A beginning of the history that was seen. Contracts see it as its events, of which no list is kept.
+#[derive(Drop)]
+pub struct Front<N: Name> {
+    pub(crate) count: u64,
+    pub(crate) seen: Seen<Event, u64, Law>,
+    pub(crate) of: PhantomData<N>,
+}
+
+impl<N: Name> Model for Front<N> {
+    ghost use Rattle.std.specs.Prelude.{◌≡◌, List, length};
+    ghost use Rattle.uc_version_state.specs.declared.event.Event.{Event};
+
+    ghost Value = { List Event };
+
+    ghost view = { λ f. f.seen.log };
+
+    ghost invariant = { λ f. (f.count ≡ length f.seen.log) × (f.seen.book ≡ N.book) };
+}
+
+impl<N: Name> Front<N> {
+    /// How many events it has.
+    pub fn len(&self) -> u64
+        ensures { result ≡ length self.now }
+    {
+        self.count
+    }
+
+    /// A copy.
+    pub fn again(&self) -> Front<N>
+        ensures { result ≡ self.now }
+    {
+        Front {
+            count: self.count,
+            seen: self.seen.again(),
+            of: PhantomData,
+        }
+    }
+
+    /// Of two fronts of one history the one that isn't longer begins the other. It does nothing.
+    pub fn begins(&self, other: &Front<N>)
+        requires { length self.now ≤ length other.now }
+        ensures { IsPrefix self.now other.now }
+    {
+        let mut both = self.seen.again();
+        both.learn(&other.seen);
+    }
+
+    /// Adds an event to all that was seen, and says whether it did. It did not where the history is longer.
+    pub fn add(&mut self, book: &Book<N>, event: &Event) -> bool
+        requires { length self.old < 2 ^ 62 }
+        ensures { OnTrue result (self.new ≡ self.old ++ event.now ∷ []) }
+    {
+        let mut offer: Offer<Event, u64, Law, Nothing> = self
+            .seen
+            .plain::<Nothing, Event, Add>(event);
+        let mut pen = self.seen.no_pen();
+        let count = self.count;
+        let found = book
+            .head
+            .compare_exchange::<Add, Nothing>(
+                count,
+                count + 1,
+                &mut self.seen,
+                &mut offer,
+                &mut pen,
+            );
+        self.count = if found == count { count + 1 } else { found };
+        found == count
+    }
+}

@@ -1,0 +1,23 @@
+//! The versions of a store that threads share: one history, which every reader has seen a beginning of.
+//!
+//! A [`Front`] is a beginning of the store's history that somebody has seen, a [`Book`] what all threads of a store add events to,
+//! and a [`Name`] says which store it is. What is shown to readers is a version with the history that leads to it ([`Shown`]); a
+//! [`Reader`] pins it without waiting for anybody, and a [`Publisher`] shows the next one. Read `specs/Fronts.antt` first, then
+//! `rule.rt`, `front.rt`, `reader.rt` and `publisher.rt`.
+#![tactic(auto)]
+
+mod front;
+mod name;
+mod pin;
+mod publisher;
+mod reader;
+mod rule;
+mod shown;
+
+pub use front::{Book, Front, Opening};
+pub use name::Name;
+pub use pin::Pin;
+pub use publisher::Publisher;
+pub use reader::Reader;
+pub use rule::{Law, Rises};
+pub use shown::Shown;

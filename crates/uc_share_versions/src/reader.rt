@@ -1,0 +1,95 @@
+//! [`Reader`]: what pins versions.
+ghost use Rattle.std.specs.Prelude.{◌≡◌, ◌≤◌, [], length, fold, IfOk};
+ghost use mathlib.Core.List.{IsPrefix};
+ghost use Rattle.left_right.specs.Sides.{view};
+ghost use Rattle.uc_version_state.specs.Histories.{MayFollow, after};
+ghost use Rattle.uc_share_versions.specs.Fronts.{IsMoment};
+
+use crate::front::Front;
+use crate::name::Name;
+use crate::pin::Pin;
+use crate::rule::{Rises, Sees};
+use crate::shown::Shown;
+use left_right::reader;
+use std::alloc::AllocError;
+use std::marker::Model;
+use uc_oper::Operator;
+
+/// A reader's place at what is shown.
+pub(crate) type Place<O, N> = reader::Reader<Shown, u64, Rises<O, N>>;
+
+/// A thread's reader. It pins versions, and has seen a beginning of the store's history. Contracts see that beginning: the
+/// events since the version that the store was opened with. It is legal behind every history with which that version stands.
+#[derive(Drop)]
+pub struct Reader<O: Operator, N: Name> {
+    place: Option<Place<O, N>>,
+    front: Front<N>,
+}
+
+impl<O: Operator, N: Name> Model for Reader<O, N> {
+    ghost use Rattle.std.specs.Prelude.{◌≤◌, List, length, IfSome};
+    ghost use Rattle.left_right.specs.Sides as sides;
+    ghost use Rattle.uc_version_state.specs.declared.event.Event.{Event};
+    ghost use Rattle.uc_version_state.specs.Histories.{MayFollow};
+
+    ghost Value = { List Event };
+
+    ghost view = { λ r. r.front };
+
+    ghost invariant = { λ r. IfSome r.place (λ p. length r.front ≤ sides.view p.place) × MayFollow O.meaning N.base r.front };
+}
+
+/// Looks at what is shown, and takes a copy of it. It waits for nobody.
+fn look<O: Operator, N: Name>(place: Place<O, N>) -> (Place<O, N>, Result<Shown, AllocError>)
+    ensures rises { view place.place ≤ view result.0.place }
+    ensures shown { IfOk result.1 (λ shown.
+        (view result.0.place ≡ length shown.events) × IsMoment O.meaning N.book N.base shown) }
+{
+    match place.enter_as::<Sees<O, N>>() {
+        Err(place) => (place, Err(AllocError)),
+        Ok(reading) => {
+            let shown = reading.get().again();
+            (reading.leave(), shown)
+        }
+    }
+}
+
+impl<O: Operator, N: Name> Reader<O, N> {
+    /// A reader that has seen the store's opening.
+    pub(crate) fn new(place: Place<O, N>, front: Front<N>) -> Reader<O, N>
+        requires { front ≡ [] }
+        ensures { result ≡ [] }
+    {
+        Reader {
+            place: Some(place),
+            front,
+        }
+    }
+
+    /// What it has seen of the history, which is legal. It does nothing.
+    pub fn is_one(&self)
+        ensures { MayFollow O.meaning N.base self.now }
+    {
+        let _ = &self.front;
+    }
+
+    /// Pins what is shown now: the version after a history that begins with all that this reader had seen. It waits for
+    /// nobody. It is refused where the version is shared too often, and the reader may have seen more then.
+    pub fn pin(&mut self) -> Result<Pin<O>, AllocError>
+        ensures seen { IsPrefix self.old self.new }
+        ensures legal { MayFollow O.meaning N.base self.new }
+        ensures pinned { IfOk result (λ pin. pin ≡ fold after N.base self.new) }
+    {
+        self.is_one();
+        let Some(place) = self.place.take() else {
+            return Err(AllocError);
+        };
+        let (place, shown) = look(place);
+        self.place = Some(place);
+        let shown = shown?;
+        let front = shown.front::<N>();
+        self.front.begins(&front);
+        self.front = front;
+        Ok(Pin::new(shown.into_version()))
+    }
+}
