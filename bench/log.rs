@@ -11,7 +11,7 @@ const HEADER: usize = 7;
 const SEQUENCES: u64 = 1 << 56;
 
 /// The masked checksum of a record's type and data, which lie one after the other.
-fn checksum(bytes: &[u8]) -> u32 {
+pub fn checksum(bytes: &[u8]) -> u32 {
     let crc = !crc32c::update(!0, bytes);
     crc.rotate_right(15).wrapping_add(0xa282_ead8)
 }

@@ -1,0 +1,65 @@
+/* Refuses requests for memory: preloaded into a program, it counts what the program asks for after its start, and
+ * refuses one request of them, or that one and all later ones. For tests alone; nothing here is part of the program.
+ *
+ * REFUSE_AT=N       the request that is refused, from 1 on; without it none is
+ * REFUSE_ON=1       and all later ones too
+ * REFUSE_COUNT=PATH a file of 8 bytes, which holds the number of requests so far, also where the program is killed
+ */
+#define _GNU_SOURCE
+#include <errno.h>
+#include <fcntl.h>
+#include <stdatomic.h>
+#include <stdint.h>
+#include <stdlib.h>
+#include <sys/mman.h>
+#include <unistd.h>
+
+/* glibc's own names of what is replaced here. */
+extern void *__libc_malloc(size_t size);
+extern void *__libc_calloc(size_t count, size_t size);
+extern void *__libc_realloc(void *old, size_t size);
+extern void *__libc_memalign(size_t alignment, size_t size);
+
+static _Atomic uint64_t *count;
+static uint64_t first;
+static int later;
+
+__attribute__((constructor)) static void begin(void) {
+    const char *at = getenv("REFUSE_AT");
+    const char *path = getenv("REFUSE_COUNT");
+    if (path == NULL) return;
+    int file = open(path, O_RDWR | O_CLOEXEC);
+    if (file < 0) return;
+    void *page = mmap(NULL, sizeof *count, PROT_READ | PROT_WRITE, MAP_SHARED, file, 0);
+    close(file);
+    if (page == MAP_FAILED) return;
+    first = at == NULL ? 0 : strtoull(at, NULL, 10);
+    later = getenv("REFUSE_ON") != NULL;
+    count = page;
+}
+
+/* Whether this request is refused. */
+static int refused(void) {
+    if (count == NULL) return 0;
+    uint64_t number = atomic_fetch_add(count, 1) + 1;
+    if (first == 0 || number < first || (number > first && !later)) return 0;
+    errno = ENOMEM;
+    return 1;
+}
+
+void *malloc(size_t size) { return refused() ? NULL : __libc_malloc(size); }
+
+void *calloc(size_t number, size_t size) { return refused() ? NULL : __libc_calloc(number, size); }
+
+void *realloc(void *old, size_t size) { return refused() ? NULL : __libc_realloc(old, size); }
+
+void *memalign(size_t alignment, size_t size) { return refused() ? NULL : __libc_memalign(alignment, size); }
+
+void *aligned_alloc(size_t alignment, size_t size) { return refused() ? NULL : __libc_memalign(alignment, size); }
+
+int posix_memalign(void **result, size_t alignment, size_t size) {
+    void *made = refused() ? NULL : __libc_memalign(alignment, size);
+    if (made == NULL) return ENOMEM;
+    *result = made;
+    return 0;
+}
