@@ -1,3 +1,4 @@
 pub mod Prefixes
 pub mod Adding
 pub mod Showing
+pub mod Behind

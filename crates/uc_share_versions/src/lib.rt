@@ -7,6 +7,7 @@
 #![tactic(auto)]
 
 mod front;
+mod laws;
 mod name;
 mod pin;
 mod publisher;
@@ -15,6 +16,7 @@ mod rule;
 mod shown;
 
 pub use front::{Book, Front, Opening};
+pub use laws::fronts_go_behind_histories;
 pub use name::Name;
 pub use pin::Pin;
 pub use publisher::Publisher;
