@@ -9,6 +9,7 @@
 mod front;
 mod laws;
 mod name;
+mod opening;
 mod pin;
 mod publisher;
 mod reader;
@@ -18,6 +19,7 @@ mod shown;
 pub use front::{Book, Front, Opening};
 pub use laws::fronts_go_behind_histories;
 pub use name::Name;
+pub use opening::MOST_READERS;
 pub use pin::Pin;
 pub use publisher::Publisher;
 pub use reader::Reader;
