@@ -1,6 +1,7 @@
 //! Readers that pin early and late.
 ghost use Rattle.std.specs.Prelude.{◌≡◌};
 
+use crate::fronts::has_events;
 use crate::stores::{compacted, four_runs, has_ids};
 use std::alloc::Global;
 use std::marker::{Brand, Sync};
@@ -33,6 +34,7 @@ fn two_readers_pin<O: Operator + Sync, N: Name, W: Wait + Drop>(
     requires base { version ≡ N.base }
 {
     let (book, front) = opening.named::<N>();
+    let seen = front.again();
     let (first, second) = (front.again(), front.again());
     let publisher = Publisher::<O, N, W>::new(alloc, handle, version, front, 2)?;
     let mut early = publisher.reader(first)?;
@@ -41,10 +43,12 @@ fn two_readers_pin<O: Operator + Sync, N: Name, W: Wait + Drop>(
     assert!(rt; has_ids(old.version(), &[4, 3, 2, 1]));
     let publisher = compacted(rt, alloc, publisher, &book, Stretch { first: 1, count: 2 })?;
     assert!(rt; has_ids(publisher.shown().version(), &[4, 5, 1]));
+    assert!(rt; has_events(&publisher, &seen, 1));
     assert!(rt; has_ids(old.version(), &[4, 3, 2, 1]));
     assert!(rt; pins(&mut early, &[4, 5, 1]));
     let publisher = compacted(rt, alloc, publisher, &book, Stretch { first: 0, count: 3 })?;
     assert!(rt; has_ids(publisher.shown().version(), &[6]));
+    assert!(rt; has_events(&publisher, &seen, 2));
     assert!(rt; has_ids(old.version(), &[4, 3, 2, 1]));
     assert!(rt; pins(&mut late, &[6]));
     assert!(rt; pins(&mut early, &[6]));
