@@ -17,7 +17,7 @@ mod rule;
 mod shown;
 
 pub use front::{Book, Front, Opening};
-pub use laws::fronts_go_behind_histories;
+pub use laws::{claimed_runs_stay_the_same, fronts_go_behind_histories};
 pub use name::Name;
 pub use opening::MOST_READERS;
 pub use pin::Pin;
