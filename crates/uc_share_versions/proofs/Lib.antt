@@ -1,3 +1,5 @@
 pub mod Prefixes
 pub mod Adding
 pub mod Showing
+pub mod Behind
+pub mod Claimed

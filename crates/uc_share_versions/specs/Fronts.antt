@@ -1,5 +1,5 @@
 -- What is shown to readers, and the history that leads to it.
-use Rattle.std.specs.Prelude.{◌≡◌, ℕ, ◌≤◌, List, [], ◌∷◌, ◌++◌, length, fold}
+use Rattle.std.specs.Prelude.{◌≡◌, ℕ, ◌<◌, ◌≤◌, List, [], ◌∷◌, ◌++◌, length, fold}
 use mathlib.Core.Option.{some}
 use lib.ListN.{get_elem?}
 use Rattle.logbook.specs.Pages.{Book}
@@ -43,3 +43,8 @@ after_event e s = moment s.book (after s.version e) (s.events ++ e ∷ [])
 -- it is shown after an event, and is the store's still
 abbrev pub Goes : Operation → Book → Stored → Moment → Event → Moment → Type 0
 Goes m book base s e t = (t ≡ after_event e s) × IsMoment m book base t
+
+-- a store opens for so many readers
+pub record IsCount (readers : ℕ) : Type 0 where
+  pub some : 0 < readers
+  pub few : readers ≤ 128

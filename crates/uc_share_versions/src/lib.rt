@@ -7,7 +7,9 @@
 #![tactic(auto)]
 
 mod front;
+mod laws;
 mod name;
+mod opening;
 mod pin;
 mod publisher;
 mod reader;
@@ -15,7 +17,9 @@ mod rule;
 mod shown;
 
 pub use front::{Book, Front, Opening};
+pub use laws::{claimed_runs_stay_the_same, fronts_go_behind_histories};
 pub use name::Name;
+pub use opening::MOST_READERS;
 pub use pin::Pin;
 pub use publisher::Publisher;
 pub use reader::Reader;

@@ -101,6 +101,13 @@ impl<O: Operator, N: Name, W: Wait + Drop> Publisher<O, N, W> {
         Ok(Reader::new(self.writer.factory().reader()?, front))
     }
 
+    /// What it shows is of the store's own history, and leads from the opening to the version. It does nothing.
+    pub fn is_one(&self)
+        ensures { IsMoment O.meaning N.book N.base self.now }
+    {
+        let _ = &self.rt;
+    }
+
     /// What readers are shown now.
     pub fn shown(&self) -> &Shown
         ensures { result.now ≡ self.now }
