@@ -19,7 +19,7 @@ all_from P [] each = tt
 all_from P (x ∷ xs) each = (each x (contains_first x x xs refl), all_from P xs (λ y has. each y (contains_later x y xs has)))
 
 -- neighbouring runs are runs of the list
-part_within : (runs : List PlacedRun) (first count : ℕ) → AllByRecursion (λ q. Contains runs q) (part_of first count runs)
+pub part_within : (runs : List PlacedRun) (first count : ℕ) → AllByRecursion (λ q. Contains runs q) (part_of first count runs)
 part_within runs first count =
     let P : PlacedRun → Type 0 = λ q. Contains runs q in
     all-front P (part_of first count runs) (drop (first + count) runs)

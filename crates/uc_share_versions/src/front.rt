@@ -1,5 +1,5 @@
 //! [`Front`]: a beginning of a store's history that was seen, and [`Book`], what events are added to.
-ghost use Rattle.std.specs.Prelude.{◌≡◌, ◌<◌, ◌≤◌, ◌^◌, ◌++◌, ◌∷◌, [], length};
+ghost use Rattle.std.specs.Prelude.{◌≡◌, ◌<◌, ◌≤◌, ◌^◌, ◌++◌, ◌∷◌, [], length, ◌↔◌, IsTrue};
 ghost use Rattle.std.specs.Bool.{OnTrue};
 ghost use mathlib.Core.List.{IsPrefix};
 ghost use Rattle.uc_share_versions.specs.Rules.{head_of};
@@ -101,6 +101,17 @@ impl<N: Name> Front<N> {
     {
         let mut both = self.seen.again();
         both.learn(&other.seen);
+    }
+
+    /// Whether two fronts of one history have seen the same.
+    pub fn is_same(&self, other: &Front<N>) -> bool
+        ensures { IsTrue result ↔ (self.now ≡ other.now) }
+    {
+        if self.len() != other.len() {
+            return false;
+        }
+        self.begins(other);
+        true
     }
 
     /// Adds an event to all that was seen, and says whether it did. It did not where the history is longer.

@@ -1,9 +1,9 @@
 //! [`Reader`]: what pins versions.
-ghost use Rattle.std.specs.Prelude.{◌≡◌, ◌≤◌, [], length, fold, IfOk};
+ghost use Rattle.std.specs.Prelude.{◌≡◌, ◌≤◌, [], length, fold, IfOk, OnOk};
 ghost use mathlib.Core.List.{IsPrefix};
 ghost use Rattle.left_right.specs.Sides.{view};
 ghost use Rattle.uc_version_state.specs.Histories.{MayFollow, after};
-ghost use Rattle.uc_share_versions.specs.Fronts.{IsMoment};
+ghost use Rattle.uc_share_versions.specs.Fronts.{moment, IsMoment};
 
 use crate::front::Front;
 use crate::name::Name;
@@ -13,6 +13,7 @@ use crate::shown::Shown;
 use left_right::reader;
 use std::alloc::AllocError;
 use std::marker::Model;
+use std::sync::Wait;
 use uc_oper::Operator;
 
 /// A reader's place at what is shown.
@@ -73,12 +74,19 @@ impl<O: Operator, N: Name> Reader<O, N> {
         let _ = &self.front;
     }
 
+    /// What it has seen of the history.
+    pub fn front(&self) -> &Front<N>
+        ensures { result.now ≡ self.now }
+    {
+        &self.front
+    }
+
     /// Pins what is shown now: the version after a history that begins with all that this reader had seen. It waits for
     /// nobody. It is refused where the version is shared too often, and the reader may have seen more then.
-    pub fn pin(&mut self) -> Result<Pin<O>, AllocError>
+    pub fn pin(&mut self) -> Result<Pin<O, N>, AllocError>
         ensures seen { IsPrefix self.old self.new }
         ensures legal { MayFollow O.meaning N.base self.new }
-        ensures pinned { IfOk result (λ pin. pin ≡ fold after N.base self.new) }
+        ensures pinned { IfOk result (λ pin. pin ≡ moment N.book (fold after N.base self.new) self.new) }
     {
         self.is_one();
         let Some(place) = self.place.take() else {
@@ -90,6 +98,23 @@ impl<O: Operator, N: Name> Reader<O, N> {
         let front = shown.front::<N>();
         self.front.begins(&front);
         self.front = front;
-        Ok(Pin::new(shown.into_version()))
+        Ok(Pin::new(shown))
+    }
+
+    /// Enters until it has seen what is shown, of which a front is given. Nothing else is shown meanwhile where the caller has
+    /// what shows it, so that the first turn is the last. It is refused as `pin` is.
+    pub fn sees(&mut self, rt: &impl Wait, shown: &Front<N>) -> Result<(), AllocError>
+        ensures seen { IsPrefix self.old self.new }
+        ensures legal { MayFollow O.meaning N.base self.new }
+        ensures all { OnOk result (self.new ≡ shown.now) }
+    {
+        self.is_one();
+        for _ in rt.forever() {
+            self.pin()?;
+            if self.front.is_same(shown) {
+                return Ok(());
+            }
+        }
+        Err(AllocError)
     }
 }

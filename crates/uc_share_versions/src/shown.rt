@@ -76,18 +76,6 @@ impl Shown {
             of: PhantomData,
         }
     }
-
-    /// The version, to hold on to.
-    pub fn into_version(self) -> Arc<Version>
-        ensures { arc_value result ≡ self.version }
-    {
-        let Shown {
-            version,
-            count: _,
-            seen: _seen,
-        } = self;
-        version
-    }
 }
 
 /// What is shown next takes the place of what was shown, whole.

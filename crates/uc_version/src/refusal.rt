@@ -31,7 +31,7 @@ pub fn are_inputs<O: Operator>(made: &Compacted<O>, runs: &[Placed]) -> bool
 }
 
 /// The error that says why a version refuses what was compacted.
-fn error_of(refusal: Refusal) -> InstallError
+pub fn error_of(refusal: Refusal) -> InstallError
     ensures { result ≡ compacting.error_of refusal }
 {
     match refusal {

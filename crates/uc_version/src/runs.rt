@@ -21,7 +21,7 @@ use uc_version_pick::Stretch;
 use uc_version_state::{Placed, Version};
 
 /// The runs of a stretch that may be claimed, where they are two or more that are there.
-pub(crate) fn runs_of(runs: &[Placed], stretch: Stretch) -> Result<&[Placed], ClaimError>
+pub fn runs_of(runs: &[Placed], stretch: Stretch) -> Result<&[Placed], ClaimError>
     ensures ok { IfOk result (λ part.
         (range_refusal (length runs.now) stretch ≡ None)
         × (part.now ≡ part_of stretch.first stretch.count runs.now)) }
@@ -81,7 +81,7 @@ pub(crate) fn shared_runs(alloc: Global, runs: &[Placed]) -> Result<Vec<Arc<Run>
 }
 
 /// Their slots, in front of places that are of no account.
-pub(crate) fn slots_of(runs: &[Placed]) -> [usize; MOST_SLOTS]
+pub fn slots_of(runs: &[Placed]) -> [usize; MOST_SLOTS]
     requires { length runs.now ≤ MOST_SLOTS }
     ensures { take (length runs.now) result ≡ versions.slots_of runs.now }
 {

@@ -1,0 +1,6 @@
+use Rattle.std.proofs.Common.{◌≡◌}
+use Rattle.uc_share.proofs.store.Store.busy_slots.Given as goal
+
+-- the seat stays as it was
+abbrev pub invariant-loop-slot : goal.invariant-loop-slot
+invariant-loop-slot g l = l.seat ≡ l.fn.seat

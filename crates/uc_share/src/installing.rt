@@ -1,0 +1,178 @@
+//! [`Desk`]: what stands behind a store's lock, and what is done there.
+ghost use Rattle.std.specs.Prelude.{◌≡◌, ◌≢◌, None, IfErr, IfSome, IfNone, OnOk, fold, option_map};
+ghost use mathlib.Core.List.{IsPrefix};
+ghost use Rattle.uc_version_state.specs.Versions.{contents_of};
+ghost use Rattle.uc_version_state.specs.Histories.{MayHappen, MayFollow, after};
+ghost use Rattle.uc_share_versions.specs.Fronts.{after_event};
+ghost use Rattle.uc_share.specs.Claims.{claimed_runs};
+ghost use Rattle.uc_share.specs.Installing.{event_of, EndsWith, ShowsRefusal};
+
+use crate::held::Held;
+use std::alloc::Global;
+use std::sync::Wait;
+use uc_compact::Compacted;
+use uc_oper::Operator;
+use uc_share_versions::{Book, Front, Name, Pin, Publisher, Reader, claimed_runs_stay_the_same};
+use uc_version::{Event, InstallError, error_of, present_refusal, what_fits_may_be_installed};
+
+/// What was pinned is a beginning of what is shown, since it was shown before. It does nothing: a pin of what isn't shown yet can't
+/// be made, which no clause of a reader's says, so it would wait.
+fn was_shown<O: Operator, N: Name>(rt: &impl Wait, pin: &Pin<O, N>, shown: &Front<N>)
+    ensures { IsPrefix pin.now.events shown.now }
+{
+    for _ in rt.forever() {
+        if pin.front().len() <= shown.len() {
+            pin.begins(shown);
+            return;
+        }
+    }
+}
+
+/// Shows a reader what was published. Only who has the lock publishes, so the first turn is the last; a reader's place that is
+/// refused is tried again.
+fn tell<O: Operator, N: Name>(rt: &impl Wait, reader: &mut Reader<O, N>, shown: &Front<N>)
+    ensures seen { IsPrefix reader.old reader.new }
+    ensures legal { MayFollow O.meaning N.base reader.new }
+    ensures all { reader.new ≡ shown.now }
+{
+    reader.is_one();
+    for _ in rt.forever() {
+        if reader.sees(rt, shown).is_ok() {
+            return;
+        }
+    }
+}
+
+/// What stands behind a store's lock: what shows readers the next version.
+#[derive(Drop)]
+pub(crate) struct Desk<O: Operator, N: Name, W: Wait + Drop> {
+    publisher: Option<Publisher<O, N, W>>,
+    ghost there: { publisher ≢ None },
+}
+
+impl<O: Operator, N: Name, W: Wait + Drop> Desk<O, N, W> {
+    /// What stands behind the lock of a store that shows so.
+    pub(crate) fn new(publisher: Publisher<O, N, W>) -> Desk<O, N, W> {
+        Desk {
+            publisher: Some(publisher),
+        }
+    }
+
+    /// Installs what was compacted of claimed runs, whose event is this, and shows the reader: one publication of exactly this
+    /// event, or a refusal that changes nothing that is shown and that the version which the reader then has seen shows. It
+    /// compares no points.
+    pub(crate) fn install<R: Wait>(
+        &mut self,
+        rt: &R,
+        alloc: Global,
+        book: &Book<N>,
+        held: &Held<O, N>,
+        made: &Compacted<O>,
+        event: &Event,
+        reader: &mut Reader<O, N>,
+    ) -> Result<(), InstallError>
+        requires inputs { made.now.inputs ≡ contents_of (claimed_runs held.now) }
+        requires event { event.now ≡ event_of O.meaning (claimed_runs held.now) made.now }
+        ensures published { OnOk result (self.new.publisher ≡ option_map (after_event event.now) self.old.publisher) }
+        ensures unchanged { IfErr result (λ _. self.new.publisher ≡ self.old.publisher) }
+        ensures seen { IsPrefix reader.old reader.new }
+        ensures legal { MayFollow O.meaning N.base reader.new }
+        ensures installed { OnOk result (EndsWith reader.old event.now reader.new) }
+        ensures refused { IfErr result (λ error.
+            ShowsRefusal (fold after N.base reader.new) (claimed_runs held.now) made.now error) }
+    {
+        let Some(publisher) = self.publisher.take() else {
+            unreachable!()
+        };
+        let (publisher, done) = installed(rt, alloc, publisher, book, held, made, event, reader);
+        self.publisher = Some(publisher);
+        done
+    }
+}
+
+/// What shows readers the next version, behind an install.
+fn installed<O: Operator, N: Name, W: Wait + Drop, R: Wait>(
+    rt: &R,
+    alloc: Global,
+    publisher: Publisher<O, N, W>,
+    book: &Book<N>,
+    held: &Held<O, N>,
+    made: &Compacted<O>,
+    event: &Event,
+    reader: &mut Reader<O, N>,
+) -> (Publisher<O, N, W>, Result<(), InstallError>)
+    requires inputs { made.now.inputs ≡ contents_of (claimed_runs held.now) }
+    requires event { event.now ≡ event_of O.meaning (claimed_runs held.now) made.now }
+    ensures published { OnOk result.1 (result.0 ≡ after_event event.now publisher) }
+    ensures unchanged { IfErr result.1 (λ _. result.0 ≡ publisher) }
+    ensures seen { IsPrefix reader.old reader.new }
+    ensures legal { MayFollow O.meaning N.base reader.new }
+    ensures installed { OnOk result.1 (EndsWith reader.old event.now reader.new) }
+    ensures refused { IfErr result.1 (λ error.
+        ShowsRefusal (fold after N.base reader.new) (claimed_runs held.now) made.now error) }
+{
+    match refusal(rt, &publisher, held, made, reader) {
+        Some(error) => (publisher, Err(error)),
+        None => {
+            let (publisher, done) = publisher.publish(alloc, book, event);
+            if done.is_err() {
+                return (publisher, Err(InstallError::Memory));
+            }
+            tell(rt, reader, &publisher.shown().front::<N>());
+            (publisher, Ok(()))
+        }
+    }
+}
+
+/// Why what is shown refuses what was compacted of claimed runs, which the reader then has seen. Where nothing refuses it, the
+/// event may happen to the version that is shown.
+fn refusal<O: Operator, N: Name, W: Wait + Drop, R: Wait>(
+    rt: &R,
+    publisher: &Publisher<O, N, W>,
+    held: &Held<O, N>,
+    made: &Compacted<O>,
+    reader: &mut Reader<O, N>,
+) -> Option<InstallError>
+    requires { made.now.inputs ≡ contents_of (claimed_runs held.now) }
+    ensures seen { IsPrefix reader.old reader.new }
+    ensures legal { MayFollow O.meaning N.base reader.new }
+    ensures all { IfNone result (reader.new ≡ publisher.now.events) }
+    ensures may { IfNone result
+        (MayHappen O.meaning publisher.now.version (event_of O.meaning (claimed_runs held.now) made.now)) }
+    ensures refused { IfSome result (λ error.
+        ShowsRefusal (fold after N.base reader.new) (claimed_runs held.now) made.now error) }
+{
+    publisher.is_one();
+    let shown = publisher.shown().front::<N>();
+    if reader.sees(rt, &shown).is_err() {
+        return Some(InstallError::Memory);
+    }
+    was_shown(rt, held.pin(), &shown);
+    version_refusal(publisher, held, made)
+}
+
+/// Why the version that is shown refuses what was compacted of runs that were claimed in an earlier one.
+fn version_refusal<O: Operator, N: Name, W: Wait + Drop>(
+    publisher: &Publisher<O, N, W>,
+    held: &Held<O, N>,
+    made: &Compacted<O>,
+) -> Option<InstallError>
+    requires inputs { made.now.inputs ≡ contents_of (claimed_runs held.now) }
+    requires before { IsPrefix held.now.pin.events publisher.now.events }
+    ensures may { IfNone result
+        (MayHappen O.meaning publisher.now.version (event_of O.meaning (claimed_runs held.now) made.now)) }
+    ensures refused { IfSome result (λ error.
+        ShowsRefusal publisher.now.version (claimed_runs held.now) made.now error) }
+{
+    publisher.is_one();
+    held.is_one();
+    held.pin().is_one();
+    held.pin().version().is_one();
+    made.stands();
+    claimed_runs_stay_the_same::<O>();
+    what_fits_may_be_installed::<O>();
+    match present_refusal(held.runs(), publisher.shown().version(), made) {
+        None => None,
+        Some(refusal) => Some(error_of(refusal)),
+    }
+}
