@@ -1,7 +1,8 @@
 //! Claims, compactions and installs, one after the other.
-ghost use Rattle.std.specs.Prelude.{◌≡◌};
+ghost use Rattle.std.specs.Prelude.{◌≡◌, IfOk};
 
-use crate::stores::{has_ids, small_runs, three_runs};
+use crate::steps::{claim_refusal, claimed, installed};
+use crate::stores::{has_ids, merged_runs, opened};
 use std::alloc::Global;
 use std::marker::{Brand, Sync};
 use std::process::Abort;
@@ -9,7 +10,7 @@ use std::sync::Wait;
 use std::test::Fail;
 use std::thread::Threads;
 use uc_oper::{Append, Operator};
-use uc_share::{ClaimError, Name, Opening, Pin, Seat, Store, Stretch};
+use uc_share::{ClaimError, Name, Opening, Pin, Reader, Seat, Store, Stretch};
 use uc_version::Version;
 
 /// The two newest runs, and the two behind the newest.
@@ -17,25 +18,68 @@ const NEWEST: Stretch = Stretch { first: 0, count: 2 };
 
 const OLDEST: Stretch = Stretch { first: 1, count: 2 };
 
-/// A claim that must be refused, and why it is.
-fn refusal<O: Operator, N: Name, W: Wait + Drop>(
+/// What another seat finds while the two newest of three runs are claimed: the older of them is taken, the oldest run isn't,
+/// nothing is picked, and what has the older one can't be claimed.
+fn others_are_busy<O: Operator, N: Name, W: Wait + Drop>(
+    rt: &impl Abort,
     store: &Store<O, N, W>,
-    seat: Seat,
-    pin: Pin<O, N>,
-    reader: &mut uc_share::Reader<O, N>,
-    stretch: Stretch,
-) -> (Seat, Option<ClaimError>)
+    mut seat: Seat,
+    reader: &mut Reader<O, N>,
+) -> Result<Seat, Fail>
     requires { seat.table ≡ store.now.table }
-    ensures { result.0.table ≡ store.now.table }
+    ensures { IfOk result (λ seat. seat.table ≡ store.now.table) }
 {
-    match store.claim(seat, pin, reader, stretch) {
-        Err((seat, _pin, error)) => (seat, Some(error)),
-        Ok(held) => (store.abandon(held).0, None),
-    }
+    let pin = store.pin(reader)?;
+    assert!(rt; store.busy(&mut seat, 1) && !store.busy(&mut seat, 0));
+    assert!(rt; store.pick(&pin, &mut seat).is_none());
+    let (seat, error) = claim_refusal(store, seat, pin, reader, OLDEST);
+    assert!(rt; error == Some(ClaimError::Busy(1)));
+    Ok(seat)
 }
 
-/// One stretch is claimed, compacted and installed. Meanwhile others are busy, and afterwards what was pinned before has moved.
-fn one_stretch_is_installed<O: Operator + Sync, N: Name, W: Wait + Drop>(
+/// What another seat finds once they are installed: a reader that was late pins the new version, and what was pinned before
+/// still has its runs, but they have moved.
+fn others_have_moved<O: Operator, N: Name, W: Wait + Drop>(
+    rt: &impl Abort,
+    store: &Store<O, N, W>,
+    seat: Seat,
+    old: Pin<O, N>,
+    reader: &mut Reader<O, N>,
+) -> Result<(), Fail>
+    requires { seat.table ≡ store.now.table }
+{
+    let now = store.pin(reader)?;
+    assert!(rt; has_ids(now.version(), &[4, 1]));
+    assert!(rt; has_ids(old.version(), &[3, 2, 1]));
+    let (_seat, error) = claim_refusal(store, seat, old, reader, OLDEST);
+    assert!(rt; error == Some(ClaimError::Moved));
+    Ok(())
+}
+
+/// Two of three runs are claimed, compacted and installed, beside a second seat.
+fn two_of_three_runs<O: Operator + Sync, N: Name, W: Wait + Drop>(
+    rt: &(impl Threads + Abort + Wait + Sync),
+    alloc: Global,
+    store: &Store<O, N, W>,
+    seats: (Seat, Seat),
+    reader: &mut Reader<O, N>,
+    late: &mut Reader<O, N>,
+) -> Result<(), Fail>
+    requires one { seats.0.table ≡ store.now.table }
+    requires other { seats.1.table ≡ store.now.table }
+{
+    let (mut seat, other) = seats;
+    let old = store.pin(reader)?;
+    let pin = store.pin(reader)?;
+    assert!(rt; store.pick(&pin, &mut seat) == Some(Stretch { first: 0, count: 3 }));
+    let held = claimed(store, seat, pin, reader, NEWEST).ok_or("the claim is refused")?;
+    let other = others_are_busy(rt, store, other, reader)?;
+    installed(rt, alloc, store, held, reader).ok_or("the install is refused")?;
+    others_have_moved(rt, store, other, old, late)
+}
+
+/// The same of a store that is opened here.
+fn stretch_of_a_store<O: Operator + Sync, N: Name, W: Wait + Drop>(
     rt: &(impl Threads + Abort + Wait + Sync),
     handle: W,
     alloc: Global,
@@ -45,48 +89,15 @@ fn one_stretch_is_installed<O: Operator + Sync, N: Name, W: Wait + Drop>(
     requires book { opening.seen.book ≡ N.book }
     requires base { version ≡ N.base }
 {
-    let opened = Store::<O, N, W>::open(alloc, handle, opening, version, small_runs(), 2, 2);
-    let Ok((store, mut readers, mut seats)) = opened else {
-        return Err("the store isn't opened")?;
-    };
-    let Some(mut late) = readers.pop() else {
-        return Err("no reader")?;
-    };
-    let Some(mut reader) = readers.pop() else {
-        return Err("no second reader")?;
-    };
-    let Some(seat) = seats.pop() else {
-        return Err("no seat")?;
-    };
-    let Some(mut other) = seats.pop() else {
-        return Err("no second seat")?;
-    };
-    let first = store.pin(&mut reader)?;
-    let second = store.pin(&mut reader)?;
-    let third = store.pin(&mut reader)?;
-    assert!(rt; store.pick(&first, &mut other) == Some(Stretch { first: 0, count: 3 }));
-    let Ok(held) = store.claim(seat, first, &mut reader, NEWEST) else {
-        return Err("the claim is refused")?;
-    };
-    assert!(rt; store.busy(&mut other, 1) && !store.busy(&mut other, 0));
-    assert!(rt; store.pick(&second, &mut other).is_none());
-    let (other, error) = refusal(&store, other, second, &mut reader, OLDEST);
-    assert!(rt; error == Some(ClaimError::Busy(1)));
-    let made = held.compact(rt, alloc)?;
-    let Ok(_seat) = store.install(rt, alloc, held, made, &mut reader) else {
-        return Err("the install is refused")?;
-    };
-    let now = store.pin(&mut late)?;
-    assert!(rt; has_ids(now.version(), &[4, 1]));
-    assert!(rt; has_ids(third.version(), &[3, 2, 1]));
-    let (_other, error) = refusal(&store, other, third, &mut reader, OLDEST);
-    assert!(rt; error == Some(ClaimError::Moved));
-    Ok(())
+    let (store, one, other) = opened::<O, N, W>(handle, alloc, opening, version)?;
+    let (mut reader, seat) = one;
+    let (mut late, second) = other;
+    two_of_three_runs(rt, alloc, &store, (seat, second), &mut reader, &mut late)
 }
 
 #[test]
 fn stretches_are_installed_once(rt: HostRuntime) -> Result<(), Fail> {
     let alloc = rt.alloc();
-    let version = three_runs(alloc)?;
-    one_stretch_is_installed::<Append<0x2C>, Brand, _>(&rt, &rt, alloc, Opening::new(), version)
+    let version = merged_runs(alloc, 2, &[])?;
+    stretch_of_a_store::<Append<0x2C>, Brand, _>(&rt, &rt, alloc, Opening::new(), version)
 }

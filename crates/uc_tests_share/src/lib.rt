@@ -1,10 +1,19 @@
 //! A store that threads share, called as its users call it.
 //!
-//! `stores.rt` opens a store under a name, `claims.rt` claims, compacts and installs stretches one after the other, and
-//! `threads.rt` does so from several threads at once.
+//! `stores.rt` opens stores, `steps.rt` has the steps of a compactor, `claims.rt` claims, compacts and installs stretches one
+//! after the other, `refusals.rt` has what is refused, `threads.rt` two compactors at once, and `soak.rt` four of them beside two
+//! readers, over many drawn stores.
 #![tactic(auto)]
 
 #[cfg(test)]
 mod claims;
 #[cfg(test)]
+mod refusals;
+#[cfg(test)]
+mod soak;
+#[cfg(test)]
+mod steps;
+#[cfg(test)]
 mod stores;
+#[cfg(test)]
+mod threads;

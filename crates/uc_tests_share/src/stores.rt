@@ -1,18 +1,17 @@
-//! A store of three runs, and what is asked of its versions.
+//! Stores of a few runs, and what is asked of their versions.
+ghost use Rattle.std.specs.Prelude.{◌≡◌, IfOk, IfSome, All};
+
 use std::alloc::Global;
+use std::sync::Wait;
 use std::test::Fail;
 use uc_batch::Writes;
-use uc_bytes::{OpRef, WriteRef};
-use uc_version::{Options, Version, open_version};
+use uc_bytes::{OpRef, Write, WriteRef};
+use uc_oper::Operator;
+use uc_share::{Name, Opening, Options, Reader, Seat, Store, Version};
+use uc_version::open_version;
 
-/// A put and two merges of one key, numbered from 1.
-fn three_writes(alloc: Global) -> Result<Writes, Fail> {
-    let mut list = Vec::new(alloc);
-    list.push(WriteRef::new(1, OpRef::put(b"k", b"a")).to_write(alloc)?)?;
-    list.push(WriteRef::new(2, OpRef::merge(b"k", b"b")).to_write(alloc)?)?;
-    list.push(WriteRef::new(3, OpRef::merge(b"k", b"c")).to_write(alloc)?)?;
-    Ok(Writes::of(list).ok_or("the sequences don't rise")?)
-}
+/// A reader and a seat.
+pub(crate) type Worker<O, N> = (Reader<O, N>, Seat);
 
 /// Options under which each write is a run and two runs are compacted.
 pub(crate) fn small_runs() -> Options {
@@ -24,12 +23,43 @@ pub(crate) fn small_runs() -> Options {
     }
 }
 
-/// A version of three runs, with ids from 3 down to 1.
-pub(crate) fn three_runs(alloc: Global) -> Result<Version, Fail> {
-    match open_version(alloc, &three_writes(alloc)?, &[], &small_runs()) {
+/// A version of these writes, each a run.
+fn version_of(
+    alloc: Global,
+    list: Vec<Write>,
+    keeps: &[u64],
+    options: &Options,
+) -> Result<Version, Fail> {
+    let writes = Writes::of(list).ok_or("the sequences don't rise")?;
+    match open_version(alloc, &writes, keeps, options) {
         Ok(version) => Ok(version),
         Err(_) => Err("the store isn't opened")?,
     }
+}
+
+/// A version of a put and so many merges of one key, which are numbered from 1, each a run with its number as id.
+pub(crate) fn merged_runs(alloc: Global, merges: u64, keeps: &[u64]) -> Result<Version, Fail> {
+    let mut list = Vec::new(alloc);
+    list.push(WriteRef::new(1, OpRef::put(b"k", b"a")).to_write(alloc)?)?;
+    for merge in 0..merges {
+        list.push(WriteRef::new(merge.saturating_add(2), OpRef::merge(b"k", b"b")).to_write(
+            alloc,
+        )?)?;
+    }
+    version_of(alloc, list, keeps, &small_runs())
+}
+
+/// A version of 64 puts, each a run, after which no id is left.
+pub(crate) fn last_runs(alloc: Global) -> Result<Version, Fail> {
+    let mut list = Vec::new(alloc);
+    for seq in 1..=64 {
+        list.push(WriteRef::new(seq, OpRef::put(b"k", b"a")).to_write(alloc)?)?;
+    }
+    let options = Options {
+        first_id: u64::MAX - 64,
+        ..small_runs()
+    };
+    version_of(alloc, list, &[], &options)
 }
 
 /// Whether a version has runs with these ids, the newest first.
@@ -40,4 +70,40 @@ pub(crate) fn has_ids(version: &Version, ids: &[u64]) -> bool {
         }
     }
     version.runs().len() == ids.len()
+}
+
+/// A reader and a seat of those of a store.
+pub(crate) fn next_worker<O: Operator, N: Name, W: Wait + Drop>(
+    store: &Store<O, N, W>,
+    readers: &mut Vec<Reader<O, N>>,
+    seats: &mut Vec<Seat>,
+) -> Option<Worker<O, N>>
+    requires { All (λ seat. seat.table ≡ store.now.table) seats.old.items }
+    ensures worker { IfSome result (λ worker. worker.1.table ≡ store.now.table) }
+    ensures rest { All (λ seat. seat.table ≡ store.now.table) seats.new.items }
+{
+    let reader = readers.pop()?;
+    let seat = seats.pop()?;
+    Some((reader, seat))
+}
+
+/// A store with two workers.
+pub(crate) fn opened<O: Operator, N: Name, W: Wait + Drop>(
+    handle: W,
+    alloc: Global,
+    opening: Opening,
+    version: Version,
+) -> Result<(Store<O, N, W>, Worker<O, N>, Worker<O, N>), Fail>
+    requires book { opening.seen.book ≡ N.book }
+    requires base { version ≡ N.base }
+    ensures { IfOk result (λ opened.
+        (opened.1.1.table ≡ opened.0.table) × (opened.2.1.table ≡ opened.0.table)) }
+{
+    let opened = Store::<O, N, W>::open(alloc, handle, opening, version, small_runs(), 2, 2);
+    let Ok((store, mut readers, mut seats)) = opened else {
+        return Err("the store isn't opened")?;
+    };
+    let one = next_worker(&store, &mut readers, &mut seats).ok_or("there is no worker")?;
+    let other = next_worker(&store, &mut readers, &mut seats).ok_or("there is no worker")?;
+    Ok((store, one, other))
 }

@@ -1,5 +1,5 @@
 //! Every stretch of random stores, compacted.
-use crate::dice::{Dice, KEYS};
+use uc_tests_shared::dice::{Dice, KEYS};
 use std::alloc::Global;
 use std::process::Abort;
 use std::sync::Arc;
@@ -170,7 +170,7 @@ fn all_stretches_stand<O: Operator + Sync>(
 #[test]
 fn appended_stores_read_alike(rt: HostRuntime) -> Result<(), Fail> {
     let alloc = rt.alloc();
-    let mut dice = Dice(3);
+    let mut dice = Dice::new(3);
     for _ in 0..20 {
         let runs = 3 + (dice.roll(4) & 3);
         let store = drawn(&rt, alloc, &mut dice, runs)?;
@@ -182,7 +182,7 @@ fn appended_stores_read_alike(rt: HostRuntime) -> Result<(), Fail> {
 #[test]
 fn counted_stores_read_alike(rt: HostRuntime) -> Result<(), Fail> {
     let alloc = rt.alloc();
-    let mut dice = Dice(5);
+    let mut dice = Dice::new(5);
     for _ in 0..20 {
         let runs = 3 + (dice.roll(4) & 3);
         let store = drawn(&rt, alloc, &mut dice, runs)?;
@@ -194,7 +194,7 @@ fn counted_stores_read_alike(rt: HostRuntime) -> Result<(), Fail> {
 #[test]
 fn greatest_stores_read_alike(rt: HostRuntime) -> Result<(), Fail> {
     let alloc = rt.alloc();
-    let mut dice = Dice(8);
+    let mut dice = Dice::new(8);
     for _ in 0..20 {
         let runs = 3 + (dice.roll(4) & 3);
         let store = drawn(&rt, alloc, &mut dice, runs)?;

@@ -13,8 +13,6 @@ mod calls;
 #[cfg(test)]
 mod compactions;
 #[cfg(test)]
-mod dice;
-#[cfg(test)]
 mod owned_stores;
 #[cfg(test)]
 mod owners;

@@ -1,29 +1,21 @@
 //! Random stores in one owner's hands: claims, installs and picks in any order, and the same answers all along.
-use crate::dice::{Dice, KEYS};
+use uc_tests_shared::dice::{Dice, KEYS};
 use std::alloc::Global;
 use std::marker::Sync;
 use std::process::Abort;
 use std::test::Fail;
 use std::thread::Threads;
 use uc_batch::Writes;
-use uc_bytes::{Bytes, Write};
+use uc_bytes::Bytes;
 use uc_oper::{Append, Counter, Maximum, Operator};
 use uc_query_answer::{Query, answer_writes};
 use uc_query_read::answer_one;
 use uc_version::{Options, Owned, OwnedClaim, Stretch, open_plain};
 
-/// Up to 40 drawn writes, with gaps between their sequences.
+/// Up to 40 drawn writes.
 pub(crate) fn drawn_writes(alloc: Global, dice: &mut Dice) -> Result<Writes, Fail> {
-    let mut writes = Vec::new(alloc);
-    let mut seq = 0_u64;
-    for _ in 0..dice.roll(41) {
-        seq = seq.wrapping_add(1 + (dice.roll(2) & 1));
-        writes.push(Write {
-            seq,
-            op: dice.op(alloc)?,
-        })?;
-    }
-    Ok(Writes::of(writes).ok_or("sequences don't rise")?)
+    let count = dice.roll(41);
+    Ok(Writes::of(dice.writes(alloc, count)?).ok_or("sequences don't rise")?)
 }
 
 /// Drawn options: memtables of one to six writes or so, and a trigger, a ratio and a percentage of any size.
@@ -189,7 +181,7 @@ fn drawn_store_reads_alike<O: Operator + Sync>(
 #[test]
 fn owned_stores_read_alike(rt: HostRuntime) -> Result<(), Fail> {
     let alloc = rt.alloc();
-    let mut dice = Dice(13);
+    let mut dice = Dice::new(13);
     for _ in 0..20 {
         assert!(rt; drawn_store_reads_alike::<Append<0x2C>>(&rt, alloc, &mut dice)?);
         assert!(rt; drawn_store_reads_alike::<Counter>(&rt, alloc, &mut dice)?);

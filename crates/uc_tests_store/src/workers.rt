@@ -1,5 +1,5 @@
 //! Batches of drawn queries, by every number of workers and every size of pieces.
-use crate::dice::{Dice, KEYS};
+use uc_tests_shared::dice::{Dice, KEYS};
 use crate::owned_stores::drawn_writes;
 use std::alloc::Global;
 use std::marker::Sync;
@@ -119,7 +119,7 @@ fn is_answered_alike<O: Operator + Sync>(
 #[test]
 fn batches_by_workers(rt: HostRuntime) -> Result<(), Fail> {
     let alloc = rt.alloc();
-    let mut dice = Dice(17);
+    let mut dice = Dice::new(17);
     for _ in 0..4 {
         assert!(rt; is_answered_alike::<Append<0x2C>>(&rt, alloc, &mut dice)?);
         assert!(rt; is_answered_alike::<Counter>(&rt, alloc, &mut dice)?);
