@@ -1,0 +1,78 @@
+//! An installer, which compacts the two newest runs until one is left.
+ghost use Rattle.std.specs.Prelude.{◌≡◌, IfSome};
+
+use crate::times::Times;
+use anyhow::Result;
+use std::alloc::Global;
+use std::marker::Sync;
+use std::sync::Wait;
+use std::thread::Threads;
+use std::time::{Clock, Instant};
+use uc_oper::Operator;
+use uc_share::{Name, Reader, Seat, Store, Stretch};
+
+/// How many installs a store of 64 runs has.
+const INSTALLS: usize = 63;
+
+/// The two newest runs.
+const NEWEST: Stretch = Stretch { first: 0, count: 2 };
+
+/// How long compactions and installs took.
+#[derive(Drop)]
+pub(crate) struct Work {
+    pub(crate) compactions: Times,
+    pub(crate) installs: Times,
+}
+
+impl Work {
+    /// None yet.
+    pub(crate) fn new(alloc: Global) -> Result<Work> {
+        Ok(Work {
+            compactions: Times::new(alloc)?,
+            installs: Times::new(alloc)?,
+        })
+    }
+}
+
+/// The two newest runs are compacted and installed.
+fn install_one<O: Operator + Sync, N: Name, W: Wait + Drop>(
+    rt: &(impl Threads + Wait + Clock + Sync),
+    alloc: Global,
+    store: &Store<O, N, W>,
+    seat: Seat,
+    reader: &mut Reader<O, N>,
+    work: &mut Work,
+) -> Option<Seat>
+    requires { seat.table ≡ store.now.table }
+    ensures { IfSome result (λ seat. seat.table ≡ store.now.table) }
+{
+    let pin = store.pin(reader).ok()?;
+    let held = store.claim(seat, pin, reader, NEWEST).ok()?;
+    let start = Instant::now(rt).ok()?;
+    let made = held.compact(rt, alloc).ok()?;
+    work.compactions.add(start.elapsed(rt).ok()?.as_nanos() as u64);
+    let start = Instant::now(rt).ok()?;
+    let seat = store.install(rt, alloc, held, made, reader).ok()?;
+    work.installs.add(start.elapsed(rt).ok()?.as_nanos() as u64);
+    Some(seat)
+}
+
+/// All runs are made into one, two by two. Whether they were.
+pub(crate) fn install_all<O: Operator + Sync, N: Name, W: Wait + Drop>(
+    rt: &(impl Threads + Wait + Clock + Sync),
+    alloc: Global,
+    store: &Store<O, N, W>,
+    mut seat: Seat,
+    reader: &mut Reader<O, N>,
+    work: &mut Work,
+) -> bool
+    requires { seat.table ≡ store.now.table }
+{
+    for _ in 0..INSTALLS {
+        seat = match install_one(rt, alloc, store, seat, reader, work) {
+            Some(seat) => seat,
+            None => return false,
+        };
+    }
+    true
+}

@@ -1,0 +1,227 @@
+//! Pins and installs of a store that threads share, for `bench/share`.
+//!
+//! `bench_share pins READERS ROUNDS` lets 1, 2 or 4 readers pin so many times each with nobody beside them, and prints the
+//! nanoseconds and how many pins there were. `bench_share beside READERS STORES` opens so many stores of 64 runs, one after
+//! the other; in each an installer makes them one by 63 installs while the readers pin; it prints the nanoseconds of these
+//! installs together, and how many pins there were meanwhile. `bench_share times READERS STORES` does the same with a clock
+//! around each pin, and prints the median, the 99th and the 99.99th of a hundred, and the longest, in nanoseconds.
+//! `bench_share installs POINTS STORES` has stores whose runs have so many points, and nobody beside the installer; it prints
+//! the medians of a compaction and of an install, in nanoseconds.
+//! Without words it does a little of each, and says that all pins and installs went well.
+#![tactic(auto)]
+
+ghost use Rattle.std.specs.Prelude.{◌≡◌};
+
+mod installing;
+mod pinning;
+mod stores;
+mod times;
+
+use crate::installing::{Work, install_all};
+use crate::pinning::{DONE, INSTALLING, Way, Window, all_pin};
+use crate::stores::{opened, version_of};
+use crate::times::Times;
+use anyhow::{Result, bail, ensure};
+use std::alloc::Global;
+use std::env;
+use std::marker::{Brand, Send, Sync};
+use std::sync::Wait;
+use std::sync::atomic::Ordering;
+use std::thread::{Threads, join};
+use std::time::{Clock, Instant};
+use uc_oper::{Counter, Operator};
+use uc_share::{Name, Opening, Reader, Seat, Store, Version};
+
+/// How often an installer looks whether all readers pin.
+const PATIENCE: u64 = 10_000_000_000;
+
+/// Installs once all readers pin, and tells them the beginning and the end. How many nanoseconds it took, where all went well.
+fn install_beside<O: Operator + Sync, N: Name, W: Wait + Drop>(
+    rt: &(impl Threads + Wait + Clock + Sync),
+    alloc: Global,
+    store: &Store<O, N, W>,
+    worker: (Reader<O, N>, Seat),
+    window: &Window,
+    readers: u64,
+    work: &mut Work,
+) -> Option<u64>
+    requires { worker.1.table ≡ store.now.table }
+{
+    for _ in 0..PATIENCE {
+        if window.ready.load(Ordering::Acquire) >= readers {
+            break;
+        }
+    }
+    let (mut reader, seat) = worker;
+    window.phase.store(INSTALLING, Ordering::Release);
+    let start = Instant::now(rt);
+    let done = install_all(rt, alloc, store, seat, &mut reader, work);
+    let end = Instant::now(rt);
+    window.phase.store(DONE, Ordering::Release);
+    if !done {
+        return None;
+    }
+    Some(end.ok()?.duration_since(start.ok()?).as_nanos() as u64)
+}
+
+/// What readers do with a store, and who is beside them.
+#[derive(Clone, Copy)]
+struct Plan {
+    readers: usize,
+    way: Way,
+    installer: bool,
+}
+
+/// How many nanoseconds passed in a store, and the pins meanwhile.
+type Outcome = Option<(u64, Times)>;
+
+/// Readers pin with nobody beside them.
+fn pin_alone<O, N, W, R>(
+    rt: &R,
+    alloc: Global,
+    store: &Store<O, N, W>,
+    readers: Vec<Reader<O, N>>,
+    way: Way,
+) -> Outcome
+where
+    O: Operator + Send + Sync,
+    N: Name + Send + Sync,
+    W: Wait + Drop + Send,
+    R: Threads + Wait + Clock + Sync,
+{
+    let start = Instant::now(rt).ok()?;
+    let times = all_pin(rt, alloc, store, readers, &Window::new(), way)?;
+    Some((start.elapsed(rt).ok()?.as_nanos() as u64, times))
+}
+
+/// Readers pin while an installer installs.
+fn pin_and_install<O, N, W, R>(
+    rt: &R,
+    alloc: Global,
+    store: &Store<O, N, W>,
+    readers: Vec<Reader<O, N>>,
+    worker: (Reader<O, N>, Seat),
+    way: Way,
+    work: &mut Work,
+) -> Outcome
+where
+    O: Operator + Send + Sync,
+    N: Name + Send + Sync,
+    W: Wait + Drop + Send,
+    R: Threads + Wait + Clock + Sync,
+    requires { worker.1.table ≡ store.now.table }
+{
+    let window = Window::new();
+    let window = &window;
+    let count = readers.len() as u64;
+    let (length, times) = join(
+        rt,
+        move || install_beside(rt, alloc, store, worker, window, count, work),
+        move || all_pin(rt, alloc, store, readers, window, way),
+    );
+    Some((length?, times?))
+}
+
+/// What a plan comes to in a store that is opened here.
+fn outcome<O, N, W, R>(
+    rt: &R,
+    handle: W,
+    alloc: Global,
+    opened_with: (Opening, Version),
+    plan: Plan,
+    work: &mut Work,
+) -> Outcome
+where
+    O: Operator + Send + Sync,
+    N: Name + Send + Sync,
+    W: Wait + Drop + Send,
+    R: Threads + Wait + Clock + Sync,
+    requires book { opened_with.0.seen.book ≡ N.book }
+    requires base { opened_with.1 ≡ N.base }
+{
+    let count = plan.readers.saturating_add(1);
+    let (store, mut readers, seat) = opened::<O, N, W>(handle, alloc, opened_with, count)?;
+    let reader = readers.pop()?;
+    if !plan.installer {
+        return pin_alone(rt, alloc, &store, readers, plan.way);
+    }
+    if plan.readers > 0 {
+        return pin_and_install(rt, alloc, &store, readers, (reader, seat), plan.way, work);
+    }
+    let length = install_beside(rt, alloc, &store, (reader, seat), &Window::new(), 0, work)?;
+    Some((length, Times::new(alloc).ok()?))
+}
+
+/// What a plan comes to in so many stores whose runs have so many points, one after the other.
+fn outcomes(
+    rt: &(impl Threads + Wait + Clock + Sync),
+    alloc: Global,
+    plan: Plan,
+    points: u64,
+    stores: u64,
+    work: &mut Work,
+) -> Result<(u64, Times)> {
+    let mut length = 0_u64;
+    let mut times = Times::new(alloc)?;
+    for _ in 0..stores {
+        let version = version_of(alloc, points)?;
+        let opened_with = (Opening::new(), version);
+        let Some((one, more)) = outcome::<Counter, Brand, _, _>(rt, rt, alloc, opened_with, plan, work) else {
+            bail!("a pin or an install is refused");
+        };
+        length = length.saturating_add(one);
+        times.join(&more);
+    }
+    Ok((length, times))
+}
+
+/// A little of each.
+fn small(rt: &(impl Threads + Wait + Clock + Sync + Print), alloc: Global) -> Result<()> {
+    let mut work = Work::new(alloc)?;
+    for way in [Way::Often(1000), Way::Beside, Way::Timed] {
+        let plan = Plan { readers: 2, way, installer: !matches!(way, Way::Often(_)) };
+        outcomes(rt, alloc, plan, 1, 2, &mut work)?;
+    }
+    ensure!(work.installs.calls() == 252, "there aren't 63 installs of each of four stores");
+    println!(rt; "all pins and installs went well")?;
+    Ok(())
+}
+
+/// Prints what was asked for.
+fn run(rt: &(impl Threads + Wait + Clock + Sync + Print), alloc: Global, mode: &str, first: u64, second: u64) -> Result<()> {
+    let mut work = Work::new(alloc)?;
+    let readers = (first % 8) as usize;
+    match mode {
+        "pins" => {
+            let plan = Plan { readers, way: Way::Often(second), installer: false };
+            let (length, times) = outcomes(rt, alloc, plan, 1, 1, &mut work)?;
+            println!(rt; "{length} {}", times.calls())?;
+        }
+        "beside" => {
+            let plan = Plan { readers, way: Way::Beside, installer: true };
+            let (length, times) = outcomes(rt, alloc, plan, 1, second, &mut work)?;
+            println!(rt; "{length} {}", times.calls())?;
+        }
+        "times" => {
+            let plan = Plan { readers, way: Way::Timed, installer: true };
+            let (_, times) = outcomes(rt, alloc, plan, 1, second, &mut work)?;
+            println!(rt; "{} {} {} {}", times.below(5000), times.below(9900), times.below(9999), times.longest())?;
+        }
+        "installs" => {
+            let plan = Plan { readers: 0, way: Way::Beside, installer: true };
+            outcomes(rt, alloc, plan, first, second, &mut work)?;
+            println!(rt; "{} {}", work.compactions.below(5000), work.installs.below(5000))?;
+        }
+        _ => bail!("it is pins, beside, times or installs"),
+    }
+    Ok(())
+}
+
+fn main(rt: HostRuntime) -> Result<()> {
+    let words: Vec<String> = env::args(&rt)?.collect(rt.alloc())?;
+    if words.len() < 4 {
+        return small(&rt, rt.alloc());
+    }
+    let (first, second) = (words[2].parse::<u64>()?, words[3].parse::<u64>()?);
+    run(&rt, rt.alloc(), words[1].as_str(), first, second)
+}
