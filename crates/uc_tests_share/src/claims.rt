@@ -38,7 +38,7 @@ fn others_are_busy<O: Operator, N: Name, W: Wait + Drop>(
 }
 
 /// What another seat finds once they are installed: a reader that was late pins the new version, and what was pinned before
-/// still has its runs, but they have moved.
+/// still has its runs, but they have moved. The seat that comes back claims what was pinned late.
 fn others_have_moved<O: Operator, N: Name, W: Wait + Drop>(
     rt: &impl Abort,
     store: &Store<O, N, W>,
@@ -51,8 +51,9 @@ fn others_have_moved<O: Operator, N: Name, W: Wait + Drop>(
     let now = store.pin(reader)?;
     assert!(rt; has_ids(now.version(), &[4, 1]));
     assert!(rt; has_ids(old.version(), &[3, 2, 1]));
-    let (_seat, error) = claim_refusal(store, seat, old, reader, OLDEST);
+    let (seat, error) = claim_refusal(store, seat, old, reader, OLDEST);
     assert!(rt; error == Some(ClaimError::Moved));
+    assert!(rt; claimed(store, seat, now, reader, NEWEST).is_some());
     Ok(())
 }
 
@@ -100,4 +101,54 @@ fn stretches_are_installed_once(rt: HostRuntime) -> Result<(), Fail> {
     let alloc = rt.alloc();
     let version = merged_runs(alloc, 2, &[])?;
     stretch_of_a_store::<Append<0x2C>, Brand, _>(&rt, &rt, alloc, Opening::new(), version)
+}
+
+/// What another seat finds where the claim of the two newest of four runs was dropped: what has one of them is busy for good, and
+/// the two oldest can be installed.
+fn dropped_stay_busy<O: Operator + Sync, N: Name, W: Wait + Drop>(
+    rt: &(impl Threads + Abort + Wait + Sync),
+    alloc: Global,
+    store: &Store<O, N, W>,
+    mut seat: Seat,
+    reader: &mut Reader<O, N>,
+) -> Result<(), Fail>
+    requires { seat.table ≡ store.now.table }
+{
+    for _ in 0..3 {
+        let pin = store.pin(reader)?;
+        let (back, error) = claim_refusal(store, seat, pin, reader, OLDEST);
+        assert!(rt; error == Some(ClaimError::Busy(2)));
+        seat = back;
+    }
+    let pin = store.pin(reader)?;
+    let last = Stretch { first: 2, count: 2 };
+    let held = claimed(store, seat, pin, reader, last).ok_or("the claim is refused")?;
+    installed(rt, alloc, store, held, reader).ok_or("the install is refused")?;
+    Ok(())
+}
+
+/// A claim is dropped in a store of four runs that is opened here.
+fn claim_is_dropped<O: Operator + Sync, N: Name, W: Wait + Drop>(
+    rt: &(impl Threads + Abort + Wait + Sync),
+    handle: W,
+    alloc: Global,
+    opening: Opening,
+    version: Version,
+) -> Result<(), Fail>
+    requires book { opening.seen.book ≡ N.book }
+    requires base { version ≡ N.base }
+{
+    let (store, one, other) = opened::<O, N, W>(handle, alloc, opening, version)?;
+    let (mut reader, seat) = one;
+    let (_, second) = other;
+    let pin = store.pin(&mut reader)?;
+    drop(claimed(&store, seat, pin, &mut reader, NEWEST).ok_or("the claim is refused")?);
+    dropped_stay_busy(rt, alloc, &store, second, &mut reader)
+}
+
+#[test]
+fn dropped_claims_stay_busy(rt: HostRuntime) -> Result<(), Fail> {
+    let alloc = rt.alloc();
+    let version = merged_runs(alloc, 3, &[])?;
+    claim_is_dropped::<Append<0x2C>, Brand, _>(&rt, &rt, alloc, Opening::new(), version)
 }

@@ -2,7 +2,7 @@
 ghost use Rattle.std.specs.Prelude.{◌≡◌, IfOk};
 
 use crate::steps::{claimed, installed};
-use crate::stores::{Worker, has_ids, last_runs, merged_runs, opened, small_runs};
+use crate::stores::{Worker, has_ids, last_runs, merged_runs, merges_alone, opened, small_runs};
 use std::alloc::Global;
 use std::marker::{Brand, Sync};
 use std::process::Abort;
@@ -42,7 +42,7 @@ fn compacted<O: Operator + Sync>(
     version: &Version,
     first: usize,
 ) -> Result<Compacted<O>, Fail> {
-    if first > 1 || version.runs().len() < 3 {
+    if first > 1 || version.runs().len() < first + 2 {
         return Err("the runs aren't there")?;
     }
     Ok(compact_stretch::<O>(rt, alloc, version, Stretch { first, count: 2 })?)
@@ -109,11 +109,20 @@ fn what_is_foreign_is_refused(rt: HostRuntime) -> Result<(), Fail> {
     for (keeps, first, wanted) in foreign() {
         let version = merged_runs(alloc, 2, keeps)?;
         let opening = (Opening::new(), version);
-        let error = refusal_of_foreign::<Counter, Brand, _>(
-            &rt, &rt, alloc, opening, &other, *first,
-        );
+        let error = refusal_of_foreign::<Counter, Brand, _>(&rt, &rt, alloc, opening, &other, *first);
         assert!(rt; error? == *wanted);
     }
+    Ok(())
+}
+
+#[test]
+fn what_is_for_the_oldest_run_is_refused(rt: HostRuntime) -> Result<(), Fail> {
+    let alloc = rt.alloc();
+    let other = merges_alone(alloc)?;
+    let version = merged_runs(alloc, 2, &[])?;
+    let opening = (Opening::new(), version);
+    let error = refusal_of_foreign::<Counter, Brand, _>(&rt, &rt, alloc, opening, &other, 0);
+    assert!(rt; error? == InstallError::WrongInputs);
     Ok(())
 }
 

@@ -49,6 +49,15 @@ pub(crate) fn merged_runs(alloc: Global, merges: u64, keeps: &[u64]) -> Result<V
     version_of(alloc, list, keeps, &small_runs())
 }
 
+/// A version of the merges alone, the two newest runs of three, under their own ids.
+pub(crate) fn merges_alone(alloc: Global) -> Result<Version, Fail> {
+    let mut list = Vec::new(alloc);
+    for seq in 2..=3 {
+        list.push(WriteRef::new(seq, OpRef::merge(b"k", b"b")).to_write(alloc)?)?;
+    }
+    version_of(alloc, list, &[], &small_runs())
+}
+
 /// A version of 64 puts, each a run, after which no id is left.
 pub(crate) fn last_runs(alloc: Global) -> Result<Version, Fail> {
     let mut list = Vec::new(alloc);
