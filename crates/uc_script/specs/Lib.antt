@@ -1,6 +1,7 @@
 pub mod Lines
 pub mod Fields
 pub mod Texts
+pub mod Queries
 pub mod Script
 pub mod Reading
 pub mod Cases

@@ -17,6 +17,8 @@ mod error;
 mod field;
 mod laws;
 mod lines;
+mod query;
+mod query_line;
 mod reading;
 mod script;
 mod seq;
@@ -29,6 +31,7 @@ pub use laws::{
     a_script_is_its_lines, a_script_names_no_more_than_it_has, names_are_in_range,
     printed_bytes_are_read, printed_numbers_are_read,
 };
+pub use query::Query;
 pub use reading::read_script;
 pub use script::{Calls, Keeps, Ops, Script};
 pub use seq::Seq;
