@@ -157,9 +157,10 @@ asked_by lines = record {
   calls = filter_map call_in (lines_after lines);
 }
 
-abbrev pub unless_fault : Option ℕ → Script → Result Script ℕ
-unless_fault (Some k) script = Err (k + 1)
-unless_fault None script = Ok script
+-- What was read, unless there is a fault behind so many lines: then its number, from 1.
+abbrev pub unless_fault : {A : Type 0} → Option ℕ → A → Result A ℕ
+unless_fault (Some k) read = Err (k + 1)
+unless_fault None read = Ok read
 
 -- What a script asks, or the number of its first line at fault, from 1.
 unfoldable pub script_of : List ℕ → Result Script ℕ
