@@ -2,6 +2,12 @@ pub mod Cuts
 pub mod Faults
 pub mod First
 pub mod HexPairs
+pub mod LineEnds
+pub mod HeadFaults
+pub mod HeadWhole
+pub mod HeadJudged
+pub mod HeadRead
+pub mod QueriesAhead
 pub mod Judged
 pub mod Numbers
 pub mod Printed

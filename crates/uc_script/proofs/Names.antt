@@ -6,13 +6,15 @@ use Rattle.std.specs.Option.{option_map}
 use Rattle.std.proofs.lemmas.Bool.{ltb-true}
 use Rattle.std.proofs.lemmas.List.Elements.{All-from_recursion}
 use Rattle.uc_script.specs.Lines.{lines_of, fields_of, is_skipped, says}
-use Rattle.uc_script.specs.Texts.{◌>>=◌, number_of, name_of, text_of, seq_of, high_of}
-use Rattle.uc_script.specs.Script.{get_of, scan_of, claim_of, compact_of, call_alone, call_with_one, call_with_two, call_of, call_line, call_in, asked, script_of}
+use Rattle.uc_script.specs.Texts.{◌>>=◌, number_of, name_of}
+use Rattle.uc_script.specs.Queries.{get_of, scan_of, call_for}
+use Rattle.uc_script.specs.Script.{claim_of, compact_of, call_alone, call_with_one, call_with_two, call_of, call_line, call_in, asked, script_of}
 use Rattle.uc_script.specs.Cases.{ComesTo, asks, no_setup, no_open, no_call}
 use Rattle.uc_script.specs.Names.{NameIsGood}
 use Rattle.uc_script.specs.declared.call.Call.{Call}
-use Rattle.uc_script.specs.declared.call.Call.TheVariants.{Get, Scan, Claim, Install, Abandon, Compact, Pick, Report}
-use Rattle.uc_script.specs.declared.seq.Seq.{Seq}
+use Rattle.uc_script.specs.declared.call.Call.TheVariants.{Claim, Install, Abandon, Compact, Pick, Report}
+use Rattle.uc_script.specs.declared.query.Query.{Query}
+use Rattle.uc_script.specs.declared.query.Query.TheVariants.{Get, Scan}
 use Rattle.uc_script.specs.declared.call_line.CallLine.TheVariants as asking
 use Rattle.uc_script.specs.declared.script.Script.{Script}
 
@@ -39,17 +41,10 @@ name_small field n e = number_step (number_of field) n e
 abbrev IsSmall : Option ℕ → Type 0
 IsSmall name = (n : ℕ) → name ≡ Some n → n < 32
 
-get_good : (key : Option (List ℕ)) (at : Option Seq) → IsGood (key >>= λ k. at >>= λ s. Some (Get k s))
-get_good None at = tt
-get_good (Some k) None = tt
-get_good (Some k) (Some s) = tt
-
-scan_good : (low : Option (List ℕ)) (high : Option (Option (List ℕ))) (limit : Option ℕ) (at : Option Seq) → IsGood (low >>= λ l. high >>= λ h. limit >>= λ n. at >>= λ s. Some (Scan l h n s))
-scan_good None high limit at = tt
-scan_good (Some l) None limit at = tt
-scan_good (Some l) (Some h) None at = tt
-scan_good (Some l) (Some h) (Some n) None = tt
-scan_good (Some l) (Some h) (Some n) (Some s) = tt
+query_good : (query : Option Query) → IsGood (option_map call_for query)
+query_good None = tt
+query_good (Some (Get key at)) = tt
+query_good (Some (Scan low high limit at)) = tt
 
 claim_good : (name first count : Option ℕ) → IsSmall name → IsGood (name >>= λ n. first >>= λ f. count >>= λ c. Some (Claim n f c))
 claim_good None first count small = tt
@@ -76,11 +71,10 @@ one_good : (t u : Bool) (name : Option ℕ) → IsSmall name → IsGood (name >>
 one_good t u None small = tt
 one_good t u (Some n) small = one_choice t u n (small n refl)
 
--- one of two, or nothing
-either_good : (t u : Bool) (a b : Option Call) → IsGood a → IsGood b → IsGood (cond t a (cond u b None))
-either_good true u a b p q = p
-either_good false true a b p q = q
-either_good false false a b p q = tt
+-- one of two
+either_good : (t : Bool) (a b : Option Call) → IsGood a → IsGood b → IsGood (cond t a b)
+either_good true a b p q = p
+either_good false a b p q = q
 
 -- one, or nothing
 if_good : (t : Bool) (a : Option Call) → IsGood a → IsGood (cond t a None)
@@ -89,16 +83,15 @@ if_good false a p = tt
 
 -- what a line says by its fields
 fields_good : (fields : List (List ℕ)) → IsGood (call_of fields)
-unfolding call_of call_alone call_with_one call_with_two get_of scan_of claim_of compact_of
+unfolding call_of call_alone call_with_one call_with_two claim_of compact_of
 fields_good [] = tt
 fields_good (word ∷ []) = alone_good (says word (codes "pick")) (says word (codes "report"))
 fields_good (word ∷ name ∷ []) = one_good (says word (codes "install")) (says word (codes "abandon")) (name_of name) (name_small name)
 fields_good (word ∷ first ∷ second ∷ []) =
-    either_good (says word (codes "get")) (says word (codes "compact")) (get_of first second) (compact_of first second) (get_good (text_of first) (seq_of second)) (compact_good (number_of first) (number_of second))
+    either_good (says word (codes "compact")) (compact_of first second) (option_map call_for (get_of word first second)) (compact_good (number_of first) (number_of second)) (query_good (get_of word first second))
 fields_good (word ∷ name ∷ first ∷ count ∷ []) =
     if_good (says word (codes "claim")) (claim_of name first count) (claim_good (name_of name) (number_of first) (number_of count) (name_small name))
-fields_good (word ∷ low ∷ high ∷ limit ∷ at ∷ []) =
-    if_good (says word (codes "scan")) (scan_of low high limit at) (scan_good (text_of low) (high_of high) (number_of limit) (seq_of at))
+fields_good (word ∷ low ∷ high ∷ limit ∷ at ∷ []) = query_good (scan_of word low high limit at)
 fields_good (a ∷ b ∷ c ∷ d ∷ e ∷ f ∷ fields) = tt
 
 -- ---- lines

@@ -2,6 +2,7 @@
 use Rattle.std.proofs.Common.{◌≡◌, ℕ, suc, ◌+◌, ◌%◌, ◌≤◌, Bool, true, false, cond, eqb, List, [], ◌∷◌, ◌++◌, length, Option, Some, None, Result, Ok, Err, refl, ap, sym, subst, arith, codes}
 use Rattle.std.specs.Prelude.{All, filter_map}
 use Rattle.std.specs.List.{AllByRecursion, cons_option, onto_first}
+use Rattle.std.specs.Option.{option_map}
 use Rattle.std.specs.Result.{result_ok}
 use Rattle.std.proofs.lemmas.List.Elements.{All-from_recursion}
 use Rattle.std.proofs.lemmas.List.{length-append}
@@ -13,7 +14,7 @@ use Rattle.uc_bytes.specs.declared.op.Op.{Op}
 use Rattle.uc_bytes.specs.declared.op.Op.TheVariants.{Put, Delete, Merge, DeleteRange}
 use Rattle.uc_script.specs.Lines.{lines_of, fields_of, is_skipped, says}
 use Rattle.uc_script.specs.Texts.{◌>>=◌, text_of, number_of}
-use Rattle.uc_script.specs.Script.{with_one, with_two, setup_of, setup_line, changed, change_in, script_of}
+use Rattle.uc_script.specs.Script.{keep_of, with_one, with_two, setup_of, setup_line, changed, change_in, script_of}
 use Rattle.uc_script.specs.Cases.{ComesTo, asks, no_setup, no_open, no_call}
 use Rattle.uc_script.specs.declared.setup_line.SetupLine.{SetupLine}
 use Rattle.uc_script.specs.declared.setup_line.SetupLine.TheVariants as setup
@@ -93,7 +94,7 @@ change_is op x e = cc
 
 -- a key or a number behind a word
 one_step : (t u : Bool) (key : Option (List ℕ)) (number : Option ℕ) (n : ℕ) (op : Op)
-    → cond t (key >>= λ k. Some (setup.Change (Delete k))) (cond u (number >>= λ x. Some (setup.Keep x)) None) ≡ Some (setup.Change op)
+    → cond t (key >>= λ k. Some (setup.Change (Delete k))) (option_map setup.Keep (cond u number None)) ≡ Some (setup.Change op)
     → ((k : List ℕ) → key ≡ Some k → length k ≤ n) → IsShort n op
 one_step true u None number n op e h = absurd cc
 one_step true u (Some k) number n op e h = subst (IsShort n) (change_is (Delete k) op e) (h k refl)
@@ -121,7 +122,7 @@ only_open true n op e = absurd cc
 only_open false n op e = absurd cc
 
 setup_short : (fields : List (List ℕ)) (n : ℕ) (op : Op) → AreShort n fields → setup_of fields ≡ Some (setup.Change op) → IsShort n op
-unfolding setup_of with_one with_two
+unfolding setup_of with_one with_two keep_of
 setup_short [] n op h e = absurd cc
 setup_short (word ∷ []) n op h e = only_open (says word (codes "open")) n op e
 setup_short (word ∷ argument ∷ []) n op h e =

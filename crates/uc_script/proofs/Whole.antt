@@ -20,7 +20,7 @@ use Rattle.uc_script.proofs.Faults.{refuses_setup, refuses_call, made, made-same
 use Rattle.uc_script.proofs.First.{position-yes, position-no, before_first-yes, before_first-no, after_first-yes, after_first-no}
 
 -- an answer to lines from the one of number n on, the first fault of which stands behind k of them
-abbrev answer : {A : Type 0} → Option ℕ → ℕ → A → Result A ℕ
+abbrev pub answer : {A : Type 0} → Option ℕ → ℕ → A → Result A ℕ
 answer (Some k) n x = Err (n + k)
 answer None n x = Ok x
 
@@ -29,15 +29,15 @@ answer-next (Some k) n x = ap Err (omega arith)
 answer-next None n x = refl
 
 -- a line at fault
-stops : {A : Type 0} (o : Option ℕ) (n : ℕ) (x : A) → o ≡ Some 0 → ◌≡◌ {A = Result A ℕ} (Err n) (answer o n x)
+pub stops : {A : Type 0} (o : Option ℕ) (n : ℕ) (x : A) → o ≡ Some 0 → ◌≡◌ {A = Result A ℕ} (Err n) (answer o n x)
 stops o n x place = ap Err (sym (add-zero n)) ∙ ap (λ (p : Option ℕ). answer p n x) (sym place)
 
 -- a line without a fault, in front of others
-goes_on : {A : Type 0} (o p : Option ℕ) (n : ℕ) (x y : A) → p ≡ option_map suc o → x ≡ y → answer o (n + 1) x ≡ answer p n y
+pub goes_on : {A : Type 0} (o p : Option ℕ) (n : ℕ) (x y : A) → p ≡ option_map suc o → x ≡ y → answer o (n + 1) x ≡ answer p n y
 goes_on o p n x y place same = sym (answer-next o n x) ∙ ap (λ (q : Option ℕ). answer q n x) (sym place) ∙ ap (answer p n) same
 
 -- one more item in front of those of a list
-regroup : {A : Type 0} (front : List A) (x : A) (xs : List A) → (front ++ x ∷ []) ++ xs ≡ front ++ x ∷ xs
+pub regroup : {A : Type 0} (front : List A) (x : A) (xs : List A) → (front ++ x ∷ []) ++ xs ≡ front ++ x ∷ xs
 regroup front x xs = append_assoc front (x ∷ []) xs
 
 by_fault : (o : Option ℕ) (script : Script) → answer o 1 script ≡ unless_fault o script

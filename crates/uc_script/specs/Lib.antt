@@ -1,7 +1,11 @@
 pub mod Lines
 pub mod Fields
 pub mod Texts
+pub mod Queries
 pub mod Script
+pub mod Head
+pub mod HeadReading
+pub mod HeadCases
 pub mod Reading
 pub mod Cases
 pub mod Short

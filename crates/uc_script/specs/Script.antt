@@ -3,9 +3,10 @@ use Rattle.std.specs.Prelude.{ℕ, ◌+◌, ◌==◌, Bool, true, false, List, [
 use Rattle.std.specs.List.{before_first, after_first, filter_map}
 use Rattle.std.specs.Option.{option_map, option_or}
 use Rattle.uc_script.specs.Lines.{lines_of, fields_of, is_skipped, says}
-use Rattle.uc_script.specs.Texts.{◌>>=◌, number_of, name_of, text_of, seq_of, high_of}
+use Rattle.uc_script.specs.Texts.{◌>>=◌, number_of, name_of, text_of}
+use Rattle.uc_script.specs.Queries.{get_of, scan_of, call_for}
 use Rattle.uc_script.specs.declared.call.Call.{Call}
-use Rattle.uc_script.specs.declared.call.Call.TheVariants.{Get, Scan, Claim, Install, Abandon, Compact, Pick, Report}
+use Rattle.uc_script.specs.declared.call.Call.TheVariants.{Claim, Install, Abandon, Compact, Pick, Report}
 use Rattle.uc_script.specs.declared.setup_line.SetupLine.{SetupLine}
 use Rattle.uc_script.specs.declared.setup_line.SetupLine.TheVariants as setup
 use Rattle.uc_script.specs.declared.call_line.CallLine.{CallLine}
@@ -16,16 +17,17 @@ use Rattle.uc_bytes.specs.declared.op.Op.TheVariants.{Put, Delete, Merge, Delete
 
 -- ---- lines before `open`
 
+-- `keep S`
+unfoldable pub keep_of : List ℕ → List ℕ → Option ℕ
+keep_of word argument = if says word (codes "keep") then number_of argument else None
+
 -- `delete K` and `keep S`
 unfoldable pub with_one : List ℕ → List ℕ → Option SetupLine
 with_one word argument =
     if says word (codes "delete") then (do
       key ← text_of argument
       Some (setup.Change (Delete key)))
-    else if says word (codes "keep") then (do
-      number ← number_of argument
-      Some (setup.Keep number))
-    else None
+    else option_map setup.Keep (keep_of word argument)
 
 -- `put K V`, `merge K V` and `range B E`
 unfoldable pub with_two : List ℕ → List ℕ → List ℕ → Option SetupLine
@@ -49,22 +51,6 @@ unfoldable pub setup_line : List ℕ → Option SetupLine
 setup_line line = if is_skipped line then Some setup.Skipped else setup_of (fields_of line)
 
 -- ---- lines after `open`
-
--- `get K S`
-unfoldable pub get_of : List ℕ → List ℕ → Option Call
-get_of key at = do
-  k ← text_of key
-  s ← seq_of at
-  Some (Get k s)
-
--- `scan LOW HIGH LIMIT S`
-unfoldable pub scan_of : List ℕ → List ℕ → List ℕ → List ℕ → Option Call
-scan_of low high limit at = do
-  l ← text_of low
-  h ← high_of high
-  n ← number_of limit
-  s ← seq_of at
-  Some (Scan l h n s)
 
 -- `claim N FIRST COUNT`
 unfoldable pub claim_of : List ℕ → List ℕ → List ℕ → Option Call
@@ -99,9 +85,8 @@ call_with_one word name = do
 -- `get K S` and `compact FIRST COUNT`
 unfoldable pub call_with_two : List ℕ → List ℕ → List ℕ → Option Call
 call_with_two word first second =
-    if says word (codes "get") then get_of first second
-    else if says word (codes "compact") then compact_of first second
-    else None
+    if says word (codes "compact") then compact_of first second
+    else option_map call_for (get_of word first second)
 
 -- What a line after the first `open` says by its fields.
 unfoldable pub call_of : List (List ℕ) → Option Call
@@ -109,7 +94,7 @@ call_of (word ∷ []) = call_alone word
 call_of (word ∷ name ∷ []) = call_with_one word name
 call_of (word ∷ first ∷ second ∷ []) = call_with_two word first second
 call_of (word ∷ name ∷ first ∷ count ∷ []) = if says word (codes "claim") then claim_of name first count else None
-call_of (word ∷ low ∷ high ∷ limit ∷ at ∷ []) = if says word (codes "scan") then scan_of low high limit at else None
+call_of (word ∷ low ∷ high ∷ limit ∷ at ∷ []) = option_map call_for (scan_of word low high limit at)
 call_of _ = None
 
 -- What a line after the first `open` says, or None where it is not as it should be.
@@ -172,9 +157,10 @@ asked_by lines = record {
   calls = filter_map call_in (lines_after lines);
 }
 
-abbrev pub unless_fault : Option ℕ → Script → Result Script ℕ
-unless_fault (Some k) script = Err (k + 1)
-unless_fault None script = Ok script
+-- What was read, unless there is a fault behind so many lines: then its number, from 1.
+abbrev pub unless_fault : {A : Type 0} → Option ℕ → A → Result A ℕ
+unless_fault (Some k) read = Err (k + 1)
+unless_fault None read = Ok read
 
 -- What a script asks, or the number of its first line at fault, from 1.
 unfoldable pub script_of : List ℕ → Result Script ℕ

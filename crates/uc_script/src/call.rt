@@ -1,5 +1,9 @@
 //! [`Call`]: what a script asks of the store.
 
+ghost use Rattle.std.specs.Prelude.{◌≡◌};
+ghost use Rattle.uc_script.specs.Queries.{call_for};
+
+use crate::query::Query;
 use crate::seq::Seq;
 use uc_bytes::Bytes;
 
@@ -60,4 +64,25 @@ pub enum Call {
     Pick,
     /// What the store holds, in figures. A script writes `report`.
     Report,
+}
+
+impl From<Query> for Call {
+    ghost from_gives = { λ query call. call ≡ call_for query };
+
+    fn from(query: Query) -> Call {
+        match query {
+            Query::Get { key, at } => Call::Get { key, at },
+            Query::Scan {
+                low,
+                high,
+                limit,
+                at,
+            } => Call::Scan {
+                low,
+                high,
+                limit,
+                at,
+            },
+        }
+    }
 }

@@ -4,8 +4,9 @@ ghost use Rattle.std.specs.Prelude.{◌≡◌, IfOk};
 ghost use Rattle.uc_script.specs.Script as script;
 
 use crate::call::Call;
-use crate::field::{self, high, number, seq, text};
+use crate::field;
 use crate::lines::{Fields, is_skipped, split_line};
+use crate::query_line::{read_get, read_scan};
 use std::alloc::{AllocError, Global};
 
 /// What a line after `open` says.
@@ -32,8 +33,8 @@ pub(crate) fn read_call_line(alloc: Global, line: &[u8]) -> Result<Option<CallLi
         Fields::Four(word, name, first, count) if word == b"claim".as_slice() => {
             claim(name, first, count)
         }
-        Fields::Five(word, low, end, limit, at) if word == b"scan".as_slice() => {
-            scan(alloc, low, end, limit, at)?
+        Fields::Five(word, low, end, limit, at) => {
+            read_scan(alloc, word, low, end, limit, at)?.map(Call::from)
         }
         _ => None,
     };
@@ -79,58 +80,10 @@ fn call_with_two(
 ) -> Result<Option<Call>, AllocError>
     ensures { IfOk result (λ call. call ≡ script.call_with_two word.now first.now second.now) }
 {
-    if word == b"get".as_slice() {
-        return get(alloc, first, second);
-    }
     if word == b"compact".as_slice() {
         return Ok(compact(first, second));
     }
-    Ok(None)
-}
-
-/// The arguments of `get K S`.
-#[tactic(auto, unfolding(crate::specs::Script::get_of))]
-fn get(alloc: Global, key: &[u8], at: &[u8]) -> Result<Option<Call>, AllocError>
-    ensures { IfOk result (λ call. call ≡ script.get_of key.now at.now) }
-{
-    let Some(key) = text(alloc, key)? else {
-        return Ok(None);
-    };
-    let Some(at) = seq(at) else {
-        return Ok(None);
-    };
-    Ok(Some(Call::Get { key, at }))
-}
-
-/// The arguments of `scan LOW HIGH LIMIT S`.
-#[tactic(auto, unfolding(crate::specs::Script::scan_of))]
-fn scan(
-    alloc: Global,
-    low: &[u8],
-    end: &[u8],
-    limit: &[u8],
-    at: &[u8],
-) -> Result<Option<Call>, AllocError>
-    ensures { IfOk result (λ call. call ≡ script.scan_of low.now end.now limit.now at.now) }
-{
-    let Some(low) = text(alloc, low)? else {
-        return Ok(None);
-    };
-    let Some(high) = high(alloc, end)? else {
-        return Ok(None);
-    };
-    let Some(limit) = number(limit) else {
-        return Ok(None);
-    };
-    let Some(at) = seq(at) else {
-        return Ok(None);
-    };
-    Ok(Some(Call::Scan {
-        low,
-        high,
-        limit,
-        at,
-    }))
+    Ok(read_get(alloc, word, first, second)?.map(Call::from))
 }
 
 /// The arguments of `claim N FIRST COUNT`.

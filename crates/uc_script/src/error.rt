@@ -1,4 +1,4 @@
-//! [`ScriptError`]: why a script could not be read.
+//! [`ScriptError`]: why a script, or what stands in front of a log, could not be read.
 
 ghost use Rattle.std.specs.Prelude.{◌≡◌};
 ghost use Rattle.uc_script.specs.declared.error.ScriptError.TheVariants.{Memory};
@@ -6,14 +6,14 @@ ghost use Rattle.uc_script.specs.declared.error.ScriptError.TheVariants.{Memory}
 use std::alloc::{AllocError, AllocFailed};
 use thiserror::Error;
 
-/// Why a script could not be read.
+/// Why a script, or what stands in front of a log, could not be read.
 #[derive(Debug, Drop, Error)]
 pub enum ScriptError {
-    /// The number, from 1, of the first line that is not as it should be. Where only `open` is
+    /// The number, from 1, of the first line that is not as it should be. Where only `open`, or only `log`, is
     /// missing, that is the line behind the last.
-    #[error("line {0} of the script is not as it should be")]
+    #[error("line {0} is not as it should be")]
     Fault(u64),
-    /// There was no memory for what the script says.
+    /// There was no memory for what the lines say.
     #[error("out of memory")]
     Memory,
 }

@@ -4,6 +4,8 @@
 ghost use Rattle.std.specs.Prelude.{◌≡◌, ℕ, ◌<◌, ◌^◌, List, length, Ok, Some, Result, All};
 ghost use Rattle.std.specs.Fmt.{decimal};
 ghost use Rattle.uc_script.specs.Cases.{ComesTo};
+ghost use Rattle.uc_script.specs.Head.{Head, head_of};
+ghost use Rattle.uc_script.specs.HeadCases as heads;
 ghost use Rattle.uc_script.specs.Lines.{lines_of};
 ghost use Rattle.uc_script.specs.Names.{NameIsGood};
 ghost use Rattle.uc_script.specs.Script.{script_of};
@@ -18,6 +20,15 @@ pub fn a_script_is_its_lines()
     ensures comes { (text : List ℕ) → ComesTo (lines_of text) (script_of text) }
     ensures alone { (text : List ℕ) (outcome : Result Script ℕ)
         → ComesTo (lines_of text) outcome → outcome ≡ script_of text }
+{}
+
+/// What stands in front of a log is lines that keep and ask and a `log` line, each with its LF, and says what they name in
+/// order; behind it may stand any bytes. Any other text has its fault at the first line that does not fit, at a `log`
+/// whose LF is missing, or one past the last line where the `log` does not come. There is no other outcome, and no two
+/// of them.
+pub fn a_head_is_its_lines()
+    ensures comes { (text : List ℕ) → heads.ComesTo text (head_of text) }
+    ensures alone { (text : List ℕ) (outcome : Result Head ℕ) → heads.ComesTo text outcome → outcome ≡ head_of text }
 {}
 
 /// A script names at most as many changes as it has bytes, and each of their texts is no longer than it.

@@ -1,6 +1,6 @@
 //! How a text falls into lines and a line into fields.
 
-ghost use Rattle.std.specs.Prelude.{◌≡◌, ◌<◌, [], ◌∷◌, ◌==◌, length, position, MatchOption};
+ghost use Rattle.std.specs.Prelude.{◌≡◌, ◌+◌, ◌-◌, ◌<◌, [], ◌∷◌, ◌==◌, length, position, MatchOption};
 ghost use Rattle.uc_script.specs.Lines as lines;
 ghost use Rattle.uc_script.specs.Lines.{lines_of, fields_of};
 ghost use Rattle.uc_script.specs.Fields.{Holds};
@@ -16,7 +16,7 @@ fn find(bytes: &[u8], wanted: u8) -> Option<usize>
 pub(crate) fn next_line(text: &[u8]) -> (&[u8], &[u8])
     requires { 0 < length text.now }
     ensures cut { lines_of text.now ≡ result.0.now ∷ lines_of result.1.now }
-    ensures shorter { length result.1.now < length text.now }
+    ensures left { length result.1.now ≡ length text.now - (length result.0.now + 1) }
 {
     match find(text, b'\n') {
         Some(end) => (&text[..end], &text[end + 1..]),

@@ -48,13 +48,19 @@ fn with_one(alloc: Global, word: &[u8], argument: &[u8]) -> Result<Option<SetupL
         };
         return Ok(Some(SetupLine::Change(Op::Delete(key))));
     }
+    Ok(read_keep(word, argument).map(SetupLine::Keep))
+}
+
+/// `keep S`.
+#[tactic(auto, unfolding(crate::specs::Script::keep_of))]
+pub(crate) fn read_keep(word: &[u8], argument: &[u8]) -> Option<u64>
+    ensures { result ≡ script.keep_of word.now argument.now }
+{
     if word == b"keep".as_slice() {
-        let Some(number) = number(argument) else {
-            return Ok(None);
-        };
-        return Ok(Some(SetupLine::Keep(number)));
+        number(argument)
+    } else {
+        None
     }
-    Ok(None)
 }
 
 /// `put K V`, `merge K V` or `range B E`.

@@ -1,0 +1,22 @@
+-- Reading a head line by line, and what a reader returns. `Head.head_of` says what it comes to.
+use Rattle.std.specs.Prelude.{ℕ, ◌+◌, ◌-◌, nat_lt, List, [], ◌∷◌, ◌++◌, length, take, Some, None, Result, Ok, Err, if◌then◌else◌}
+use Rattle.uc_script.specs.Head.{Head, head_line, queries_in}
+use Rattle.uc_script.specs.declared.head.Head.{Head as Found}
+use Rattle.uc_script.specs.declared.head_line.HeadLine.TheVariants as saying
+
+-- Lines from the one of this number on, after these keeps, where so many bytes of all are left.
+abbrev pub head_after : List ℕ → ℕ → ℕ → ℕ → List (List ℕ) → Result Found ℕ
+head_after keeps number all left [] = Err number
+head_after keeps number all left (line ∷ lines) = elim (head_line line) [
+  | None ↦ Err number
+  | Some said ↦ elim said [
+    | saying.Skipped ↦ head_after keeps (number + 1) all (left - (length line + 1)) lines
+    | saying.Keep keep ↦ head_after (keeps ++ keep ∷ []) (number + 1) all (left - (length line + 1)) lines
+    | saying.Ask query ↦ head_after keeps (number + 1) all (left - (length line + 1)) lines
+    | saying.Log ↦ if nat_lt (length line) left then Ok (record { keeps = keeps; size = all - (left - (length line + 1)) }) else Err number
+  ]
+]
+
+-- What was found in front of a text's log, with the queries that stand in its bytes.
+abbrev pub seen : List ℕ → Found → Head
+seen text found = record { keeps = found.keeps; queries = queries_in (take found.size text); size = found.size }

@@ -1,0 +1,33 @@
+-- What a line that asks to read says by its fields.
+use Rattle.std.specs.Prelude.{ℕ, List, codes, Option, Some, None, if◌then◌else◌}
+use Rattle.uc_script.specs.Lines.{says}
+use Rattle.uc_script.specs.Texts.{◌>>=◌, number_of, text_of, seq_of, high_of}
+use Rattle.uc_script.specs.declared.call.Call.{Call}
+use Rattle.uc_script.specs.declared.call.Call.TheVariants as calls
+use Rattle.uc_script.specs.declared.query.Query.{Query}
+use Rattle.uc_script.specs.declared.query.Query.TheVariants.{Get, Scan}
+
+-- `get K S`
+unfoldable pub get_of : List ℕ → List ℕ → List ℕ → Option Query
+get_of word key at =
+    if says word (codes "get") then (do
+      k ← text_of key
+      s ← seq_of at
+      Some (Get k s))
+    else None
+
+-- `scan LOW HIGH LIMIT S`
+unfoldable pub scan_of : List ℕ → List ℕ → List ℕ → List ℕ → List ℕ → Option Query
+scan_of word low high limit at =
+    if says word (codes "scan") then (do
+      l ← text_of low
+      h ← high_of high
+      n ← number_of limit
+      s ← seq_of at
+      Some (Scan l h n s))
+    else None
+
+-- The call of a script that asks to read this.
+abbrev pub call_for : Query → Call
+call_for (Get key at) = calls.Get key at
+call_for (Scan low high limit at) = calls.Scan low high limit at
