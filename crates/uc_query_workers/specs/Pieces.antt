@@ -7,9 +7,8 @@ use Rattle.uc_version_state.specs.Versions.{Stored}
 use Rattle.uc_query_workers.specs.Asking.{answers_of}
 use Rattle.uc_query_workers.specs.declared.drawing.Drawn.{Drawn}
 
--- queries of a version, and how many of them a piece has
+-- queries, and how many of them a piece has
 pub record Batch : Type 0 where
-  pub version : Stored
   pub queries : List Query
   pub piece : ℕ
 
@@ -17,9 +16,9 @@ pub record Batch : Type 0 where
 abbrev pub piece_of : Batch → ℕ → List Query
 piece_of batch number = take batch.piece (drop (number * batch.piece) batch.queries)
 
--- its answers
-abbrev pub piece_answers : Operation → Batch → ℕ → List Answer
-piece_answers m batch number = answers_of m batch.version (piece_of batch number)
+-- a version's answers to it
+abbrev pub piece_answers : Operation → Stored → Batch → ℕ → List Answer
+piece_answers m v batch number = answers_of m v (piece_of batch number)
 
 -- so many pieces: the number of each stands for a piece with a query
 abbrev pub AreNumbers : Batch → ℕ → Type 0

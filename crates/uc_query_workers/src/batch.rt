@@ -1,4 +1,4 @@
-//! [`Batch`]: queries of a version, cut into pieces.
+//! [`Batch`]: queries, cut into pieces.
 ghost use Rattle.std.specs.Prelude.{◌≡◌, ◌*◌, ◌<◌, ◌≤◌, ◌++◌, length, OnOk};
 ghost use Rattle.uc_query_workers.specs.Asking as asking;
 ghost use Rattle.uc_query_workers.specs.Pieces as pieces;
@@ -11,10 +11,9 @@ use uc_query_answer::{Answer, Query};
 use uc_query_read::answer_one;
 use uc_version_state::Version;
 
-/// Queries of a version, cut into pieces of so many queries; the last one may have fewer. A contract sees it as these.
+/// Queries, cut into pieces of so many; the last one may have fewer. A contract sees it as these.
 #[derive(Drop)]
-pub(crate) struct Batch<'a> {
-    version: &'a Version,
+pub struct Batch<'a> {
     queries: &'a [Query],
     piece: usize,
 }
@@ -25,7 +24,7 @@ impl<'a> Model for Batch<'a> {
 
     ghost Value = { Batch };
 
-    ghost view = { λ b. record { version = b.version.now; queries = b.queries.now; piece = b.piece } };
+    ghost view = { λ b. record { queries = b.queries.now; piece = b.piece } };
 
     ghost invariant = { λ b. 0 < b.piece };
 }
@@ -48,27 +47,23 @@ fn push_each<O: Operator>(
 }
 
 impl<'a> Batch<'a> {
-    /// Queries of a version in pieces of so many.
-    pub(crate) fn new(version: &'a Version, queries: &'a [Query], piece: usize) -> Batch<'a>
+    /// Queries in pieces of so many.
+    pub fn new(queries: &'a [Query], piece: usize) -> Batch<'a>
         requires { 0 < piece }
-        ensures { result ≡ record { version = version.now; queries = queries.now; piece = piece } }
+        ensures { result ≡ record { queries = queries.now; piece = piece } }
     {
-        Batch {
-            version,
-            queries,
-            piece,
-        }
+        Batch { queries, piece }
     }
 
     /// How many queries there are.
-    pub(crate) fn len(&self) -> usize
+    pub fn len(&self) -> usize
         ensures { result ≡ length self.now.queries }
     {
         self.queries.len()
     }
 
     /// How many pieces there are.
-    pub(crate) fn pieces(&self) -> usize
+    pub fn pieces(&self) -> usize
         ensures numbers { AreNumbers self.now result }
         ensures enough { length self.now.queries ≤ result * self.now.piece }
     {
@@ -76,7 +71,7 @@ impl<'a> Batch<'a> {
     }
 
     /// The piece with a number, from 0.
-    pub(crate) fn piece_of(&self, number: usize) -> &[Query]
+    pub fn piece_of(&self, number: usize) -> &[Query]
         requires { number * self.now.piece < length self.now.queries }
         ensures { result.now ≡ pieces.piece_of self.now number }
     {
@@ -84,18 +79,19 @@ impl<'a> Batch<'a> {
         &rest[..self.piece.min(rest.len())]
     }
 
-    /// Appends the answers to the piece with a number. Want of memory leaves some of them there.
-    pub(crate) fn push_answers<O: Operator>(
+    /// Appends a version's answers to the piece with a number. Want of memory leaves some of them there.
+    pub fn push_answers<O: Operator>(
         &self,
         alloc: Global,
+        version: &Version,
         number: usize,
         answers: &mut Vec<Answer>,
     ) -> Result<(), AllocError>
         requires { number * self.now.piece < length self.now.queries }
         ensures { OnOk result
             (answers.new.items ≡
-            answers.old.items ++ pieces.piece_answers O.meaning self.now number) }
+            answers.old.items ++ pieces.piece_answers O.meaning version.now self.now number) }
     {
-        push_each::<O>(alloc, self.version, self.piece_of(number), answers)
+        push_each::<O>(alloc, version, self.piece_of(number), answers)
     }
 }

@@ -13,26 +13,28 @@ use std::marker::Sync;
 use std::thread::{Threads, join};
 use uc_oper::Operator;
 use uc_query_answer::Answer;
+use uc_version_state::Version;
 
 /// What a worker drew. It is taken from the front where the answers to the batch are put together.
 #[derive(Debug, Drop)]
-pub(crate) struct Drawn {
+pub struct Drawn {
     /// The numbers of the pieces, in the order in which it drew them.
-    pub(crate) numbers: VecDeque<usize>,
+    pub numbers: VecDeque<usize>,
     /// The answers to them, one piece behind the other.
-    pub(crate) answers: VecDeque<Answer>,
+    pub answers: VecDeque<Answer>,
 }
 
 /// Draws numbers of pieces as long as there are any, and appends the answers to each piece to `answers`, which is empty. `next`
 /// is the counter that all workers draw from.
 pub(crate) fn draw_pieces<O: Operator>(
     alloc: Global,
+    version: &Version,
     batch: &Batch<'_>,
     next: &AtomicCell<usize>,
     mut answers: Vec<Answer>,
 ) -> Result<Drawn, AllocError>
     requires { answers.items ≡ [] }
-    ensures { IfOk result (IsDrawn (pieces.piece_answers O.meaning batch.now)) }
+    ensures { IfOk result (IsDrawn (pieces.piece_answers O.meaning version.now batch.now)) }
 {
     let pieces = batch.pieces();
     let mut numbers = Vec::new(alloc);
@@ -41,7 +43,7 @@ pub(crate) fn draw_pieces<O: Operator>(
         if number >= pieces {
             break;
         }
-        batch.push_answers::<O>(alloc, number, &mut answers)?;
+        batch.push_answers::<O>(alloc, version, number, &mut answers)?;
         numbers.push(number)?;
     }
     Ok(Drawn {
@@ -60,25 +62,26 @@ pub(crate) fn draw_pieces<O: Operator>(
 pub(crate) fn drawn_by_workers<O: Operator + Sync, R: Threads + Sync>(
     rt: &R,
     alloc: Global,
+    version: &Version,
     batch: &Batch<'_>,
     next: &AtomicCell<usize>,
     room: usize,
     workers: usize,
 ) -> Result<Vec<Drawn>, AllocError>
-    ensures { IfOk result (λ drawn. AllByRecursion (IsDrawn (pieces.piece_answers O.meaning batch.now)) drawn.items) }
+    ensures { IfOk result (λ drawn. AllByRecursion (IsDrawn (pieces.piece_answers O.meaning version.now batch.now)) drawn.items) }
 {
     let answers = Vec::with_capacity(alloc, room)?;
     if workers <= 1 {
-        let drawn = draw_pieces::<O>(alloc, batch, next, answers)?;
+        let drawn = draw_pieces::<O>(alloc, version, batch, next, answers)?;
         return Ok(vec![in alloc; drawn]?);
     }
     let fewer = workers - 1;
-    let one = move || draw_pieces::<O>(alloc, batch, next, answers);
+    let one = move || draw_pieces::<O>(alloc, version, batch, next, answers);
     let others = move || -> Result<Vec<Drawn>, AllocError>
         requires { IsSync R.row × IsSync O.row }
         ensures { IfOk result (λ drawn.
-            AllByRecursion (IsDrawn (pieces.piece_answers O.meaning batch.entry.now)) drawn.items) }
-    { drawn_by_workers::<O, R>(rt, alloc, batch, next, room, fewer) };
+            AllByRecursion (IsDrawn (pieces.piece_answers O.meaning version.entry.now batch.entry.now)) drawn.items) }
+    { drawn_by_workers::<O, R>(rt, alloc, version, batch, next, room, fewer) };
     let (drawn, others) = join(rt, one, others);
     let mut all = others?;
     all.push(drawn?)?;

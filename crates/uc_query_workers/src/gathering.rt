@@ -13,6 +13,7 @@ use std::alloc::{AllocError, Global};
 use std::collections::VecDeque;
 use uc_oper::Operator;
 use uc_query_answer::Answer;
+use uc_version_state::Version;
 
 /// Moves so many answers from the front of `answers` behind those of `all`. Want of memory loses some of them.
 fn move_answers(
@@ -32,7 +33,7 @@ fn move_answers(
 }
 
 /// The place of the first of what the workers drew whose first piece that is left is the one with a number.
-fn holder_of(draws: &[Drawn], number: usize) -> Option<usize>
+pub fn holder_of(draws: &[Drawn], number: usize) -> Option<usize>
     ensures some { IfSome result (λ place.
         (place < length draws.now)
         × HoldsAt (λ d. slice_get d.numbers.items 0 ≡ Some number) draws.now place) }
@@ -45,8 +46,9 @@ fn holder_of(draws: &[Drawn], number: usize) -> Option<usize>
 
 /// Moves the answers to the first piece that is left of what a worker drew, which are so many, behind those of `all`. Want of
 /// memory loses some of them.
-fn take_first(drawn: &mut Drawn, count: usize, all: &mut Vec<Answer>) -> Result<(), AllocError>
-    ensures { (f : ℕ → List AnswerOf) (number : ℕ) → slice_get drawn.old.numbers.items 0 ≡ Some number →
+pub fn take_first(drawn: &mut Drawn, count: usize, all: &mut Vec<Answer>) -> Result<(), AllocError>
+    ensures rest { OnOk result (drawn.new.numbers.items ≡ drop 1 drawn.old.numbers.items) }
+    ensures answers { (f : ℕ → List AnswerOf) (number : ℕ) → slice_get drawn.old.numbers.items 0 ≡ Some number →
         length (f number) ≡ count →
         IsDrawn f drawn.old → OnOk result (IsDrawn f drawn.new × (all.new.items ≡ all.old.items ++ f number)) }
 {
@@ -59,18 +61,19 @@ fn take_first(drawn: &mut Drawn, count: usize, all: &mut Vec<Answer>) -> Result<
 /// here. Want of memory loses some of them.
 fn push_piece<O: Operator>(
     alloc: Global,
+    version: &Version,
     batch: &Batch<'_>,
     number: usize,
     draws: &mut Vec<Drawn>,
     all: &mut Vec<Answer>,
 ) -> Result<(), AllocError>
     requires { number * batch.now.piece < length batch.now.queries }
-    ensures { AllByRecursion (IsDrawn (pieces.piece_answers O.meaning batch.now)) draws.old.items →
-        OnOk result (AllByRecursion (IsDrawn (pieces.piece_answers O.meaning batch.now)) draws.new.items ×
-        (all.new.items ≡ all.old.items ++ pieces.piece_answers O.meaning batch.now number)) }
+    ensures { AllByRecursion (IsDrawn (pieces.piece_answers O.meaning version.now batch.now)) draws.old.items →
+        OnOk result (AllByRecursion (IsDrawn (pieces.piece_answers O.meaning version.now batch.now)) draws.new.items ×
+        (all.new.items ≡ all.old.items ++ pieces.piece_answers O.meaning version.now batch.now number)) }
 {
     let Some(place) = holder_of(draws, number) else {
-        return batch.push_answers::<O>(alloc, number, all);
+        return batch.push_answers::<O>(alloc, version, number, all);
     };
     take_first(&mut draws[place], batch.piece_of(number).len(), all)?;
     Ok(())
@@ -79,15 +82,16 @@ fn push_piece<O: Operator>(
 /// The answers to all pieces, in their order.
 pub(crate) fn joined<O: Operator>(
     alloc: Global,
+    version: &Version,
     batch: &Batch<'_>,
     mut draws: Vec<Drawn>,
 ) -> Result<Vec<Answer>, AllocError>
-    requires { AllByRecursion (IsDrawn (pieces.piece_answers O.meaning batch.now)) draws.items }
-    ensures { IfOk result (λ answers. answers.items ≡ asking.answers_of O.meaning batch.now.version batch.now.queries) }
+    requires { AllByRecursion (IsDrawn (pieces.piece_answers O.meaning version.now batch.now)) draws.items }
+    ensures { IfOk result (λ answers. answers.items ≡ asking.answers_of O.meaning version.now batch.now.queries) }
 {
     let mut all = Vec::with_capacity(alloc, batch.len())?;
     for number in 0..batch.pieces() {
-        push_piece::<O>(alloc, batch, number, &mut draws, &mut all)?;
+        push_piece::<O>(alloc, version, batch, number, &mut draws, &mut all)?;
     }
     Ok(all)
 }

@@ -12,4 +12,7 @@ mod gathering;
 mod plain;
 
 pub use ask_error::{AskError, MOST_WORKERS};
+pub use batch::Batch;
+pub use drawing::Drawn;
+pub use gathering::{holder_of, take_first};
 pub use plain::{answer_plain, ask_refusal};

@@ -46,12 +46,12 @@ fn answers_of<O: Operator + Sync, R: Threads + Sync>(
     requires { 0 < piece }
     ensures { IfOk result (λ answers. answers.items ≡ asking.answers_of O.meaning version.now queries.now) }
 {
-    let batch = Batch::new(version, queries, piece);
+    let batch = Batch::new(queries, piece);
     let workers = workers.min(batch.pieces());
     let next = AtomicCell::new(0usize);
     let room = room_of_each(queries.len(), workers);
-    let drawn = drawn_by_workers::<O, R>(rt, alloc, &batch, &next, room, workers)?;
-    joined::<O>(alloc, &batch, drawn)
+    let drawn = drawn_by_workers::<O, R>(rt, alloc, version, &batch, &next, room, workers)?;
+    joined::<O>(alloc, version, &batch, drawn)
 }
 
 /// The answers to a batch of queries of a version, in their order. It is cut into pieces of so many queries, which so many
