@@ -12,5 +12,5 @@ mod reports;
 
 pub use answers::push_answer_lines;
 pub use refusals::{claim_refusal_line, install_refusal_line};
-pub use replies::{compacted_line, reply_lines};
+pub use replies::{answers_lines, compacted_line, reply_lines};
 pub use reports::report_lines;

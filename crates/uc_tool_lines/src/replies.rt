@@ -41,8 +41,8 @@ pub fn compacted_line(alloc: Global, stretch: Stretch, id: u64) -> Result<Vec<u8
     )
 }
 
-/// The lines of some answers.
-fn answers_lines(alloc: Global, answers: &[Answer]) -> Result<Vec<u8>, AllocError>
+/// The lines of some answers, in their order. It fails only for want of memory.
+pub fn answers_lines(alloc: Global, answers: &[Answer]) -> Result<Vec<u8>, AllocError>
     ensures { IfOk result (λ text. text.items ≡ flat_map answer_lines answers.now) }
 {
     let mut out = Vec::new(alloc);

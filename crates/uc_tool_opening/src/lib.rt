@@ -12,5 +12,5 @@
 mod opening;
 mod refusing;
 
-pub use opening::{open_ops, recover_log};
+pub use opening::{open_ops, recover_log, seq_at};
 pub use refusing::{opening_refusal_line, print_bad_log, print_refused_opening};

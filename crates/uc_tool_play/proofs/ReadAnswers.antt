@@ -29,7 +29,8 @@ use Rattle.uc_script.specs.declared.call.Call.{Call}
 use Rattle.uc_script.specs.declared.call.Call.TheVariants.{Get, Scan, Claim, Install, Abandon, Compact, Pick, Report}
 use Rattle.uc_tool_lines.specs.AnswerLines.{answer_lines}
 use Rattle.uc_tool_lines.specs.ReplyLines.{reply_lines}
-use Rattle.uc_tool_play.specs.Play.{call_of, seq_at}
+use Rattle.uc_tool_opening.specs.Opening.{seq_at}
+use Rattle.uc_tool_play.specs.Play.{call_of}
 use Rattle.uc_tool_play.specs.Reading.{IsRead}
 
 -- ---- a store of which nothing is claimed

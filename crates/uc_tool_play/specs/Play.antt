@@ -8,8 +8,6 @@ use Rattle.uc_script.specs.Script.{script_of}
 use Rattle.uc_script.specs.declared.call.Call.{Call}
 use Rattle.uc_script.specs.declared.call.Call.TheVariants.{Get, Scan, Claim, Install, Abandon, Compact, Pick, Report}
 use Rattle.uc_script.specs.declared.script.Script.{Script}
-use Rattle.uc_script.specs.declared.seq.Seq.{Seq}
-use Rattle.uc_script.specs.declared.seq.Seq.TheVariants.{Number, Last}
 use Rattle.uc_version_pick.specs.declared.options.Options.{Options}
 use Rattle.uc_version_state.specs.Versions.{Stored}
 use Rattle.uc_version_state.specs.Openings.{Opening, opened}
@@ -21,15 +19,11 @@ use Rattle.uc_query.specs.Running.{run_of, unnamed}
 use Rattle.uc_query.specs.declared.call.Call.{Call as StoreCall}
 use Rattle.uc_query.specs.declared.call.Call.TheVariants as store
 use Rattle.uc_tool_log_lines.specs.Line.{numbered_line}
+use Rattle.uc_tool_opening.specs.Opening.{seq_at}
 use Rattle.uc_tool_opening.specs.Refusals.{opening_refusal_line}
 use Rattle.uc_tool_lines.specs.ReplyLines.{reply_lines}
 use Rattle.uc_tool_io.specs.Output.{Output, refused}
 use Rattle.uc_tool_io.specs.declared.done.Done.TheVariants.{Fine}
-
--- the sequence that a script names, where `last` is the last one at opening
-abbrev pub seq_at : ℕ → Seq → ℕ
-seq_at last (Number number) = number
-seq_at last Last = last
 
 -- a query alone, for one worker
 abbrev pub asked_alone : Query → StoreCall

@@ -7,7 +7,7 @@ use Rattle.uc_query_answer.specs.declared.query.Query.TheVariants as query
 use Rattle.uc_script.specs.declared.call.Call.{Call}
 use Rattle.uc_script.specs.declared.call.Call.TheVariants.{Get, Scan, Claim, Install, Abandon, Compact, Pick, Report}
 use Rattle.uc_tool_lines.specs.AnswerLines.{answer_lines}
-use Rattle.uc_tool_play.specs.Play.{seq_at}
+use Rattle.uc_tool_opening.specs.Opening.{seq_at}
 
 -- the lines of a read are those of the answer from these writes alone, which know no run and no compaction
 abbrev pub IsRead : Operation → List Write → List ℕ → ℕ → Call → List ℕ → Type 0

@@ -17,21 +17,12 @@ use std::thread::Threads;
 use uc_bytes::Items;
 use uc_oper::Operator;
 use uc_query::{AskError, NamedClaims, Query};
-use uc_script::{Call, Seq};
+use uc_script::Call;
 use uc_tool_io::{RunError, write_bytes};
 use uc_tool_lines::reply_lines;
+use uc_tool_opening::seq_at;
 use uc_version::Owned;
 use uc_version_pick::Stretch;
-
-/// The sequence that a script names.
-fn seq_at(last: u64, at: Seq) -> u64
-    ensures { result ≡ plays.seq_at last at }
-{
-    match at {
-        Seq::Number(number) => number,
-        Seq::Last => last,
-    }
-}
 
 /// A query alone, for one worker.
 fn asked_alone(alloc: Global, query: Query) -> Result<uc_query::Call, AllocError>
