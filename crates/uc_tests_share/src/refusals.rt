@@ -109,7 +109,9 @@ fn what_is_foreign_is_refused(rt: HostRuntime) -> Result<(), Fail> {
     for (keeps, first, wanted) in foreign() {
         let version = merged_runs(alloc, 2, keeps)?;
         let opening = (Opening::new(), version);
-        let error = refusal_of_foreign::<Counter, Brand, _>(&rt, &rt, alloc, opening, &other, *first);
+        let error = refusal_of_foreign::<Counter, Brand, _>(
+            &rt, &rt, alloc, opening, &other, *first,
+        );
         assert!(rt; error? == *wanted);
     }
     Ok(())

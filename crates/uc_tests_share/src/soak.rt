@@ -110,8 +110,12 @@ where
     let (one, other) = workers;
     let (one, other) = join(
         rt,
-        move || compacts(rt, alloc, store, one, seed),
-        move || compacts(rt, alloc, store, other, !seed),
+        move || -> Option<u64>
+            requires { one.1.table ≡ store.now.table }
+        { compacts(rt, alloc, store, one, seed) },
+        move || -> Option<u64>
+            requires { other.1.table ≡ store.now.table }
+        { compacts(rt, alloc, store, other, !seed) },
     );
     Some(one?.saturating_add(other?))
 }
@@ -135,8 +139,12 @@ where
 {
     let (one, other) = join(
         rt,
-        move || two_compact(rt, alloc, store, first, seed),
-        move || two_compact(rt, alloc, store, second, seed.rotate_left(32)),
+        move || -> Option<u64>
+            requires { (first.0.1.table ≡ store.now.table) × (first.1.1.table ≡ store.now.table) }
+        { two_compact(rt, alloc, store, first, seed) },
+        move || -> Option<u64>
+            requires { (second.0.1.table ≡ store.now.table) × (second.1.1.table ≡ store.now.table) }
+        { two_compact(rt, alloc, store, second, seed.rotate_left(32)) },
     );
     Some(one?.saturating_add(other?))
 }
@@ -237,7 +245,10 @@ where
     let pair = (readers.pop()?, readers.pop()?);
     let (installs, alike) = join(
         rt,
-        move || four_compact(rt, alloc, store, first, second, seed),
+        move || -> Option<u64>
+            requires first { (first.0.1.table ≡ store.now.table) × (first.1.1.table ≡ store.now.table) }
+            requires second { (second.0.1.table ≡ store.now.table) × (second.1.1.table ≡ store.now.table) }
+        { four_compact(rt, alloc, store, first, second, seed) },
         move || two_pin(rt, alloc, store, pair, asked),
     );
     if alike { installs } else { None }

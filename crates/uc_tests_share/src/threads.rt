@@ -18,13 +18,13 @@ fn compacts<O: Operator + Sync, N: Name, W: Wait + Drop>(
     rt: &(impl Threads + Wait + Sync),
     alloc: Global,
     store: &Store<O, N, W>,
-    worker: (Reader<O, N>, Seat),
+    mut reader: Reader<O, N>,
+    seat: Seat,
     pin: Pin<O, N>,
     first: usize,
 ) -> Option<Reader<O, N>>
-    requires { worker.1.table ≡ store.now.table }
+    requires { seat.table ≡ store.now.table }
 {
-    let (mut reader, seat) = worker;
     let held = claimed(store, seat, pin, &mut reader, Stretch { first, count: 2 })?;
     installed(rt, alloc, store, held, &mut reader)?;
     Some(reader)
@@ -53,8 +53,12 @@ where
     let oldest = store.pin(&mut other).ok()?;
     let (one, other) = join(
         rt,
-        move || compacts(rt, alloc, store, (one, one_seat), newest, 0),
-        move || compacts(rt, alloc, store, (other, other_seat), oldest, 2),
+        move || -> Option<Reader<O, N>>
+            requires { one_seat.table ≡ store.now.table }
+        { compacts(rt, alloc, store, one, one_seat, newest, 0) },
+        move || -> Option<Reader<O, N>>
+            requires { other_seat.table ≡ store.now.table }
+        { compacts(rt, alloc, store, other, other_seat, oldest, 2) },
     );
     other?;
     one
