@@ -1,5 +1,5 @@
 -- Claimed runs that stand in a later version by their ids, and what was compacted of them.
-use Rattle.std.proofs.Common.{◌≡◌, ◌≤◌, ℕ, List, Contains, length, fold, sym, ap, subst}
+use Rattle.std.proofs.Common.{◌≡◌, ◌≤◌, List, Contains, length, fold, sym, ap, subst}
 use Rattle.std.specs.List.{AllByRecursion}
 use mathlib.Core.List.{IsPrefix}
 use Rattle.uc_oper.specs.Operation.{Operation}

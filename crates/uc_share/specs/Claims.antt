@@ -1,5 +1,5 @@
 -- Claims of stretches of pinned versions.
-use Rattle.std.specs.Prelude.{◌≡◌, ◌≢◌, ℕ, ◌+◌, ◌≤◌, Some, ⊤, Contains, List, length}
+use Rattle.std.specs.Prelude.{◌≡◌, ◌+◌, ◌≤◌, Some, ⊤, Contains, List, length}
 use Rattle.uc_claims.specs.Holding.{Holding}
 use Rattle.uc_version_pick.specs.declared.stretch.Stretch.{Stretch}
 use Rattle.uc_version_state.specs.Versions.{PlacedRun, Stored, ids_of, slots_of}

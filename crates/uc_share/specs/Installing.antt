@@ -1,5 +1,5 @@
 -- Installs of what was compacted of claimed runs.
-use Rattle.std.specs.Prelude.{◌≡◌, ◌≢◌, ℕ, List, [], ◌∷◌, ◌++◌, fold}
+use Rattle.std.specs.Prelude.{◌≡◌, ◌≢◌, List, [], ◌∷◌, ◌++◌}
 use mathlib.Core.List.{IsPrefix}
 use Rattle.uc_oper.specs.Operation.{Operation}
 use Rattle.uc_compact_rules.specs.Inputs.{Compaction}

@@ -1,5 +1,5 @@
 -- What a store that threads share is to a contract.
-use Rattle.std.specs.Prelude.{◌≡◌, ℕ, ◌≤◌}
+use Rattle.std.specs.Prelude.{ℕ, ◌≤◌}
 use Rattle.atomic_table.specs.Seated.{TableId}
 use Rattle.uc_version_pick.specs.declared.options.Options.{Options}
 

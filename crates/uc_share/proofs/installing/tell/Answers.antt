@@ -1,4 +1,4 @@
-use Rattle.uc_share_versions.proofs.Prefixes.{prefix_self, prefix_behind}
+use Rattle.uc_share_versions.proofs.Prefixes.{prefix_self}
 use Rattle.uc_share.proofs.installing.tell.Goals as goal
 
 pub loop-init : goal.loop-init

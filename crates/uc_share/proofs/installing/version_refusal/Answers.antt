@@ -1,4 +1,4 @@
-use Rattle.std.proofs.Common.{rules, ◌≡◌, ◌≤◌, ◌∙◌, List, length, fold, sym, ap, subst}
+use Rattle.std.proofs.Common.{◌≡◌, ◌≤◌, ◌∙◌, List, length, fold, ap, subst}
 use Rattle.uc_version_state.specs.Versions.{PlacedRun, Stored, IsVersion, ids_of}
 use Rattle.uc_version_state.specs.Installs.{terms_of}
 use Rattle.uc_version_state.specs.Refusals.{AreReplaceable}

@@ -1,4 +1,4 @@
-use Rattle.std.proofs.Common.{◌≡◌, ◌∙◌, ap, false, slice_index_or}
+use Rattle.std.proofs.Common.{◌∙◌, ap, false, slice_index_or}
 use Rattle.uc_version_pick.specs.Picks.{picked}
 use Rattle.uc_version_state.specs.Versions.{Stored}
 use Rattle.uc_version.specs.Picking.{candidates_of}

@@ -1,7 +1,6 @@
-use Rattle.std.proofs.Common.{◌≡◌, ◌∙◌, List, OnOk, ap, subst}
+use Rattle.std.proofs.Common.{◌∙◌, List, OnOk, ap, subst}
 use Rattle.uc_version_state.specs.Versions.{PlacedRun}
 use Rattle.uc_version_state.specs.declared.event.Event.{Event}
-use Rattle.uc_share.specs.Claims.{claimed_runs}
 use Rattle.uc_share.specs.Installing.{event_of, EndsWith}
 use Rattle.uc_share.proofs.store.Store.replace.Goals as goal
 

@@ -1,4 +1,4 @@
-use Rattle.std.proofs.Common.{◌≡◌, ◌≤◌, ◌<◌, ◌∙◌, List, length, ap, sym, subst}
+use Rattle.std.proofs.Common.{◌≤◌, ◌<◌, ◌∙◌, List, length, ap, sym, subst}
 use Rattle.std.specs.List.{AllByRecursion}
 use Rattle.uc_claims.specs.Holding.{AreDistinct}
 use Rattle.uc_claims.specs.declared.table.TheConstants.{MOST_SLOTS}
