@@ -50,7 +50,8 @@ fn install_one<O: Operator + Sync, N: Name, W: Wait + Drop>(
     let held = store.claim(seat, pin, reader, NEWEST).ok()?;
     let start = Instant::now(rt).ok()?;
     let made = held.compact(rt, alloc).ok()?;
-    work.compactions.add(start.elapsed(rt).ok()?.as_nanos() as u64);
+    work.compactions
+        .add(start.elapsed(rt).ok()?.as_nanos() as u64);
     let start = Instant::now(rt).ok()?;
     let seat = store.install(rt, alloc, held, made, reader).ok()?;
     work.installs.add(start.elapsed(rt).ok()?.as_nanos() as u64);

@@ -166,7 +166,14 @@ fn outcomes(
     for _ in 0..stores {
         let version = version_of(alloc, points)?;
         let opened_with = (Opening::new(), version);
-        let Some((one, more)) = outcome::<Counter, Brand, _, _>(rt, rt, alloc, opened_with, plan, work) else {
+        let Some((one, more)) = outcome::<Counter, Brand, _, _>(
+            rt,
+            rt,
+            alloc,
+            opened_with,
+            plan,
+            work,
+        ) else {
             bail!("a pin or an install is refused");
         };
         length = length.saturating_add(one);
@@ -179,38 +186,77 @@ fn outcomes(
 fn small(rt: &(impl Threads + Wait + Clock + Sync + Print), alloc: Global) -> Result<()> {
     let mut work = Work::new(alloc)?;
     for way in [Way::Often(1000), Way::Beside, Way::Timed] {
-        let plan = Plan { readers: 2, way, installer: !matches!(way, Way::Often(_)) };
+        let plan = Plan {
+            readers: 2,
+            way,
+            installer: !matches!(way, Way::Often(_)),
+        };
         outcomes(rt, alloc, plan, 1, 2, &mut work)?;
     }
-    ensure!(work.installs.calls() == 252, "there aren't 63 installs of each of four stores");
+    ensure!(
+        work.installs.calls() == 252,
+        "there aren't 63 installs of each of four stores"
+    );
     println!(rt; "all pins and installs went well")?;
     Ok(())
 }
 
 /// Prints what was asked for.
-fn run(rt: &(impl Threads + Wait + Clock + Sync + Print), alloc: Global, mode: &str, first: u64, second: u64) -> Result<()> {
+fn run(
+    rt: &(impl Threads + Wait + Clock + Sync + Print),
+    alloc: Global,
+    mode: &str,
+    first: u64,
+    second: u64,
+) -> Result<()> {
     let mut work = Work::new(alloc)?;
     let readers = (first % 8) as usize;
     match mode {
         "pins" => {
-            let plan = Plan { readers, way: Way::Often(second), installer: false };
+            let plan = Plan {
+                readers,
+                way: Way::Often(second),
+                installer: false,
+            };
             let (length, times) = outcomes(rt, alloc, plan, 1, 1, &mut work)?;
             println!(rt; "{length} {}", times.calls())?;
         }
         "beside" => {
-            let plan = Plan { readers, way: Way::Beside, installer: true };
+            let plan = Plan {
+                readers,
+                way: Way::Beside,
+                installer: true,
+            };
             let (length, times) = outcomes(rt, alloc, plan, 1, second, &mut work)?;
             println!(rt; "{length} {}", times.calls())?;
         }
         "times" => {
-            let plan = Plan { readers, way: Way::Timed, installer: true };
+            let plan = Plan {
+                readers,
+                way: Way::Timed,
+                installer: true,
+            };
             let (_, times) = outcomes(rt, alloc, plan, 1, second, &mut work)?;
-            println!(rt; "{} {} {} {}", times.below(5000), times.below(9900), times.below(9999), times.longest())?;
+            println!(rt;
+                "{} {} {} {}",
+                times.below(5000),
+                times.below(9900),
+                times.below(9999),
+                times.longest()
+            )?;
         }
         "installs" => {
-            let plan = Plan { readers: 0, way: Way::Beside, installer: true };
+            let plan = Plan {
+                readers: 0,
+                way: Way::Beside,
+                installer: true,
+            };
             outcomes(rt, alloc, plan, first, second, &mut work)?;
-            println!(rt; "{} {}", work.compactions.below(5000), work.installs.below(5000))?;
+            println!(rt;
+                "{} {}",
+                work.compactions.below(5000),
+                work.installs.below(5000)
+            )?;
         }
         _ => bail!("it is pins, beside, times or installs"),
     }

@@ -11,7 +11,9 @@ use uc_share::{Name, Reader, Store};
 
 /// What an installer is about.
 pub(crate) const WAITING: u64 = 0;
+
 pub(crate) const INSTALLING: u64 = 1;
+
 pub(crate) const DONE: u64 = 2;
 
 /// What readers and their installer tell each other.

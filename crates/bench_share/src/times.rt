@@ -18,7 +18,10 @@ fn place_of(nanoseconds: u64) -> usize {
         return nanoseconds as usize;
     }
     let power = 63_u32.saturating_sub(nanoseconds.leading_zeros());
-    let step = nanoseconds.checked_shr(power.saturating_sub(5)).unwrap_or(0) % STEPS;
+    let step = nanoseconds
+        .checked_shr(power.saturating_sub(5))
+        .unwrap_or(0)
+        % STEPS;
     let doublings = u64::from(power.saturating_sub(4));
     (doublings.saturating_mul(STEPS).saturating_add(step)) as usize
 }
@@ -30,7 +33,9 @@ fn time_of(place: usize) -> u64 {
         return place;
     }
     let doublings = (place / STEPS).saturating_sub(1) as u32;
-    (STEPS + place % STEPS).checked_shl(doublings).unwrap_or(u64::MAX)
+    (STEPS + place % STEPS)
+        .checked_shl(doublings)
+        .unwrap_or(u64::MAX)
 }
 
 impl Times {

@@ -1,5 +1,4 @@
 //! Every stretch of random stores, compacted.
-use uc_tests_shared::dice::{Dice, KEYS};
 use std::alloc::Global;
 use std::process::Abort;
 use std::sync::Arc;
@@ -10,6 +9,7 @@ use uc_compact::{compact, inputs_stand};
 use uc_model::{effect_at, value_at};
 use uc_oper::{Append, Counter, Maximum, Operator};
 use uc_run::{Memtable, Run};
+use uc_tests_shared::dice::{Dice, KEYS};
 
 /// Runs, the newest first, the writes of all of them in order, and the last sequence.
 #[derive(Drop)]

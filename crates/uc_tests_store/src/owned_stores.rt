@@ -1,5 +1,4 @@
 //! Random stores in one owner's hands: claims, installs and picks in any order, and the same answers all along.
-use uc_tests_shared::dice::{Dice, KEYS};
 use std::alloc::Global;
 use std::marker::Sync;
 use std::process::Abort;
@@ -10,6 +9,7 @@ use uc_bytes::Bytes;
 use uc_oper::{Append, Counter, Maximum, Operator};
 use uc_query_answer::{Query, answer_writes};
 use uc_query_read::answer_one;
+use uc_tests_shared::dice::{Dice, KEYS};
 use uc_version::{Options, Owned, OwnedClaim, Stretch, open_plain};
 
 /// Up to 40 drawn writes.

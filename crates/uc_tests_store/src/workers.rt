@@ -1,5 +1,4 @@
 //! Batches of drawn queries, by every number of workers and every size of pieces.
-use uc_tests_shared::dice::{Dice, KEYS};
 use crate::owned_stores::drawn_writes;
 use std::alloc::Global;
 use std::marker::Sync;
@@ -10,6 +9,7 @@ use uc_bytes::Bytes;
 use uc_oper::{Append, Counter, Operator};
 use uc_query_answer::{Answer, Query, answer_writes};
 use uc_query_workers::answer_plain;
+use uc_tests_shared::dice::{Dice, KEYS};
 use uc_version::{Options, Version, open_version};
 
 /// One of the keys, or one that sorts before them all.
