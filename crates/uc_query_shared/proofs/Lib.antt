@@ -1,0 +1,6 @@
+pub mod Answered
+pub mod Behind
+pub mod Draws
+pub mod Left
+pub mod Seen
+pub mod Shares
