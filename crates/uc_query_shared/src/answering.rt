@@ -1,5 +1,8 @@
 //! [`answer_all`]: the answers to a batch of queries of a shared store.
-ghost use Rattle.std.specs.Prelude.{◌≡◌, ◌≢◌, ◌⊎◌, ◌<◌, ◌≤◌, None, Some, IfOk, IfErr, OnOk, length};
+ghost use Rattle.uc_query_pieces.specs.Draws.{past};
+ghost use Rattle.uc_query_shared.specs.Drawing.{HaveDrawn};
+ghost use Rattle.uc_query_workers.specs.Pieces.{AreNumbers};
+ghost use Rattle.std.specs.Prelude.{◌≡◌, ◌≢◌, ◌⊎◌, ◌<◌, ◌≤◌, ◌*◌, vec_len, None, Some, IfOk, IfErr, OnOk, length};
 ghost use Rattle.std.specs.List.{AllByRecursion, AllZip};
 ghost use mathlib.Core.List.{IsPrefix};
 ghost use Rattle.uc_query_shared.specs.Asking as asking;
@@ -8,7 +11,7 @@ ghost use Rattle.uc_query_workers.specs.declared.ask_error.AskError.TheVariants.
 ghost use Rattle.uc_query_workers.specs.declared.ask_error.TheConstants.{MOST_WORKERS};
 ghost use Rattle.uc_version_state.specs.Histories.{History, IsLegal, MayFollow, version_after};
 
-use crate::drawing::drawn_by_workers;
+use crate::drawing::{Shares, drawn_by_workers};
 use crate::gate::Gate;
 use crate::gathering::joined;
 use crate::job::Job;
@@ -40,7 +43,29 @@ fn room_of_each(queries: usize, workers: usize) -> usize
     queries.min((queries / workers).saturating_mul(2))
 }
 
-/// The answers to queries, in their order, by workers that draw pieces.
+/// The answers to a batch, put together from what workers drew by a seat that has all parts.
+fn gathered<O: Operator, N: Name>(
+    alloc: Global,
+    batch: &Batch<'_>,
+    pieces: usize,
+    counter: &PieceCounter,
+    shares: Shares,
+) -> Result<Vec<Answer>, AllocError>
+    requires pieces { pieces ≡ counter.now.pieces }
+    requires numbers { (length batch.now.queries ≤ pieces * batch.now.piece) × AreNumbers batch.now pieces }
+    requires seat { IfOk shares (λ shares. (shares.0.table ≡ counter.now.table) × (0 < shares.0.parts)
+        × (shares.0.parts ≡ shares.0.all) × (0 < past counter.now.pieces shares.0.numbers)) }
+    requires drawn { IfOk shares (λ shares.
+        HaveDrawn O.meaning N.base batch.now counter.now.pieces shares.0.numbers shares.1.items) }
+    ensures { IfOk result (λ answers. ForEachHistory O.meaning N.base (λ h.
+        answers.items ≡ answers_given O.meaning h batch.now.queries)) }
+{
+    let (mut seat, draws) = shares?;
+    counter.all_drawn(&mut seat);
+    joined(alloc, batch, pieces, draws)
+}
+
+/// The answers to queries, in their order, by workers that draw pieces, and the readers.
 fn answers_of<O: Operator + Sync, N: Name + Send, G: Gate, R: Threads + Sync>(
     rt: &R,
     alloc: Global,
@@ -48,27 +73,28 @@ fn answers_of<O: Operator + Sync, N: Name + Send, G: Gate, R: Threads + Sync>(
     workers: usize,
     piece: usize,
     gate: &G,
-    readers: &mut [Reader<O, N>],
-) -> Result<Vec<Answer>, AllocError>
+    readers: Vec<Reader<O, N>>,
+) -> (Vec<Reader<O, N>>, Result<Vec<Answer>, AllocError>)
     requires piece { 0 < piece }
-    requires workers { (0 < workers) × (workers ≤ MOST_WORKERS) × (workers ≤ length readers.old) }
-    ensures seen { AllZip IsPrefix readers.old readers.new }
-    ensures answers { IfOk result (λ answers. ForEachHistory O.meaning N.base (λ h.
+    requires workers { (0 < workers) × (workers ≤ MOST_WORKERS) × (workers ≤ vec_len readers) }
+    ensures seen { AllZip IsPrefix readers.items result.0.items }
+    ensures answers { IfOk result.1 (λ answers. ForEachHistory O.meaning N.base (λ h.
         answers.items ≡ answers_given O.meaning h queries.now)) }
 {
     let batch = Batch::new(queries, piece);
     let pieces = batch.pieces();
     let workers = workers.min(pieces).max(1);
-    let (counter, mut seat) = PieceCounter::new(alloc, pieces as u64, workers as u64)?;
+    let Ok((counter, seat)) = PieceCounter::new(alloc, pieces as u64, workers as u64) else {
+        return (readers, Err(AllocError));
+    };
     let job = Job {
         batch: &batch,
         counter: &counter,
         gate,
         room: room_of_each(queries.len(), workers),
     };
-    let draws = drawn_by_workers(rt, alloc, &job, workers, &mut seat, readers)?;
-    counter.all_drawn(&mut seat);
-    joined(alloc, &batch, pieces, draws)
+    let (readers, shares) = drawn_by_workers(rt, alloc, &job, workers, seat, readers);
+    (readers, gathered::<O, N>(alloc, &batch, pieces, &counter, shares))
 }
 
 /// The answers to a batch of queries of a shared store, in their order, by so many workers that each have one of the readers. The
@@ -100,12 +126,11 @@ pub fn answer_all<O: Operator + Sync, N: Name + Send, G: Gate>(
     ensures legal { AllByRecursion (MayFollow O.meaning N.base) result.0.items }
     ensures same { IfErr result.1 (λ error. error ≢ Memory → result.0.items ≡ readers.items) }
 {
-    let mut readers = readers;
     if let Some(error) = batch_refusal(readers.len(), workers, piece) {
         are_legal(&readers);
         return (readers, Err(error));
     }
-    let answers = answers_of(rt, alloc, queries, workers, piece, gate, &mut readers);
+    let (readers, answers) = answers_of(rt, alloc, queries, workers, piece, gate, readers);
     are_legal(&readers);
     match answers {
         Ok(answers) => (readers, Ok(answers)),

@@ -41,25 +41,25 @@ type Pairs = &'static [(&'static [u8], &'static [u8])];
 
 /// A query of a test and its answer, worked by hand.
 #[derive(Clone, Copy)]
-enum Asked {
+enum Question {
     Get(&'static [u8], u64, &'static [u8]),
     NotProtected(&'static [u8], u64),
     Scan(&'static [u8], u64, u64, Pairs),
     ScanBelow(&'static [u8], &'static [u8], u64, u64, Pairs),
 }
 
-static ASKED: [Asked; 7] = [
-    Asked::Get(b"k", 5, b"c"),
-    Asked::Get(b"k", 2, b"a,b"),
-    Asked::Get(b"l", 5, b"x"),
-    Asked::NotProtected(b"k", 3),
-    Asked::Scan(b"", 10, 5, &[(b"k", b"c"), (b"l", b"x")]),
-    Asked::Scan(b"", 0, 5, &[]),
-    Asked::ScanBelow(b"k", b"l", 10, 2, &[(b"k", b"a,b")]),
+static ASKED: [Question; 7] = [
+    Question::Get(b"k", 5, b"c"),
+    Question::Get(b"k", 2, b"a,b"),
+    Question::Get(b"l", 5, b"x"),
+    Question::NotProtected(b"k", 3),
+    Question::Scan(b"", 10, 5, &[(b"k", b"c"), (b"l", b"x")]),
+    Question::Scan(b"", 0, 5, &[]),
+    Question::ScanBelow(b"k", b"l", 10, 2, &[(b"k", b"a,b")]),
 ];
 
 /// What is asked.
-fn asked() -> &'static [Asked] {
+fn asked() -> &'static [Question] {
     &ASKED
 }
 
@@ -69,19 +69,19 @@ fn bytes(alloc: Global, text: &[u8]) -> Result<Bytes, Fail> {
 }
 
 /// The query that is asked.
-fn query_of(alloc: Global, asked: Asked) -> Result<Query, Fail> {
+fn query_of(alloc: Global, asked: Question) -> Result<Query, Fail> {
     Ok(match asked {
-        Asked::Get(key, at, _) | Asked::NotProtected(key, at) => Query::Get {
+        Question::Get(key, at, _) | Question::NotProtected(key, at) => Query::Get {
             key: bytes(alloc, key)?,
             at,
         },
-        Asked::Scan(low, limit, at, _) => Query::Scan {
+        Question::Scan(low, limit, at, _) => Query::Scan {
             low: bytes(alloc, low)?,
             high: None,
             at,
             limit,
         },
-        Asked::ScanBelow(low, high, limit, at, _) => Query::Scan {
+        Question::ScanBelow(low, high, limit, at, _) => Query::Scan {
             low: bytes(alloc, low)?,
             high: Some(bytes(alloc, high)?),
             at,
@@ -100,11 +100,13 @@ fn rows_of(alloc: Global, pairs: Pairs) -> Result<Answer, Fail> {
 }
 
 /// Its answer.
-fn answer_of(alloc: Global, asked: Asked) -> Result<Answer, Fail> {
+fn answer_of(alloc: Global, asked: Question) -> Result<Answer, Fail> {
     match asked {
-        Asked::Get(_, _, value) => Ok(Answer::Value(Some(bytes(alloc, value)?))),
-        Asked::NotProtected(_, at) => Ok(Answer::NotProtected(at)),
-        Asked::Scan(_, _, _, pairs) | Asked::ScanBelow(_, _, _, _, pairs) => rows_of(alloc, pairs),
+        Question::Get(_, _, value) => Ok(Answer::Value(Some(bytes(alloc, value)?))),
+        Question::NotProtected(_, at) => Ok(Answer::NotProtected(at)),
+        Question::Scan(_, _, _, pairs) | Question::ScanBelow(_, _, _, _, pairs) => rows_of(
+            alloc, pairs,
+        ),
     }
 }
 
