@@ -1,0 +1,38 @@
+-- Installs change neither what a store was given nor what it keeps.
+use Rattle.std.proofs.Common.{◌≡◌, ℕ, List, [], ◌∷◌, ◌++◌, fold, map, refl, ap, sym, ◌∙◌}
+use Rattle.std.proofs.lemmas.List.{append-nil}
+use Rattle.std.specs.List.{flat_map}
+use Rattle.uc_oper.specs.Operation.{Operation}
+use Rattle.uc_query_answer.specs.Answers.{answer_of}
+use Rattle.uc_query_answer.specs.declared.answer.Answer.{Answer}
+use Rattle.uc_query_answer.specs.declared.query.Query.{Query}
+use Rattle.uc_query_workers.specs.Pieces.{Batch, piece_of, piece_answers}
+use Rattle.uc_query_shared.specs.Given.{ForEachHistory, piece_given}
+use Rattle.uc_version_state.specs.Versions.{Stored, writes_in}
+use Rattle.uc_version_state.specs.declared.event.Event.{Event}
+use Rattle.uc_version_state.specs.declared.event.Event.TheVariants.{Installed}
+use Rattle.uc_version_state.specs.Histories.{after, writes_brought, History, IsLegal, version_after, writes_given}
+
+none_brought : (es fs : List Event) → flat_map writes_brought (es ++ fs) ≡ flat_map writes_brought es
+none_brought [] [] = refl
+none_brought [] (Installed i ∷ fs) = none_brought [] fs
+none_brought (Installed i ∷ es) fs = none_brought es fs
+
+-- the longer history was given the same writes
+pub same_given : (h : History) (events : List Event) → writes_given (record h { events = h.events ++ events }) ≡ writes_given h
+same_given h events = ap (λ ws. h.opening.writes ++ ws) (none_brought h.events events)
+
+pub same_keeps : (v : Stored) (events : List Event) → (fold after v events).keeps ≡ v.keeps
+same_keeps v [] = refl
+same_keeps v (Installed i ∷ es) = same_keeps (after v (Installed i)) es
+
+map_same : {A B : Type 0} (f g : A → B) (xs : List A) → ((x : A) → f x ≡ g x) → map f xs ≡ map g xs
+map_same f g [] same = refl
+map_same f g (x ∷ xs) same = ap (λ y. y ∷ map f xs) (same x) ∙ ap (λ ys. g x ∷ ys) (map_same f g xs same)
+
+-- the answers from a version that stands behind every history with which the store may have opened
+pub pushed_as_given : (m : Operation) (base : Stored) (events : List Event) (v : Stored) (batch : Batch) (number : ℕ) (old new : List Answer) → v ≡ fold after base events → ((h : History) (query : Query) → IsLegal m h → version_after h ≡ base → answer_of m (writes_in (fold after base events)) (fold after base events).keeps query ≡ answer_of m (writes_given h) (version_after h).keeps query) → new ≡ old ++ piece_answers m v batch number → ForEachHistory m base (λ h. new ≡ old ++ piece_given m h batch number)
+pushed_as_given m base events v batch number old new v_is alike pushed h legal is =
+    pushed
+    ∙ ap (λ (w : Stored). old ++ piece_answers m w batch number) v_is
+    ∙ ap (λ xs. old ++ xs) (map_same _ _ (piece_of batch number) (λ query. alike h query legal is))

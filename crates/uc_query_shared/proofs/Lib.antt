@@ -1,0 +1,7 @@
+pub mod Answered
+pub mod Behind
+pub mod Draws
+pub mod Left
+pub mod Ends
+pub mod Seen
+pub mod Shares

@@ -1,0 +1,20 @@
+//! Batches of queries, answered by workers from the versions that a shared store shows meanwhile.
+//!
+//! A batch is cut into pieces, which workers draw as they come free, each once. For each piece a worker pins the version that is
+//! shown then, so a batch and the compactions that are installed meanwhile never wait for each other. Whatever the workers draw
+//! and whichever versions they pin, the answers are those of one thread that folds the plain writes. Read `specs/Given.antt`
+//! first, then `answering.rt`, `drawing.rt` and `gathering.rt`.
+#![tactic(auto)]
+
+mod answering;
+mod drawing;
+mod gate;
+mod gathering;
+mod job;
+mod laws;
+mod pinning;
+
+pub use answering::{answer_all, batch_refusal};
+pub use gate::{Free, Gate};
+pub use laws::pinned_versions_answer_as_given;
+pub use uc_query_workers::{AskError, MOST_WORKERS};

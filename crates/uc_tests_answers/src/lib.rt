@@ -1,0 +1,14 @@
+//! Batches of a store that threads share, asked as its users ask them.
+//!
+//! `worked.rt` has a store worked by hand, seven queries and their answers, `stores.rt` opens such a store and compacts it,
+//! `batches.rt` asks before, beside and after compactions, and `gates.rt` with a gate that holds a worker up.
+#![tactic(auto)]
+
+#[cfg(test)]
+mod batches;
+#[cfg(test)]
+mod gates;
+#[cfg(test)]
+mod stores;
+#[cfg(test)]
+mod worked;

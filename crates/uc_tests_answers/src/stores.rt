@@ -1,0 +1,89 @@
+//! A store that threads share, with readers for batches and a compactor beside them.
+ghost use Rattle.std.specs.Prelude.{◌≡◌, IfOk};
+
+use crate::worked::small_runs;
+use std::alloc::Global;
+use std::marker::Sync;
+use std::sync::Wait;
+use std::test::Fail;
+use std::thread::Threads;
+use uc_oper::Operator;
+use uc_share::{Name, Opening, Reader, Seat, Store, Version};
+
+/// How many workers a batch of these tests has at the most.
+const WORKERS: usize = 7;
+
+/// A compactor: a reader and a seat.
+pub(crate) type Compactor<O, N> = (Reader<O, N>, Seat);
+
+/// A store, a reader for each of seven workers, and a compactor.
+pub(crate) fn opened<O: Operator, N: Name, W: Wait + Drop>(
+    handle: W,
+    alloc: Global,
+    opening: Opening,
+    version: Version,
+) -> Result<(Store<O, N, W>, Vec<Reader<O, N>>, Compactor<O, N>), Fail>
+    requires book { opening.seen.book ≡ N.book }
+    requires base { version ≡ N.base }
+    ensures { IfOk result (λ opened. opened.2.1.table ≡ opened.0.table) }
+{
+    let readers = WORKERS + 1;
+    let opened = Store::<O, N, W>::open(alloc, handle, opening, version, small_runs(), readers, 1);
+    let Ok((store, mut readers, mut seats)) = opened else {
+        return Err("the store isn't opened")?;
+    };
+    let reader = readers.pop().ok_or("there is no reader")?;
+    let seat = seats.pop().ok_or("there is no seat")?;
+    Ok((store, readers, (reader, seat)))
+}
+
+/// Picks, claims, compacts and installs once. The seat comes back, with whether something was installed.
+fn compacts_once<O: Operator + Sync, N: Name, W: Wait + Drop>(
+    rt: &(impl Threads + Wait + Sync),
+    alloc: Global,
+    store: &Store<O, N, W>,
+    mut seat: Seat,
+    reader: &mut Reader<O, N>,
+) -> (Seat, bool)
+    requires { seat.table ≡ store.now.table }
+    ensures { result.0.table ≡ store.now.table }
+{
+    let Ok(pin) = store.pin(reader) else {
+        return (seat, false);
+    };
+    let Some(stretch) = store.pick(&pin, &mut seat) else {
+        return (seat, false);
+    };
+    let held = match store.claim(seat, pin, reader, stretch) {
+        Err((seat, _pin, _error)) => return (seat, false),
+        Ok(held) => held,
+    };
+    let Ok(made) = held.compact(rt, alloc) else {
+        return (store.abandon(held).0, false);
+    };
+    match store.install(rt, alloc, held, made, reader) {
+        Ok(seat) => (seat, true),
+        Err((held, _made, _error)) => (store.abandon(held).0, false),
+    }
+}
+
+/// Compacts until nothing is picked. The seat is given back, with how many compactions were installed.
+pub(crate) fn compacts<O: Operator + Sync, N: Name, W: Wait + Drop>(
+    rt: &(impl Threads + Wait + Sync),
+    alloc: Global,
+    store: &Store<O, N, W>,
+    compactor: Compactor<O, N>,
+) -> (Compactor<O, N>, u64)
+    requires { compactor.1.table ≡ store.now.table }
+    ensures { result.0.1.table ≡ store.now.table }
+{
+    let (mut reader, mut seat) = compactor;
+    for installs in 0..16 {
+        let (free, done) = compacts_once(rt, alloc, store, seat, &mut reader);
+        seat = free;
+        if !done {
+            return ((reader, seat), installs);
+        }
+    }
+    ((reader, seat), 16)
+}

@@ -1,0 +1,129 @@
+//! A store worked by hand, and a batch of queries with their answers.
+use std::alloc::Global;
+use std::test::Fail;
+use uc_batch::Writes;
+use uc_bytes::{Bytes, OpRef, WriteRef};
+use uc_query_answer::{Answer, Query, Rows};
+use uc_share::{Options, Version};
+use uc_version::open_version;
+
+/// Five writes, numbered from 1: a put and a merge of `k`, a put of `l`, a range deletion from `k` to below `l`, a merge of `k`.
+fn five_writes(alloc: Global) -> Result<Writes, Fail> {
+    let mut list = Vec::new(alloc);
+    list.push(WriteRef::new(1, OpRef::put(b"k", b"a")).to_write(alloc)?)?;
+    list.push(WriteRef::new(2, OpRef::merge(b"k", b"b")).to_write(alloc)?)?;
+    list.push(WriteRef::new(3, OpRef::put(b"l", b"x")).to_write(alloc)?)?;
+    list.push(WriteRef::new(4, OpRef::delete_range(b"k", b"l")).to_write(alloc)?)?;
+    list.push(WriteRef::new(5, OpRef::merge(b"k", b"c")).to_write(alloc)?)?;
+    Ok(Writes::of(list).ok_or("the sequences don't rise")?)
+}
+
+/// Options under which each write is a run and two runs are compacted.
+pub(crate) fn small_runs() -> Options {
+    Options {
+        memtable: 1,
+        trigger: 2,
+        percent: 25,
+        ..Options::usual()
+    }
+}
+
+/// A version of five runs. A snapshot protects the second write.
+pub(crate) fn five_runs(alloc: Global) -> Result<Version, Fail> {
+    match open_version(alloc, &five_writes(alloc)?, &[2], &small_runs()) {
+        Ok(version) => Ok(version),
+        Err(_) => Err("the store isn't opened")?,
+    }
+}
+
+/// Rows as keys and values.
+type Pairs = &'static [(&'static [u8], &'static [u8])];
+
+/// A query of a test and its answer, worked by hand.
+#[derive(Clone, Copy)]
+enum Question {
+    Get(&'static [u8], u64, &'static [u8]),
+    NotProtected(&'static [u8], u64),
+    Scan(&'static [u8], u64, u64, Pairs),
+    ScanBelow(&'static [u8], &'static [u8], u64, u64, Pairs),
+}
+
+static ASKED: [Question; 7] = [
+    Question::Get(b"k", 5, b"c"),
+    Question::Get(b"k", 2, b"a,b"),
+    Question::Get(b"l", 5, b"x"),
+    Question::NotProtected(b"k", 3),
+    Question::Scan(b"", 10, 5, &[(b"k", b"c"), (b"l", b"x")]),
+    Question::Scan(b"", 0, 5, &[]),
+    Question::ScanBelow(b"k", b"l", 10, 2, &[(b"k", b"a,b")]),
+];
+
+/// What is asked.
+fn asked() -> &'static [Question] {
+    &ASKED
+}
+
+/// The bytes of a text.
+fn bytes(alloc: Global, text: &[u8]) -> Result<Bytes, Fail> {
+    Ok(Bytes::from_slice(alloc, text)?)
+}
+
+/// The query that is asked.
+fn query_of(alloc: Global, asked: Question) -> Result<Query, Fail> {
+    Ok(match asked {
+        Question::Get(key, at, _) | Question::NotProtected(key, at) => Query::Get {
+            key: bytes(alloc, key)?,
+            at,
+        },
+        Question::Scan(low, limit, at, _) => Query::Scan {
+            low: bytes(alloc, low)?,
+            high: None,
+            at,
+            limit,
+        },
+        Question::ScanBelow(low, high, limit, at, _) => Query::Scan {
+            low: bytes(alloc, low)?,
+            high: Some(bytes(alloc, high)?),
+            at,
+            limit,
+        },
+    })
+}
+
+/// Rows with these keys and values.
+fn rows_of(alloc: Global, pairs: Pairs) -> Result<Answer, Fail> {
+    let mut rows = Vec::new(alloc);
+    for (key, value) in pairs {
+        rows.push((bytes(alloc, key)?, bytes(alloc, value)?))?;
+    }
+    Ok(Answer::Rows(Rows::of(rows).ok_or("keys don't rise")?))
+}
+
+/// Its answer.
+fn answer_of(alloc: Global, asked: Question) -> Result<Answer, Fail> {
+    match asked {
+        Question::Get(_, _, value) => Ok(Answer::Value(Some(bytes(alloc, value)?))),
+        Question::NotProtected(_, at) => Ok(Answer::NotProtected(at)),
+        Question::Scan(_, _, _, pairs) | Question::ScanBelow(_, _, _, _, pairs) => rows_of(
+            alloc, pairs,
+        ),
+    }
+}
+
+/// The seven queries.
+pub(crate) fn seven_queries(alloc: Global) -> Result<Vec<Query>, Fail> {
+    let mut queries = Vec::new(alloc);
+    for asked in asked() {
+        queries.push(query_of(alloc, *asked)?)?;
+    }
+    Ok(queries)
+}
+
+/// Their answers.
+pub(crate) fn seven_answers(alloc: Global) -> Result<Vec<Answer>, Fail> {
+    let mut answers = Vec::new(alloc);
+    for asked in asked() {
+        answers.push(answer_of(alloc, *asked)?)?;
+    }
+    Ok(answers)
+}
