@@ -206,7 +206,7 @@ to_head : (P : ℕ → Type 0) (f : ℕ) (s : Span) (ss : List Span) (b : Bool) 
 to_head P f s ss true e h = ((λ low high. h.0), h.1)
 to_head P f s ss false e h = ((λ low high. absurd (false≢true (sym e ∙ stands_from f s low high))), h)
 
-to_holds : (P : ℕ → Type 0) (f : ℕ) (ss : List Span) → AllByRecursion P (seqs_in f ss) → AllByRecursion (Holds P f) ss
+pub to_holds : (P : ℕ → Type 0) (f : ℕ) (ss : List Span) → AllByRecursion P (seqs_in f ss) → AllByRecursion (Holds P f) ss
 to_holds P f [] h = tt
 to_holds P f (s ∷ ss) h =
     let parts : Holds P f s × AllByRecursion P (seqs_in f ss) = to_head P f s (filter (stands_in f) ss) (stands_in f s) refl h in

@@ -7,3 +7,5 @@ mod Greatest
 mod Joins
 mod Trees
 mod Listed
+mod Equal
+mod Totals

@@ -30,7 +30,7 @@ all_mapped P g h (f ∷ fs) = (h f, all_mapped P g h fs)
 pub listed_fall : (count : ℕ) (spans : List Span) → AllByRecursion IsFalling (listed count spans)
 listed_fall count spans = all_mapped IsFalling (λ f. falling (seqs_in f spans)) (λ f. falling_falls (seqs_in f spans)) (range_with_len 0 count)
 
-same_map : {Y : Type 0} (g h : ℕ → Y) → ((f : ℕ) → g f ≡ h f) → (fs : List ℕ) → map g fs ≡ map h fs
+pub same_map : {Y : Type 0} (g h : ℕ → Y) → ((f : ℕ) → g f ≡ h f) → (fs : List ℕ) → map g fs ≡ map h fs
 same_map g h same [] = refl
 same_map {Y} g h same (f ∷ fs) = ap (λ (y : Y). y ∷ map g fs) (same f) ∙ ap (λ (ys : List Y). h f ∷ ys) (same_map g h same fs)
 
@@ -46,7 +46,7 @@ keeps_all n (m ∷ seqs) h =
     let e : leb m n ≡ true = grind (arith, nat_tests) in
     ap (λ b. cond b (m ∷ filter (λ k. leb k n) seqs) (filter (λ k. leb k n) seqs)) e ∙ ap (λ (ns : List ℕ). m ∷ ns) (keeps_all n seqs h.1)
 
-none_above : (s : Span) (ss : List Span) (f : ℕ) → AreJoined (s ∷ ss) → AllByRecursion (λ m. m ≤ s.seq) (seqs_in f (s ∷ ss))
+pub none_above : (s : Span) (ss : List Span) (f : ℕ) → AreJoined (s ∷ ss) → AllByRecursion (λ m. m ≤ s.seq) (seqs_in f (s ∷ ss))
 none_above s ss f h =
     descend_seqs s.seq (filter (stands_in f) (s ∷ ss)) (all-filter (λ t. t.seq ≤ s.seq) (stands_in f) (s ∷ ss) (omega arith, joined_below s ss h.1))
 

@@ -15,8 +15,10 @@ mod span;
 mod spans;
 mod tree;
 mod walking;
+mod within;
 
 pub use seqs::Seqs;
 pub use span::Span;
 pub use spans::Spans;
+pub use within::are_within;
 

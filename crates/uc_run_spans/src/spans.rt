@@ -15,6 +15,24 @@ use crate::walking::newest_over;
 use std::alloc::{AllocError, Global};
 use std::marker::Model;
 
+/// How many fragments spans have together, held at the greatest number.
+fn total_of(spans: &[Span]) -> u64
+    ensures { result ≡ min (sum_by standing.size_of spans.now) (2 ^ 64 - 1) }
+{
+    let mut sum = 0_u64;
+    for span in spans {
+        sum = sum.saturating_add(span.end.saturating_sub(span.first) as u64);
+    }
+    sum
+}
+
+/// Whether spans are equal.
+fn are_same(spans: &[Span], others: &[Span]) -> bool
+    ensures { IsTrue result ↔ (spans.now ≡ others.now) }
+{
+    spans == others
+}
+
 /// The sequence of the first span, if there is one.
 fn first_seq(spans: &[Span]) -> Option<u64>
     ensures { result ≡ standing.first_seq spans.now }
@@ -83,6 +101,24 @@ impl Spans {
         ensures { result ≡ newest.newest_at_or_below at (slice_index_or self.now fragment []) }
     {
         newest_over(&self.nodes, self.fragments, fragment, at)
+    }
+
+    /// How many sequences the fragments have together, held at the greatest number.
+    ///
+    /// It goes over the spans once.
+    pub fn total(&self) -> u64
+        ensures { result ≡ min (sum_by length self.now) (2 ^ 64 - 1) }
+    {
+        total_of(&self.spans)
+    }
+
+    /// Whether the fragments of both have the same sequences.
+    ///
+    /// It goes over the spans once, since equal fragments have equal spans.
+    pub fn is_same(&self, other: &Spans) -> bool
+        ensures { IsTrue result ↔ (self.now ≡ other.now) }
+    {
+        self.fragments == other.fragments && are_same(&self.spans, &other.spans)
     }
 
     /// The greatest sequence of all fragments, if there is one.
