@@ -123,7 +123,8 @@ same_spans count (s ∷ ss) (t ∷ ts) ja jb wa wb same =
 -- so equal lists of fragments have equal spans, and the other way round
 pub listed_alike : (m n : ℕ) (a b : List Span) → AreJoined a → AreJoined b → AllByRecursion (IsWithin m) a → AllByRecursion (IsWithin n) b → listed m a ≡ listed n b → (m ≡ n) × (a ≡ b)
 listed_alike m n a b ja jb wa wb e =
-    let same_count : m ≡ n = sym (length-listed m a) ∙ ap (λ (xss : List (List ℕ)). length xss) e ∙ length-listed n b in
-    (same_count,
+    let same_count : m ≡ n = sym (length-listed m a) ∙ ap (λ (xss : List (List ℕ)). length xss) e ∙ length-listed n b in (
+      same_count,
       same_spans m a b ja jb wa (subst (λ k. AllByRecursion (IsWithin k) b) (sym same_count) wb)
-      (λ f l. sym (joined_stay f a ja) ∙ sym (listed_at m a f l) ∙ ap (λ (xss : List (List ℕ)). get_or xss f []) e ∙ listed_at n b f (subst (λ k. f < k) same_count l) ∙ joined_stay f b jb))
+          (λ f l. sym (joined_stay f a ja) ∙ sym (listed_at m a f l) ∙ ap (λ (xss : List (List ℕ)). get_or xss f []) e ∙ listed_at n b f (subst (λ k. f < k) same_count l) ∙ joined_stay f b jb),
+    )

@@ -62,8 +62,8 @@ lies_at (from ∷ ends) items h n l =
       order = omega (arith, up, next);
       bound = omega (arith, last.1, next);
       part = part_from from ends items (length items) h.1 n short
-      ∙ ap (λ k. take (get_or ends n 0 - get_or (from ∷ ends) n 0) (drop k items)) begin
-      ∙ ap (λ k. take (k - get_or (from ∷ ends) n 0) (drop (get_or (from ∷ ends) n 0) items)) next;
+          ∙ ap (λ k. take (get_or ends n 0 - get_or (from ∷ ends) n 0) (drop k items)) begin
+          ∙ ap (λ k. take (k - get_or (from ∷ ends) n 0) (drop (get_or (from ∷ ends) n 0) items)) next;
     }
 
 -- ---- one more list

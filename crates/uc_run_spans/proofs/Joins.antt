@@ -91,10 +91,11 @@ is_behind s t h e = (h.0, cannot s t e)
 
 joined_head : (s t : Span) (ts : List Span) (b : Bool) → can s t ≡ b → s.first < s.end → Follows s t → AllByRecursion (Follows t) ts → AreJoined (joined_onto (both s t) ts) → AreJoined (joined_onto t ts) → AreJoined (cond b (joined_onto (both s t) ts) (s ∷ joined_onto t ts))
 joined_head s t ts true e some h rest with_both with_next = with_both
-joined_head s t ts false e some h rest with_both with_next =
-    (some,
-      all_same (λ u. behind_from s t u (is_behind s t h e)) (joined_onto t ts) (follow_onto t t ts (omega arith, λ same. omega arith) rest),
-      with_next)
+joined_head s t ts false e some h rest with_both with_next = (
+  some,
+  all_same (λ u. behind_from s t u (is_behind s t h e)) (joined_onto t ts) (follow_onto t t ts (omega arith, λ same. omega arith) rest),
+  with_next,
+)
 
 joined_gaps : (s : Span) (ts : List Span) → s.first < s.end → AllByRecursion (λ t. t.first < t.end) ts → AllByRecursion (Follows s) ts → AreSorted ts → AreJoined (joined_onto s ts)
 joined_gaps s [] some all h k = (some, tt, tt)

@@ -75,11 +75,12 @@ descend_by : (depth low high : ℕ) (spans : List Span) (b : Bool) → SpansDesc
     AllByRecursion Descends (held low high spans ∷ cond b [] (nodes depth low (middle low high) (first_half low high spans) ++ nodes depth (middle low high) high (second_half low high spans)))
 descend_by depth low high spans true h rest = (seqs_descend (filter (spans_all low high) spans) (descend-filter (spans_all low high) spans h), tt)
 descend_by depth low high spans false h rest =
-    let passed : SpansDescend (left_over low high spans) = descend-filter (λ s. not (spans_all low high s)) spans h in
-    (seqs_descend (filter (spans_all low high) spans) (descend-filter (spans_all low high) spans h),
+    let passed : SpansDescend (left_over low high spans) = descend-filter (λ s. not (spans_all low high s)) spans h in (
+      seqs_descend (filter (spans_all low high) spans) (descend-filter (spans_all low high) spans h),
       all-append Descends (nodes depth low (middle low high) (first_half low high spans)) (nodes depth (middle low high) high (second_half low high spans))
-      (rest low (middle low high) (first_half low high spans) (descend-filter (meets low (middle low high)) (left_over low high spans) passed))
-      (rest (middle low high) high (second_half low high spans) (descend-filter (meets (middle low high) high) (left_over low high spans) passed)))
+          (rest low (middle low high) (first_half low high spans) (descend-filter (meets low (middle low high)) (left_over low high spans) passed))
+          (rest (middle low high) high (second_half low high spans) (descend-filter (meets (middle low high) high) (left_over low high spans) passed)),
+    )
 
 pub nodes_descend : (depth low high : ℕ) (spans : List Span) → SpansDescend spans → AllByRecursion Descends (nodes depth low high spans)
 nodes_descend zero low high spans h = tt
@@ -97,9 +98,10 @@ on_the_way (suc depth) low high f spans =
 
 at_place : {X : Type 0} (lists : List X) (n : ℕ) (x : X) (xs : List X) (d : X) → drop n lists ≡ x ∷ xs → (get_or lists n d ≡ x) × (drop (n + 1) lists ≡ xs)
 at_place lists n x xs d e =
-    let none : n + 0 ≡ n = omega arith in
-    (sym (ap (λ k. get_or lists k d) none) ∙ sym (get_or-drop n lists 0 d) ∙ ap (λ (ys : List _). get_or ys 0 d) e,
-      sym (drop-drop 1 n lists) ∙ ap (λ (ys : List _). drop 1 ys) e)
+    let none : n + 0 ≡ n = omega arith in (
+      sym (ap (λ k. get_or lists k d) none) ∙ sym (get_or-drop n lists 0 d) ∙ ap (λ (ys : List _). get_or ys 0 d) e,
+      sym (drop-drop 1 n lists) ∙ ap (λ (ys : List _). drop 1 ys) e,
+    )
 
 abbrev list_at : List (List ℕ) → ℕ → List ℕ
 list_at lists number = get_or lists number []
@@ -305,8 +307,8 @@ walk_half f at fragments lists n best (suc depth) e from to room enough seen =
       room = omega (arith, h.room, room);
       enough = omega (arith, h.less, enough);
       seen = newer_assoc best (newest_at_or_below at (list_at lists (half f n).number)) (newest_of_all at (map (list_at lists) (below depth f (half f n))))
-      ∙ sym (ap (λ b. newer best (newest_of_all at (map (list_at lists) (cond b [] (nodes_over (suc depth) f (half f n)))))) e)
-      ∙ seen;
+          ∙ sym (ap (λ b. newer best (newest_of_all at (map (list_at lists) (cond b [] (nodes_over (suc depth) f (half f n)))))) e)
+          ∙ seen;
     }
 
 pub walk_goes_on : (f at fragments : ℕ) (lists : List (List ℕ)) (n next : Node) (best later : Option ℕ) → Walks f at fragments lists n best → is_leaf n.low n.high ≡ false → next ≡ half f n → later ≡ newer best (newest_at_or_below at (list_at lists next.number)) → Walks f at fragments lists next later

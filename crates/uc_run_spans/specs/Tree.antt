@@ -35,8 +35,8 @@ nodes zero low high spans = []
 nodes (suc depth) low high spans =
     held low high spans
     ∷ (if is_leaf low high then []
-      else nodes depth low (middle low high) (filter (meets low (middle low high)) (left_over low high spans))
-      ++ nodes depth (middle low high) high (filter (meets (middle low high) high) (left_over low high spans)))
+    else nodes depth low (middle low high) (filter (meets low (middle low high)) (left_over low high spans))
+    ++ nodes depth (middle low high) high (filter (meets (middle low high) high) (left_over low high spans)))
 
 -- the node that stands for all of so many fragments
 abbrev pub root : ℕ → Node

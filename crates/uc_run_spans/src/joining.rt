@@ -50,7 +50,11 @@ fn joined(alloc: Global, spans: &[Span]) -> Result<Vec<Span>, AllocError>
 
 /// Spans that say the same as others, as few and as long as can be: the newest first, and those of one sequence with
 /// gaps between them. It fails only for want of memory.
-pub(crate) fn in_few(alloc: Global, fragments: usize, spans: Vec<Span>) -> Result<Vec<Span>, AllocError>
+pub(crate) fn in_few(
+    alloc: Global,
+    fragments: usize,
+    spans: Vec<Span>,
+) -> Result<Vec<Span>, AllocError>
     requires { AllByRecursion (IsWithin fragments) spans.items }
     ensures { IfOk result (λ made. SayWhat fragments spans.items made.items) }
 {

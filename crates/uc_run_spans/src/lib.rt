@@ -21,4 +21,3 @@ pub use seqs::Seqs;
 pub use span::Span;
 pub use spans::Spans;
 pub use within::are_within;
-

@@ -33,13 +33,7 @@ fn after(found: Option<u64>) -> Option<u64>
 {
     match found {
         None => None,
-        Some(seq) => {
-            if seq == 0 {
-                None
-            } else {
-                Some(seq - 1)
-            }
-        }
+        Some(seq) => { if seq == 0 { None } else { Some(seq - 1) } }
     }
 }
 

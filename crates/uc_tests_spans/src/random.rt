@@ -11,7 +11,11 @@ fn random_below(state: &mut u64, bound: u64) -> u64 {
     *state = state
         .wrapping_mul(6_364_136_223_846_793_005)
         .wrapping_add(1_442_695_040_888_963_407);
-    if bound == 0 { 0 } else { (*state >> 33) % bound }
+    if bound == 0 {
+        0
+    } else {
+        (*state >> 33) % bound
+    }
 }
 
 /// A span over some of so many fragments, or none where there are none.
@@ -47,9 +51,9 @@ fn random_spans(
 fn plain_seqs(alloc: Global, spans: &[Span], fragment: usize) -> Result<Vec<u64>, AllocError> {
     let mut seqs = Vec::new(alloc);
     for seq in (0..MOST_SEQS).rev() {
-        if spans
-            .iter()
-            .any(|span| span.seq == seq && span.first <= fragment && fragment < span.end)
+        if spans.iter().any(|span| span.seq == seq
+            && span.first <= fragment
+            && fragment < span.end)
         {
             seqs.push(seq)?;
         }
@@ -58,7 +62,12 @@ fn plain_seqs(alloc: Global, spans: &[Span], fragment: usize) -> Result<Vec<u64>
 }
 
 /// Whether a fragment of some spans answers as a plain list does.
-fn answers_as(alloc: Global, spans: &Spans, fragment: usize, plain: &[u64]) -> Result<bool, AllocError> {
+fn answers_as(
+    alloc: Global,
+    spans: &Spans,
+    fragment: usize,
+    plain: &[u64],
+) -> Result<bool, AllocError> {
     if fragment >= spans.fragments() {
         return Ok(false);
     }

@@ -17,8 +17,8 @@ returns t c =
     let spans : List Span = c.args.spans.items in
     let fork : 1 < c.args.high - c.args.low = omega arith in
     let put : c.push.new.self ≡ c.args.lists.now ++ held low high spans ∷ [] =
-        c.in_ok-push.ensures.pushed
-        ∙ ap (λ (seqs : List ℕ). c.args.lists.now ++ seqs ∷ []) (c.deref-2.ensures.value ∙ c.in_ok-held.ensures ∙ ap (λ (ss : List Span). held low high ss) c.deref.ensures.value) in
+    c.in_ok-push.ensures.pushed
+    ∙ ap (λ (seqs : List ℕ). c.args.lists.now ++ seqs ∷ []) (c.deref-2.ensures.value ∙ c.in_ok-held.ensures ∙ ap (λ (ss : List Span). held low high ss) c.deref.ensures.value) in
     ok_all c.push_nodes-2.result
     (λ depth. high - mid ≤ depth) (λ depth. high - low ≤ depth)
     (λ depth. c.push_nodes-2.new.lists ≡ c.push_nodes.new.lists ++ nodes depth mid high c.in_ok-first.second.items)

@@ -14,18 +14,17 @@ returns-then-self-other c =
     let n : ℕ = c.other.inside.fragments in
     let a : List Span = c.self.inside.spans.items in
     let b : List Span = c.other.inside.spans.items in
-    let count : c.self.inside.fragments ≡ c.other.inside.fragments = first_of (omega arith, search rules) in
-    (
+    let count : c.self.inside.fragments ≡ c.other.inside.fragments = first_of (omega arith, search rules) in (
       (λ t.
-        sym c.self.view_is
-        ∙ ap (λ (ss : List Span). listed m ss) (sym c.deref.ensures.value ∙ c.are_same.ensures.0 t ∙ c.deref-then-self-other.ensures.value)
-        ∙ ap (λ (k : ℕ). listed k b) count
-        ∙ c.other.view_is),
+          sym c.self.view_is
+          ∙ ap (λ (ss : List Span). listed m ss) (sym c.deref.ensures.value ∙ c.are_same.ensures.0 t ∙ c.deref-then-self-other.ensures.value)
+          ∙ ap (λ (k : ℕ). listed k b) count
+          ∙ c.other.view_is),
       (λ e.
-        c.are_same.ensures.1
-        (c.deref.ensures.value
-        ∙ (listed_alike m n a b c.self.invariant.joined c.other.invariant.joined c.self.invariant.within c.other.invariant.within (c.self.view_is ∙ e ∙ sym c.other.view_is)).1
-        ∙ sym c.deref-then-self-other.ensures.value)),
+          c.are_same.ensures.1
+          (c.deref.ensures.value
+          ∙ (listed_alike m n a b c.self.invariant.joined c.other.invariant.joined c.self.invariant.within c.other.invariant.within (c.self.view_is ∙ e ∙ sym c.other.view_is)).1
+          ∙ sym c.deref-then-self-other.ensures.value)),
     )
 
 pub returns-else-self-other : goal.returns-else-self-other
@@ -34,8 +33,7 @@ returns-else-self-other c =
     let n : ℕ = c.other.inside.fragments in
     let a : List Span = c.self.inside.spans.items in
     let b : List Span = c.other.inside.spans.items in
-    let other : c.self.inside.fragments ≢ c.other.inside.fragments = λ e. absurd (omega arith) in
-    (
+    let other : c.self.inside.fragments ≢ c.other.inside.fragments = λ e. absurd (omega arith) in (
       (λ t. absurd (other (number_from m n t))),
       (λ e. absurd (other (listed_alike m n a b c.self.invariant.joined c.other.invariant.joined c.self.invariant.within c.other.invariant.within (c.self.view_is ∙ e ∙ sym c.other.view_is)).0)),
     )

@@ -25,8 +25,8 @@ newest_over-requires-clause-within c =
 pub newest_over-requires-clause-all : goal.newest_over-requires-clause-all
 newest_over-requires-clause-all c =
     let l : c.args.fragment < c.self.inside.fragments =
-        many c.self.inside.fragments c.self.inside.spans.items c.args.self.now c.args.fragment c.requires
-        (sym (ap (λ (xss : List (List ℕ)). length xss) c.self.view_is) ∙ length-listed c.self.inside.fragments c.self.inside.spans.items) in
+    many c.self.inside.fragments c.self.inside.spans.items c.args.self.now c.args.fragment c.requires
+    (sym (ap (λ (xss : List (List ℕ)). length xss) c.self.view_is) ∙ length-listed c.self.inside.fragments c.self.inside.spans.items) in
     all c.self.inside.fragments c.self.inside.spans.items c.self.inside.nodes (omega (arith, l)) c.self.invariant.indexed
 
 pub newest_over-requires-clause-falling : goal.newest_over-requires-clause-falling
@@ -40,8 +40,8 @@ returns c =
     let spans : List Span = c.self.inside.spans.items in
     let f : ℕ = c.args.fragment in
     let l : c.args.fragment < c.self.inside.fragments =
-        many count spans c.args.self.now f c.requires
-        (sym (ap (λ (xss : List (List ℕ)). length xss) c.self.view_is) ∙ length-listed count spans) in
+    many count spans c.args.self.now f c.requires
+    (sym (ap (λ (xss : List (List ℕ)). length xss) c.self.view_is) ∙ length-listed count spans) in
     c.newest_over.ensures
     ∙ ap (λ (xss : List (List ℕ)). newest_of_all c.args.at (held_over count f xss)) c.self.invariant.indexed
     ∙ newest_held f c.args.at count spans l (joined_descend spans c.self.invariant.joined)
