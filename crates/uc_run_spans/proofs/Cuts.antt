@@ -1,5 +1,5 @@
 -- What a test passes of a list, where that is a part of it between two places.
-use Rattle.std.proofs.Common.{◌≡◌, ℕ, zero, suc, ◌+◌, ◌-◌, ◌<◌, ◌≤◌, Bool, true, false, cond, List, [], ◌∷◌, length, get_or, take, drop, filter, refl, ap, ◌∙◌, arith}
+use Rattle.std.proofs.Common.{◌≡◌, ℕ, zero, suc, ◌<◌, ◌≤◌, Bool, true, false, cond, List, [], ◌∷◌, length, get_or, drop, filter, refl, ap, ◌∙◌, arith}
 
 -- none of the first ones, and each of those behind them
 pub record IsBack {X : Type 0} (test : X → Bool) (xs : List X) (n : ℕ) : Type 0 where

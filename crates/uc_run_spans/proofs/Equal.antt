@@ -1,15 +1,14 @@
 -- Joined spans that give each fragment the same sequences are equal.
-use Rattle.std.proofs.Common.{◌≡◌, ◌≢◌, ℕ, zero, suc, ◌+◌, ◌<◌, ◌≤◌, Bool, true, false, IsTrue, cond, ltb, eqb, arith, List, [], ◌∷◌, length, get_or, map, filter, refl, sym, ap, ◌∙◌, subst}
+use Rattle.std.proofs.Common.{◌≡◌, ◌≢◌, ℕ, ◌<◌, ◌≤◌, Bool, true, false, IsTrue, cond, ltb, eqb, arith, List, [], ◌∷◌, length, get_or, map, filter, refl, sym, ap, ◌∙◌, subst}
 use Rattle.std.specs.Prelude.{◌↔◌}
 use Rattle.std.specs.List.{AllByRecursion}
-use Rattle.std.proofs.lemmas.Bool.{false≢true}
 use Rattle.std.proofs.lemmas.Bool.Decides.{nat_tests}
 use lib.Pointwise.{pointwise, pointwise_decides}
 use Rattle.uc_run_spans.specs.declared.span.Span.{Span}
-use Rattle.uc_run_spans.specs.Spans.{IsWithin, stands_in, seqs_in, falling, listed}
+use Rattle.uc_run_spans.specs.Spans.{IsWithin, stands_in, seqs_in, listed}
 use Rattle.uc_run_spans.specs.Joined.{IsBehind, AreJoined}
 use Rattle.uc_run_spans.proofs.Greatest.{seq_of}
-use Rattle.uc_run_spans.proofs.Joins.{Holds, to_holds, stands_low, stands_high, joined_stay}
+use Rattle.uc_run_spans.proofs.Joins.{to_holds, stands_low, joined_stay}
 use Rattle.uc_run_spans.proofs.Listed.{none_above, length-listed, listed_at}
 
 pub equal_by : {X : Type 0} (E : X → X → Bool) → ((x y : X) → (E x y ≡ true → x ≡ y) × (x ≡ y → E x y ≡ true)) → (xs ys : List X) (r : Bool) → r ≡ pointwise E xs ys → IsTrue r ↔ (xs ≡ ys)

@@ -1,9 +1,8 @@
 -- Sorted spans that are joined: they say the same, with gaps between those of one sequence.
-use Rattle.std.proofs.Common.{◌≡◌, ◌≢◌, ◌==◌, ℕ, zero, suc, ◌+◌, ◌<◌, ◌≤◌, Bool, true, false, cond, ltb, leb, eqb, max, arith, List, [], ◌∷◌, ◌++◌, length, get_or, map, filter, refl, sym, ap, ◌∙◌, subst}
+use Rattle.std.proofs.Common.{◌≡◌, ◌≢◌, ◌==◌, ℕ, suc, ◌+◌, ◌<◌, ◌≤◌, Bool, true, false, cond, ltb, leb, eqb, max, arith, List, [], ◌∷◌, length, get_or, map, filter, refl, sym, ◌∙◌, subst}
 use Rattle.std.specs.Prelude.{◌&&◌}
 use Rattle.std.specs.List.{AllByRecursion}
 use Rattle.std.specs.List.Sorted.{IsStrictlySortedBy, IsPermutation}
-use Rattle.std.specs.declared.cmp.Ordering.{Ordering}
 use Rattle.std.specs.declared.cmp.Ordering.TheVariants.{Less, Equal, Greater}
 use Rattle.std.specs.Ordering.{nat_cmp, flip_args, is_lt, ordering_then}
 use Rattle.std.specs.Cmp.{IsTotalOrder}
@@ -15,8 +14,8 @@ use Rattle.uc_run_spans.specs.Joined.{Follows, AreSorted, IsBehind, AreJoined, j
 use Rattle.std.proofs.lemmas.List.Sorted.{IsPermutation-sym}
 use Rattle.std.proofs.lemmas.Cmp.{nat_cmp_total, back_total}
 use Rattle.uc_run_spans.proofs.Sets.{sorted_set, all_back}
-use Rattle.uc_run_spans.proofs.SameSets.{Passes, permutation_passes, same_sorted, same_set, all_inserted}
-use Rattle.uc_run_spans.proofs.Greatest.{all_same, all-filter, SpansDescend, seq_of}
+use Rattle.uc_run_spans.proofs.SameSets.{permutation_passes, same_sorted, same_set, all_inserted}
+use Rattle.uc_run_spans.proofs.Greatest.{all_same, SpansDescend, seq_of}
 
 -- ---- what a sort by sequence and first fragment leaves
 

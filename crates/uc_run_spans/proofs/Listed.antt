@@ -1,5 +1,5 @@
 -- The lists of fragments.
-use Rattle.std.proofs.Common.{◌≡◌, ℕ, zero, suc, ◌+◌, ◌<◌, ◌≤◌, Bool, true, false, cond, leb, arith, List, [], ◌∷◌, length, get_or, map, filter, Option, Some, None, refl, sym, ap, ◌∙◌, subst}
+use Rattle.std.proofs.Common.{◌≡◌, ℕ, zero, suc, ◌<◌, ◌≤◌, Bool, true, false, cond, leb, arith, List, [], ◌∷◌, length, get_or, map, filter, Option, Some, None, refl, sym, ap, ◌∙◌}
 use Rattle.std.specs.List.{AllByRecursion, range_with_len}
 use Rattle.std.proofs.lemmas.List.FromFn.{length-map-range_with_len, get_or-map-range_with_len}
 use Rattle.std.proofs.lemmas.Bool.Decides.{nat_tests}
@@ -14,7 +14,7 @@ use Rattle.std.specs.Ordering.{nat_cmp, flip_args}
 use Rattle.std.specs.declared.cmp.Ordering.TheVariants.{Less, Equal, Greater}
 use Rattle.uc_run_spans.specs.Ahead.{ahead, after}
 use Rattle.uc_run_spans.specs.Joined.{AreJoined}
-use Rattle.uc_run_spans.proofs.Greatest.{all-filter, seq_of, descend_seqs, all_same}
+use Rattle.uc_run_spans.proofs.Greatest.{all-filter, descend_seqs, all_same}
 use Rattle.uc_run_spans.proofs.Joins.{falling_falls, joined_stay, joined_below}
 
 pub length-listed : (count : ℕ) (spans : List Span) → length (listed count spans) ≡ count

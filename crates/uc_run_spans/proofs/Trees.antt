@@ -1,8 +1,7 @@
 -- What the nodes of the tree over fragments hold.
-use Rattle.std.proofs.Common.{◌≡◌, ℕ, zero, suc, ◌+◌, ◌-◌, ◌*◌, ◌/◌, ◌<◌, ◌≤◌, Bool, true, false, cond, ltb, leb, arith, List, [], ◌∷◌, ◌++◌, append_assoc, length, get_or, take, drop, map, filter, Option, Some, None, refl, sym, ap, ◌∙◌, subst, length-append}
+use Rattle.std.proofs.Common.{◌≡◌, ℕ, zero, suc, ◌+◌, ◌-◌, ◌*◌, ◌<◌, ◌≤◌, Bool, true, false, cond, ltb, arith, List, [], ◌∷◌, ◌++◌, append_assoc, length, get_or, drop, map, filter, Option, refl, sym, ap, ◌∙◌, subst, length-append}
 use Rattle.std.specs.Prelude.{not}
-use Rattle.std.specs.List.{AllByRecursion, sum_by}
-use Rattle.std.proofs.lemmas.Bool.{false≢true}
+use Rattle.std.specs.List.{AllByRecursion}
 use Rattle.std.proofs.lemmas.Bool.Decides.{nat_tests}
 use Rattle.std.proofs.lemmas.List.{get_or-drop, drop-drop, drop_at, length-map, append-nil}
 use Rattle.uc_run_spans.specs.declared.span.Span.{Span}

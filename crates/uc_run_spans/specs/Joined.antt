@@ -1,5 +1,5 @@
 -- Spans that say the same as others, and are as few and as long as can be.
-use Rattle.std.specs.Prelude.{◌≡◌, ℕ, ◌+◌, ◌<◌, ◌≤◌, ◌==◌, ◌&&◌, List, [], ◌∷◌, ⊤, if◌then◌else◌, nat_le, max}
+use Rattle.std.specs.Prelude.{◌≡◌, ℕ, ◌<◌, ◌≤◌, ◌==◌, ◌&&◌, List, [], ◌∷◌, ⊤, if◌then◌else◌, nat_le, max}
 use Rattle.std.specs.List.{AllByRecursion}
 use Rattle.uc_run_spans.specs.declared.span.Span.{Span}
 use Rattle.uc_run_spans.specs.Spans.{IsWithin, seqs_in, falling}

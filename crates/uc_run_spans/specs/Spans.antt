@@ -1,6 +1,6 @@
 -- Sequences over neighbouring fragments, and the lists of the fragments that they stand in.
 use Rattle.std.specs.Prelude.{ℕ, ◌-◌, ◌<◌, ◌≤◌, Bool, ◌&&◌, Option, Some, None, List, [], ◌∷◌, map, fold, filter, nat_lt, nat_le}
-use Rattle.std.specs.List.{AllByRecursion, range_with_len}
+use Rattle.std.specs.List.{range_with_len}
 use Rattle.std.specs.List.Sorted.{IsStrictlySortedBy}
 use Rattle.std.specs.Ordering.{nat_cmp, flip_args}
 use Rattle.std.specs.BTreeSet.{insert_key}

@@ -62,13 +62,6 @@ impl Lists {
         Ok(())
     }
 
-    /// How many lists there are.
-    pub(crate) fn len(&self) -> usize
-        ensures { result ≡ length self.now }
-    {
-        self.starts.len() - 1
-    }
-
     /// The list with a number.
     pub(crate) fn list(&self, number: usize) -> &[u64]
         requires { number < length self.now }

@@ -1,4 +1,4 @@
-use Rattle.std.proofs.Common.{rules, ◌≡◌, List, ◌∙◌, ap, subst, sym, Ok, Err, Result}
+use Rattle.std.proofs.Common.{◌≡◌, List, subst, sym, Ok, Err, Result}
 use Rattle.std.specs.Prelude.{IfOk}
 use Rattle.uc_run_spans.specs.declared.span.Span.{Span}
 use Rattle.uc_run_spans.specs.Joined.{SayWhat, joined}

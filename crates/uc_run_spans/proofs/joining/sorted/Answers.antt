@@ -1,4 +1,4 @@
-use Rattle.std.proofs.Common.{rules, ◌≡◌}
+use Rattle.std.proofs.Common.{rules}
 use Rattle.std.proofs.lemmas.List.Sorted.{answers_always}
 use Rattle.uc_run_spans.proofs.Joins.{sorted_from}
 use Rattle.uc_run_spans.proofs.joining.sorted.Goals as goal

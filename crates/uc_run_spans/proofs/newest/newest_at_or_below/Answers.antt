@@ -1,4 +1,4 @@
-use Rattle.std.proofs.Common.{rules, ◌≡◌, ◌∙◌, sym, ltb, leb, arith, get_or}
+use Rattle.std.proofs.Common.{rules, ◌∙◌, sym, ltb, leb, arith, get_or}
 use Rattle.std.proofs.lemmas.List.{take_rest}
 use Rattle.std.proofs.lemmas.List.Sorted.{IsPartitionPoint-from_clause}
 use Rattle.uc_run_spans.proofs.Cuts.{filter-back}

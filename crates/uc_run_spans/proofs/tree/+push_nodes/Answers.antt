@@ -1,8 +1,8 @@
-use Rattle.std.proofs.Common.{rules, ◌≡◌, ℕ, ◌+◌, ◌-◌, ◌<◌, ◌≤◌, List, [], ◌∷◌, ◌++◌, Result, Ok, Err, arith, ap, sym, ◌∙◌}
+use Rattle.std.proofs.Common.{◌≡◌, ℕ, ◌-◌, ◌<◌, ◌≤◌, List, [], ◌∷◌, ◌++◌, Result, Ok, Err, arith, ap, ◌∙◌}
 use Rattle.std.specs.Prelude.{OnOk}
 use Rattle.uc_run_spans.specs.declared.span.Span.{Span}
-use Rattle.uc_run_spans.specs.Tree.{middle, held, nodes}
-use Rattle.uc_run_spans.proofs.Trees.{all_pushed_at, pushed_leaf}
+use Rattle.uc_run_spans.specs.Tree.{held, nodes}
+use Rattle.uc_run_spans.proofs.Trees.{all_pushed_at}
 use Rattle.uc_run_spans.proofs.tree.+push_nodes.Goals as goal
 
 ok_all : {V E : Type 0} (r : Result V E) (M N P Q : ℕ → Type 0) → ((depth : ℕ) → M depth → OnOk r (P depth)) → (((depth : ℕ) → M depth → P depth) → (depth : ℕ) → N depth → Q depth) → (depth : ℕ) → N depth → OnOk r (Q depth)

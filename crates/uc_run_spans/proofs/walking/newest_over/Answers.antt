@@ -1,4 +1,4 @@
-use Rattle.std.proofs.Common.{rules, ◌≡◌, ℕ, List, [], get_or, false, arith, ap, sym, ◌∙◌}
+use Rattle.std.proofs.Common.{rules, ◌≡◌, ℕ, List, false, ap, ◌∙◌}
 use Rattle.uc_run_spans.specs.Newest.{newest_at_or_below, newer}
 use Rattle.uc_run_spans.specs.Tree.{is_leaf}
 use Rattle.uc_run_spans.proofs.Trees.{walk_starts, walk_goes_on}

@@ -1,4 +1,4 @@
-use Rattle.std.proofs.Common.{rules, ◌≡◌, ℕ, ◌+◌, ◌≤◌, ◌++◌, ◌∷◌, [], List, length, vec_len, arith, ap, sym, ◌∙◌, subst, length-append}
+use Rattle.std.proofs.Common.{rules, ◌≡◌, ℕ, ◌+◌, ◌++◌, ◌∷◌, [], List, length, arith, ap, sym, ◌∙◌, subst, length-append}
 use Rattle.uc_run_spans.specs.Lists.{cut, AreStarts}
 use Rattle.uc_run_spans.proofs.Flat.{cut_push, starts_push}
 use Rattle.uc_run_spans.proofs.lists.Lists.push.Goals as goal

@@ -1,4 +1,4 @@
-use Rattle.std.proofs.Common.{rules, ◌≡◌, ℕ, List, [], ap, sym, ◌∙◌}
+use Rattle.std.proofs.Common.{◌≡◌, ℕ, List, []}
 use Rattle.uc_run_spans.specs.Ahead.{ahead}
 use Rattle.uc_run_spans.proofs.Listed.{all_at}
 use Rattle.uc_run_spans.proofs.seqs.Seqs.new.Goals as goal

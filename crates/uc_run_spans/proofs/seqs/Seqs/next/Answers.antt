@@ -1,5 +1,4 @@
-use Rattle.std.proofs.Common.{rules, ◌≡◌, ℕ, List, [], get_or, drop, Option, ap, sym, ◌∙◌, subst}
-use Rattle.std.specs.List.{slice_get}
+use Rattle.std.proofs.Common.{ℕ, List, [], get_or, drop, Option, ap, ◌∙◌}
 use Rattle.uc_run_spans.specs.Ahead.{ahead, after}
 use Rattle.uc_run_spans.specs.Spans.{IsFalling}
 use Rattle.uc_run_spans.proofs.Listed.{rest_ahead, all_at}

@@ -1,4 +1,4 @@
-use Rattle.std.proofs.Common.{◌≡◌, ℕ, length, List, ap, sym, ◌∙◌, subst}
+use Rattle.std.proofs.Common.{ℕ, length, List, ap, sym, ◌∙◌, subst}
 use Rattle.std.specs.List.{AllByRecursion}
 use Rattle.uc_run_spans.specs.Spans.{IsFalling}
 use Rattle.uc_run_spans.proofs.Listed.{length-listed, listed_fall}
