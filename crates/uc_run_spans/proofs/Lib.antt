@@ -1,0 +1,11 @@
+mod Sets
+mod SameSets
+mod Cuts
+mod Flat
+mod Filters
+mod Greatest
+mod Joins
+mod Trees
+mod Listed
+mod Equal
+mod Totals

@@ -1,0 +1,7 @@
+pub mod Ahead
+pub mod Indexed
+pub mod Joined
+pub mod Lists
+pub mod Newest
+pub mod Spans
+pub mod Tree

@@ -1,0 +1,138 @@
+//! [`Spans`]: sequences over neighbouring fragments, with an index of them.
+ghost use Rattle.std.specs.Prelude.{◌≡◌, ◌↔◌, ◌<◌, ◌-◌, ◌^◌, [], length, min, IsTrue, IfOk};
+ghost use Rattle.std.specs.List.{AllByRecursion, slice_index_or, sum_by};
+ghost use Rattle.uc_run_spans.specs.Ahead.{ahead};
+ghost use Rattle.uc_run_spans.specs.Newest as newest;
+ghost use Rattle.uc_run_spans.specs.Spans as standing;
+ghost use Rattle.uc_run_spans.specs.Spans.{IsWithin, IsFalling, listed};
+
+use crate::joining::in_few;
+use crate::lists::Lists;
+use crate::seqs::Seqs;
+use crate::span::Span;
+use crate::tree::nodes;
+use crate::walking::newest_over;
+use std::alloc::{AllocError, Global};
+use std::marker::Model;
+
+/// How many fragments spans have together, held at the greatest number.
+fn total_of(spans: &[Span]) -> u64
+    ensures { result ≡ min (sum_by standing.size_of spans.now) (2 ^ 64 - 1) }
+{
+    let mut sum = 0_u64;
+    for span in spans {
+        sum = sum.saturating_add(span.end.saturating_sub(span.first) as u64);
+    }
+    sum
+}
+
+/// Whether spans are equal.
+fn are_same(spans: &[Span], others: &[Span]) -> bool
+    ensures { IsTrue result ↔ (spans.now ≡ others.now) }
+{
+    spans == others
+}
+
+/// The sequence of the first span, if there is one.
+fn first_seq(spans: &[Span]) -> Option<u64>
+    ensures { result ≡ standing.first_seq spans.now }
+{
+    match spans.first() {
+        None => None,
+        Some(span) => Some(span.seq),
+    }
+}
+
+/// The sequences of each of some fragments, by the spans over which they stand. A contract sees the list of the
+/// fragments' sequences, each of them falling.
+///
+/// For n spans over m fragments it takes memory for m and for n log m numbers.
+#[derive(Debug, Drop)]
+pub struct Spans {
+    fragments: usize,
+    spans: Vec<Span>,
+    nodes: Lists,
+}
+
+impl Model for Spans {
+    ghost use Rattle.std.specs.Prelude.{ℕ, List};
+    ghost use Rattle.std.specs.Coded.{coded_ℕ, coded_list};
+
+    ghost Value = { List (List ℕ) };
+
+    ghost use Rattle.uc_run_spans.specs.Indexed.{lists_of, IsIndexed};
+
+    ghost view = { lists_of };
+
+    ghost invariant = { IsIndexed };
+}
+
+impl Spans {
+    /// The spans over so many fragments. Spans of one sequence may overlap: it stands once in each fragment. It fails
+    /// only for want of memory.
+    ///
+    /// For n spans over m fragments it takes n log n and n log m steps, and one for each fragment.
+    pub fn new(alloc: Global, fragments: usize, spans: Vec<Span>) -> Result<Spans, AllocError>
+        requires { AllByRecursion (IsWithin fragments) spans.items }
+        ensures { IfOk result (λ made. made ≡ listed fragments spans.items) }
+    {
+        let spans = in_few(alloc, fragments, spans)?;
+        let nodes = nodes(alloc, fragments, &spans)?;
+        Ok(Spans {
+            fragments,
+            spans,
+            nodes,
+        })
+    }
+
+    /// How many fragments there are.
+    pub fn fragments(&self) -> usize
+        ensures count { result ≡ length self.now }
+        ensures falling { AllByRecursion IsFalling self.now }
+    {
+        self.fragments
+    }
+
+    /// The newest sequence at or below a number that stands in a fragment, if one does.
+    ///
+    /// It looks at as many lists as the logarithm of the number of fragments, and searches each.
+    pub fn newest_at_or_below(&self, fragment: usize, at: u64) -> Option<u64>
+        requires { fragment < length self.now }
+        ensures { result ≡ newest.newest_at_or_below at (slice_index_or self.now fragment []) }
+    {
+        newest_over(&self.nodes, self.fragments, fragment, at)
+    }
+
+    /// How many sequences the fragments have together, held at the greatest number.
+    ///
+    /// It goes over the spans once.
+    pub fn total(&self) -> u64
+        ensures { result ≡ min (sum_by length self.now) (2 ^ 64 - 1) }
+    {
+        total_of(&self.spans)
+    }
+
+    /// Whether the fragments of both have the same sequences.
+    ///
+    /// It goes over the spans once, since equal fragments have equal spans.
+    pub fn is_same(&self, other: &Spans) -> bool
+        ensures { IsTrue result ↔ (self.now ≡ other.now) }
+    {
+        self.fragments == other.fragments && are_same(&self.spans, &other.spans)
+    }
+
+    /// The greatest sequence of all fragments, if there is one.
+    pub(crate) fn greatest(&self) -> Option<u64>
+        ensures { AllByRecursion (λ seqs. ahead result seqs ≡ seqs) self.now }
+    {
+        first_seq(&self.spans)
+    }
+
+    /// The sequences of a fragment, the newest first.
+    pub fn seqs(&self, fragment: usize) -> Seqs<'_>
+        requires { fragment < length self.now }
+        ensures { result ≡ slice_index_or self.now fragment [] }
+    {
+        Seqs::new(self, fragment)
+    }
+}
