@@ -94,7 +94,10 @@ fn answers_of<O: Operator + Sync, N: Name + Send, G: Gate, R: Threads + Sync>(
         room: room_of_each(queries.len(), workers),
     };
     let (readers, shares) = drawn_by_workers(rt, alloc, &job, workers, seat, readers);
-    (readers, gathered::<O, N>(alloc, &batch, pieces, &counter, shares))
+    (
+        readers,
+        gathered::<O, N>(alloc, &batch, pieces, &counter, shares),
+    )
 }
 
 /// The answers to a batch of queries of a shared store, in their order, by so many workers that each have one of the readers. The
