@@ -34,6 +34,11 @@ impl Work {
     }
 }
 
+/// How many nanoseconds passed.
+fn nanoseconds(start: Instant, end: Instant) -> u64 {
+    u64::try_from(end.duration_since(start).as_nanos()).unwrap_or(u64::MAX)
+}
+
 /// The two newest runs are compacted and installed.
 fn install_one<O: Operator + Sync, N: Name, W: Wait + Drop>(
     rt: &(impl Threads + Wait + Clock + Sync),
@@ -47,14 +52,20 @@ fn install_one<O: Operator + Sync, N: Name, W: Wait + Drop>(
     ensures { IfSome result (λ seat. seat.table ≡ store.now.table) }
 {
     let pin = store.pin(reader).ok()?;
-    let held = store.claim(seat, pin, reader, NEWEST).ok()?;
+    let held = match store.claim(seat, pin, reader, NEWEST) {
+        Ok(held) => held,
+        Err(_) => return None,
+    };
     let start = Instant::now(rt).ok()?;
     let made = held.compact(rt, alloc).ok()?;
-    work.compactions
-        .add(start.elapsed(rt).ok()?.as_nanos() as u64);
-    let start = Instant::now(rt).ok()?;
-    let seat = store.install(rt, alloc, held, made, reader).ok()?;
-    work.installs.add(start.elapsed(rt).ok()?.as_nanos() as u64);
+    let made_at = Instant::now(rt).ok()?;
+    let seat = match store.install(rt, alloc, held, made, reader) {
+        Ok(seat) => seat,
+        Err(_) => return None,
+    };
+    let end = Instant::now(rt).ok()?;
+    work.compactions.add(nanoseconds(start, made_at));
+    work.installs.add(nanoseconds(made_at, end));
     Some(seat)
 }
 

@@ -61,7 +61,7 @@ fn install_beside<O: Operator + Sync, N: Name, W: Wait + Drop>(
     if !done {
         return None;
     }
-    Some(end.ok()?.duration_since(start.ok()?).as_nanos() as u64)
+    u64::try_from(end.ok()?.duration_since(start.ok()?).as_nanos()).ok()
 }
 
 /// What readers do with a store, and who is beside them.
@@ -91,7 +91,8 @@ where
 {
     let start = Instant::now(rt).ok()?;
     let times = all_pin(rt, alloc, store, readers, &Window::new(), way)?;
-    Some((start.elapsed(rt).ok()?.as_nanos() as u64, times))
+    let length = u64::try_from(start.elapsed(rt).ok()?.as_nanos()).ok()?;
+    Some((length, times))
 }
 
 /// Readers pin while an installer installs.
@@ -116,7 +117,9 @@ where
     let count = readers.len() as u64;
     let (length, times) = join(
         rt,
-        move || install_beside(rt, alloc, store, worker, window, count, work),
+        move || -> Option<u64>
+            requires { worker.1.table ≡ store.now.table }
+        { install_beside(rt, alloc, store, worker, window, count, work) },
         move || all_pin(rt, alloc, store, readers, window, way),
     );
     Some((length?, times?))

@@ -97,7 +97,7 @@ fn time_of_pin<O: Operator, N: Name, W: Wait + Drop>(
     let pin = store.pin(reader);
     let end = Instant::now(clock).ok()?;
     pin.ok()?;
-    Some(end.duration_since(start).as_nanos() as u64)
+    u64::try_from(end.duration_since(start).as_nanos()).ok()
 }
 
 /// Pins until the installer is done, and counts how long each pin took while it installed.

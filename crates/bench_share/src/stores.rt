@@ -39,6 +39,17 @@ pub(crate) fn version_of(alloc: Global, points: u64) -> Result<Version> {
     Ok(version)
 }
 
+/// A seat of those of a store.
+fn next_seat<O: Operator, N: Name, W: Wait + Drop>(
+    store: &Store<O, N, W>,
+    seats: &mut Vec<Seat>,
+) -> Option<Seat>
+    requires { All (λ seat. seat.table ≡ store.now.table) seats.old.items }
+    ensures { IfSome result (λ seat. seat.table ≡ store.now.table) }
+{
+    seats.pop()
+}
+
 /// A store with so many readers and a seat.
 pub(crate) fn opened<O: Operator, N: Name, W: Wait + Drop>(
     handle: W,
@@ -52,7 +63,9 @@ pub(crate) fn opened<O: Operator, N: Name, W: Wait + Drop>(
 {
     let (opening, version) = opened_with;
     let opened = Store::<O, N, W>::open(alloc, handle, opening, version, options(1), readers, 1);
-    let (store, readers, mut seats) = opened.ok()?;
-    let seat = seats.pop()?;
+    let Ok((store, readers, mut seats)) = opened else {
+        return None;
+    };
+    let seat = next_seat(&store, &mut seats)?;
     Some((store, readers, seat))
 }

@@ -32,7 +32,7 @@ fn time_of(place: usize) -> u64 {
     if place < STEPS {
         return place;
     }
-    let doublings = (place / STEPS).saturating_sub(1) as u32;
+    let doublings = u32::try_from(place / STEPS).unwrap_or(64).saturating_sub(1);
     (STEPS + place % STEPS)
         .checked_shl(doublings)
         .unwrap_or(u64::MAX)
