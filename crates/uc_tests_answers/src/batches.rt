@@ -1,7 +1,7 @@
 //! Batches asked before, beside and after compactions.
 ghost use Rattle.std.specs.Prelude.{◌≡◌};
 
-use crate::stores::{compacts, opened};
+use crate::stores::{Compactor, compacts, opened};
 use crate::worked::{five_runs, seven_answers, seven_queries};
 use std::alloc::Global;
 use std::marker::{Brand, Send, Sync};
@@ -11,7 +11,7 @@ use std::thread::{Threads, join};
 use uc_oper::{Append, Operator};
 use uc_query_answer::{Answer, Query};
 use uc_query_shared::{AskError, Free, answer_all, batch_refusal};
-use uc_share::{Name, Opening, Reader, Version};
+use uc_share::{Name, Opening, Reader, Store, Version};
 
 /// Readers, and whether every batch that they were lent for was answered as it should be.
 type Asked<O, N> = (Vec<Reader<O, N>>, bool);
@@ -67,6 +67,32 @@ fn all_are_answered<O: Operator + Sync, N: Name + Send>(
     (readers, right)
 }
 
+/// Asks while a compactor works. Whether all batches were answered, with the readers, and how many compactions were installed.
+fn asked_beside<O, N, W, R>(
+    rt: &R,
+    alloc: Global,
+    store: &Store<O, N, W>,
+    readers: Vec<Reader<O, N>>,
+    compactor: Compactor<O, N>,
+    batch: (&[Query], &[Answer]),
+) -> (Asked<O, N>, u64)
+where
+    O: Operator + Send + Sync,
+    N: Name + Send + Sync,
+    W: Wait + Drop + Send,
+    R: Threads + Wait + Sync,
+    requires { compactor.1.table ≡ store.now.table }
+{
+    let (asked, (_, installs)) = join(
+        rt,
+        move || all_are_answered(rt, alloc, readers, batch),
+        move || -> (Compactor<O, N>, u64)
+            requires { compactor.1.table ≡ store.now.table }
+        { compacts(rt, alloc, store, compactor) },
+    );
+    (asked, installs)
+}
+
 /// Asks before a compaction, beside it and after it. Whether all batches were answered, and how many compactions were installed.
 fn batches_beside_a_compactor<O, N, W, R>(
     rt: &R,
@@ -84,13 +110,9 @@ where
     requires book { opening.seen.book ≡ N.book }
     requires base { version ≡ N.base }
 {
-    let (store, readers, (reader, seat)) = opened::<O, N, W>(handle, alloc, opening, version)?;
+    let (store, readers, compactor) = opened::<O, N, W>(handle, alloc, opening, version)?;
     let (readers, before) = all_are_answered(rt, alloc, readers, batch);
-    let (asked, (_, installs)) = join(
-        rt,
-        || all_are_answered(rt, alloc, readers, batch),
-        || compacts(rt, alloc, &store, (reader, seat)),
-    );
+    let (asked, installs) = asked_beside(rt, alloc, &store, readers, compactor, batch);
     let (readers, beside) = asked;
     let (_, after) = all_are_answered(rt, alloc, readers, batch);
     Ok((before && beside && after, installs))

@@ -1,7 +1,7 @@
 //! Gates that hold workers up.
 ghost use Rattle.std.specs.Prelude.{◌≡◌};
 
-use crate::stores::{compacts, opened};
+use crate::stores::{Compactor, compacts, opened};
 use crate::worked::{five_runs, seven_answers, seven_queries};
 use std::alloc::Global;
 use std::marker::{Brand, Send, Sync};
@@ -12,7 +12,7 @@ use std::thread::{Threads, join, yield_now};
 use uc_oper::{Append, Operator};
 use uc_query_answer::{Answer, Query};
 use uc_query_shared::{Gate, answer_all};
-use uc_share::{Name, Opening, Version};
+use uc_share::{Name, Opening, Reader, Store, Version};
 
 /// How often a gate looks before it gives up.
 const TURNS: u32 = 100_000_000;
@@ -61,6 +61,33 @@ impl Gate for SecondFirst {
     }
 }
 
+/// Whether two workers that draw pieces of one query through a gate answer a batch while a compactor works.
+fn is_answered_beside<O, N, W, R>(
+    rt: &R,
+    alloc: Global,
+    store: &Store<O, N, W>,
+    readers: Vec<Reader<O, N>>,
+    compactor: Compactor<O, N>,
+    batch: (&[Query], &[Answer]),
+    gate: &SecondFirst,
+) -> bool
+where
+    O: Operator + Send + Sync,
+    N: Name + Send + Sync,
+    W: Wait + Drop + Send,
+    R: Threads + Wait + Sync,
+    requires { compactor.1.table ≡ store.now.table }
+{
+    let ((_readers, answers), _) = join(
+        rt,
+        move || answer_all(rt, alloc, readers, batch.0, 2, 1, gate),
+        move || -> (Compactor<O, N>, u64)
+            requires { compactor.1.table ≡ store.now.table }
+        { compacts(rt, alloc, store, compactor) },
+    );
+    answers.is_ok_and(|answers| answers.as_slice() == batch.1)
+}
+
 /// Two workers draw pieces of one query through the gate, and a compactor works beside them. Whether all was answered.
 fn answered_through_the_gate<O, N, W, R>(
     rt: &R,
@@ -78,14 +105,9 @@ where
     requires book { opening.seen.book ≡ N.book }
     requires base { version ≡ N.base }
 {
-    let (store, readers, (reader, seat)) = opened::<O, N, W>(handle, alloc, opening, version)?;
+    let (store, readers, compactor) = opened::<O, N, W>(handle, alloc, opening, version)?;
     let gate = SecondFirst::new(TURNS);
-    let ((_readers, answers), _) = join(
-        rt,
-        || answer_all(rt, alloc, readers, batch.0, 2, 1, &gate),
-        || compacts(rt, alloc, &store, (reader, seat)),
-    );
-    let right = answers.is_ok_and(|answers| answers.as_slice() == batch.1);
+    let right = is_answered_beside(rt, alloc, &store, readers, compactor, batch, &gate);
     Ok(right && gate.is_passed())
 }
 
