@@ -10,3 +10,4 @@ pub mod Standing
 pub mod PickedClaims
 pub mod Staying
 pub mod KeptClaims
+pub mod CompactedNow

@@ -64,7 +64,7 @@ module _ (o : Owner) (is_owner : IsOwner o) (s : Stretch) (fine : claim_refusal 
   parts : (range_refusal (length o.version.runs) s ≡ None) × (first_busy (claimed_slots o) (slots_of (part_of s.first s.count o.version.runs)) ≡ None)
   parts = fine_parts (range_refusal (length o.version.runs) s) (first_busy (claimed_slots o) (slots_of (part_of s.first s.count o.version.runs))) fine
 
-  range : (2 ≤ s.count) × (s.first + s.count ≤ length o.version.runs)
+  pub range : (2 ≤ s.count) × (s.first + s.count ≤ length o.version.runs)
   range = range_holds (length o.version.runs) s parts.0
 
   abbrev h : HeldStretch
@@ -73,7 +73,7 @@ module _ (o : Owner) (is_owner : IsOwner o) (s : Stretch) (fine : claim_refusal 
   apart : NoneHeld (slots_of (runs_held o.version h)) (claimed_slots o)
   apart = All-from_recursion (λ slot. ¬ Contains (claimed_slots o) slot) (slots_of (runs_held o.version h)) (not_busy (claimed_slots o) (slots_of (runs_held o.version h)) parts.1)
 
-  number : free_number o.claims < length o.claims
+  pub number : free_number o.claims < length o.claims
   number = number_is_free o is_owner (claimed_slots o) (λ k. refl) 0 h range.0 range.1 apart
 
   pub claimed_stays : IsOwner (with_claim o (claim_of o s) s)

@@ -11,6 +11,7 @@ ghost use Rattle.uc_version.specs.Claiming.{Claim, is_held, claim_refusal, claim
 ghost use Rattle.uc_version.specs.Compacting.{IsInstallable, install_for};
 ghost use Rattle.uc_version.specs.Installing.{stretch_of, claimed_runs, compaction_of, IdLeft, MayReplace};
 ghost use Rattle.uc_version.specs.Installing.{IsRefused, after_install, install_of};
+ghost use Rattle.uc_version.specs.AtOnce.{install_at, after_compaction};
 ghost use Rattle.uc_version.specs.declared.install_error.InstallError.{InstallError};
 ghost use Rattle.uc_version.specs.declared.install_error.InstallError.TheVariants.{IdsSpent};
 
@@ -86,3 +87,18 @@ pub fn claims_can_be_compacted()
         IsRefused o.version (stretch_of o c) (compaction_of o.version (stretch_of o c)) error →
         (error ≡ IdsSpent) × ¬ IdLeft o.version }
 {}
+
+/// A stretch that can be claimed can be compacted at once where an id is left: it is claimed, its compaction is an event that may
+/// happen, and the claim is given back with the install, so that the owner that is left holds the claims that it held.
+pub fn claimable_stretches_can_be_compacted<O: Operator>()
+    ensures may { (o : Owner) (s : Stretch) → IsOwner o → claim_refusal o s ≡ None → IdLeft o.version →
+        MayInstall O.meaning o.version (install_at O.meaning o.version s) }
+    ensures after { (o : Owner) (s : Stretch) → IsOwner o → claim_refusal o s ≡ None → IdLeft o.version →
+        let claimed = with_claim o (claim_of o s) s in let c = claim_of o s in
+        after_install O.meaning claimed c (compaction_of claimed.version (stretch_of claimed c)) ≡ after_compaction O.meaning o s }
+    ensures stays { (o : Owner) (s : Stretch) → IsOwner o → claim_refusal o s ≡ None → IdLeft o.version →
+        IsOwner (after_compaction O.meaning o s) }
+    ensures given_back { (o : Owner) (s : Stretch) → without_claim (with_claim o (claim_of o s) s) (claim_of o s) ≡ o }
+{
+    install_gives_a_version::<O>();
+}

@@ -1,13 +1,15 @@
 //! The store in one owner's hands: which stretches of runs are compacted, and what is put in their place.
 //!
 //! An [`Owned`] has a version, and the claims of those who compact stretches of its runs. Read `specs/Owners.antt` first,
-//! then `specs/Claiming.antt` and `specs/Installing.antt`, and `owned.rt`. What holds of compactions of any version's runs,
+//! then `specs/Claiming.antt` and `specs/Installing.antt`, and `owned.rt`; and `specs/AtOnce.antt` with `at_once.rt`. What holds of compactions of any version's runs,
 //! and of their installs, whoever claims them, stands in `specs/Compacting.antt`, `stretches.rt` and `refusal.rt`. What a
 //! version is stands in `uc_version_state`, and the picker in `uc_version_pick`; their public items are given out here too.
 #![tactic(auto)]
 
+mod at_once;
 mod claim_error;
 mod claims;
+mod compact_error;
 mod held_stretch;
 mod install_error;
 mod laws;
@@ -21,11 +23,13 @@ mod slots;
 mod stretches;
 
 pub use claim_error::ClaimError;
+pub use compact_error::CompactError;
 pub use held_stretch::{HeldStretch, MOST_CLAIMS};
 pub use install_error::InstallError;
 pub use laws::{
-    claims_are_held, claims_can_be_compacted, claims_keep_their_runs, installs_are_events,
-    owners_stay_owners, picks_can_be_claimed, what_fits_may_be_installed,
+    claimable_stretches_can_be_compacted, claims_are_held, claims_can_be_compacted,
+    claims_keep_their_runs, installs_are_events, owners_stay_owners, picks_can_be_claimed,
+    what_fits_may_be_installed,
 };
 pub use opening::open_plain;
 pub use owned::Owned;

@@ -1,0 +1,89 @@
+//! Stretches that are compacted at once: claimed, compacted and put in place by one call.
+ghost use Rattle.std.specs.Prelude.{◌≡◌, None, true, IfOk, IfErr};
+ghost use Rattle.uc_version_state.specs.Installs.{IdLeft, MayInstall};
+ghost use Rattle.uc_version.specs.Claiming as claiming;
+ghost use Rattle.uc_version.specs.Installing.{stretch_of, compaction_of, after_install};
+ghost use Rattle.uc_version.specs.AtOnce.{IsNotMade, IsNotCompacted, install_at, after_compaction};
+
+use crate::compact_error::CompactError;
+use crate::laws::{claims_are_held, claims_can_be_compacted};
+use crate::owned::Owned;
+use crate::owned_claim::OwnedClaim;
+use std::alloc::Global;
+use std::marker::Sync;
+use std::thread::Threads;
+use uc_compact::Compacted;
+use uc_oper::Operator;
+use uc_version_pick::Stretch;
+
+impl<O: Operator> Owned<O> {
+    /// What a claim's runs become, if an id is left for it. Nothing is compacted in vain.
+    fn compaction(
+        &self,
+        rt: &(impl Threads + Sync),
+        alloc: Global,
+        claim: &OwnedClaim,
+    ) -> Result<Compacted<O>, CompactError>
+    where
+        O: Sync,
+        requires { claiming.is_held self.now claim.now ≡ true }
+        ensures ok { IfOk result (λ made.
+            IdLeft self.now.version
+            × (made ≡ compaction_of self.now.version (stretch_of self.now claim.now))) }
+        ensures err { IfErr result (λ error. IsNotMade self.now.version error) }
+    {
+        if self.version().next_id() == u64::MAX {
+            return Err(CompactError::IdsSpent);
+        }
+        Ok(self.compact(rt, alloc, claim)?)
+    }
+
+    /// Puts what a claim's runs became in their place. The answer is its id.
+    fn put_in_place(&mut self, claim: OwnedClaim, made: Compacted<O>) -> u64
+        requires held { claiming.is_held self.old claim ≡ true }
+        requires left { IdLeft self.old.version }
+        requires made { made ≡ compaction_of self.old.version (stretch_of self.old claim) }
+        ensures id { result ≡ self.old.version.next_id }
+        ensures after { self.new ≡ after_install O.meaning self.old claim made }
+    {
+        self.is_one();
+        claims_can_be_compacted();
+        match self.install(claim, made) {
+            Ok(id) => id,
+            Err(_) => unreachable!(),
+        }
+    }
+
+    /// Claims a stretch, compacts it under the keeps of this moment, and puts what it became in place, in one call. The answer is
+    /// the id of the new run; the claims that are held stay. Where the stretch can't be claimed, no id is left or memory runs
+    /// out, the store is as it was, and the first of these is told.
+    pub fn compact_now(
+        &mut self,
+        rt: &(impl Threads + Sync),
+        alloc: Global,
+        stretch: Stretch,
+    ) -> Result<u64, CompactError>
+    where
+        O: Sync,
+        ensures ok { IfOk result (λ id.
+            (claiming.claim_refusal self.old stretch ≡ None)
+            × MayInstall O.meaning self.old.version (install_at O.meaning self.old.version stretch)
+            × (id ≡ self.old.version.next_id)
+            × (self.new ≡ after_compaction O.meaning self.old stretch)) }
+        ensures err { IfErr result (λ error. IsNotCompacted self.old stretch error × (self.new ≡ self.old)) }
+    {
+        self.is_one();
+        claims_are_held();
+        let claim = match self.claim(stretch) {
+            Ok(claim) => claim,
+            Err(error) => return Err(CompactError::NotClaimed(error)),
+        };
+        match self.compaction(rt, alloc, &claim) {
+            Ok(made) => Ok(self.put_in_place(claim, made)),
+            Err(error) => {
+                self.abandon(claim);
+                Err(error)
+            }
+        }
+    }
+}
