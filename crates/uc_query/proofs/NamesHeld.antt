@@ -3,7 +3,7 @@ use Rattle.std.proofs.Common.{◌≡◌, ◌≢◌, ℕ, zero, suc, ◌+◌, ◌
 use Rattle.std.specs.Prelude.{Option, Some, None}
 use Rattle.std.specs.List.{AllByRecursion}
 use Rattle.std.proofs.lemmas.Bool.{false≢true}
-use Rattle.std.proofs.lemmas.List.{length-set, set-set, set-get_or}
+use Rattle.std.proofs.lemmas.List.{length-set}
 use Rattle.uc_oper.specs.Operation.{Operation}
 use Rattle.uc_claims.specs.Claims.{times}
 use Rattle.uc_claims.specs.Holding.{AreDistinct}
@@ -15,16 +15,12 @@ use Rattle.uc_version.specs.declared.held_stretch.TheConstants.{MOST_CLAIMS}
 use Rattle.uc_version.specs.Owners.{Owner}
 use Rattle.uc_version.specs.Claiming.{Claim, free_number, claim_of, has_ids, is_held, without_claim}
 use Rattle.uc_version.specs.Installing.{moved_up}
+use Rattle.uc_version.specs.AtOnce.{after_compaction}
+use Rattle.uc_version.proofs.CompactedNow.{free}
 use Rattle.uc_query.specs.Names.{IsNamedHeld, AreHeld, numbers_of, given_back}
 use Rattle.uc_query.specs.Turns.{claimed, compacted}
 
 -- ---- which numbers are held
-
--- the least free number is free
-pub free : (cs : List (Option HeldStretch)) → get_or cs (free_number cs) None ≡ None
-free [] = refl
-free (None ∷ cs) = refl
-free (Some h ∷ cs) = free cs
 
 -- a claim that is held has no free number
 pub not_free : (o : Owner) (d : Claim) (n : ℕ) → is_held o d ≡ true → get_or o.claims n None ≡ None → d.number ≢ n
@@ -176,21 +172,12 @@ module _ (o : Owner) (names : List (Option Claim)) (are : AreHeld o names) (i : 
     pub named_installed : (m : Operation) → AreHeld (compacted m o c) (set names i None)
     named_installed m = named_less (compacted m o c) (λ d h ne. held_installed m o c d h ne)
 
--- ---- a claim that no name stands for
+-- ---- a stretch that is compacted at once
 
--- claimed and given back, nothing is changed
-pub back_again : (o : Owner) (s : Stretch) → without_claim (claimed o s) (claim_of o s) ≡ o
-back_again o s =
-    ap (λ (cs : List (Option HeldStretch)). record o { claims = cs })
-    (set-set o.claims (free_number o.claims) _ None
-    ∙ ap (set o.claims (free_number o.claims)) (sym (free o.claims))
-    ∙ set-get_or o.claims (free_number o.claims) None)
-
-pub unnamed_installed : (m : Operation) (o : Owner) (s : Stretch) (names : List (Option Claim)) → AreHeld o names → AreHeld (compacted m (claimed o s) (claim_of o s)) names
-unnamed_installed m o s names are = record {
+pub held_compacted : (m : Operation) (o : Owner) (s : Stretch) (names : List (Option Claim)) → AreHeld o names → AreHeld (after_compaction m o s) names
+held_compacted m o s names are = record {
   count = are.count;
-  held = all_still o (compacted m (claimed o s) (claim_of o s)) names
-      (λ d some h. let ne = not_free o d (free_number o.claims) h (free o.claims) in held_installed m (claimed o s) (claim_of o s) d (held_beside o d (free_number o.claims) _ h ne) ne) are.held;
+  held = all_still o (after_compaction m o s) names (λ d some h. held_moved o d s.first s.count o.claims h) are.held;
   apart = are.apart;
 }
 

@@ -14,6 +14,8 @@ use Rattle.uc_version.specs.declared.claim_error.ClaimError.{ClaimError}
 use Rattle.uc_version.specs.Owners.{Owner, IsOwner}
 use Rattle.uc_version.specs.Claiming.{Claim, free_number, claim_refusal, claim_of, with_claim, is_held, without_claim}
 use Rattle.uc_version.specs.Installing.{stretch_of, claimed_runs, compaction_of, IdLeft, MayReplace, after_install, install_of}
+use Rattle.uc_version.specs.AtOnce.{install_at, after_compaction}
+use Rattle.uc_version.proofs.CompactedNow.{free}
 use Rattle.uc_query_workers.specs.declared.ask_error.AskError.{AskError}
 use Rattle.uc_query_workers.specs.Asking.{ask_refusal}
 use Rattle.uc_query_answer.specs.declared.query.Query.{Query}
@@ -21,7 +23,7 @@ use Rattle.uc_query.specs.declared.call.Call.{Call}
 use Rattle.uc_query.specs.declared.call.Call.TheVariants as call
 use Rattle.uc_query.specs.Names.{State, AreHeld}
 use Rattle.uc_query.specs.Turns.{Turn, has_id, claimed, compacted, claimed_unless, claim_turn, install_turn, abandon_turn, compact_turn, ask_turn, turn_of}
-use Rattle.uc_query.proofs.NamesHeld.{free, not_free, held_beside, all_still, named_more, is_named, named_back, named_installed, unnamed_installed}
+use Rattle.uc_query.proofs.NamesHeld.{not_free, held_beside, all_still, named_more, is_named, named_back, named_installed, held_compacted}
 
 -- what is known of owners
 pub record Known (m : Operation) : Type 0 where
@@ -38,6 +40,8 @@ pub record Known (m : Operation) : Type 0 where
       MayReplace o.version (stretch_of o c) made → MayInstall m o.version (install_of m o.version (stretch_of o c) made)
   pub event_after : (o : Owner) (c : Claim) (made : Compaction) → IsOwner o → is_held o c ≡ true → Stand made.inputs made.keeps →
       MayReplace o.version (stretch_of o c) made → (after_install m o c made).version ≡ installed (install_of m o.version (stretch_of o c) made) o.version
+  pub compaction_stays : (o : Owner) (s : Stretch) → IsOwner o → claim_refusal o s ≡ None → IdLeft o.version → IsOwner (after_compaction m o s)
+  pub compaction_may : (o : Owner) (s : Stretch) → IsOwner o → claim_refusal o s ≡ None → IdLeft o.version → MayInstall m o.version (install_at m o.version s)
 
 -- a version that stays, or that an install follows
 abbrev pub Moves : Operation → Stored → Stored → Type 0
@@ -157,15 +161,14 @@ module _ (m : Operation) (known : Known m) (s : State) (is_owner : IsOwner s.own
       }
 
   compacts_on : (stretch : Stretch) → claim_refusal s.owner stretch ≡ None → (b : Bool) → has_id s.owner.version ≡ b →
-      Steps m s (cond b (record s { owner = compacted m (claimed s.owner stretch) (claim_of s.owner stretch) }) s)
+      Steps m s (cond b (record s { owner = after_compaction m s.owner stretch }) s)
   compacts_on stretch e false id = stays
   compacts_on stretch e true id =
-      let then_owner = known.claimed_stays s.owner stretch is_owner e in
-      let held = known.is_held_then s.owner stretch is_owner e in
+      let left = left_if s.owner.version.next_id id in
       record {
-        owner = owner_then (claimed s.owner stretch) then_owner (claim_of s.owner stretch) held id;
-        held = unnamed_installed m s.owner stretch s.names are;
-        version = version_then (claimed s.owner stretch) then_owner (claim_of s.owner stretch) held id;
+        owner = known.compaction_stays s.owner stretch is_owner e left;
+        held = held_compacted m s.owner stretch s.names are;
+        version = inr (install_at m s.owner.version stretch, known.compaction_may s.owner stretch is_owner e left, refl);
       }
 
   compact_steps : (stretch : Stretch) (refusal : Option ClaimError) → claim_refusal s.owner stretch ≡ refusal → Steps m s (compact_turn m s stretch refusal).state

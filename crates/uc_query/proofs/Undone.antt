@@ -6,20 +6,12 @@ use Rattle.uc_oper.specs.Operation.{Operation}
 use Rattle.uc_version_pick.specs.declared.stretch.Stretch.{Stretch}
 use Rattle.uc_version.specs.declared.install_error.InstallError.TheVariants.{IdsSpent}
 use Rattle.uc_version.specs.Owners.{Owner}
-use Rattle.uc_version.specs.Claiming.{Claim, claim_refusal, claim_of, with_claim, without_claim}
+use Rattle.uc_version.specs.Claiming.{Claim, claim_refusal}
+use Rattle.uc_version.specs.AtOnce.{after_compaction}
 use Rattle.uc_query.specs.declared.reply.Reply.{Reply}
 use Rattle.uc_query.specs.declared.reply.Reply.TheVariants.{Installed, Compacted, NotInstalled}
 use Rattle.uc_query.specs.Names.{State, with_name}
-use Rattle.uc_query.specs.Turns.{has_id, replied, claimed, compacted, install_turn, compact_turn}
-use Rattle.uc_query.proofs.NamesHeld.{back_again}
-
--- a claim that is made and given back
-pub undone : (o : Owner) (s : Stretch) (d : Claim) (p q : Owner) → d ≡ claim_of o s → p ≡ with_claim o d s → q ≡ without_claim p d → q ≡ o
-undone o s d p q claim_is with_is without_is =
-    without_is
-    ∙ ap (λ (r : Owner). without_claim r d) with_is
-    ∙ ap (λ (c : Claim). without_claim (with_claim o c s) c) claim_is
-    ∙ back_again o s
+use Rattle.uc_query.specs.Turns.{has_id, replied, compacted, install_turn, compact_turn}
 
 -- a claim that is taken out and put back
 pub put_back : (names : List (Option Claim)) (i : ℕ) (x c : Option Claim) → get_or names i None ≡ c → set (set names i x) i c ≡ names
@@ -43,5 +35,5 @@ pub not_compacted : (m : Operation) (s : State) (stretch : Stretch) → claim_re
 not_compacted m s stretch fine none =
     ap (compact_turn m s stretch) fine
     ∙ ap
-    (λ b. cond b (record { reply = Compacted s.owner.version.next_id; state = record s { owner = compacted m (claimed s.owner stretch) (claim_of s.owner stretch) } }) (replied s (NotInstalled IdsSpent)))
+    (λ b. cond b (record { reply = Compacted s.owner.version.next_id; state = record s { owner = after_compaction m s.owner stretch } }) (replied s (NotInstalled IdsSpent)))
     none

@@ -12,6 +12,7 @@ use Rattle.uc_version.specs.Owners.{Owner, is_busy}
 use Rattle.uc_version.specs.Picking.{candidates_of}
 use Rattle.uc_version.specs.Claiming.{Claim, claim_refusal, claim_of, with_claim, without_claim}
 use Rattle.uc_version.specs.Installing.{stretch_of, compaction_of, after_install}
+use Rattle.uc_version.specs.AtOnce.{after_compaction}
 use Rattle.uc_query.specs.Reports.{report_of}
 use Rattle.uc_query_workers.specs.declared.ask_error.AskError.{AskError}
 use Rattle.uc_query_workers.specs.declared.ask_error.AskError.TheVariants.{Memory}
@@ -78,13 +79,13 @@ abbrev pub abandon_turn : State → ℕ → Option Claim → Turn
 abandon_turn s name None = replied s (NoClaim name)
 abandon_turn s name (Some c) = record { reply = Abandoned name; state = with_name s (without_claim s.owner c) name None }
 
--- ---- a stretch claimed, compacted and installed at once; its claim is given back where it isn't installed
+-- ---- a stretch claimed, compacted and installed at once
 
 abbrev pub compact_turn : Operation → State → Stretch → Option ClaimError → Turn
 compact_turn m s stretch (Some error) = replied s (Refused error)
 compact_turn m s stretch None =
     if has_id s.owner.version then
-    record { reply = Compacted s.owner.version.next_id; state = record s { owner = compacted m (claimed s.owner stretch) (claim_of s.owner stretch) } }
+    record { reply = Compacted s.owner.version.next_id; state = record s { owner = after_compaction m s.owner stretch } }
     else replied s (NotInstalled IdsSpent)
 
 -- ---- queries

@@ -15,9 +15,7 @@ use std::marker::Sync;
 use std::thread::Threads;
 use uc_compact::Compacted;
 use uc_oper::Operator;
-use uc_version::{
-    InstallError, Owned, OwnedClaim, Stretch, claims_are_held, claims_can_be_compacted,
-};
+use uc_version::{CompactError, InstallError, Owned, OwnedClaim, Stretch, claims_can_be_compacted};
 
 /// Puts what a claim's stretch was compacted to in its place. Where no id is left it hands the claim back, and nothing is
 /// changed.
@@ -93,7 +91,7 @@ pub(crate) fn install_under<O: Operator + Sync>(
     Ok(put_named_in_place(claims, owned, name, made))
 }
 
-/// Claims a stretch, compacts it and puts it in place. Where that fails the claim is given back, and nothing is changed.
+/// Compacts a stretch and puts what it becomes in place. Where that fails nothing is changed.
 pub(crate) fn compact_at_once<O: Operator + Sync>(
     rt: &(impl Threads + Sync),
     alloc: Global,
@@ -106,24 +104,10 @@ pub(crate) fn compact_at_once<O: Operator + Sync>(
         ≡ replied (named owned.new names) reply) }
     ensures unchanged { OnErr result (owned.new ≡ owned.old) }
 {
-    owned.is_one();
-    claims_are_held();
-    let claim = match owned.claim(stretch) {
-        Err(error) => return Ok(Reply::Refused(error)),
-        Ok(claim) => claim,
-    };
-    let made = match owned.compact(rt, alloc, &claim) {
-        Ok(made) => made,
-        Err(error) => {
-            owned.abandon(claim);
-            return Err(error);
-        }
-    };
-    match put_in_place(owned, claim, made) {
+    match owned.compact_now(rt, alloc, stretch) {
         Ok(id) => Ok(Reply::Compacted(id)),
-        Err(back) => {
-            owned.abandon(back);
-            Ok(Reply::NotInstalled(InstallError::IdsSpent))
-        }
+        Err(CompactError::NotClaimed(error)) => Ok(Reply::Refused(error)),
+        Err(CompactError::IdsSpent) => Ok(Reply::NotInstalled(InstallError::IdsSpent)),
+        Err(CompactError::Memory) => Err(AllocError),
     }
 }

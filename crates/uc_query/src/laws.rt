@@ -16,7 +16,8 @@ ghost use Rattle.uc_query.specs.Answered.{IsAnswered, LeadsTo};
 use uc_oper::Operator;
 use uc_query_read::histories_keep_answers;
 use uc_version::{
-    claims_are_held, claims_can_be_compacted, installs_are_events, owners_stay_owners,
+    claimable_stretches_can_be_compacted, claims_are_held, claims_can_be_compacted,
+    installs_are_events, owners_stay_owners,
 };
 use uc_version_state::histories_grow_by_events;
 
@@ -31,6 +32,7 @@ pub fn calls_extend_histories<O: Operator>()
     claims_are_held();
     claims_can_be_compacted();
     installs_are_events::<O>();
+    claimable_stretches_can_be_compacted::<O>();
     histories_grow_by_events::<O>();
 }
 
@@ -45,6 +47,7 @@ pub fn installs_replace_what_was_claimed<O: Operator>()
     claims_are_held();
     claims_can_be_compacted();
     installs_are_events::<O>();
+    claimable_stretches_can_be_compacted::<O>();
 }
 
 /// Wherever queries are asked between claims, installs and compactions, they are answered as from the plain writes that the
@@ -60,6 +63,7 @@ pub fn asks_are_answered_from_plain_writes<O: Operator>()
     claims_are_held();
     claims_can_be_compacted();
     installs_are_events::<O>();
+    claimable_stretches_can_be_compacted::<O>();
     histories_grow_by_events::<O>();
     histories_keep_answers::<O>();
 }

@@ -40,7 +40,7 @@ module _ (xs ys zs : List (List ℕ)) where
 
 -- A store's report, its compactions, and the report on what is then.
 module _ (m : Operation) (version : Stored) (options : Options) (start : Owner) (opens : start ≡ unclaimed version options) (first : Stored) (first_is : first ≡ start.version) where
-  parts_are : (last : Stored) → last ≡ (compactions_of m start).state.owner.version
+  parts_are : (last : Stored) → last ≡ (compactions_of m start).owner.version
       → (store_lines first ∷ []) ++ ((compactions_of m start).lines ++ (store_lines last ∷ [])) ≡ (output_of m (unclaimed version options)).replies
   parts_are last last_is =
       ap (λ (v : Stored). store_lines v ∷ (compactions_of m start).lines ++ store_lines last ∷ []) first_is
@@ -51,18 +51,18 @@ module _ (m : Operation) (version : Stored) (options : Options) (start : Owner) 
     -- an error within the first report
     pub first_fails : (e : RunError) → Stops (store_lines first ∷ []) a b e → Stops (output_of m (unclaimed version options)).replies a b e
     first_fails e p =
-        let last = (compactions_of m start).state.owner.version in
+        let last = (compactions_of m start).owner.version in
         subst (λ (rs : List (List ℕ)). Stops rs a b e) (parts_are last refl) (stops_in_first (store_lines first ∷ []) (compactions_of m start).lines (store_lines last ∷ []) a b e p)
 
     module _ (reported : Appends a b (joined (store_lines first ∷ []))) (c : Option (List ℕ)) where
       -- an error among the compactions
       pub second_fails : (e : RunError) → Stops (compactions_of m start).lines b c e → Stops (output_of m (unclaimed version options)).replies a c e
       second_fails e p =
-          let last = (compactions_of m start).state.owner.version in
+          let last = (compactions_of m start).owner.version in
           subst (λ (rs : List (List ℕ)). Stops rs a c e) (parts_are last refl) (stops_in_second (store_lines first ∷ []) (compactions_of m start).lines (store_lines last ∷ []) a b c e reported p)
 
       -- what comes of the last report
-      pub last_comes : Appends b c (joined (compactions_of m start).lines) → (last : Stored) → last ≡ (compactions_of m start).state.owner.version
+      pub last_comes : Appends b c (joined (compactions_of m start).lines) → (last : Stored) → last ≡ (compactions_of m start).owner.version
           → (d : Option (List ℕ)) (r : Result (Unit {0}) RunError) → Prints (store_lines last ∷ []) c d r → Prints (output_of m (unclaimed version options)).replies a d r
       last_comes sent last last_is d r p =
           subst (λ (rs : List (List ℕ)). Prints rs a d r) (parts_are last last_is) (prints_third (store_lines first ∷ []) (compactions_of m start).lines (store_lines last ∷ []) a b c d r reported sent p)

@@ -1,5 +1,5 @@
 -- What the report on a log prints.
-use Rattle.std.specs.Prelude.{ℕ, zero, suc, List, [], ◌∷◌, ◌++◌, length, Option, Some, None}
+use Rattle.std.specs.Prelude.{ℕ, zero, suc, List, [], ◌∷◌, ◌++◌, length, Option, Some, None, if◌then◌else◌}
 use Rattle.uc_oper.specs.Operation.{Operation}
 use Rattle.uc_bytes.specs.declared.write.Write.{Write}
 use Rattle.uc_batch.specs.Log.{log_writes}
@@ -16,13 +16,11 @@ use Rattle.uc_version_open.specs.declared.open_error.OpenError.{OpenError}
 use Rattle.uc_query.specs.Reports as reports
 use Rattle.uc_version.specs.Owners.{Owner, is_busy, unclaimed}
 use Rattle.uc_version.specs.Picking.{candidates_of}
-use Rattle.uc_version.specs.Claiming.{claim_refusal}
-use Rattle.uc_query.specs.Names.{State}
-use Rattle.uc_query.specs.Running.{unnamed}
-use Rattle.uc_query.specs.Turns.{Turn, compact_turn}
-use Rattle.uc_query.specs.declared.reply.Reply.{Reply}
-use Rattle.uc_query.specs.declared.reply.Reply.TheVariants.{Compacted}
-use Rattle.uc_tool_lines.specs.ReplyLines.{reply_lines, compacted_line}
+use Rattle.uc_version.specs.AtOnce.{after_compaction}
+use Rattle.uc_version.specs.declared.install_error.InstallError.TheVariants.{IdsSpent}
+use Rattle.uc_query.specs.Turns.{has_id}
+use Rattle.uc_tool_lines.specs.RefusalLines.{install_refusal_line}
+use Rattle.uc_tool_lines.specs.ReplyLines.{compacted_line}
 use Rattle.uc_tool_lines.specs.ReportLines.{report_lines}
 use Rattle.uc_tool_io.specs.Output.{Output, refused}
 use Rattle.uc_tool_opening.specs.Refusals.{opening_refusal_line, bad_log}
@@ -31,31 +29,26 @@ use Rattle.uc_tool_io.specs.declared.done.Done.TheVariants.{Fine}
 -- the lines of some compactions, and what is then
 pub record Compactions : Type 0 where
   pub lines : List (List ℕ)
-  pub state : State
+  pub owner : Owner
 
 -- compactions that end here, with no line more or with one
-abbrev pub no_more : State → Compactions
-no_more s = record { lines = []; state = s }
+abbrev pub no_more : Owner → Compactions
+no_more o = record { lines = []; owner = o }
 
-abbrev pub last_line : List ℕ → State → Compactions
-last_line line s = record { lines = line ∷ []; state = s }
+abbrev pub last_line : List ℕ → Owner → Compactions
+last_line line o = record { lines = line ∷ []; owner = o }
 
 -- a line in front of those of the compactions that follow
 abbrev pub behind_line : List ℕ → Compactions → Compactions
-behind_line line others = record { lines = line ∷ others.lines; state = others.state }
+behind_line line others = record { lines = line ∷ others.lines; owner = others.owner }
 
--- where a stretch was compacted it goes on from what is then; another reply, which is a refusal, ends it
-abbrev pub after_reply : Stretch → Reply → State → (State → Compactions) → Compactions
-after_reply stretch (Compacted id) s others = behind_line (compacted_line stretch id) (others s)
-after_reply stretch reply s others = last_line (reply_lines reply) s
-
-abbrev pub after_turn : Stretch → Turn → (State → Compactions) → Compactions
-after_turn stretch turn others = after_reply stretch turn.reply turn.state others
-
--- what is picked is compacted; where nothing is picked it ends
-abbrev pub after_pick : Operation → State → Option Stretch → (State → Compactions) → Compactions
-after_pick m s None others = no_more s
-after_pick m s (Some stretch) others = after_turn stretch (compact_turn m s stretch (claim_refusal s.owner stretch)) others
+-- what is picked is compacted, and it goes on from what is then; where no id is left the refusal ends it, and where nothing is
+-- picked it ends too
+abbrev pub after_pick : Operation → Owner → Option Stretch → (Owner → Compactions) → Compactions
+after_pick m o None others = no_more o
+after_pick m o (Some stretch) others =
+    if has_id o.version then behind_line (compacted_line stretch o.version.next_id) (others (after_compaction m o stretch))
+    else last_line (install_refusal_line IdsSpent) o
 
 -- what universal compaction picks of a store
 abbrev pub pick_of : Owner → Option Stretch
@@ -63,13 +56,13 @@ pick_of o = picked o.options (candidates_of o.version (is_busy o))
 
 -- As long as something is picked it is compacted, at most so many times. Each compaction leaves fewer runs, so that their
 -- number is enough.
-abbrev pub compactions : Operation → ℕ → State → Compactions
-compactions m zero s = no_more s
-compactions m (suc n) s = after_pick m s (pick_of s.owner) (λ next. compactions m n next)
+abbrev pub compactions : Operation → ℕ → Owner → Compactions
+compactions m zero o = no_more o
+compactions m (suc n) o = after_pick m o (pick_of o) (λ next. compactions m n next)
 
--- the compactions of a store of which nothing is claimed
+-- the compactions of a store
 abbrev pub compactions_of : Operation → Owner → Compactions
-compactions_of m o = compactions m (length o.version.runs) (unnamed o)
+compactions_of m o = compactions m (length o.version.runs) o
 
 -- what a store holds, as lines
 abbrev pub store_lines : Stored → List ℕ
@@ -78,7 +71,7 @@ store_lines v = report_lines (reports.report_of v)
 -- a report, the compactions, and a report on what is then
 abbrev pub output_of : Operation → Owner → Output
 output_of m o = record {
-  replies = store_lines o.version ∷ (compactions_of m o).lines ++ store_lines (compactions_of m o).state.owner.version ∷ [];
+  replies = store_lines o.version ∷ (compactions_of m o).lines ++ store_lines (compactions_of m o).owner.version ∷ [];
   done = Fine;
 }
 

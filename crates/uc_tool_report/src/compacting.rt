@@ -1,8 +1,6 @@
 //! The compactions that universal compaction makes of a store, one after the other.
 
-ghost use Rattle.std.specs.Prelude.{◌≡◌, ◌≤◌, None, length, replicate, IfOk};
-ghost use Rattle.uc_version.specs.declared.held_stretch.TheConstants.{MOST_CLAIMS};
-ghost use Rattle.uc_query.specs.Names.{AreHeld, named};
+ghost use Rattle.std.specs.Prelude.{◌≡◌, ◌≤◌, length, IfOk};
 ghost use Rattle.uc_tool_report.specs.Compacting.{IsStep};
 ghost use Rattle.uc_tool_report.specs.Report.{compactions_of};
 ghost use Rattle.uc_tool_io.specs.Output.{Prints};
@@ -12,17 +10,16 @@ use std::io::Write;
 use std::marker::Sync;
 use std::thread::Threads;
 use uc_oper::Operator;
-use uc_query::{AskError, Call, NamedClaims, Reply};
 use uc_tool_io::{RunError, write_bytes};
-use uc_tool_lines::{compacted_line, reply_lines};
-use uc_version::Owned;
+use uc_tool_lines::{compacted_line, install_refusal_line};
+use uc_version::{CompactError, InstallError, Owned, picks_can_be_claimed};
 
 /// What is done next.
 #[derive(Debug, Drop)]
 enum Step {
     /// Nothing is picked.
     Nothing,
-    /// A compaction was refused, with these lines.
+    /// A compaction was refused, with this line.
     Last(Vec<u8>),
     /// A stretch was compacted, with this line.
     Compacted(Vec<u8>),
@@ -33,21 +30,21 @@ fn compact_picked<O: Operator + Sync>(
     rt: &(impl Threads + Sync),
     alloc: Global,
     owned: &mut Owned<O>,
-    claims: &mut NamedClaims,
 ) -> Result<Step, AllocError>
-    requires held { AreHeld owned.old claims.old }
-    ensures held { AreHeld owned.new claims.new }
-    ensures step { IfOk result (λ step.
-        IsStep O.meaning (named owned.old claims.old) step (named owned.new claims.new)) }
+    ensures { IfOk result (λ step. IsStep O.meaning owned.old step owned.new) }
 {
+    owned.is_one();
+    picks_can_be_claimed();
     let Some(stretch) = owned.pick() else {
         return Ok(Step::Nothing);
     };
-    match claims.call(rt, alloc, owned, &Call::Compact(stretch)) {
-        Ok(Reply::Compacted(id)) => Ok(Step::Compacted(compacted_line(alloc, stretch, id)?)),
-        Ok(reply) => Ok(Step::Last(reply_lines(alloc, &reply)?)),
-        Err(AskError::Memory) => Err(AllocError),
-        Err(AskError::BadWorkers | AskError::BadPiece) => unreachable!(),
+    match owned.compact_now(rt, alloc, stretch) {
+        Ok(id) => Ok(Step::Compacted(compacted_line(alloc, stretch, id)?)),
+        Err(CompactError::IdsSpent) => {
+            Ok(Step::Last(install_refusal_line(alloc, InstallError::IdsSpent)?))
+        }
+        Err(CompactError::Memory) => Err(AllocError),
+        Err(CompactError::NotClaimed(_)) => unreachable!(),
     }
 }
 
@@ -58,14 +55,12 @@ pub fn print_compactions<O: Operator + Sync, W: Write>(
     owned: &mut Owned<O>,
     writer: &mut W,
 ) -> Result<(), RunError>
-    requires held { AreHeld owned.old (replicate MOST_CLAIMS None) }
     ensures printed { Prints (compactions_of O.meaning owned.old).lines (W.contents writer.old)
         (W.contents writer.new) result }
-    ensures left { IfOk result (λ _. owned.new ≡ (compactions_of O.meaning owned.old).state.owner) }
+    ensures left { IfOk result (λ _. owned.new ≡ (compactions_of O.meaning owned.old).owner) }
 {
-    let mut claims = NamedClaims::new();
     for _ in 0..owned.version().runs().len() {
-        match compact_picked(rt, alloc, owned, &mut claims)? {
+        match compact_picked(rt, alloc, owned)? {
             Step::Nothing => return Ok(()),
             Step::Last(line) => return write_bytes(writer, &line),
             Step::Compacted(line) => write_bytes(writer, &line)?,

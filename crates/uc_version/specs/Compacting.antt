@@ -1,5 +1,5 @@
 -- Compactions of stretches, and what is installed in place of claimed runs, whoever claims them.
-use Rattle.std.specs.Prelude.{◌≡◌, ℕ, ◌+◌, ◌==◌, Some, List, length}
+use Rattle.std.specs.Prelude.{◌≡◌, ◌+◌, ◌==◌, Some, List, length}
 use Rattle.uc_oper.specs.Operation.{Operation}
 use Rattle.uc_compact_rules.specs.Inputs.{Compaction}
 use Rattle.uc_compact_rules.specs.Output.{output_of}

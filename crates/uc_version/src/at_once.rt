@@ -54,6 +54,15 @@ impl<O: Operator> Owned<O> {
         }
     }
 
+    /// Gives a claim back that nothing came of, and says why.
+    fn give_up(&mut self, claim: OwnedClaim, error: CompactError) -> CompactError
+        requires { claiming.is_held self.old claim ≡ true }
+        ensures { (result ≡ error) × (self.new ≡ claiming.without_claim self.old claim) }
+    {
+        self.abandon(claim);
+        error
+    }
+
     /// Claims a stretch, compacts it under the keeps of this moment, and puts what it became in place, in one call. The answer is
     /// the id of the new run; the claims that are held stay. Where the stretch can't be claimed, no id is left or memory runs
     /// out, the store is as it was, and the first of these is told.
@@ -80,10 +89,7 @@ impl<O: Operator> Owned<O> {
         };
         match self.compaction(rt, alloc, &claim) {
             Ok(made) => Ok(self.put_in_place(claim, made)),
-            Err(error) => {
-                self.abandon(claim);
-                Err(error)
-            }
+            Err(error) => Err(self.give_up(claim, error)),
         }
     }
 }

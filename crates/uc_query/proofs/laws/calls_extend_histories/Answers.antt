@@ -13,6 +13,8 @@ returns g c = λ h s calls legal is_owner are version.
       may = c.claims_can_be_compacted.ensures.may;
       event_may = c.installs_are_events.ensures.may;
       event_after = c.installs_are_events.ensures.after;
+      compaction_stays = c.claimable_stretches_can_be_compacted.ensures.stays;
+      compaction_may = c.claimable_stretches_can_be_compacted.ensures.may;
     } in
     let grows : Grows g.O.Operator.meaning = record { legal = c.histories_grow_by_events.ensures.legal; then_after = c.histories_grow_by_events.ensures.after } in
     extend g.O.Operator.meaning known grows calls h s legal is_owner are version

@@ -12,5 +12,7 @@ returns g c = λ s name claim is_owner are here id.
       may = c.claims_can_be_compacted.ensures.may;
       event_may = c.installs_are_events.ensures.may;
       event_after = c.installs_are_events.ensures.after;
+      compaction_stays = c.claimable_stretches_can_be_compacted.ensures.stays;
+      compaction_may = c.claimable_stretches_can_be_compacted.ensures.may;
     } in
     install_replaces g.O.Operator.meaning known s is_owner are name claim here id

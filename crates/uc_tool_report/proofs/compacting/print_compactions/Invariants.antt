@@ -1,11 +1,8 @@
 use Rattle.std.proofs.Common.{◌-◌}
-use Rattle.uc_query.specs.Names.{AreHeld}
 use Rattle.uc_tool_report.specs.Report.{compactions_of}
 use Rattle.uc_tool_report.proofs.Compactions.{CompactsOn}
 use Rattle.uc_tool_report.proofs.compacting.print_compactions.Given as goal
 
 abbrev pub invariant-loop : goal.invariant-loop
-invariant-loop g l = record {
-  held : AreHeld l.owned l.claims;
-  goes : CompactsOn g.O.Operator.meaning (compactions_of g.O.Operator.meaning l.fn.owned) (l.end - l.counter) (record { owner = l.owned; names = l.claims }) (g.W.Write.contents l.fn.writer) (g.W.Write.contents l.writer);
-}
+invariant-loop g l =
+    CompactsOn g.O.Operator.meaning (compactions_of g.O.Operator.meaning l.fn.owned) (l.end - l.counter) l.owned (g.W.Write.contents l.fn.writer) (g.W.Write.contents l.writer)

@@ -1,7 +1,7 @@
 use Rattle.std.proofs.Common.{◌∙◌, ap, sym, subst}
 use Rattle.uc_version.specs.Owners.{Owner}
 use Rattle.uc_version.specs.Installing.{IdLeft}
-use Rattle.uc_version.specs.AtOnce.{IsNotMade}
+use Rattle.uc_version.specs.AtOnce.{IsNotMade, IsNotCompacted}
 use Rattle.uc_version.proofs.CompactedNow.{may, compacted_now, undone, not_compacted}
 use Rattle.uc_version.proofs.owned.Owned.compact_now.Goals as goal
 
@@ -24,7 +24,8 @@ returns-in-Err-compaction-clause-err g c =
     let o = c.args.self.now in
     let s = c.args.stretch in
     let claimed = c.in-Ok.ensures.ok in
-    let error = c.in-Err-compaction.error in (
-      not_compacted o s claimed.0 error (subst (λ (p : Owner). IsNotMade p.version error) claimed.2 c.in-Err-compaction.ensures.err),
-      undone o s c.in-Ok.claim c.claim.new.self c.abandon.new.self claimed.1 claimed.2 c.abandon.ensures,
+    let error = c.in-Err-compaction.error in
+    let why = not_compacted o s claimed.0 error (subst (λ (p : Owner). IsNotMade p.version error) claimed.2 c.in-Err-compaction.ensures.err) in (
+      subst (IsNotCompacted o s) (sym c.give_up.ensures.0) why,
+      undone o s c.in-Ok.claim c.claim.new.self c.give_up.new.self claimed.1 claimed.2 c.give_up.ensures.1,
     )
