@@ -1,9 +1,14 @@
-//! How a store begins and what is compacted next, worked by hand.
+//! How a store begins, what is compacted next and what comes of it, worked by hand.
 //!
 //! `openings.rt` has openings from plain writes, `recoveries.rt` openings from short logs, `picks.rt` picks, by hand and beside a
-//! plain slow program, and `reports.rt` reports on what a store holds.
+//! plain slow program, and `reports.rt` reports on what a store holds. `stores.rt` opens stores of a few runs, `at_once.rt`
+//! compacts stretches of them at once, and `installs.rt` installs what was made otherwise than the store makes it.
 #![tactic(auto)]
 
+#[cfg(test)]
+mod at_once;
+#[cfg(test)]
+mod installs;
 #[cfg(test)]
 mod openings;
 #[cfg(test)]
@@ -12,3 +17,5 @@ mod picks;
 mod recoveries;
 #[cfg(test)]
 mod reports;
+#[cfg(test)]
+mod stores;

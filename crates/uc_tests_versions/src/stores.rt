@@ -1,0 +1,96 @@
+//! Stores in one owner's hands, where each write is a run.
+use std::alloc::{AllocError, Global};
+use std::test::Fail;
+use uc_batch::Writes;
+use uc_bytes::{OpRef, WriteRef};
+use uc_oper::Append;
+use uc_version::{Options, Owned, OwnedClaim, Stretch, open_plain};
+
+/// The operator of the tests: texts joined by a comma.
+pub(crate) type Commas = Append<0x2C>;
+
+/// A change of the key `k`.
+#[derive(Clone, Copy)]
+pub(crate) enum Change {
+    Put(&'static [u8]),
+    Merge(&'static [u8]),
+    Delete,
+}
+
+/// A put and two merges.
+pub(crate) const MERGED: [Change; 3] = [
+    Change::Put(b"a"),
+    Change::Merge(b"b"),
+    Change::Merge(b"c"),
+];
+
+/// So many merges.
+pub(crate) fn merges(alloc: Global, count: usize) -> Result<Vec<Change>, AllocError> {
+    let mut changes = Vec::new(alloc);
+    for _ in 0..count {
+        changes.push(Change::Merge(b"v"))?;
+    }
+    Ok(changes)
+}
+
+/// The change itself.
+fn op_of(change: Change) -> OpRef<'static> {
+    match change {
+        Change::Put(value) => OpRef::put(b"k", value),
+        Change::Merge(operand) => OpRef::merge(b"k", operand),
+        Change::Delete => OpRef::delete(b"k"),
+    }
+}
+
+/// A store of these changes, numbered from 1, under these keeps, whose first run has this id.
+pub(crate) fn opened(
+    alloc: Global,
+    changes: &[Change],
+    keeps: &[u64],
+    first_id: u64,
+) -> Result<Owned<Commas>, Fail> {
+    let mut writes = Vec::new(alloc);
+    let mut seq = 0_u64;
+    for &change in changes {
+        seq = seq.wrapping_add(1);
+        writes.push(WriteRef::new(seq, op_of(change)).to_write(alloc)?)?;
+    }
+    let writes = Writes::of(writes).ok_or("the sequences don't rise")?;
+    let options = Options {
+        memtable: 1,
+        first_id,
+        ..Options::usual()
+    };
+    match open_plain::<Commas>(alloc, &writes, keeps, options) {
+        Ok(owned) => Ok(owned),
+        Err(_) => Err("the store doesn't open")?,
+    }
+}
+
+/// Whether a store has runs with these ids and slots, the newest first.
+pub(crate) fn has_runs(owned: &Owned<Commas>, wanted: &[(u64, usize)]) -> bool {
+    let runs = owned.version().runs();
+    for (placed, &(id, slot)) in runs.iter().zip(wanted) {
+        if placed.id() != id || placed.slot() != slot {
+            return false;
+        }
+    }
+    runs.len() == wanted.len()
+}
+
+/// The claim of a stretch.
+pub(crate) fn claimed(owned: &mut Owned<Commas>, stretch: Stretch) -> Result<OwnedClaim, Fail> {
+    match owned.claim(stretch) {
+        Ok(claim) => Ok(claim),
+        Err(_) => Err("the claim is refused")?,
+    }
+}
+
+/// Gives a claim back that is held.
+pub(crate) fn given_back(owned: &mut Owned<Commas>, claim: OwnedClaim) -> Result<(), Fail> {
+    if !owned.holds(&claim) {
+        return Err("the claim isn't held")?;
+    }
+    owned.abandon(claim);
+    Ok(())
+}
