@@ -14,6 +14,6 @@ pub use uc_bytes::Bytes;
 pub use uc_oper::{Append, Counter, Maximum, Operator};
 pub use uc_query::{Answer, AskError, Query, Report, Rows, answer_one, answer_plain, get, report};
 pub use uc_version::{
-    ClaimError, InstallError, Options, Owned, OwnedClaim, Placed, Stretch, Version,
+    ClaimError, CompactError, InstallError, Options, Owned, OwnedClaim, Placed, Stretch, Version,
 };
 pub use uc_version_open::OpenError;
