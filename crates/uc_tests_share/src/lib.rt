@@ -1,8 +1,8 @@
 //! A store that threads share, called as its users call it.
 //!
 //! `stores.rt` opens stores, `steps.rt` has the steps of a compactor, `claims.rt` claims, compacts and installs stretches one
-//! after the other, `refusals.rt` has what is refused, `threads.rt` two compactors at once, and `soak.rt` four of them beside two
-//! readers, over many drawn stores.
+//! after the other, `refusals.rt` has what is refused, `threads.rt` two compactors at once, `turns.rt` two beside one who asks, for
+//! many turns, and `soak.rt` four beside two readers, over many drawn stores.
 #![tactic(auto)]
 
 #[cfg(test)]
@@ -17,3 +17,5 @@ mod steps;
 mod stores;
 #[cfg(test)]
 mod threads;
+#[cfg(test)]
+mod turns;

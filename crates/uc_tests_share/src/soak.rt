@@ -164,14 +164,15 @@ fn reads_alike<O: Operator>(alloc: Global, version: &Version, asked: &[(Query, A
     true
 }
 
-/// Whether a reader's pins answer as they should.
-fn pins_alike<O: Operator, N: Name, W: Wait + Drop>(
+/// Whether so many pins of a reader answer as they should.
+pub(crate) fn pins_alike<O: Operator, N: Name, W: Wait + Drop>(
     alloc: Global,
     store: &Store<O, N, W>,
     reader: &mut Reader<O, N>,
     asked: &[(Query, Answer)],
+    count: usize,
 ) -> bool {
-    for _ in 0..TURNS {
+    for _ in 0..count {
         match store.pin(reader) {
             Ok(pin) => {
                 if !reads_alike::<O>(alloc, pin.version(), asked) {
@@ -201,8 +202,8 @@ where
     let (one, other) = (&mut readers.0, &mut readers.1);
     let (one, other) = join(
         rt,
-        move || pins_alike(alloc, store, one, asked),
-        move || pins_alike(alloc, store, other, asked),
+        move || pins_alike(alloc, store, one, asked, TURNS),
+        move || pins_alike(alloc, store, other, asked, TURNS),
     );
     one && other
 }

@@ -1,0 +1,232 @@
+//! Two compactors beside one who asks, for 200 turns each: no install is refused, and all answers are those of the plain writes.
+ghost use Rattle.std.specs.Prelude.{◌≡◌, IfSome, All};
+
+use crate::soak::pins_alike;
+use crate::steps::installed;
+use crate::stores::{Worker, next_worker, small_runs};
+use std::alloc::Global;
+use std::marker::{Brand, Send, Sync};
+use std::process::Abort;
+use std::sync::Wait;
+use std::test::Fail;
+use std::thread::{Threads, join};
+use uc_batch::Writes;
+use uc_bytes::{Bytes, OpRef, WriteRef};
+use uc_oper::{Append, Operator};
+use uc_query_answer::{Answer, Query, answer_writes};
+use uc_share::{Name, Opening, Options, Reader, Seat, Store, Version};
+use uc_version::open_version;
+
+/// How often each thread has its turn.
+const TURNS: usize = 200;
+
+/// The keys that are written, in turn.
+const KEYS: [&[u8]; 8] = [b"a", b"b", b"c", b"d", b"e", b"f", b"g", b"h"];
+
+/// Options under which two runs are compacted at a time, so that there are many installs.
+fn pairs_of_runs() -> Options {
+    Options {
+        percent: 100_000,
+        greatest: 2,
+        ..small_runs()
+    }
+}
+
+/// A turn of a compactor: it pins a version, and claims, compacts and installs what is picked of it. How many installs it made;
+/// none at all is said where one was refused, which happens to nobody who claims first.
+fn turn<O: Operator + Sync, N: Name, W: Wait + Drop>(
+    rt: &(impl Threads + Wait + Sync),
+    alloc: Global,
+    store: &Store<O, N, W>,
+    mut seat: Seat,
+    reader: &mut Reader<O, N>,
+) -> Option<(Seat, u64)>
+    requires { seat.table ≡ store.now.table }
+    ensures { IfSome result (λ done. done.0.table ≡ store.now.table) }
+{
+    let pin = store.pin(reader).ok()?;
+    let Some(stretch) = store.pick(&pin, &mut seat) else {
+        return Some((seat, 0));
+    };
+    match store.claim(seat, pin, reader, stretch) {
+        Err((seat, _pin, _error)) => Some((seat, 0)),
+        Ok(held) => Some((installed(rt, alloc, store, held, reader)?, 1)),
+    }
+}
+
+/// The turns of a compactor. How many installs it made.
+fn compacts<O: Operator + Sync, N: Name, W: Wait + Drop>(
+    rt: &(impl Threads + Wait + Sync),
+    alloc: Global,
+    store: &Store<O, N, W>,
+    worker: Worker<O, N>,
+) -> Option<u64>
+    requires { worker.1.table ≡ store.now.table }
+{
+    let (mut reader, mut seat) = worker;
+    let mut installs = 0_u64;
+    for _ in 0..TURNS {
+        let (back, made) = turn(rt, alloc, store, seat, &mut reader)?;
+        seat = back;
+        installs = installs.saturating_add(made);
+    }
+    Some(installs)
+}
+
+/// Two compactors at once.
+fn two_compact<O, N, W, R>(
+    rt: &R,
+    alloc: Global,
+    store: &Store<O, N, W>,
+    one: Worker<O, N>,
+    other: Worker<O, N>,
+) -> Option<u64>
+where
+    O: Operator + Send + Sync,
+    N: Name + Send + Sync,
+    W: Wait + Drop + Send,
+    R: Threads + Wait + Sync,
+    requires one { one.1.table ≡ store.now.table }
+    requires other { other.1.table ≡ store.now.table }
+{
+    let (one, other) = join(
+        rt,
+        move || -> Option<u64>
+            requires { one.1.table ≡ store.now.table }
+        { compacts(rt, alloc, store, one) },
+        move || -> Option<u64>
+            requires { other.1.table ≡ store.now.table }
+        { compacts(rt, alloc, store, other) },
+    );
+    Some(one?.saturating_add(other?))
+}
+
+/// Two compactors beside one who asks. How many installs there were, where all answers are as they should be.
+fn three_at_once<O, N, W, R>(
+    rt: &R,
+    alloc: Global,
+    store: &Store<O, N, W>,
+    one: Worker<O, N>,
+    other: Worker<O, N>,
+    reader: &mut Reader<O, N>,
+    asked: &[(Query, Answer)],
+) -> Option<u64>
+where
+    O: Operator + Send + Sync,
+    N: Name + Send + Sync,
+    W: Wait + Drop + Send,
+    R: Threads + Wait + Sync,
+    requires one { one.1.table ≡ store.now.table }
+    requires other { other.1.table ≡ store.now.table }
+{
+    let (installs, alike) = join(
+        rt,
+        move || -> Option<u64>
+            requires one { one.1.table ≡ store.now.table }
+            requires other { other.1.table ≡ store.now.table }
+        { two_compact(rt, alloc, store, one, other) },
+        move || pins_alike(alloc, store, reader, asked, TURNS),
+    );
+    if alike { installs } else { None }
+}
+
+/// How many installs are made in a store that is opened here. In the end its history has one event for each, and each gave one
+/// id.
+fn installs_of<O, N, W, R>(
+    rt: &R,
+    handle: W,
+    alloc: Global,
+    opened_with: (Opening, Version),
+    asked: &[(Query, Answer)],
+) -> Option<u64>
+where
+    O: Operator + Send + Sync,
+    N: Name + Send + Sync,
+    W: Wait + Drop + Send,
+    R: Threads + Wait + Sync,
+    requires book { opened_with.0.seen.book ≡ N.book }
+    requires base { opened_with.1 ≡ N.base }
+{
+    let (opening, version) = opened_with;
+    let first_id = version.next_id();
+    let opened = Store::<O, N, W>::open(alloc, handle, opening, version, pairs_of_runs(), 3, 2);
+    let (store, mut readers, mut seats) = opened.ok()?;
+    let one = next_worker(&store, &mut readers, &mut seats)?;
+    let other = next_worker(&store, &mut readers, &mut seats)?;
+    let mut reader = readers.pop()?;
+    let installs = three_at_once(rt, alloc, &store, one, other, &mut reader, asked)?;
+    let pin = store.pin(&mut reader).ok()?;
+    let given = pin.version().next_id().saturating_sub(first_id);
+    (pin.front().len() == installs && given == installs).then_some(installs)
+}
+
+/// 64 puts and merges of eight keys, three merges behind each put.
+fn plain_writes(alloc: Global) -> Result<Writes, Fail> {
+    let mut writes = Vec::new(alloc);
+    for number in 0_u64..64 {
+        let key = KEYS[(number & 7) as usize];
+        let op = if number & 24 == 0 {
+            OpRef::put(key, b"p")
+        } else {
+            OpRef::merge(key, b"m")
+        };
+        writes.push(WriteRef::new(number + 1, op).to_write(alloc)?)?;
+    }
+    Ok(Writes::of(writes).ok_or("the sequences don't rise")?)
+}
+
+/// Lookups of each key and scans at the sequences that are kept, and at one that isn't.
+fn queries(alloc: Global, keeps: &[u64]) -> Result<Vec<Query>, Fail> {
+    let mut queries = Vec::new(alloc);
+    for &at in keeps {
+        for key in KEYS {
+            let key = Bytes::from_slice(alloc, key)?;
+            queries.push(Query::Get { key, at })?;
+        }
+        for limit in [0, 10] {
+            queries.push(Query::Scan {
+                low: Bytes::from_slice(alloc, b"")?,
+                high: None,
+                at,
+                limit,
+            })?;
+        }
+        queries.push(Query::Scan {
+            low: Bytes::from_slice(alloc, b"b")?,
+            high: Some(Bytes::from_slice(alloc, b"f")?),
+            at,
+            limit: 3,
+        })?;
+    }
+    let key = Bytes::from_slice(alloc, b"a")?;
+    queries.push(Query::Get { key, at: 33 })?;
+    Ok(queries)
+}
+
+/// What is asked, with what the plain writes answer.
+fn questions<O: Operator>(
+    alloc: Global,
+    writes: &Writes,
+    keeps: &[u64],
+) -> Result<Vec<(Query, Answer)>, Fail> {
+    let mut asked = Vec::new(alloc);
+    for query in queries(alloc, keeps)? {
+        let answer = answer_writes::<O>(alloc, writes, keeps, &query)?;
+        asked.push((query, answer))?;
+    }
+    Ok(asked)
+}
+
+#[test]
+fn nobody_is_refused_in_200_turns(rt: HostRuntime) -> Result<(), Fail> {
+    let alloc = rt.alloc();
+    let writes = plain_writes(alloc)?;
+    let Ok(version) = open_version(alloc, &writes, &[20, 40], &pairs_of_runs()) else {
+        return Err("the store isn't opened")?;
+    };
+    let asked = questions::<Append<0x2C>>(alloc, &writes, version.keeps())?;
+    let opened_with = (Opening::new(), version);
+    let installs = installs_of::<Append<0x2C>, Brand, _, _>(&rt, &rt, alloc, opened_with, &asked);
+    assert!(rt; installs.ok_or("an install was refused, or an answer differs")? >= 30);
+    Ok(())
+}
