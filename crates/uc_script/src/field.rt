@@ -31,7 +31,7 @@ fn value(digits: &[u8]) -> Option<u64>
 
 /// A decimal number without sign or needless zeros, at most 2^64 - 1.
 #[tactic(auto, unfolding(crate::specs::Texts::number_of))]
-pub(crate) fn number(field: &[u8]) -> Option<u64>
+pub fn number(field: &[u8]) -> Option<u64>
     ensures { result ≡ number_of field.now }
 {
     match field {
@@ -41,7 +41,7 @@ pub(crate) fn number(field: &[u8]) -> Option<u64>
 }
 
 /// A position or a count of runs: a number.
-pub(crate) fn count(field: &[u8]) -> Option<usize>
+pub fn count(field: &[u8]) -> Option<usize>
     ensures { result ≡ number_of field.now }
 {
     Some(number(field)? as usize)
@@ -49,7 +49,7 @@ pub(crate) fn count(field: &[u8]) -> Option<usize>
 
 /// The name of a claim: a number below [`NAMES`].
 #[tactic(auto, unfolding(crate::specs::Texts::name_of))]
-pub(crate) fn name(field: &[u8]) -> Option<u8>
+pub fn name(field: &[u8]) -> Option<u8>
     ensures { result ≡ name_of field.now }
 {
     let name = number(field)?;
@@ -62,7 +62,7 @@ pub(crate) fn name(field: &[u8]) -> Option<u8>
 
 /// A key or a value: `.` for no bytes, else an even number of hexadecimal digits.
 #[tactic(auto, unfolding(crate::specs::Texts::text_of))]
-pub(crate) fn text(alloc: Global, field: &[u8]) -> Result<Option<Bytes>, AllocError>
+pub fn text(alloc: Global, field: &[u8]) -> Result<Option<Bytes>, AllocError>
     ensures { IfOk result (λ text. text ≡ text_of field.now) }
 {
     if field.is_empty() {
@@ -80,7 +80,7 @@ pub(crate) fn text(alloc: Global, field: &[u8]) -> Result<Option<Bytes>, AllocEr
 
 /// A sequence: a number, or `last`.
 #[tactic(auto, unfolding(crate::specs::Texts::seq_of))]
-pub(crate) fn seq(field: &[u8]) -> Option<Seq>
+pub fn seq(field: &[u8]) -> Option<Seq>
     ensures { result ≡ seq_of field.now }
 {
     if field == b"last".as_slice() {
@@ -91,7 +91,7 @@ pub(crate) fn seq(field: &[u8]) -> Option<Seq>
 
 /// Where a scan ends: a key, or `-` for nowhere.
 #[tactic(auto, unfolding(crate::specs::Texts::high_of))]
-pub(crate) fn high(alloc: Global, field: &[u8]) -> Result<Option<Option<Bytes>>, AllocError>
+pub fn high(alloc: Global, field: &[u8]) -> Result<Option<Option<Bytes>>, AllocError>
     ensures { IfOk result (λ high. high ≡ high_of field.now) }
 {
     if field == b"-".as_slice() {

@@ -19,7 +19,7 @@ mod call;
 mod call_line;
 mod digits;
 mod error;
-mod field;
+pub mod field;
 mod head;
 mod head_line;
 mod laws;
@@ -40,6 +40,7 @@ pub use laws::{
     a_head_is_its_lines, a_script_is_its_lines, a_script_names_no_more_than_it_has,
     names_are_in_range, printed_bytes_are_read, printed_numbers_are_read,
 };
+pub use lines::{is_skipped, next_field, next_line};
 pub use query::Query;
 pub use query_reader::QueryReader;
 pub use reading::read_script;

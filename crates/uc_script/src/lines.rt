@@ -13,7 +13,7 @@ fn find(bytes: &[u8], wanted: u8) -> Option<usize>
 }
 
 /// The first line without its LF, and what stands behind that LF.
-pub(crate) fn next_line(text: &[u8]) -> (&[u8], &[u8])
+pub fn next_line(text: &[u8]) -> (&[u8], &[u8])
     requires { 0 < length text.now }
     ensures cut { lines_of text.now ≡ result.0.now ∷ lines_of result.1.now }
     ensures left { length result.1.now ≡ length text.now - (length result.0.now + 1) }
@@ -25,14 +25,14 @@ pub(crate) fn next_line(text: &[u8]) -> (&[u8], &[u8])
 }
 
 /// Whether a line is empty or a comment.
-pub(crate) fn is_skipped(line: &[u8]) -> bool
+pub fn is_skipped(line: &[u8]) -> bool
     ensures { result ≡ lines.is_skipped line.now }
 {
     matches!(line, [] | [b'#', ..])
 }
 
 /// The first field, and what stands behind its space where there is one.
-fn next_field(line: &[u8]) -> (&[u8], Option<&[u8]>)
+pub fn next_field(line: &[u8]) -> (&[u8], Option<&[u8]>)
     ensures { MatchOption result.1
         (fields_of line.now ≡ result.0.now ∷ [])
         (λ rest. fields_of line.now ≡ result.0.now ∷ fields_of rest.now) }

@@ -11,7 +11,10 @@
 
 pub use uc_tool_dump::dump;
 pub use uc_tool_io::Done;
-pub use uc_tool_play::{play, reads_are_answered_from_plain_writes};
-pub use uc_tool_report::{compactions_end_where_nothing_is_picked, report_log};
+pub use uc_tool_opening::Reason;
+pub use uc_tool_play::{play, play_with_reason, reads_are_answered_from_plain_writes};
+pub use uc_tool_report::{
+    compactions_end_where_nothing_is_picked, report_log, report_log_with_reason,
+};
 pub use uc_tool_words::{OperatorName, Refusal};
 pub use uc_version_pick::Options;

@@ -5,12 +5,19 @@
 //! that opened none with the one line that says why. Nothing here claims, compacts or answers: that is left to the
 //! subcommands above.
 //!
+//! Beside that line a reader may be told more: [`Reason`] is what is wrong with the first line at fault, or the option or
+//! number that stands against the opening.
+//!
 //! Read `specs/Opening.antt` and `specs/Refusals.antt` first, then `opening.rt` and `refusing.rt`. That the log of a
 //! script's writes gives them back is proved in `proofs/LogAgain.antt`.
 #![tactic(auto)]
 
 mod opening;
+mod opening_fault;
+mod reason;
 mod refusing;
 
 pub use opening::{open_ops, recover_log, seq_at};
+pub use opening_fault::{OpeningFault, fault_of_opening, option_fault};
+pub use reason::Reason;
 pub use refusing::{opening_refusal_line, print_bad_log, print_refused_opening};

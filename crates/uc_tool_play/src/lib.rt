@@ -14,4 +14,4 @@ mod laws;
 mod playing;
 
 pub use laws::reads_are_answered_from_plain_writes;
-pub use playing::play;
+pub use playing::{play, play_with_reason};

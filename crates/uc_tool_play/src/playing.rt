@@ -19,18 +19,28 @@ use uc_oper::Operator;
 use uc_script::{
     Call, Script, ScriptError, a_script_names_no_more_than_it_has, names_are_in_range, read_script,
 };
+use uc_tool_faults::{Explanation, Source, explain};
 use uc_tool_io::{
     Done, RunError, finish, finish_without_input, print_refusal, read_input, write_bytes,
 };
 use uc_tool_log_lines::numbered_line;
-use uc_tool_opening::{open_ops, print_refused_opening};
+use uc_tool_opening::{Reason, fault_of_opening, open_ops, print_refused_opening};
 use uc_version::Owned;
 use uc_version_open::OpenError;
 use uc_version_pick::Options;
 use uc_version_state::Version;
 
+/// What is said of the line of a script whose number its reader told, where there is memory for it.
+fn explanation_of(alloc: Global, script: &[u8], number: u64) -> Option<Explanation> {
+    explain(alloc, Source::Script, script, number).unwrap_or(None)
+}
+
 /// Reads a script, and lets go of its text.
-fn script_in(alloc: Global, input: Vec<u8>) -> Result<Script, ScriptError>
+fn script_in(
+    alloc: Global,
+    input: Vec<u8>,
+    reason: &mut Option<Reason>,
+) -> Result<Script, ScriptError>
     requires { vec_len input ≤ INPUT_LIMIT }
     ensures read { Gives (λ script. script) result (script_of input.items) }
     ensures fits { IfOk result (λ script. FitsLog script.ops) }
@@ -40,7 +50,11 @@ fn script_in(alloc: Global, input: Vec<u8>) -> Result<Script, ScriptError>
     // above what a store has.
     a_script_names_no_more_than_it_has();
     names_are_in_range();
-    read_script(alloc, &input)
+    let script = read_script(alloc, &input);
+    if let Err(ScriptError::Fault(number)) = &script {
+        *reason = explanation_of(alloc, &input, *number).map(Reason::Line);
+    }
+    script
 }
 
 /// Prints that a store opened with a version, and the replies to calls.
@@ -73,6 +87,7 @@ fn print_script<O: Operator + Sync, W: Write>(
     script: Script,
     options: &Options,
     writer: &mut W,
+    reason: &mut Option<Reason>,
 ) -> Result<Done, RunError>
     requires fits { FitsLog script.ops }
     requires names { All NameIsGood script.calls }
@@ -86,7 +101,10 @@ fn print_script<O: Operator + Sync, W: Write>(
             print_opened::<O, W>(rt, alloc, version, options, calls.into_vec(), writer)
         }
         Err(OpenError::Memory) => Err(RunError::Memory),
-        Err(error) => print_refused_opening(alloc, error, writer),
+        Err(error) => {
+            *reason = fault_of_opening(error, options).map(Reason::Opening);
+            print_refused_opening(alloc, error, writer)
+        }
     }
 }
 
@@ -97,19 +115,43 @@ fn run<O: Operator + Sync, W: Write>(
     input: Vec<u8>,
     options: &Options,
     writer: &mut W,
+    reason: &mut Option<Reason>,
 ) -> Result<Done, RunError>
     requires { vec_len input ≤ INPUT_LIMIT }
     ensures printed { Prints (play_of O.meaning options.now input.items).replies
         (W.contents writer.old) (W.contents writer.new) result }
     ensures done { IfOk result (λ done. done ≡ (play_of O.meaning options.now input.items).done) }
 {
-    match script_in(alloc, input) {
-        Ok(script) => print_script::<O, W>(rt, alloc, script, options, writer),
+    match script_in(alloc, input, reason) {
+        Ok(script) => print_script::<O, W>(rt, alloc, script, options, writer, reason),
         Err(ScriptError::Fault(line)) => {
             let line = numbered_line(alloc, b"fault line ", line)?;
             print_refusal(&line, writer)
         }
         Err(ScriptError::Memory) => Err(RunError::Memory),
+    }
+}
+
+/// Runs a script as [`play`] does. Where it is refused for a fault of the script or at its opening, it gives the reason too;
+/// where there is no memory for that, it gives none, and prints and ends all the same.
+pub fn play_with_reason<O: Operator + Sync, R: Read, W: Write>(
+    rt: &(impl Threads + Sync),
+    alloc: Global,
+    reader: &mut R,
+    writer: &mut W,
+    options: &Options,
+    reason: &mut Option<Reason>,
+) -> Done
+    ensures { IfSome (R.remaining reader.old) (λ input.
+        HasWritten (play_of O.meaning options.now input) input (W.contents writer.old) (W.contents writer.new) result) }
+{
+    *reason = None;
+    match read_input(alloc, reader) {
+        Ok(input) => {
+            let outcome = run::<O, W>(rt, alloc, input, options, writer, reason);
+            finish(writer, outcome)
+        }
+        Err(error) => finish_without_input(writer, error),
     }
 }
 
@@ -131,11 +173,6 @@ pub fn play<O: Operator + Sync, R: Read, W: Write>(
     ensures { IfSome (R.remaining reader.old) (λ input.
         HasWritten (play_of O.meaning options.now input) input (W.contents writer.old) (W.contents writer.new) result) }
 {
-    match read_input(alloc, reader) {
-        Ok(input) => {
-            let outcome = run::<O, W>(rt, alloc, input, options, writer);
-            finish(writer, outcome)
-        }
-        Err(error) => finish_without_input(writer, error),
-    }
+    let mut reason = None;
+    play_with_reason::<O, R, W>(rt, alloc, reader, writer, options, &mut reason)
 }

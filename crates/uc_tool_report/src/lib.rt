@@ -14,4 +14,4 @@ mod laws;
 mod reporting;
 
 pub use laws::compactions_end_where_nothing_is_picked;
-pub use reporting::report_log;
+pub use reporting::{report_log, report_log_with_reason};

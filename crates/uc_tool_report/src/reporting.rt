@@ -19,7 +19,9 @@ use uc_oper::Operator;
 use uc_query::report;
 use uc_tool_io::{Done, RunError, finish, finish_without_input, read_input, write_bytes};
 use uc_tool_lines::report_lines;
-use uc_tool_opening::{print_bad_log, print_refused_opening, recover_log};
+use uc_tool_opening::{
+    Reason, fault_of_opening, print_bad_log, print_refused_opening, recover_log,
+};
 use uc_version::Owned;
 use uc_version_open::{OpenError, Opener, Recovered};
 use uc_version_pick::Options;
@@ -66,6 +68,7 @@ fn print_opened<O: Operator + Sync, W: Write>(
     opener: Opener,
     options: &Options,
     writer: &mut W,
+    reason: &mut Option<Reason>,
 ) -> Result<Done, RunError>
     requires taken { (writes : List WriteOf) × IsRising 0 writes × (opener ≡ progress_of options.now writes) }
     ensures printed { (writes : List WriteOf) → IsRising 0 writes → opener ≡ progress_of options.now writes →
@@ -76,7 +79,10 @@ fn print_opened<O: Operator + Sync, W: Write>(
     match opener.finish(alloc, &[]) {
         Ok(version) => print_reports::<O, W>(rt, alloc, version, options, writer),
         Err(OpenError::Memory) => Err(RunError::Memory),
-        Err(error) => print_refused_opening(alloc, error, writer),
+        Err(error) => {
+            *reason = fault_of_opening(error, options).map(Reason::Opening);
+            print_refused_opening(alloc, error, writer)
+        }
     }
 }
 
@@ -87,6 +93,7 @@ fn run<O: Operator + Sync, W: Write>(
     input: Vec<u8>,
     options: &Options,
     writer: &mut W,
+    reason: &mut Option<Reason>,
 ) -> Result<Done, RunError>
     ensures printed { Prints (report_of O.meaning options.now input.items).replies
         (W.contents writer.old) (W.contents writer.new) result }
@@ -94,8 +101,32 @@ fn run<O: Operator + Sync, W: Write>(
 {
     let Recovered { opener, ended } = recover_log(alloc, input, *options)?;
     match ended {
-        Ended::Clean | Ended::Torn(_) => print_opened::<O, W>(rt, alloc, opener, options, writer),
+        Ended::Clean | Ended::Torn(_) => {
+            print_opened::<O, W>(rt, alloc, opener, options, writer, reason)
+        }
         Ended::LogFault(..) | Ended::BatchFault(..) => print_bad_log(alloc, ended, writer),
+    }
+}
+
+/// Reports on a log as [`report_log`] does. Where the opening is refused, it gives the reason too.
+pub fn report_log_with_reason<O: Operator + Sync, R: Read, W: Write>(
+    rt: &(impl Threads + Sync),
+    alloc: Global,
+    reader: &mut R,
+    writer: &mut W,
+    options: &Options,
+    reason: &mut Option<Reason>,
+) -> Done
+    ensures { IfSome (R.remaining reader.old) (λ input.
+        HasWritten (report_of O.meaning options.now input) input (W.contents writer.old) (W.contents writer.new) result) }
+{
+    *reason = None;
+    match read_input(alloc, reader) {
+        Ok(input) => {
+            let outcome = run::<O, W>(rt, alloc, input, options, writer, reason);
+            finish(writer, outcome)
+        }
+        Err(error) => finish_without_input(writer, error),
     }
 }
 
@@ -116,11 +147,6 @@ pub fn report_log<O: Operator + Sync, R: Read, W: Write>(
     ensures { IfSome (R.remaining reader.old) (λ input.
         HasWritten (report_of O.meaning options.now input) input (W.contents writer.old) (W.contents writer.new) result) }
 {
-    match read_input(alloc, reader) {
-        Ok(input) => {
-            let outcome = run::<O, W>(rt, alloc, input, options, writer);
-            finish(writer, outcome)
-        }
-        Err(error) => finish_without_input(writer, error),
-    }
+    let mut reason = None;
+    report_log_with_reason::<O, R, W>(rt, alloc, reader, writer, options, &mut reason)
 }

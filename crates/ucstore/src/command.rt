@@ -24,6 +24,9 @@ Change number i has the sequence i. SEQUENCE is a number, or `last` after open; 
 the last one. HIGH is a key or - for none. NAME is a number below 32; FIRST counts runs from 0, the
 newest.
 
+A script with a fault prints `fault line N` and nothing else; standard error says what is wrong with
+that line. A refused opening prints `refused` and why; standard error names the option or number.
+
 Status: 0 done, 2 a refused command line, script or opening, 4 out of memory, 5 a read or write fault
 or too long an input.";
 
@@ -183,7 +186,8 @@ then a line for each compaction, as long as one is due,
 
   compacted FIRST COUNT ID    of so many runs from FIRST on, 0 for the newest, into run ID
 
-and what the store holds then.
+and what the store holds then. A refused opening prints `refused` and why; standard error names the
+option or number.
 
 Status: 0 done, 2 a refused command line or opening, 3 a log with a fault, 4 out of memory, 5 a read or
 write fault or too long an input.";

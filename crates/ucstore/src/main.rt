@@ -18,7 +18,9 @@ use std::process::ExitCode;
 use std::rt::Env;
 use std::thread::Threads;
 use uc_oper::{Append, Counter, Maximum};
-use uc_tool::{Done, OperatorName, Refusal, dump, play, report_log};
+use uc_tool::{
+    Done, OperatorName, Reason, Refusal, dump, play_with_reason, report_log_with_reason,
+};
 
 /// The delimiter of `--operator append`.
 const COMMA: u8 = b',';
@@ -30,14 +32,19 @@ fn play_script<R: Read, W: Write>(
     matches: &ArgMatches<'_>,
     reader: &mut R,
     writer: &mut W,
+    reason: &mut Option<Reason>,
 ) -> Done {
     let options = command::options(matches);
     match command::operator_name(matches) {
-        Some(OperatorName::Counter) => play::<Counter, R, W>(rt, alloc, reader, writer, &options),
-        Some(OperatorName::Append) => play::<Append<COMMA>, R, W>(
-            rt, alloc, reader, writer, &options,
+        Some(OperatorName::Counter) => play_with_reason::<Counter, R, W>(
+            rt, alloc, reader, writer, &options, reason,
         ),
-        Some(OperatorName::Maximum) => play::<Maximum, R, W>(rt, alloc, reader, writer, &options),
+        Some(OperatorName::Append) => play_with_reason::<Append<COMMA>, R, W>(
+            rt, alloc, reader, writer, &options, reason,
+        ),
+        Some(OperatorName::Maximum) => play_with_reason::<Maximum, R, W>(
+            rt, alloc, reader, writer, &options, reason,
+        ),
         // The parser lets no other name through.
         None => Done::Refused,
     }
@@ -50,17 +57,18 @@ fn report<R: Read, W: Write>(
     matches: &ArgMatches<'_>,
     reader: &mut R,
     writer: &mut W,
+    reason: &mut Option<Reason>,
 ) -> Done {
     let options = command::options(matches);
     match command::operator_name(matches) {
         Some(OperatorName::Counter) => {
-            report_log::<Counter, R, W>(rt, alloc, reader, writer, &options)
+            report_log_with_reason::<Counter, R, W>(rt, alloc, reader, writer, &options, reason)
         }
-        Some(OperatorName::Append) => report_log::<Append<COMMA>, R, W>(
-            rt, alloc, reader, writer, &options,
+        Some(OperatorName::Append) => report_log_with_reason::<Append<COMMA>, R, W>(
+            rt, alloc, reader, writer, &options, reason,
         ),
         Some(OperatorName::Maximum) => {
-            report_log::<Maximum, R, W>(rt, alloc, reader, writer, &options)
+            report_log_with_reason::<Maximum, R, W>(rt, alloc, reader, writer, &options, reason)
         }
         // The parser lets no other name through.
         None => Done::Refused,
@@ -91,13 +99,22 @@ fn run<R: Print + Eprint + Input + AllocGlobal + Threads + Sync, S: AsStr>(
     let Ok(mut writer) = BufWriter::new(alloc, io::writer(rt)) else {
         return Err(Refusal::Memory);
     };
-    Ok(match matches.subcommand() {
-        Some(("play", play)) => play_script(rt, alloc, play, &mut rt.reader(), &mut writer),
-        Some(("report", words)) => report(rt, alloc, words, &mut rt.reader(), &mut writer),
-        Some(("dump", _)) => dump(alloc, &mut rt.reader(), &mut writer),
+    let (mut reader, mut reason) = (rt.reader(), None);
+    let done = match matches.subcommand() {
+        Some(("play", play)) => {
+            play_script(rt, alloc, play, &mut reader, &mut writer, &mut reason)
+        }
+        Some(("report", words)) => {
+            report(rt, alloc, words, &mut reader, &mut writer, &mut reason)
+        }
+        Some(("dump", _)) => dump(alloc, &mut reader, &mut writer),
         // The parser requires a subcommand, and lets no other name through.
         _ => Done::Refused,
-    })
+    };
+    if let Some(reason) = reason {
+        let _ = eprintln!(rt; "error: {reason}");
+    }
+    Ok(done)
 }
 
 /// The words of the command line, the program's own name first.

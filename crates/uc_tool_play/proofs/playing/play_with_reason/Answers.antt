@@ -3,7 +3,7 @@ use Rattle.uc_tool_play.specs.Play.{play_of}
 use Rattle.uc_tool_io.specs.declared.input.TheConstants.{INPUT_LIMIT}
 use Rattle.uc_tool_play.proofs.Plays.{play_whole}
 use Rattle.uc_tool_io.proofs.Written.{of_input, of_unread}
-use Rattle.uc_tool_play.proofs.playing.play.Goals as goal
+use Rattle.uc_tool_play.proofs.playing.play_with_reason.Goals as goal
 
 pub returns-in-Ok : goal.returns-in-Ok
 returns-in-Ok g c =

@@ -3,7 +3,7 @@ use Rattle.uc_tool_report.specs.Report.{report_of}
 use Rattle.uc_tool_io.specs.declared.input.TheConstants.{INPUT_LIMIT}
 use Rattle.uc_tool_report.proofs.Reports.{report_whole}
 use Rattle.uc_tool_io.proofs.Written.{of_input, of_unread}
-use Rattle.uc_tool_report.proofs.reporting.report_log.Goals as goal
+use Rattle.uc_tool_report.proofs.reporting.report_log_with_reason.Goals as goal
 
 pub returns-in-Ok : goal.returns-in-Ok
 returns-in-Ok g c =

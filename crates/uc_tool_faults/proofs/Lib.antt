@@ -1,0 +1,4 @@
+pub mod Passing
+pub mod Counted
+pub mod Printed
+pub mod Said
