@@ -1,6 +1,6 @@
 //! What `bench_answers` does, in plain Rust with a `BTreeMap` of values, to measure it against.
 //!
-//!     baseline answers|hot|deleted [--one-batch] [--threads N]
+//!     baseline answers|hot|deleted|shared [--one-batch] [--threads N]
 //!     baseline operands
 //!
 //! It reads a log of counters from standard input, folds its writes as they come, and answers the workload's queries: the
@@ -26,6 +26,8 @@ const KEYS: u64 = 300_000;
 const HOT_KEYS: u64 = 1_000;
 const LOOKUPS: usize = 20_000;
 const SCANS: usize = 500;
+/// How many times as many queries `shared` has, which are those of `bench_shared`.
+const TIMES: usize = 10;
 const MOST_ROWS: u64 = 50;
 
 /// How many queries a thread draws at a time.
@@ -114,28 +116,29 @@ fn key_of(number: u64) -> Vec<u8> {
     format!("account/{number:08}").into_bytes()
 }
 
-fn lookups(numbers: &mut Numbers, keys: u64) -> Vec<Query> {
+fn lookups(numbers: &mut Numbers, count: usize, keys: u64) -> Vec<Query> {
     let mut lookup = || Query::Get {
         key: key_of(numbers.next() % keys),
     };
-    (0..LOOKUPS).map(|_| lookup()).collect()
+    (0..count).map(|_| lookup()).collect()
 }
 
-fn scans(numbers: &mut Numbers) -> Vec<Query> {
+fn scans(numbers: &mut Numbers, count: usize) -> Vec<Query> {
     let mut scan = || {
         let low = key_of(numbers.next() % KEYS);
         let limit = numbers.next() % MOST_ROWS + 1;
         Query::Scan { low, limit }
     };
-    (0..SCANS).map(|_| scan()).collect()
+    (0..count).map(|_| scan()).collect()
 }
 
 /// The batches of queries of a workload, each of which is timed alone.
 fn batches_of(workload: &str) -> Vec<Vec<Query>> {
     let mut numbers = Numbers { state: 1 };
     match workload {
-        "answers" => vec![lookups(&mut numbers, KEYS), scans(&mut numbers)],
-        "hot" => vec![lookups(&mut numbers, HOT_KEYS)],
+        "answers" => vec![lookups(&mut numbers, LOOKUPS, KEYS), scans(&mut numbers, SCANS)],
+        "shared" => vec![lookups(&mut numbers, TIMES * LOOKUPS, KEYS), scans(&mut numbers, TIMES * SCANS)],
+        "hot" => vec![lookups(&mut numbers, LOOKUPS, HOT_KEYS)],
         "deleted" => [5_000, 10_000, 20_000]
             .map(|limit| {
                 let low = key_of(0);

@@ -176,8 +176,8 @@ fn main() {
         "times" => {
             let (_, _, mut times) = beside(first, second, true);
             times.sort_unstable();
-            let below = |share: usize| times[times.len() * share / 10_000];
-            println!("{} {} {} {}", below(5000), below(9900), below(9999), times[times.len() - 1]);
+            let below = |share: usize| times.get(times.len() * share / 10_000).copied().unwrap_or(0);
+            println!("{} {} {} {}", below(5000), below(9900), below(9999), times.last().copied().unwrap_or(0));
         }
         _ => {
             let (mut compactions, mut installs) = (Vec::new(), Vec::new());

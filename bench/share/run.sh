@@ -35,7 +35,8 @@ for mode in pins beside; do
         [ "$mode" = pins ] || size=$stores
         both "$mode" "$readers" "$size"
         cat "$work/ours.medians" "$work/rust.medians" | tr '\n' ' ' | awk -v mode="$mode" -v readers="$readers" '
-            { printf "%-8s %8s %12.2f %12.2f %8.2f\n", mode, readers, $2 * 1000 / $1, $4 * 1000 / $3, ($2 / $1) / ($4 / $3) }'
+            { printf "%-8s %8s %12.2f %12.2f %8s\n", mode, readers, $2 * 1000 / $1, $4 * 1000 / $3,
+                ($4 > 0 ? sprintf("%.2f", ($2 / $1) / ($4 / $3)) : "-") }'
     done
 done
 printf '%-8s %8s %10s %10s %10s %10s\n' 'times, ns' readers median 99 99.99 longest

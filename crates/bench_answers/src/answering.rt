@@ -1,12 +1,13 @@
 //! [`Outcome`]: what came of batches of queries, and how long each took.
 
 use anyhow::Result;
+use bench_queries::checksum::with_answers;
 use std::alloc::Global;
 use std::marker::Sync;
 use std::thread::Threads;
 use std::time::{Clock, Instant};
 use uc_oper::Counter;
-use uc_query_answer::{Answer, Query};
+use uc_query_answer::Query;
 use uc_query_workers::answer_plain;
 use uc_version::Version;
 
@@ -40,34 +41,6 @@ pub(crate) struct Outcome {
     pub(crate) nanoseconds: Vec<u128>,
 }
 
-/// A checksum and then bytes.
-fn with_bytes(checksum: u64, bytes: &[u8]) -> u64 {
-    let mut sum = checksum;
-    for byte in bytes {
-        sum = sum.wrapping_mul(31).wrapping_add(u64::from(*byte));
-    }
-    sum
-}
-
-/// A checksum and then an answer: the bytes that it shows, and behind them what tells one kind of answer from another.
-fn with_answer(checksum: u64, answer: &Answer) -> u64 {
-    match answer {
-        Answer::Value(None) => checksum.wrapping_mul(31),
-        Answer::Value(Some(value)) => {
-            let sum = with_bytes(checksum, value.as_slice());
-            sum.wrapping_mul(31).wrapping_add(1)
-        }
-        Answer::Rows(rows) => {
-            let mut sum = checksum;
-            for (key, value) in rows.as_slice() {
-                sum = with_bytes(with_bytes(sum, key.as_slice()), value.as_slice());
-            }
-            sum.wrapping_mul(31).wrapping_add(2)
-        }
-        Answer::NotProtected(_) => checksum.wrapping_mul(31).wrapping_add(3),
-    }
-}
-
 /// Answers batches of queries of a version one after the other. The clock of each goes from before its first query to
 /// behind its last one: the queries are made before it, and the checksum behind it.
 pub(crate) fn answered(
@@ -88,9 +61,7 @@ pub(crate) fn answered(
         let answers = answer_plain::<Counter>(rt, alloc, version, queries, workers, piece)?;
         outcome.nanoseconds.push(start.elapsed(rt)?.as_nanos())?;
         outcome.answers = outcome.answers.saturating_add(answers.len());
-        for answer in &answers {
-            outcome.checksum = with_answer(outcome.checksum, answer);
-        }
+        outcome.checksum = with_answers(outcome.checksum, &answers);
     }
     Ok(outcome)
 }

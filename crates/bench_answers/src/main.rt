@@ -12,7 +12,6 @@
 
 mod answering;
 mod few;
-mod numbers;
 mod printing;
 mod queries;
 mod store;
@@ -21,10 +20,12 @@ mod words;
 use crate::answering::answered;
 use crate::few::few_answers;
 use crate::printing::print_outcome;
-use crate::queries::{as_one_batch, batches_of};
-use crate::store::{compact_picked, opened};
+use crate::queries::batches_of;
+use crate::store::compact_picked;
 use crate::words::{Asked, asked_by};
 use anyhow::{Result, ensure};
+use bench_queries::opening::opened;
+use bench_queries::queries::as_one_batch;
 use std::alloc::{AllocError, Global};
 use std::env;
 use std::io::Read;
@@ -56,7 +57,7 @@ fn store_of(
 fn asked_batches(alloc: Global, asked: &Asked, at: u64) -> Result<Vec<Vec<Query>>, AllocError> {
     let batches = batches_of(alloc, asked.workload, at)?;
     if asked.one_batch {
-        as_one_batch(alloc, batches)
+        Ok(vec![in alloc; as_one_batch(alloc, batches)?]?)
     } else {
         Ok(batches)
     }

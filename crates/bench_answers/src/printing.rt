@@ -1,8 +1,8 @@
 //! What is printed of a store and its answers.
 
 use crate::answering::Outcome;
-use crate::store::totals;
 use anyhow::Result;
+use bench_queries::opening::totals;
 use uc_oper::Counter;
 use uc_version::Owned;
 

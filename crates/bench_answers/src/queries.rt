@@ -1,12 +1,9 @@
 //! [`Workload`]: which queries a store is asked.
 
-use crate::numbers::Numbers;
+use bench_queries::numbers::Numbers;
+use bench_queries::queries::{KEYS, lookups, scan_from, scans};
 use std::alloc::{AllocError, Global};
-use uc_bytes::Bytes;
 use uc_query_answer::Query;
-
-/// How many keys a log of counters has (`make_log counters`).
-const KEYS: u64 = 300_000;
 
 /// How many keys a log of hot counters has (`make_log hot`).
 const HOT_KEYS: u64 = 1000;
@@ -14,9 +11,6 @@ const HOT_KEYS: u64 = 1000;
 const LOOKUPS: usize = 20_000;
 
 const SCANS: usize = 500;
-
-/// How many rows a scan of the first workload has at most.
-const MOST_ROWS: u64 = 50;
 
 /// Which queries a store is asked.
 #[derive(Clone, Copy)]
@@ -39,55 +33,6 @@ impl Workload {
             _ => None,
         }
     }
-}
-
-/// The key with a number, as `make_log` spells it.
-pub(crate) fn key_of(alloc: Global, number: u64) -> Result<Bytes, AllocError> {
-    let text = format!(in alloc; "account/{number:08}")?;
-    Bytes::from_slice(alloc, text.as_bytes())
-}
-
-/// So many lookups of keys by lot.
-pub(crate) fn lookups(
-    alloc: Global,
-    numbers: &mut Numbers,
-    count: usize,
-    keys: u64,
-    at: u64,
-) -> Result<Vec<Query>, AllocError> {
-    let mut queries = Vec::with_capacity(alloc, count)?;
-    for _ in 0..count {
-        let key = key_of(alloc, numbers.below(keys))?;
-        queries.push(Query::Get { key, at })?;
-    }
-    Ok(queries)
-}
-
-/// A scan from the key with a number on, for so many rows.
-fn scan_from(alloc: Global, number: u64, limit: u64, at: u64) -> Result<Query, AllocError> {
-    Ok(Query::Scan {
-        low: key_of(alloc, number)?,
-        high: None,
-        at,
-        limit,
-    })
-}
-
-/// So many scans from keys by lot, each for a number of rows by lot.
-pub(crate) fn scans(
-    alloc: Global,
-    numbers: &mut Numbers,
-    count: usize,
-    keys: u64,
-    at: u64,
-) -> Result<Vec<Query>, AllocError> {
-    let mut queries = Vec::with_capacity(alloc, count)?;
-    for _ in 0..count {
-        let number = numbers.below(keys);
-        let limit = numbers.below(MOST_ROWS).saturating_add(1);
-        queries.push(scan_from(alloc, number, limit, at)?)?;
-    }
-    Ok(queries)
 }
 
 /// Batches of one scan each, from the first key on, for so many rows.
@@ -118,16 +63,4 @@ pub(crate) fn batches_of(
         }
         Workload::Deleted => scans_of_all(alloc, &[5000, 10_000, 20_000], at),
     }
-}
-
-/// All queries as one batch.
-pub(crate) fn as_one_batch(
-    alloc: Global,
-    batches: Vec<Vec<Query>>,
-) -> Result<Vec<Vec<Query>>, AllocError> {
-    let mut all = Vec::new(alloc);
-    for mut batch in batches {
-        all.append(&mut batch)?;
-    }
-    Ok(vec![in alloc; all]?)
 }

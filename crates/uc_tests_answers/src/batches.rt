@@ -1,7 +1,7 @@
 //! Batches asked before, beside and after compactions.
 ghost use Rattle.std.specs.Prelude.{◌≡◌};
 
-use crate::stores::{Compactor, compacts, opened};
+use crate::stores::{compacts, opened};
 use crate::worked::{five_runs, seven_answers, seven_queries};
 use std::alloc::Global;
 use std::marker::{Brand, Send, Sync};
@@ -12,6 +12,7 @@ use uc_oper::{Append, Operator};
 use uc_query_answer::{Answer, Query};
 use uc_query_shared::{AskError, Free, answer_all, batch_refusal};
 use uc_share::{Name, Opening, Reader, Store, Version};
+use uc_tests_compactors::worker::Worker;
 
 /// Readers, and whether every batch that they were lent for was answered as it should be.
 type Asked<O, N> = (Vec<Reader<O, N>>, bool);
@@ -73,7 +74,7 @@ fn asked_beside<O, N, W, R>(
     alloc: Global,
     store: &Store<O, N, W>,
     readers: Vec<Reader<O, N>>,
-    compactor: Compactor<O, N>,
+    compactor: Worker<O, N>,
     batch: (&[Query], &[Answer]),
 ) -> (Asked<O, N>, u64)
 where
@@ -86,7 +87,7 @@ where
     let (asked, (_, installs)) = join(
         rt,
         move || all_are_answered(rt, alloc, readers, batch),
-        move || -> (Compactor<O, N>, u64)
+        move || -> (Worker<O, N>, u64)
             requires { compactor.1.table ≡ store.now.table }
         { compacts(rt, alloc, store, compactor) },
     );
@@ -110,7 +111,7 @@ where
     requires book { opening.seen.book ≡ N.book }
     requires base { version ≡ N.base }
 {
-    let (store, readers, compactor) = opened::<O, N, W>(handle, alloc, opening, version)?;
+    let (store, readers, (compactor, _)) = opened::<O, N, W>(handle, alloc, opening, version)?;
     let (readers, before) = all_are_answered(rt, alloc, readers, batch);
     let (asked, installs) = asked_beside(rt, alloc, &store, readers, compactor, batch);
     let (readers, beside) = asked;

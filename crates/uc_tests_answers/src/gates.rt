@@ -1,7 +1,7 @@
 //! Gates that hold workers up.
 ghost use Rattle.std.specs.Prelude.{◌≡◌};
 
-use crate::stores::{Compactor, compacts, opened};
+use crate::stores::opened;
 use crate::worked::{five_runs, seven_answers, seven_queries};
 use std::alloc::Global;
 use std::marker::{Brand, Send, Sync};
@@ -13,6 +13,8 @@ use uc_oper::{Append, Operator};
 use uc_query_answer::{Answer, Query};
 use uc_query_shared::{Gate, answer_all};
 use uc_share::{Name, Opening, Reader, Store, Version};
+use uc_tests_compactors::stretches::both_compact;
+use uc_tests_compactors::worker::Pair;
 
 /// How often a gate looks before it gives up.
 const TURNS: u32 = 100_000_000;
@@ -61,13 +63,13 @@ impl Gate for SecondFirst {
     }
 }
 
-/// Whether two workers that draw pieces of one query through a gate answer a batch while a compactor works.
+/// Whether two workers that draw pieces of one query through a gate answer a batch while two compactors each install a stretch.
 fn is_answered_beside<O, N, W, R>(
     rt: &R,
     alloc: Global,
     store: &Store<O, N, W>,
     readers: Vec<Reader<O, N>>,
-    compactor: Compactor<O, N>,
+    pair: Pair<O, N>,
     batch: (&[Query], &[Answer]),
     gate: &SecondFirst,
 ) -> bool
@@ -76,19 +78,20 @@ where
     N: Name + Send + Sync,
     W: Wait + Drop + Send,
     R: Threads + Wait + Sync,
-    requires { compactor.1.table ≡ store.now.table }
+    requires { (pair.0.1.table ≡ store.now.table) × (pair.1.1.table ≡ store.now.table) }
 {
-    let ((_readers, answers), _) = join(
+    let ((_readers, answers), both) = join(
         rt,
         move || answer_all(rt, alloc, readers, batch.0, 2, 1, gate),
-        move || -> (Compactor<O, N>, u64)
-            requires { compactor.1.table ≡ store.now.table }
-        { compacts(rt, alloc, store, compactor) },
+        move || -> Option<Reader<O, N>>
+            requires { (pair.0.1.table ≡ store.now.table) × (pair.1.1.table ≡ store.now.table) }
+        { both_compact(rt, alloc, store, pair) },
     );
-    answers.is_ok_and(|answers| answers.as_slice() == batch.1)
+    both.is_some() && answers.is_ok_and(|answers| answers.as_slice() == batch.1)
 }
 
-/// Two workers draw pieces of one query through the gate, and a compactor works beside them. Whether all was answered.
+/// Two workers draw pieces of one query through the gate, and two compactors each install a stretch beside them. Whether all was
+/// answered and installed.
 fn answered_through_the_gate<O, N, W, R>(
     rt: &R,
     handle: W,
@@ -105,9 +108,9 @@ where
     requires book { opening.seen.book ≡ N.book }
     requires base { version ≡ N.base }
 {
-    let (store, readers, compactor) = opened::<O, N, W>(handle, alloc, opening, version)?;
+    let (store, readers, pair) = opened::<O, N, W>(handle, alloc, opening, version)?;
     let gate = SecondFirst::new(TURNS);
-    let right = is_answered_beside(rt, alloc, &store, readers, compactor, batch, &gate);
+    let right = is_answered_beside(rt, alloc, &store, readers, pair, batch, &gate);
     Ok(right && gate.is_passed())
 }
 

@@ -1,13 +1,16 @@
 //! Batches of a store that threads share, asked as its users ask them.
 //!
 //! `worked.rt` has a store worked by hand, seven queries and their answers, `stores.rt` opens such a store and compacts it,
-//! `batches.rt` asks before, beside and after compactions, and `gates.rt` with a gate that holds a worker up.
+//! `batches.rt` asks before, beside and after compactions, `gates.rt` with a gate that holds a worker up, and `soak.rt` asks many
+//! drawn stores beside four compactors.
 #![tactic(auto)]
 
 #[cfg(test)]
 mod batches;
 #[cfg(test)]
 mod gates;
+#[cfg(test)]
+mod soak;
 #[cfg(test)]
 mod stores;
 #[cfg(test)]

@@ -1,7 +1,6 @@
-//! A store that threads share, with readers for batches and a compactor beside them.
+//! A store that threads share, with readers for batches and compactors beside them.
 ghost use Rattle.std.specs.Prelude.{◌≡◌, IfOk};
 
-use crate::worked::small_runs;
 use std::alloc::Global;
 use std::marker::Sync;
 use std::sync::Wait;
@@ -9,32 +8,31 @@ use std::test::Fail;
 use std::thread::Threads;
 use uc_oper::Operator;
 use uc_share::{Name, Opening, Reader, Seat, Store, Version};
+use uc_tests_compactors::drawn::small_runs;
+use uc_tests_compactors::worker::{Pair, Worker, next_pair};
 
 /// How many workers a batch of these tests has at the most.
 const WORKERS: usize = 7;
 
-/// A compactor: a reader and a seat.
-pub(crate) type Compactor<O, N> = (Reader<O, N>, Seat);
-
-/// A store, a reader for each of seven workers, and a compactor.
+/// A store, a reader for each of seven workers, and two compactors.
 pub(crate) fn opened<O: Operator, N: Name, W: Wait + Drop>(
     handle: W,
     alloc: Global,
     opening: Opening,
     version: Version,
-) -> Result<(Store<O, N, W>, Vec<Reader<O, N>>, Compactor<O, N>), Fail>
+) -> Result<(Store<O, N, W>, Vec<Reader<O, N>>, Pair<O, N>), Fail>
     requires book { opening.seen.book ≡ N.book }
     requires base { version ≡ N.base }
-    ensures { IfOk result (λ opened. opened.2.1.table ≡ opened.0.table) }
+    ensures { IfOk result (λ opened.
+        (opened.2.0.1.table ≡ opened.0.table) × (opened.2.1.1.table ≡ opened.0.table)) }
 {
-    let readers = WORKERS + 1;
-    let opened = Store::<O, N, W>::open(alloc, handle, opening, version, small_runs(), readers, 1);
+    let readers = WORKERS + 2;
+    let opened = Store::<O, N, W>::open(alloc, handle, opening, version, small_runs(), readers, 2);
     let Ok((store, mut readers, mut seats)) = opened else {
         return Err("the store isn't opened")?;
     };
-    let reader = readers.pop().ok_or("there is no reader")?;
-    let seat = seats.pop().ok_or("there is no seat")?;
-    Ok((store, readers, (reader, seat)))
+    let pair = next_pair(&store, &mut readers, &mut seats).ok_or("there are no two compactors")?;
+    Ok((store, readers, pair))
 }
 
 /// Picks, claims, compacts and installs once. The seat comes back, with whether something was installed.
@@ -72,8 +70,8 @@ pub(crate) fn compacts<O: Operator + Sync, N: Name, W: Wait + Drop>(
     rt: &(impl Threads + Wait + Sync),
     alloc: Global,
     store: &Store<O, N, W>,
-    compactor: Compactor<O, N>,
-) -> (Compactor<O, N>, u64)
+    compactor: Worker<O, N>,
+) -> (Worker<O, N>, u64)
     requires { compactor.1.table ≡ store.now.table }
     ensures { result.0.1.table ≡ store.now.table }
 {

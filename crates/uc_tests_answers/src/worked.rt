@@ -4,7 +4,8 @@ use std::test::Fail;
 use uc_batch::Writes;
 use uc_bytes::{Bytes, OpRef, WriteRef};
 use uc_query_answer::{Answer, Query, Rows};
-use uc_share::{Options, Version};
+use uc_share::Version;
+use uc_tests_compactors::drawn::small_runs;
 use uc_version::open_version;
 
 /// Five writes, numbered from 1: a put and a merge of `k`, a put of `l`, a range deletion from `k` to below `l`, a merge of `k`.
@@ -16,16 +17,6 @@ fn five_writes(alloc: Global) -> Result<Writes, Fail> {
     list.push(WriteRef::new(4, OpRef::delete_range(b"k", b"l")).to_write(alloc)?)?;
     list.push(WriteRef::new(5, OpRef::merge(b"k", b"c")).to_write(alloc)?)?;
     Ok(Writes::of(list).ok_or("the sequences don't rise")?)
-}
-
-/// Options under which each write is a run and two runs are compacted.
-pub(crate) fn small_runs() -> Options {
-    Options {
-        memtable: 1,
-        trigger: 2,
-        percent: 25,
-        ..Options::usual()
-    }
 }
 
 /// A version of five runs. A snapshot protects the second write.

@@ -1,7 +1,6 @@
 //! Claims, compactions and installs, one after the other.
 ghost use Rattle.std.specs.Prelude.{◌≡◌, IfOk};
 
-use crate::steps::{claim_refusal, claimed, installed};
 use crate::stores::{has_ids, merged_runs, opened};
 use std::alloc::Global;
 use std::marker::{Brand, Sync};
@@ -11,6 +10,7 @@ use std::test::Fail;
 use std::thread::Threads;
 use uc_oper::{Append, Operator};
 use uc_share::{ClaimError, Name, Opening, Pin, Reader, Seat, Store, Stretch};
+use uc_tests_compactors::steps::{claim_refusal, claimed, installed};
 use uc_version::Version;
 
 /// The two newest runs, and the two behind the newest.
@@ -90,7 +90,7 @@ fn stretch_of_a_store<O: Operator + Sync, N: Name, W: Wait + Drop>(
     requires book { opening.seen.book ≡ N.book }
     requires base { version ≡ N.base }
 {
-    let (store, one, other) = opened::<O, N, W>(handle, alloc, opening, version)?;
+    let (store, (one, other)) = opened::<O, N, W>(handle, alloc, opening, version)?;
     let (mut reader, seat) = one;
     let (mut late, second) = other;
     two_of_three_runs(rt, alloc, &store, (seat, second), &mut reader, &mut late)
@@ -138,7 +138,7 @@ fn claim_is_dropped<O: Operator + Sync, N: Name, W: Wait + Drop>(
     requires book { opening.seen.book ≡ N.book }
     requires base { version ≡ N.base }
 {
-    let (store, one, other) = opened::<O, N, W>(handle, alloc, opening, version)?;
+    let (store, (one, other)) = opened::<O, N, W>(handle, alloc, opening, version)?;
     let (mut reader, seat) = one;
     let (_, second) = other;
     let pin = store.pin(&mut reader)?;

@@ -1,8 +1,8 @@
 //! A store that threads share, called as its users call it.
 //!
-//! `stores.rt` opens stores, `steps.rt` has the steps of a compactor, `claims.rt` claims, compacts and installs stretches one
-//! after the other, `refusals.rt` has what is refused, `threads.rt` two compactors at once, `turns.rt` two beside one who asks, for
-//! many turns, and `soak.rt` four beside two readers, over many drawn stores.
+//! `stores.rt` opens stores, `claims.rt` claims, compacts and installs stretches one after the other, `refusals.rt` has what is
+//! refused, `threads.rt` two compactors at once, `turns.rt` two beside one who asks, for many turns, and `soak.rt` four beside two
+//! readers, over many drawn stores.
 #![tactic(auto)]
 
 #[cfg(test)]
@@ -11,8 +11,6 @@ mod claims;
 mod refusals;
 #[cfg(test)]
 mod soak;
-#[cfg(test)]
-mod steps;
 #[cfg(test)]
 mod stores;
 #[cfg(test)]

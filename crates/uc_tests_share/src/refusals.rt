@@ -1,8 +1,7 @@
 //! Installs and openings that are refused.
 ghost use Rattle.std.specs.Prelude.{◌≡◌, IfOk};
 
-use crate::steps::{claimed, installed};
-use crate::stores::{Worker, has_ids, last_runs, merged_runs, merges_alone, opened, small_runs};
+use crate::stores::{has_ids, last_runs, merged_runs, merges_alone, opened};
 use std::alloc::Global;
 use std::marker::{Brand, Sync};
 use std::process::Abort;
@@ -12,6 +11,9 @@ use std::thread::Threads;
 use uc_compact::Compacted;
 use uc_oper::{Append, Counter, Operator};
 use uc_share::{Held, InstallError, Name, OpenError, Opening, Reader, Store, Stretch};
+use uc_tests_compactors::drawn::small_runs;
+use uc_tests_compactors::steps::{claimed, installed};
+use uc_tests_compactors::worker::Worker;
 use uc_version::{Version, compact_stretch};
 
 /// The two newest runs.
@@ -82,7 +84,7 @@ fn refusal_of_foreign<O: Operator + Sync, N: Name, W: Wait + Drop>(
     requires base { opened_with.1 ≡ N.base }
 {
     let (opening, version) = opened_with;
-    let (store, worker, _) = opened::<O, N, W>(handle, alloc, opening, version)?;
+    let (store, (worker, _)) = opened::<O, N, W>(handle, alloc, opening, version)?;
     let (mut reader, error) = foreign_refusal(rt, alloc, &store, worker, other, first)?;
     let pin = store.pin(&mut reader)?;
     if !has_ids(pin.version(), &[4, 1]) {
@@ -139,7 +141,7 @@ fn refusal_of_last<O: Operator + Sync, N: Name, W: Wait + Drop>(
     requires book { opening.seen.book ≡ N.book }
     requires base { version ≡ N.base }
 {
-    let (store, worker, _) = opened::<O, N, W>(handle, alloc, opening, version)?;
+    let (store, (worker, _)) = opened::<O, N, W>(handle, alloc, opening, version)?;
     let (mut reader, seat) = worker;
     let pin = store.pin(&mut reader)?;
     let held = claimed(&store, seat, pin, &mut reader, NEWEST).ok_or("the claim is refused")?;

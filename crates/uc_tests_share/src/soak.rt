@@ -1,8 +1,6 @@
 //! Four compactors beside two readers, over many drawn stores: the same answers all along, and each install counted.
-ghost use Rattle.std.specs.Prelude.{◌≡◌, IfSome, All};
+ghost use Rattle.std.specs.Prelude.{◌≡◌, All};
 
-use crate::steps::installed;
-use crate::stores::{Worker, next_worker, small_runs};
 use std::alloc::Global;
 use std::marker::{Brand, Send, Sync};
 use std::process::Abort;
@@ -14,140 +12,11 @@ use uc_bytes::Bytes;
 use uc_oper::{Append, Counter, Maximum, Operator};
 use uc_query_answer::{Answer, Query, answer_writes};
 use uc_query_read::answer_one;
-use uc_share::{Held, Name, Opening, Reader, Seat, Store, Stretch, Version};
+use uc_share::{Name, Opening, Reader, Seat, Store, Version};
+use uc_tests_compactors::drawn::{drawn_store, small_runs};
+use uc_tests_compactors::turns::{TURNS, four_compact, shows_installs};
+use uc_tests_compactors::worker::next_pair;
 use uc_tests_shared::dice::{Dice, KEYS};
-use uc_version::open_version;
-
-/// How often each compactor looks for something to do, and how often each reader pins a version.
-const TURNS: usize = 24;
-
-/// Installs what came of a claim, or gives it back. How many installs that was.
-fn finished<O: Operator + Sync, N: Name, W: Wait + Drop>(
-    rt: &(impl Threads + Wait + Sync),
-    alloc: Global,
-    dice: &mut Dice,
-    store: &Store<O, N, W>,
-    held: Held<O, N>,
-    reader: &mut Reader<O, N>,
-) -> Option<(Seat, u64)>
-    requires { held.seat.table ≡ store.now.table }
-    ensures { IfSome result (λ done. done.0.table ≡ store.now.table) }
-{
-    if dice.roll(4) == 0 {
-        return Some((store.abandon(held).0, 0));
-    }
-    let seat = installed(rt, alloc, store, held, reader)?;
-    Some((seat, 1))
-}
-
-/// A turn of a compactor, which claims what is picked or a drawn stretch. How many installs it made; none at all is said where
-/// one was refused, which happens to nobody who claims first.
-fn turn<O: Operator + Sync, N: Name, W: Wait + Drop>(
-    rt: &(impl Threads + Wait + Sync),
-    alloc: Global,
-    dice: &mut Dice,
-    store: &Store<O, N, W>,
-    mut seat: Seat,
-    reader: &mut Reader<O, N>,
-) -> Option<(Seat, u64)>
-    requires { seat.table ≡ store.now.table }
-    ensures { IfSome result (λ done. done.0.table ≡ store.now.table) }
-{
-    let pin = store.pin(reader).ok()?;
-    let picked = store.pick(&pin, &mut seat);
-    let drawn = Stretch {
-        first: dice.roll(16) as usize,
-        count: 2 + dice.roll(6) as usize,
-    };
-    let stretch = if dice.roll(4) == 0 {
-        drawn
-    } else {
-        picked.unwrap_or(drawn)
-    };
-    match store.claim(seat, pin, reader, stretch) {
-        Err((seat, _pin, _error)) => Some((seat, 0)),
-        Ok(held) => finished(rt, alloc, dice, store, held, reader),
-    }
-}
-
-/// The turns of a compactor. How many installs it made.
-fn compacts<O: Operator + Sync, N: Name, W: Wait + Drop>(
-    rt: &(impl Threads + Wait + Sync),
-    alloc: Global,
-    store: &Store<O, N, W>,
-    worker: Worker<O, N>,
-    seed: u64,
-) -> Option<u64>
-    requires { worker.1.table ≡ store.now.table }
-{
-    let (mut reader, mut seat) = worker;
-    let mut dice = Dice::new(seed);
-    let mut installs = 0_u64;
-    for _ in 0..TURNS {
-        let (back, made) = turn(rt, alloc, &mut dice, store, seat, &mut reader)?;
-        seat = back;
-        installs = installs.saturating_add(made);
-    }
-    Some(installs)
-}
-
-/// Two compactors at once.
-fn two_compact<O, N, W, R>(
-    rt: &R,
-    alloc: Global,
-    store: &Store<O, N, W>,
-    workers: (Worker<O, N>, Worker<O, N>),
-    seed: u64,
-) -> Option<u64>
-where
-    O: Operator + Send + Sync,
-    N: Name + Send + Sync,
-    W: Wait + Drop + Send,
-    R: Threads + Wait + Sync,
-    requires one { workers.0.1.table ≡ store.now.table }
-    requires other { workers.1.1.table ≡ store.now.table }
-{
-    let (one, other) = workers;
-    let (one, other) = join(
-        rt,
-        move || -> Option<u64>
-            requires { one.1.table ≡ store.now.table }
-        { compacts(rt, alloc, store, one, seed) },
-        move || -> Option<u64>
-            requires { other.1.table ≡ store.now.table }
-        { compacts(rt, alloc, store, other, !seed) },
-    );
-    Some(one?.saturating_add(other?))
-}
-
-/// Four compactors at once.
-fn four_compact<O, N, W, R>(
-    rt: &R,
-    alloc: Global,
-    store: &Store<O, N, W>,
-    first: (Worker<O, N>, Worker<O, N>),
-    second: (Worker<O, N>, Worker<O, N>),
-    seed: u64,
-) -> Option<u64>
-where
-    O: Operator + Send + Sync,
-    N: Name + Send + Sync,
-    W: Wait + Drop + Send,
-    R: Threads + Wait + Sync,
-    requires first { (first.0.1.table ≡ store.now.table) × (first.1.1.table ≡ store.now.table) }
-    requires second { (second.0.1.table ≡ store.now.table) × (second.1.1.table ≡ store.now.table) }
-{
-    let (one, other) = join(
-        rt,
-        move || -> Option<u64>
-            requires { (first.0.1.table ≡ store.now.table) × (first.1.1.table ≡ store.now.table) }
-        { two_compact(rt, alloc, store, first, seed) },
-        move || -> Option<u64>
-            requires { (second.0.1.table ≡ store.now.table) × (second.1.1.table ≡ store.now.table) }
-        { two_compact(rt, alloc, store, second, seed.rotate_left(32)) },
-    );
-    Some(one?.saturating_add(other?))
-}
 
 /// Whether a version answers as it should.
 fn reads_alike<O: Operator>(alloc: Global, version: &Version, asked: &[(Query, Answer)]) -> bool {
@@ -208,22 +77,6 @@ where
     one && other
 }
 
-/// Two workers of those of a store.
-fn two_workers<O: Operator, N: Name, W: Wait + Drop>(
-    store: &Store<O, N, W>,
-    readers: &mut Vec<Reader<O, N>>,
-    seats: &mut Vec<Seat>,
-) -> Option<(Worker<O, N>, Worker<O, N>)>
-    requires { All (λ seat. seat.table ≡ store.now.table) seats.old.items }
-    ensures workers { IfSome result (λ workers.
-        (workers.0.1.table ≡ store.now.table) × (workers.1.1.table ≡ store.now.table)) }
-    ensures rest { All (λ seat. seat.table ≡ store.now.table) seats.new.items }
-{
-    let one = next_worker(store, readers, seats)?;
-    let other = next_worker(store, readers, seats)?;
-    Some((one, other))
-}
-
 /// Four compactors beside two readers. How many installs there were, where all pins answer as they should.
 fn six_at_once<O, N, W, R>(
     rt: &R,
@@ -241,8 +94,8 @@ where
     R: Threads + Wait + Sync,
     requires { All (λ seat. seat.table ≡ store.now.table) seats.items }
 {
-    let first = two_workers(store, &mut readers, &mut seats)?;
-    let second = two_workers(store, &mut readers, &mut seats)?;
+    let first = next_pair(store, &mut readers, &mut seats)?;
+    let second = next_pair(store, &mut readers, &mut seats)?;
     let pair = (readers.pop()?, readers.pop()?);
     let (installs, alike) = join(
         rt,
@@ -279,9 +132,7 @@ where
     let (store, mut readers, seats) = opened.ok()?;
     let mut late = readers.pop()?;
     let installs = six_at_once(rt, alloc, &store, readers, seats, asked, seed)?;
-    let pin = store.pin(&mut late).ok()?;
-    let given = pin.version().next_id().saturating_sub(first_id);
-    if pin.front().len() == installs && given == installs {
+    if shows_installs(&store, &mut late, first_id, installs) {
         Some(installs)
     } else {
         None
@@ -321,22 +172,6 @@ fn questions<O: Operator>(
     Ok(asked)
 }
 
-/// A drawn store of up to 64 runs, and what it is asked.
-fn drawn_store<O: Operator>(
-    alloc: Global,
-    dice: &mut Dice,
-) -> Result<(Version, Vec<(Query, Answer)>), Fail> {
-    let count = 32 + dice.roll(33);
-    let writes = Writes::of(dice.writes(alloc, count)?).ok_or("the sequences don't rise")?;
-    let last = writes.last();
-    let keeps = [dice.roll(last), dice.roll(last)];
-    let Ok(version) = open_version(alloc, &writes, &keeps, &small_runs()) else {
-        return Err("the store isn't opened")?;
-    };
-    let asked = questions::<O>(alloc, &writes, version.keeps())?;
-    Ok((version, asked))
-}
-
 /// How many installs are made in so many drawn stores, where all of them answer as they should.
 fn installs_of<O: Operator + Send + Sync, R: Threads + Wait + Sync>(
     rt: &R,
@@ -346,7 +181,8 @@ fn installs_of<O: Operator + Send + Sync, R: Threads + Wait + Sync>(
 ) -> Result<u64, Fail> {
     let mut installs = 0_u64;
     for _ in 0..stores {
-        let (version, asked) = drawn_store::<O>(alloc, dice)?;
+        let (writes, version) = drawn_store(alloc, dice).ok_or("no store is drawn")?;
+        let asked = questions::<O>(alloc, &writes, version.keeps())?;
         let opened_with = (Opening::new(), version);
         let seed = dice.roll(u64::MAX);
         let made = soaks::<O, Brand, &R, R>(rt, rt, alloc, opened_with, &asked, seed);

@@ -1,5 +1,5 @@
 //! Stores of a few runs, and what is asked of their versions.
-ghost use Rattle.std.specs.Prelude.{◌≡◌, IfOk, IfSome, All};
+ghost use Rattle.std.specs.Prelude.{◌≡◌, IfOk};
 
 use std::alloc::Global;
 use std::sync::Wait;
@@ -7,21 +7,10 @@ use std::test::Fail;
 use uc_batch::Writes;
 use uc_bytes::{OpRef, Write, WriteRef};
 use uc_oper::Operator;
-use uc_share::{Name, Opening, Options, Reader, Seat, Store, Version};
+use uc_share::{Name, Opening, Options, Store, Version};
+use uc_tests_compactors::drawn::small_runs;
+use uc_tests_compactors::worker::{Pair, next_pair};
 use uc_version::open_version;
-
-/// A reader and a seat.
-pub(crate) type Worker<O, N> = (Reader<O, N>, Seat);
-
-/// Options under which each write is a run and two runs are compacted.
-pub(crate) fn small_runs() -> Options {
-    Options {
-        memtable: 1,
-        trigger: 2,
-        percent: 25,
-        ..Options::usual()
-    }
-}
 
 /// A version of these writes, each a run.
 fn version_of(
@@ -81,38 +70,22 @@ pub(crate) fn has_ids(version: &Version, ids: &[u64]) -> bool {
     version.runs().len() == ids.len()
 }
 
-/// A reader and a seat of those of a store.
-pub(crate) fn next_worker<O: Operator, N: Name, W: Wait + Drop>(
-    store: &Store<O, N, W>,
-    readers: &mut Vec<Reader<O, N>>,
-    seats: &mut Vec<Seat>,
-) -> Option<Worker<O, N>>
-    requires { All (λ seat. seat.table ≡ store.now.table) seats.old.items }
-    ensures worker { IfSome result (λ worker. worker.1.table ≡ store.now.table) }
-    ensures rest { All (λ seat. seat.table ≡ store.now.table) seats.new.items }
-{
-    let reader = readers.pop()?;
-    let seat = seats.pop()?;
-    Some((reader, seat))
-}
-
-/// A store with two workers.
+/// A store with two compactors.
 pub(crate) fn opened<O: Operator, N: Name, W: Wait + Drop>(
     handle: W,
     alloc: Global,
     opening: Opening,
     version: Version,
-) -> Result<(Store<O, N, W>, Worker<O, N>, Worker<O, N>), Fail>
+) -> Result<(Store<O, N, W>, Pair<O, N>), Fail>
     requires book { opening.seen.book ≡ N.book }
     requires base { version ≡ N.base }
     ensures { IfOk result (λ opened.
-        (opened.1.1.table ≡ opened.0.table) × (opened.2.1.table ≡ opened.0.table)) }
+        (opened.1.0.1.table ≡ opened.0.table) × (opened.1.1.1.table ≡ opened.0.table)) }
 {
     let opened = Store::<O, N, W>::open(alloc, handle, opening, version, small_runs(), 2, 2);
     let Ok((store, mut readers, mut seats)) = opened else {
         return Err("the store isn't opened")?;
     };
-    let one = next_worker(&store, &mut readers, &mut seats).ok_or("there is no worker")?;
-    let other = next_worker(&store, &mut readers, &mut seats).ok_or("there is no worker")?;
-    Ok((store, one, other))
+    let pair = next_pair(&store, &mut readers, &mut seats).ok_or("there are no two compactors")?;
+    Ok((store, pair))
 }

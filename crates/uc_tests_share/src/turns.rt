@@ -2,8 +2,6 @@
 ghost use Rattle.std.specs.Prelude.{◌≡◌, IfSome, All};
 
 use crate::soak::pins_alike;
-use crate::steps::installed;
-use crate::stores::{Worker, next_worker, small_runs};
 use std::alloc::Global;
 use std::marker::{Brand, Send, Sync};
 use std::process::Abort;
@@ -15,6 +13,9 @@ use uc_bytes::{Bytes, OpRef, WriteRef};
 use uc_oper::{Append, Operator};
 use uc_query_answer::{Answer, Query, answer_writes};
 use uc_share::{Name, Opening, Options, Reader, Seat, Store, Version};
+use uc_tests_compactors::drawn::small_runs;
+use uc_tests_compactors::steps::installed;
+use uc_tests_compactors::worker::{Worker, next_worker};
 use uc_version::open_version;
 
 /// How often each thread has its turn.

@@ -9,7 +9,7 @@ use uc_oper::Operator;
 use uc_share::{ClaimError, Held, Name, Pin, Reader, Seat, Store, Stretch};
 
 /// A stretch of a pinned version, claimed.
-pub(crate) fn claimed<O: Operator, N: Name, W: Wait + Drop>(
+pub fn claimed<O: Operator, N: Name, W: Wait + Drop>(
     store: &Store<O, N, W>,
     seat: Seat,
     pin: Pin<O, N>,
@@ -26,7 +26,7 @@ pub(crate) fn claimed<O: Operator, N: Name, W: Wait + Drop>(
 }
 
 /// Why a claim is refused; the seat comes back.
-pub(crate) fn claim_refusal<O: Operator, N: Name, W: Wait + Drop>(
+pub fn claim_refusal<O: Operator, N: Name, W: Wait + Drop>(
     store: &Store<O, N, W>,
     seat: Seat,
     pin: Pin<O, N>,
@@ -43,7 +43,7 @@ pub(crate) fn claim_refusal<O: Operator, N: Name, W: Wait + Drop>(
 }
 
 /// Compacts a claim and installs what came of it; the seat comes back.
-pub(crate) fn installed<O: Operator + Sync, N: Name, W: Wait + Drop>(
+pub fn installed<O: Operator + Sync, N: Name, W: Wait + Drop>(
     rt: &(impl Threads + Wait + Sync),
     alloc: Global,
     store: &Store<O, N, W>,

@@ -1,0 +1,141 @@
+//! [`Beside`]: a batch beside compactors, and once more behind them.
+ghost use Rattle.std.specs.Prelude.{◌≡◌, IfSome};
+
+use crate::asked::Crew;
+use crate::asking::{Answered, answered_shared, nanoseconds_since};
+use crate::compacting::{Compactor, all_compact, next_compactor};
+use std::alloc::Global;
+use std::fmt;
+use std::marker::{Send, Sync};
+use std::sync::Wait;
+use std::thread::{Threads, join};
+use std::time::{Clock, Instant};
+use uc_oper::Counter;
+use uc_query_answer::Query;
+use uc_share::{Name, Opening, Options, Reader, Store, Version};
+
+/// What compactors did.
+#[derive(Clone, Copy)]
+pub(crate) struct Compacting {
+    pub(crate) nanoseconds: u64,
+    pub(crate) installs: u64,
+}
+
+/// What came of a batch beside compactors.
+#[derive(Clone, Copy)]
+pub(crate) struct Beside {
+    pub(crate) meanwhile: Answered,
+    /// The same batch when the compactors are done.
+    pub(crate) behind: Answered,
+    pub(crate) compacting: Compacting,
+}
+
+impl fmt::Display for Beside {
+    fn fmt<W: fmt::Write>(&self, f: &mut fmt::Formatter<W>) -> fmt::Result {
+        let behind = self.behind.nanoseconds;
+        let Compacting {
+            nanoseconds,
+            installs,
+        } = self.compacting;
+        write!(f, "{} {behind} {nanoseconds} {installs}", self.meanwhile)
+    }
+}
+
+/// How long compactors take until nothing is picked, and how much they install.
+fn compact_timed<N, W, R>(
+    rt: &R,
+    alloc: Global,
+    store: &Store<Counter, N, W>,
+    one: Option<Compactor<N>>,
+    other: Option<Compactor<N>>,
+) -> Option<Compacting>
+where
+    N: Name + Send + Sync,
+    W: Wait + Drop + Send,
+    R: Threads + Wait + Clock + Sync,
+    requires one { IfSome one (λ one. one.1.table ≡ store.now.table) }
+    requires other { IfSome other (λ other. other.1.table ≡ store.now.table) }
+{
+    let start = Instant::now(rt).ok()?;
+    let installs = all_compact(rt, alloc, store, one, other)?;
+    let nanoseconds = nanoseconds_since(rt, start)?;
+    Some(Compacting {
+        nanoseconds,
+        installs,
+    })
+}
+
+/// A batch beside compactors, each in a thread of its own. The readers come back.
+fn meanwhile<N, W, R>(
+    rt: &R,
+    alloc: Global,
+    store: &Store<Counter, N, W>,
+    compactors: (Option<Compactor<N>>, Option<Compactor<N>>),
+    readers: Vec<Reader<Counter, N>>,
+    queries: &[Query],
+    workers: usize,
+) -> Option<((Vec<Reader<Counter, N>>, Answered), Compacting)>
+where
+    N: Name + Send + Sync,
+    W: Wait + Drop + Send,
+    R: Threads + Wait + Clock + Sync,
+    requires one { IfSome compactors.0 (λ one. one.1.table ≡ store.now.table) }
+    requires other { IfSome compactors.1 (λ other. other.1.table ≡ store.now.table) }
+{
+    let (one, other) = compactors;
+    let (compacting, answered) = join(
+        rt,
+        move || -> Option<Compacting>
+            requires one { IfSome one (λ one. one.1.table ≡ store.now.table) }
+            requires other { IfSome other (λ other. other.1.table ≡ store.now.table) }
+        { compact_timed(rt, alloc, store, one, other) },
+        move || answered_shared(rt, alloc, readers, queries, workers),
+    );
+    Some((answered?, compacting?))
+}
+
+/// A batch in a store that is opened here, beside compactors and once more behind them.
+pub(crate) fn answered_beside<N, W, R>(
+    rt: &R,
+    handle: W,
+    alloc: Global,
+    opened_with: (Opening, Version),
+    options: Options,
+    queries: &[Query],
+    crew: Crew,
+) -> Option<Beside>
+where
+    N: Name + Send + Sync,
+    W: Wait + Drop + Send,
+    R: Threads + Wait + Clock + Sync,
+    requires book { opened_with.0.seen.book ≡ N.book }
+    requires base { opened_with.1 ≡ N.base }
+{
+    let (opening, version) = opened_with;
+    let Crew {
+        workers,
+        compactors,
+    } = crew;
+    let count = workers.saturating_add(compactors);
+    let opened = Store::<Counter, N, W>::open(
+        alloc, handle, opening, version, options, count, compactors,
+    );
+    let (store, mut readers, mut seats) = opened.ok()?;
+    let one = next_compactor(&store, &mut readers, &mut seats);
+    let other = next_compactor(&store, &mut readers, &mut seats);
+    let ((readers, first), compacting) = meanwhile(
+        rt,
+        alloc,
+        &store,
+        (one, other),
+        readers,
+        queries,
+        workers,
+    )?;
+    let (_, behind) = answered_shared(rt, alloc, readers, queries, workers)?;
+    Some(Beside {
+        meanwhile: first,
+        behind,
+        compacting,
+    })
+}

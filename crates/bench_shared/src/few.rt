@@ -1,0 +1,101 @@
+//! A small fixed piece of work: all modes with a few writes, whose answers must be the same.
+use crate::asked::Crew;
+use crate::asking::answered_plain;
+use crate::beside::answered_beside;
+use crate::latencies::timed;
+use anyhow::{Context, Result, ensure};
+use bench_queries::few::{few_batches, few_options, few_writes};
+use bench_queries::opening::totals;
+use bench_queries::queries::as_one_batch;
+use std::alloc::Global;
+use std::marker::{Brand, Sync};
+use std::sync::Wait;
+use std::thread::Threads;
+use std::time::Clock;
+use uc_query_answer::Query;
+use uc_share::Opening;
+
+/// Makes sure that so many workers beside so many compactors come to these answers, and also behind them.
+fn ensure_same_beside(
+    rt: &(impl Clock + Threads + Wait + Sync),
+    alloc: Global,
+    queries: &[Query],
+    crew: Crew,
+    checksum: u64,
+) -> Result<()> {
+    let version = few_writes(alloc)?;
+    let opened_with = (Opening::new(), version);
+    let beside = answered_beside::<Brand, _, _>(
+        rt,
+        rt,
+        alloc,
+        opened_with,
+        few_options(),
+        queries,
+        crew,
+    );
+    let beside = beside.context("a batch or a compaction is refused")?;
+    ensure!(
+        beside.meanwhile.checksum == checksum,
+        "the answers beside compactors differ"
+    );
+    ensure!(
+        beside.behind.checksum == checksum,
+        "the answers behind compactors differ"
+    );
+    ensure!(
+        (beside.compacting.installs > 0) == (crew.compactors > 0),
+        "the installs aren't those of compactors"
+    );
+    Ok(())
+}
+
+/// Makes sure that single queries beside so many compactors have these answers.
+fn ensure_same_each(
+    rt: &(impl Clock + Threads + Wait + Sync),
+    alloc: Global,
+    queries: &[Query],
+    compactors: usize,
+    checksum: u64,
+) -> Result<()> {
+    let version = few_writes(alloc)?;
+    let opened_with = (Opening::new(), version);
+    let latencies = timed::<Brand, _, _>(
+        rt,
+        rt,
+        alloc,
+        opened_with,
+        few_options(),
+        queries,
+        compactors,
+    );
+    let latencies = latencies.context("a lookup or a compaction is refused")?;
+    ensure!(
+        latencies.checksum == checksum,
+        "the answers one by one differ"
+    );
+    Ok(())
+}
+
+/// Answers a few queries of a few writes in all modes, and prints how large the store is, and what the answers were.
+pub(crate) fn few_answers(
+    rt: &(impl Clock + Threads + Wait + Sync + Print),
+    alloc: Global,
+) -> Result<()> {
+    let version = few_writes(alloc)?;
+    let queries = as_one_batch(alloc, few_batches(alloc, version.last())?)?;
+    let plain = answered_plain(rt, alloc, &version, &queries, 1).context("a batch is refused")?;
+    for compactors in 0..3 {
+        for workers in [1, 2, 4] {
+            let crew = Crew {
+                workers,
+                compactors,
+            };
+            ensure_same_beside(rt, alloc, &queries, crew, plain.checksum)?;
+        }
+        ensure_same_each(rt, alloc, &queries, compactors, plain.checksum)?;
+    }
+    let (runs, points) = totals(&version);
+    println!(rt; "{runs} {points} {} {:016x}", plain.answers, plain.checksum)?;
+    Ok(())
+}

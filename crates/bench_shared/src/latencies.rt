@@ -1,0 +1,180 @@
+//! [`Latencies`]: how long single queries take beside compactors.
+ghost use Rattle.std.specs.Prelude.{◌≡◌, IfSome};
+
+use crate::asking::nanoseconds_since;
+use crate::compacting::{Compactor, all_compact, next_compactor};
+use bench_queries::checksum::with_answer;
+use std::alloc::Global;
+use std::fmt;
+use std::marker::{Send, Sync};
+use std::sync::Wait;
+use std::sync::atomic::{AtomicBool, Ordering};
+use std::thread::{Threads, join};
+use std::time::{Clock, Instant};
+use uc_oper::Counter;
+use uc_query_answer::{Answer, Query};
+use uc_query_read::answer_one;
+use uc_share::{Name, Opening, Options, Reader, Store, Version};
+
+/// What came of single queries.
+#[derive(Drop)]
+pub(crate) struct Latencies {
+    answers: usize,
+    pub(crate) checksum: u64,
+    /// The nanoseconds of those that came while compactors were at work, the shortest first once all are there.
+    times: Vec<u64>,
+}
+
+impl Latencies {
+    /// None yet, with room for so many.
+    fn new(alloc: Global, count: usize) -> Option<Latencies> {
+        Some(Latencies {
+            answers: 0,
+            checksum: 0,
+            times: Vec::with_capacity(alloc, count).ok()?,
+        })
+    }
+
+    /// Counts an answer.
+    fn count(&mut self, answer: &Answer) {
+        self.answers = self.answers.saturating_add(1);
+        self.checksum = with_answer(self.checksum, answer);
+    }
+
+    /// The time that so many of 1,000 don't pass.
+    fn below(&self, share: usize) -> u64 {
+        let place = self.times.len().saturating_mul(share) / 1000;
+        self.times.get(place).copied().unwrap_or(0)
+    }
+}
+
+impl fmt::Display for Latencies {
+    fn fmt<W: fmt::Write>(&self, f: &mut fmt::Formatter<W>) -> fmt::Result {
+        let (answers, checksum) = (self.answers, self.checksum);
+        let longest = self.times.last().copied().unwrap_or(0);
+        write!(f, "{answers} {checksum:016x} {}", self.times.len())?;
+        write!(
+            f,
+            " {} {} {} {longest}",
+            self.below(500),
+            self.below(990),
+            self.below(999)
+        )
+    }
+}
+
+/// The answer to a query from what is shown then, which is pinned and let go of.
+fn answer_shown<N: Name, W: Wait + Drop>(
+    alloc: Global,
+    store: &Store<Counter, N, W>,
+    reader: &mut Reader<Counter, N>,
+    query: &Query,
+) -> Option<Answer> {
+    let pin = store.pin(reader).ok()?;
+    answer_one::<Counter>(alloc, pin.version(), query).ok()
+}
+
+/// Asks one query after the other with a clock around each.
+fn ask_each<N: Name, W: Wait + Drop>(
+    clock: &impl Clock,
+    alloc: Global,
+    store: &Store<Counter, N, W>,
+    mut reader: Reader<Counter, N>,
+    queries: &[Query],
+    done: &AtomicBool,
+) -> Option<Latencies> {
+    let mut latencies = Latencies::new(alloc, queries.len())?;
+    for query in queries {
+        let start = Instant::now(clock).ok()?;
+        let answer = answer_shown(alloc, store, &mut reader, query)?;
+        let time = nanoseconds_since(clock, start)?;
+        if !done.load(Ordering::Acquire) {
+            latencies.times.push(time).ok()?;
+        }
+        latencies.count(&answer);
+    }
+    latencies.times.sort_unstable();
+    Some(latencies)
+}
+
+/// Compacts until nothing is picked, and says when it is done. Without compactors it never is.
+fn compact_and_tell<N, W, R>(
+    rt: &R,
+    alloc: Global,
+    store: &Store<Counter, N, W>,
+    one: Option<Compactor<N>>,
+    other: Option<Compactor<N>>,
+    done: &AtomicBool,
+) -> Option<u64>
+where
+    N: Name + Send + Sync,
+    W: Wait + Drop + Send,
+    R: Threads + Wait + Sync,
+    requires one { IfSome one (λ one. one.1.table ≡ store.now.table) }
+    requires other { IfSome other (λ other. other.1.table ≡ store.now.table) }
+{
+    let work = one.is_some();
+    let installs = all_compact(rt, alloc, store, one, other);
+    done.store(work, Ordering::Release);
+    installs
+}
+
+/// Single queries by a reader beside compactors.
+fn beside_compactors<N, W, R>(
+    rt: &R,
+    alloc: Global,
+    store: &Store<Counter, N, W>,
+    compactors: (Option<Compactor<N>>, Option<Compactor<N>>),
+    reader: Reader<Counter, N>,
+    queries: &[Query],
+) -> Option<Latencies>
+where
+    N: Name + Send + Sync,
+    W: Wait + Drop + Send,
+    R: Threads + Wait + Clock + Sync,
+    requires one { IfSome compactors.0 (λ one. one.1.table ≡ store.now.table) }
+    requires other { IfSome compactors.1 (λ other. other.1.table ≡ store.now.table) }
+{
+    let (one, other) = compactors;
+    let done = AtomicBool::new(false);
+    let done = &done;
+    let (installs, latencies) = join(
+        rt,
+        move || -> Option<u64>
+            requires one { IfSome one (λ one. one.1.table ≡ store.now.table) }
+            requires other { IfSome other (λ other. other.1.table ≡ store.now.table) }
+        { compact_and_tell(rt, alloc, store, one, other, done) },
+        move || ask_each(rt, alloc, store, reader, queries, done),
+    );
+    installs?;
+    latencies
+}
+
+/// Single queries of a store that is opened here, by one reader, beside so many compactors.
+pub(crate) fn timed<N, W, R>(
+    rt: &R,
+    handle: W,
+    alloc: Global,
+    opened_with: (Opening, Version),
+    options: Options,
+    queries: &[Query],
+    compactors: usize,
+) -> Option<Latencies>
+where
+    N: Name + Send + Sync,
+    W: Wait + Drop + Send,
+    R: Threads + Wait + Clock + Sync,
+    requires book { opened_with.0.seen.book ≡ N.book }
+    requires base { opened_with.1 ≡ N.base }
+{
+    let (opening, version) = opened_with;
+    let count = compactors.saturating_add(1);
+    let opened = Store::<Counter, N, W>::open(
+        alloc, handle, opening, version, options, count, compactors,
+    );
+    let (store, mut readers, mut seats) = opened.ok()?;
+    let one = next_compactor(&store, &mut readers, &mut seats);
+    let other = next_compactor(&store, &mut readers, &mut seats);
+    let reader = readers.pop()?;
+    beside_compactors(rt, alloc, &store, (one, other), reader, queries)
+}
