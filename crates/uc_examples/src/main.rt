@@ -9,9 +9,10 @@ use std::alloc::Global;
 use std::fs;
 use std::marker::Sync;
 use std::rt::Files;
+use std::sync::Wait;
 use std::thread::Threads;
 use uc_oper::{Append, Counter, Operator};
-use uc_tool::{Done, Options, dump, play, report_log};
+use uc_tool::{Done, Options, ask, dump, is_plan, play, report_log};
 
 /// The delimiter of `--operator append`.
 const COMMA: u8 = b',';
@@ -76,6 +77,27 @@ fn check_script<O: Operator + Sync, R: Files + AllocGlobal + Threads + Sync>(
     )
 }
 
+/// Answers the queries of an example over its log, by two workers and beside a compactor.
+fn check_ask<R: Files + AllocGlobal + Threads + Wait + Sync>(rt: &R) -> Result<()> {
+    let alloc = rt.alloc();
+    let mut input = fs::read(rt, "ask.head")?;
+    input.extend_from_slice(&fs::read(rt, "ask.log")?)?;
+    let (workers, piece, compactors) = (2, 1, 1);
+    ensure!(is_plan(workers, piece, compactors), "it is no plan");
+    let mut printed = Vec::new(alloc);
+    let (done, _installs) = ask::<Append<COMMA>, &[u8], Vec<u8>>(
+        rt,
+        alloc,
+        &mut input.as_slice(),
+        &mut printed,
+        &Options::usual(),
+        workers,
+        piece,
+        compactors,
+    );
+    check(rt, "ask.expected", &printed, done)
+}
+
 /// Reports on the example of a log, whose three writes are a run each, and which is compacted at once.
 fn check_report<R: Files + AllocGlobal + Threads + Sync>(rt: &R) -> Result<()> {
     let alloc = rt.alloc();
@@ -109,7 +131,8 @@ fn main(rt: HostRuntime) -> Result<()> {
     check_script::<Counter, _>(&rt, "first", usual)?;
     check_script::<Append<COMMA>, _>(&rt, "merge", usual)?;
     check_script::<Counter, _>(&rt, "compaction", 1)?;
+    check_ask(&rt)?;
     check_report(&rt)?;
-    println!(rt; "{logs} logs, 3 scripts and a report print what stands beside them")?;
+    println!(rt; "{logs} logs, 3 scripts, queries and a report print what stands beside them")?;
     Ok(())
 }

@@ -4,10 +4,11 @@ use std::io;
 use std::io::{ErrorKind, Read, Write};
 use std::marker::Sync;
 use std::process::Abort;
+use std::sync::Wait;
 use std::thread::Threads;
 use uc_oper::Counter;
 use uc_tests_shared::options::small;
-use uc_tool::{Done, dump, play, report_log};
+use uc_tool::{Done, ask, dump, is_plan, play, report_log};
 
 /// What is run.
 #[derive(Clone, Copy)]
@@ -15,6 +16,7 @@ enum Program {
     Play,
     Dump,
     Report,
+    Ask,
 }
 
 /// A script of 72 bytes.
@@ -37,18 +39,44 @@ const REPORTED: &[u8] = b"run 1 slot 0 points 1 fragments 0 size 10 seqs 1 1\n\
     run 1 slot 0 points 1 fragments 0 size 10 seqs 1 1\n\
     total runs 1 points 1 fragments 0 size 10\nkeeps 1\nlast 1\n";
 
+/// The same log behind a head of two queries.
+const ASKED: &[u8] = b"keep 0\nget 61 last\nget 61 0\nlog\n\xe9\x9f\x78\x19\x11\x00\x01\
+    \x01\x00\x00\x00\x00\x00\x00\x00\x01\x00\x00\x00\x01\x01a\x011\x01";
+
+/// The answers.
+const ANSWERED: &[u8] = b"value 31\nnone\n";
+
 /// A program, what it reads, and what it prints.
 type Run = (Program, &'static [u8], &'static [u8]);
 
-const RUNS: [Run; 3] = [
+const RUNS: [Run; 4] = [
     (Program::Play, SCRIPT, PRINTED),
     (Program::Dump, LOG, DUMPED),
     (Program::Report, LOG, REPORTED),
+    (Program::Ask, ASKED, ANSWERED),
 ];
+
+/// Answers by a worker beside a compactor.
+fn asks<R: Read, W: Write>(
+    rt: &(impl Threads + Wait + Sync),
+    alloc: Global,
+    reader: &mut R,
+    writer: &mut W,
+) -> Done {
+    let (workers, piece, compactors) = (1, 1, 1);
+    if !is_plan(workers, piece, compactors) {
+        return Done::Refused;
+    }
+    let options = small();
+    let (done, _installs) = ask::<Counter, R, W>(
+        rt, alloc, reader, writer, &options, workers, piece, compactors,
+    );
+    done
+}
 
 /// Runs a program.
 fn runs<R: Read, W: Write>(
-    rt: &(impl Threads + Sync),
+    rt: &(impl Threads + Wait + Sync),
     alloc: Global,
     program: Program,
     reader: &mut R,
@@ -58,6 +86,7 @@ fn runs<R: Read, W: Write>(
         Program::Play => play::<Counter, R, W>(rt, alloc, reader, writer, &small()),
         Program::Dump => dump(alloc, reader, writer),
         Program::Report => report_log::<Counter, R, W>(rt, alloc, reader, writer, &small()),
+        Program::Ask => asks(rt, alloc, reader, writer),
     }
 }
 
@@ -152,7 +181,7 @@ impl Write for Sink {
 
 /// Runs a program from a reader into a vector, and asserts what is written and how it ends.
 fn reads<R: Read>(
-    rt: &(impl Abort + Threads + Sync),
+    rt: &(impl Abort + Threads + Wait + Sync),
     alloc: Global,
     program: Program,
     reader: &mut R,
@@ -191,9 +220,10 @@ fn reads_that_fail(rt: HostRuntime) {
 
 /// What the programs print of 64 MiB of zero bytes: as a script they are one line, which is at fault, and as a
 /// log they hold nothing.
-const LONGEST: [(Program, &[u8], Done); 2] = [
+const LONGEST: [(Program, &[u8], Done); 3] = [
     (Program::Play, b"fault line 1\n", Done::Refused),
     (Program::Dump, b"clean\n", Done::Fine),
+    (Program::Ask, b"fault line 1\n", Done::Refused),
 ];
 
 #[test]
@@ -221,7 +251,7 @@ fn input_byte_by_byte(rt: HostRuntime) {
 /// An input of a byte more isn't judged.
 #[test]
 fn inputs_above_the_limit(rt: HostRuntime) {
-    for program in [Program::Play, Program::Dump, Program::Report] {
+    for program in [Program::Play, Program::Dump, Program::Report, Program::Ask] {
         let told = (b"input too long\n".as_slice(), Done::Device);
         let mut reader = Untouched {
             left: 67_108_865,
@@ -234,7 +264,7 @@ fn inputs_above_the_limit(rt: HostRuntime) {
 /// Runs a program into a writer that fails, and asserts that these bytes of its text went out and nothing
 /// was written behind the failure.
 fn writes<R: Read>(
-    rt: &(impl Abort + Threads + Sync),
+    rt: &(impl Abort + Threads + Wait + Sync),
     alloc: Global,
     program: Program,
     reader: &mut R,

@@ -5,6 +5,9 @@ pub use Rattle.uc_tool_io.specs.Writing
 pub use Rattle.uc_tool_io.specs.Texts
 pub use Rattle.uc_tool_play.specs.Play
 pub use Rattle.uc_tool_play.specs.Turn
+pub use Rattle.uc_tool_ask.specs.Ask
+pub use Rattle.uc_tool_ask.specs.Plans
+pub use Rattle.uc_tool_ask.specs.Readable
 pub use Rattle.uc_tool_report.specs.Report
 pub use Rattle.uc_tool_report.specs.Compacting
 pub use Rattle.uc_tool_io.specs.Ending

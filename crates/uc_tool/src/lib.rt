@@ -1,14 +1,15 @@
 //! The program's work over any reader and writer, and what its command line names.
 //!
-//! `play` opens a store over a script's writes and answers its calls; `report_log` reports what a store holds that opens from
-//! a log, and compacts it; `dump` prints what a log holds. What each prints is a stated function of the bytes that it
-//! reads. Each stands in a crate of its own, `uc_tool_play`, `uc_tool_report` and `uc_tool_dump`, over what they share in
-//! `uc_tool_io` and `uc_tool_opening`; this crate has nothing of its own but gives them out, so that a caller names it
-//! alone.
+//! `play` opens a store over a script's writes and answers its calls; `ask` answers queries over a log by workers, while
+//! compactors compact its store; `report_log` reports what a store holds that opens from a log, and compacts it; `dump` prints
+//! what a log holds. What each prints is a stated function of the bytes that it reads. Each stands in a crate of its own,
+//! `uc_tool_play`, `uc_tool_ask`, `uc_tool_report` and `uc_tool_dump`, over what they share in `uc_tool_io` and
+//! `uc_tool_opening`; this crate has nothing of its own but gives them out, so that a caller names it alone.
 //!
 //! Read `uc_tool_io`'s `specs/Output.antt` first, then the head of the subcommand that matters.
 #![tactic(auto)]
 
+pub use uc_tool_ask::{MOST_COMPACTORS, ask, is_plan, queries_are_answered_from_the_log};
 pub use uc_tool_dump::dump;
 pub use uc_tool_io::Done;
 pub use uc_tool_opening::Reason;

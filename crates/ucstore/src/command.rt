@@ -30,6 +30,11 @@ that line. A refused opening prints `refused` and why; standard error names the 
 Status: 0 done, 2 a refused command line, script or opening, 4 out of memory, 5 a read or write fault
 or too long an input.";
 
+/// The usual numbers of workers, of queries of a piece, and of compactors of `ucstore ask`.
+const WORKERS: &str = "4";
+const PIECE: &str = "16";
+const COMPACTORS: &str = "0";
+
 /// Texts that the command line shows and that are made as the program runs, so that what they say stands
 /// in one place.
 #[derive(Debug, Drop)]
@@ -200,6 +205,67 @@ fn report<'a>(alloc: Global, shown: &'a Shown) -> Result<Command<'a>, AllocError
     over_a_store(alloc, report, shown)
 }
 
+const ASK_ABOUT: &str =
+    "Answer queries over a write-ahead log, by workers, while compactors compact its store";
+
+const ASK_HELP: &str = "\
+Reads queries on standard input, then a line `log`, and behind it the bytes of a write-ahead log of
+LevelDB or RocksDB, of the kinds that dump reads: at most 64 MiB in all. A log that ends inside a
+payload is read up to there. The lines are those of a script, and are checked before the log is read.
+Empty lines and lines that begin with # are skipped.
+
+  keep SEQUENCE   get KEY SEQUENCE   scan LOW HIGH LIMIT SEQUENCE
+  log
+
+Keys are hexadecimal, . for the empty text. SEQUENCE is a number or `last`; a query's has to be kept or
+the last one. HIGH is a key or - for none. Prints for each query, in order,
+
+  value VALUE   or   none         what get reads
+  rows ROWS, then KEY VALUE ...   what scan reads
+  not protected SEQUENCE          where the sequence isn't kept
+
+whatever the numbers of workers, compactors and queries of a piece are.
+
+Example: (printf 'get 6b last\\nlog\\n'; cat 000003.log) | ucstore ask --operator append
+
+Status: 0 done, 2 a refused command line, query or opening, 3 a log with a fault, 4 out of memory, 5 a
+read or write fault or too long an input.";
+
+/// `--workers`, `--piece` and `--compactors`.
+fn with_threads<'a>(alloc: Global, command: Command<'a>) -> Result<Command<'a>, AllocError> {
+    let workers = number(
+        alloc,
+        "workers",
+        WORKERS,
+        "Answer the queries by this many workers, 1 to 64",
+    );
+    let piece = number(
+        alloc,
+        "piece",
+        PIECE,
+        "A worker takes this many queries at a time, at least 1",
+    );
+    let compactors = number(
+        alloc,
+        "compactors",
+        COMPACTORS,
+        "Compact by this many threads meanwhile, at most 16",
+    );
+    command
+        .arg(workers.value_parser(value_parser!(u64).range(1..=64)))?
+        .arg(piece.value_parser(value_parser!(u64).range(1..)))?
+        .arg(compactors.value_parser(value_parser!(u64).range(0..=16)))
+}
+
+/// `ucstore ask`.
+fn ask<'a>(alloc: Global, shown: &'a Shown) -> Result<Command<'a>, AllocError> {
+    let ask = Command::new(alloc, "ask")
+        .about(ASK_ABOUT)
+        .after_help(ASK_HELP);
+    let ask = with_threads(alloc, ask)?;
+    over_a_store(alloc, ask, shown)
+}
+
 const DUMP_ABOUT: &str = "Print what a write-ahead log holds, and where it breaks";
 
 const DUMP_HELP: &str = "\
@@ -231,11 +297,12 @@ pub fn ucstore<'a>(alloc: Global, shown: &'a Shown) -> Result<Command<'a>, Alloc
         .version("0.1.0")
         .subcommand_required(true)
         .subcommand(play(alloc, shown)?)?
+        .subcommand(ask(alloc, shown)?)?
         .subcommand(report(alloc, shown)?)?
         .subcommand(dump(alloc))
 }
 
-/// The options of `ucstore play` or `ucstore report` that the words set.
+/// The options of a subcommand that opens a store that the words set.
 pub fn options(matches: &ArgMatches<'_>) -> Options {
     let usual = Options::usual();
     Options {
@@ -249,7 +316,31 @@ pub fn options(matches: &ArgMatches<'_>) -> Options {
     }
 }
 
-/// The operator of `ucstore play` or `ucstore report`. The parser requires one of the names that there are.
+/// The operator of a subcommand that opens a store. The parser requires one of the names that there are.
 pub fn operator_name(matches: &ArgMatches<'_>) -> Option<OperatorName> {
     matches.get_str("operator").and_then(OperatorName::named)
+}
+
+/// How many threads `ucstore ask` answers and compacts by, and how it cuts the queries.
+pub struct Plan {
+    /// How many workers answer.
+    pub workers: usize,
+    /// How many queries a worker takes at a time.
+    pub piece: usize,
+    /// How many threads compact.
+    pub compactors: usize,
+}
+
+/// A number that the words set, or 0: the parser gives each a usual value.
+fn count(matches: &ArgMatches<'_>, name: &str) -> usize {
+    matches.get_one::<u64>(name).unwrap_or(0) as usize
+}
+
+/// The plan of `ucstore ask` that the words set.
+pub fn plan(matches: &ArgMatches<'_>) -> Plan {
+    Plan {
+        workers: count(matches, "workers"),
+        piece: count(matches, "piece"),
+        compactors: count(matches, "compactors"),
+    }
 }

@@ -6,7 +6,7 @@
 
 mod command;
 
-use crate::command::Shown;
+use crate::command::{Plan, Shown};
 use clap::error::ErrorKind;
 use clap::{ArgMatches, Error};
 use std::alloc::Global;
@@ -16,10 +16,12 @@ use std::io::{self, BufWriter, Read, Write};
 use std::marker::Sync;
 use std::process::ExitCode;
 use std::rt::Env;
+use std::sync::Wait;
 use std::thread::Threads;
 use uc_oper::{Append, Counter, Maximum};
 use uc_tool::{
-    Done, OperatorName, Reason, Refusal, dump, play_with_reason, report_log_with_reason,
+    Done, OperatorName, Reason, Refusal, ask, dump, is_plan, play_with_reason,
+    report_log_with_reason,
 };
 
 /// The delimiter of `--operator append`.
@@ -48,6 +50,40 @@ fn play_script<R: Read, W: Write>(
         // The parser lets no other name through.
         None => Done::Refused,
     }
+}
+
+/// Answers queries over a log under the operator that the words name.
+fn ask_log<R: Read, W: Write>(
+    rt: &(impl Threads + Wait + Sync),
+    alloc: Global,
+    matches: &ArgMatches<'_>,
+    reader: &mut R,
+    writer: &mut W,
+) -> Done {
+    let options = command::options(matches);
+    let Plan {
+        workers,
+        piece,
+        compactors,
+    } = command::plan(matches);
+    // The parser lets no other numbers through.
+    if !is_plan(workers, piece, compactors) {
+        return Done::Refused;
+    }
+    let (done, _installs) = match command::operator_name(matches) {
+        Some(OperatorName::Counter) => ask::<Counter, R, W>(
+            rt, alloc, reader, writer, &options, workers, piece, compactors,
+        ),
+        Some(OperatorName::Append) => ask::<Append<COMMA>, R, W>(
+            rt, alloc, reader, writer, &options, workers, piece, compactors,
+        ),
+        Some(OperatorName::Maximum) => ask::<Maximum, R, W>(
+            rt, alloc, reader, writer, &options, workers, piece, compactors,
+        ),
+        // The parser lets no other name through.
+        None => (Done::Refused, 0),
+    };
+    done
 }
 
 /// Reports on a log under the operator that the words name.
@@ -86,7 +122,7 @@ fn explain(rt: &(impl Print + Eprint), error: &Error) -> Done {
 }
 
 /// Runs what the words name, from standard input to standard output.
-fn run<R: Print + Eprint + Input + AllocGlobal + Threads + Sync, S: AsStr>(
+fn run<R: Print + Eprint + Input + AllocGlobal + Threads + Wait + Sync, S: AsStr>(
     rt: &R,
     words: &[S],
 ) -> Result<Done, Refusal> {
@@ -104,6 +140,7 @@ fn run<R: Print + Eprint + Input + AllocGlobal + Threads + Sync, S: AsStr>(
         Some(("play", play)) => {
             play_script(rt, alloc, play, &mut reader, &mut writer, &mut reason)
         }
+        Some(("ask", words)) => ask_log(rt, alloc, words, &mut reader, &mut writer),
         Some(("report", words)) => {
             report(rt, alloc, words, &mut reader, &mut writer, &mut reason)
         }

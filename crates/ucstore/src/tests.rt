@@ -23,10 +23,12 @@ fn options_of(alloc: Global, line: &str) -> Result<(Option<OperatorName>, Option
 }
 
 /// Lines that set each option.
-const ALL_SET: [&str; 2] = [
+const ALL_SET: [&str; 3] = [
     "ucstore play --operator append --memtable 11 --trigger 12 --ratio 13 --percent 14 --least 15 \
      --greatest 16",
     "ucstore report --operator append --memtable 11 --trigger 12 --ratio 13 --percent 14 --least 15 \
+     --greatest 16",
+    "ucstore ask --operator append --memtable 11 --trigger 12 --ratio 13 --percent 14 --least 15 \
      --greatest 16",
 ];
 
@@ -51,11 +53,12 @@ fn each_option_sets_its_field(rt: HostRuntime) -> Result<(), Fail> {
 }
 
 /// The operators by their names.
-const OPERATORS: [(&str, OperatorName); 4] = [
+const OPERATORS: [(&str, OperatorName); 5] = [
     ("ucstore play --operator counter", OperatorName::Counter),
     ("ucstore play --operator=append", OperatorName::Append),
     ("ucstore play --operator maximum", OperatorName::Maximum),
     ("ucstore report --operator counter", OperatorName::Counter),
+    ("ucstore ask --operator maximum", OperatorName::Maximum),
 ];
 
 /// Without words for them the options are the usual ones.
@@ -69,8 +72,46 @@ fn operators_and_usual_options(rt: HostRuntime) -> Result<(), Fail> {
     Ok(())
 }
 
+/// How many workers, queries of a piece and compactors lines set.
+const PLANS: [(&str, (usize, usize, usize)); 3] = [
+    ("ucstore ask --operator counter", (4, 16, 0)),
+    (
+        "ucstore ask --operator counter --workers 64 --piece 18446744073709551615 --compactors 16",
+        (64, usize::MAX, 16),
+    ),
+    (
+        "ucstore ask --operator counter --workers=1 --piece=1 --compactors=0",
+        (1, 1, 0),
+    ),
+];
+
+/// What the words of a line set.
+fn plan_of(alloc: Global, line: &str) -> Result<(usize, usize, usize), Fail> {
+    let shown = Shown::new(alloc)?;
+    let words = words_of(alloc, line)?;
+    let matches = command::ucstore(alloc, &shown)?.try_get_matches_from(words.as_slice())?;
+    match matches.subcommand() {
+        Some((_, words)) => {
+            let plan = command::plan(words);
+            Ok((plan.workers, plan.piece, plan.compactors))
+        }
+        None => Err(Fail::from(AllocError)),
+    }
+}
+
+/// Workers, pieces and compactors are set each by its own word, within the limits.
+#[test]
+fn plans_of_ask(rt: HostRuntime) -> Result<(), Fail> {
+    for (line, wanted) in PLANS {
+        let (workers, piece, compactors) = plan_of(rt.alloc(), line)?;
+        assert!(rt; is_plan(workers, piece, compactors), "{line}");
+        assert_eq!(rt; (workers, piece, compactors), wanted, "{line}");
+    }
+    Ok(())
+}
+
 /// Command lines, and why they are refused.
-const REFUSED: [(&str, ErrorKind); 15] = [
+const REFUSED: [(&str, ErrorKind); 20] = [
     ("ucstore", ErrorKind::MissingSubcommand),
     ("ucstore pley", ErrorKind::InvalidSubcommand),
     ("ucstore dump log", ErrorKind::UnknownArgument),
@@ -109,6 +150,23 @@ const REFUSED: [(&str, ErrorKind); 15] = [
     (
         "ucstore play --operator counter --size 1",
         ErrorKind::UnknownArgument,
+    ),
+    ("ucstore ask", ErrorKind::MissingRequiredArgument),
+    (
+        "ucstore ask --operator counter --workers 0",
+        ErrorKind::ValueValidation,
+    ),
+    (
+        "ucstore ask --operator counter --workers 65",
+        ErrorKind::ValueValidation,
+    ),
+    (
+        "ucstore ask --operator counter --piece 0",
+        ErrorKind::ValueValidation,
+    ),
+    (
+        "ucstore ask --operator counter --compactors 17",
+        ErrorKind::ValueValidation,
     ),
 ];
 

@@ -1,0 +1,75 @@
+//! Runs of `ask` over memory.
+use std::alloc::Global;
+use std::marker::{Send, Sync};
+use std::sync::Wait;
+use std::thread::Threads;
+use uc_oper::Operator;
+use uc_tool_ask::{ask, is_plan};
+use uc_tool_io::Done;
+use uc_version_pick::Options;
+
+/// What a run printed, how it ended, and how many installs its compactors made.
+#[derive(Drop)]
+pub(crate) struct Run {
+    pub(crate) text: Vec<u8>,
+    pub(crate) done: Done,
+    pub(crate) installs: u64,
+}
+
+/// How many workers answer, how many queries a piece has, and how many compactors there are.
+pub(crate) type Plan = (usize, usize, usize);
+
+/// Options under which each write is a run and two runs are compacted.
+pub(crate) fn small_runs() -> Options {
+    Options {
+        memtable: 1,
+        trigger: 2,
+        percent: 25,
+        ..Options::usual()
+    }
+}
+
+/// What is printed of an input, where the plan is a plan.
+pub(crate) fn run_of<O: Operator + Send + Sync>(
+    rt: &(impl Threads + Wait + Sync),
+    alloc: Global,
+    options: &Options,
+    input: &[u8],
+    (workers, piece, compactors): Plan,
+) -> Option<Run> {
+    if !is_plan(workers, piece, compactors) {
+        return None;
+    }
+    let mut reader = input;
+    let mut text = Vec::new(alloc);
+    let (done, installs) = ask::<O, &[u8], Vec<u8>>(
+        rt,
+        alloc,
+        &mut reader,
+        &mut text,
+        options,
+        workers,
+        piece,
+        compactors,
+    );
+    Some(Run {
+        text,
+        done,
+        installs,
+    })
+}
+
+/// Whether this is printed of an input, and the run ends so.
+pub(crate) fn prints<O: Operator + Send + Sync>(
+    rt: &(impl Threads + Wait + Sync),
+    alloc: Global,
+    options: &Options,
+    input: &[u8],
+    plan: Plan,
+    (text, done): (&[u8], Done),
+) -> bool {
+    match run_of::<O>(rt, alloc, options, input, plan) {
+        None => false,
+        Some(run) => run.text.as_slice() == text && run.done == done,
+    }
+}

@@ -1,0 +1,11 @@
+use Rattle.std.proofs.Common.{rules, ◌≡◌, Err, ap, sym, subst}
+use Rattle.uc_script.specs.Head.{head_of}
+use Rattle.uc_tool_io.specs.Output.{Output, Prints}
+use Rattle.uc_tool_ask.specs.Ask.{asked_of}
+use Rattle.uc_tool_ask.proofs.asking.run.Goals as goal
+
+pub returns-in-Err-Fault-clause-printed : goal.returns-in-Err-Fault-clause-printed
+returns-in-Err-Fault-clause-printed g c =
+    let contents = g.V.Write.contents in
+    let fault : head_of c.args.input.items ≡ Err c.in-Err-Fault.line = search rules in
+    subst (λ (out : Output). Prints out.replies (contents c.args.writer.now) (contents c.print_fault.new.writer) c.print_fault.result) (sym (ap (asked_of g.O.Operator.meaning c.args.options.now c.args.input.items) fault)) c.print_fault.ensures.printed

@@ -1,0 +1,71 @@
+-- What is printed for the queries in front of a log.
+use Rattle.std.specs.Prelude.{ℕ, List, map, drop, codes, Option, Some, None, Result, Ok, Err}
+use Rattle.uc_oper.specs.Operation.{Operation}
+use Rattle.uc_bytes.specs.declared.write.Write.{Write}
+use Rattle.uc_batch.specs.Log.{log_writes}
+use Rattle.uc_batch.specs.WriteLog.{WriteLog}
+use Rattle.uc_batch.specs.declared.ended.Ended.{Ended}
+use Rattle.uc_batch.specs.declared.ended.Ended.TheVariants as ended
+use Rattle.uc_script.specs.Head.{Head, head_of}
+use Rattle.uc_script.specs.declared.query.Query.{Query as Asked}
+use Rattle.uc_script.specs.declared.query.Query.TheVariants as asked
+use Rattle.uc_version_pick.specs.declared.options.Options.{Options}
+use Rattle.uc_version_state.specs.Openings.{Opening, opened}
+use Rattle.uc_version_open.specs.Refusal.{opening_refusal}
+use Rattle.uc_version_open.specs.declared.open_error.OpenError.{OpenError}
+use Rattle.uc_query_answer.specs.Answers.{answer_of}
+use Rattle.uc_query_answer.specs.declared.query.Query.{Query}
+use Rattle.uc_query_answer.specs.declared.query.Query.TheVariants as query
+use Rattle.uc_tool_io.specs.Output.{Output, refused}
+use Rattle.uc_tool_io.specs.declared.done.Done.TheVariants.{Fine}
+use Rattle.uc_tool_lines.specs.AnswerLines.{answer_lines}
+use Rattle.uc_tool_log_lines.specs.Line.{numbered_line}
+use Rattle.uc_tool_opening.specs.Opening.{seq_at}
+use Rattle.uc_tool_opening.specs.Refusals.{opening_refusal_line, bad_log}
+
+-- what a line of a head asks, where `last` is the last sequence of the log
+abbrev pub query_of : ℕ → Asked → Query
+query_of last (asked.Get key at) = query.Get key (seq_at last at)
+query_of last (asked.Scan low high limit at) = query.Scan low high (seq_at last at) limit
+
+-- the lines of the answer to it, from these writes, at the sequences that are kept
+abbrev pub reply_to : Operation → List Write → List ℕ → ℕ → Asked → List ℕ
+reply_to m writes keeps last asked = answer_lines (answer_of m writes keeps (query_of last asked))
+
+-- those of the answers to some lines, in their order
+abbrev pub replies_to : Operation → List Write → List ℕ → ℕ → List Asked → List (List ℕ)
+replies_to m writes keeps last queries = map (reply_to m writes keeps last) queries
+
+-- what is printed for queries once the store is open
+abbrev pub output_of : Operation → Opening → List Asked → Output
+output_of m o queries = record { replies = replies_to m o.writes (opened o).keeps (opened o).last queries; done = Fine }
+
+-- what is printed of an opening and queries, by why it is refused, if it is
+abbrev pub unless_refused : Operation → Opening → List Asked → Option OpenError → Output
+unless_refused m o queries (Some error) = refused (opening_refusal_line error)
+unless_refused m o queries None = output_of m o queries
+
+-- what is printed of these writes, where these sequences are kept
+abbrev pub of_writes : Operation → Options → List ℕ → List Asked → List Write → Output
+of_writes m options keeps queries writes =
+    let o : Opening = record { writes = writes; keeps = keeps; options = options } in
+    unless_refused m o queries (opening_refusal o)
+
+-- a log that has a fault is refused; a torn tail is none
+abbrev pub unless_faulty : Operation → Options → List ℕ → List Asked → List Write → Ended → Output
+unless_faulty m options keeps queries writes ended.Clean = of_writes m options keeps queries writes
+unless_faulty m options keeps queries writes (ended.Torn offset) = of_writes m options keeps queries writes
+unless_faulty m options keeps queries writes (ended.LogFault fault offset) = bad_log (ended.LogFault fault offset)
+unless_faulty m options keeps queries writes (ended.BatchFault number fault) = bad_log (ended.BatchFault number fault)
+
+abbrev pub of_log : Operation → Options → List ℕ → List Asked → WriteLog → Output
+of_log m options keeps queries log = unless_faulty m options keeps queries log.list log.ended
+
+-- the first fault of the head, or what is printed of the log behind it
+abbrev pub asked_of : Operation → Options → List ℕ → Result Head ℕ → Output
+asked_of m options input (Err line) = refused (numbered_line (codes "fault line ") line)
+asked_of m options input (Ok head) = of_log m options head.keeps head.queries (log_writes (drop head.size input))
+
+-- what is printed for the bytes of a head and a log, under an operator and options
+abbrev pub ask_of : Operation → Options → List ℕ → Output
+ask_of m options input = asked_of m options input (head_of input)

@@ -1,0 +1,4 @@
+pub mod Ask
+pub mod Given
+pub mod Plans
+pub mod Readable

@@ -1,0 +1,137 @@
+//! The answers to the queries of a head, printed some at a time.
+ghost use Rattle.std.specs.Prelude.{◌≡◌, ◌≤◌, ◌++◌, [], map, vec_len, length, IfOk, OnOk};
+ghost use Rattle.std.specs.List.{flat_map};
+ghost use Rattle.uc_script.specs.Head.{queries_in};
+ghost use Rattle.uc_query_answer.specs.Answers.{answer_of};
+ghost use Rattle.uc_query_shared.specs.Given.{ForEachHistory};
+ghost use Rattle.uc_tool_io.specs.Output.{Prints, joined};
+ghost use Rattle.uc_tool_ask.specs.Ask as asks;
+ghost use Rattle.uc_tool_ask.specs.Given.{replies_given};
+
+use crate::plan::Plan;
+use std::alloc::{AllocError, Global};
+use std::io::Write;
+use std::marker::{Send, Sync};
+use std::mem;
+use std::thread::Threads;
+use uc_oper::Operator;
+use uc_query_answer::Query;
+use uc_query_shared::{AskError, Free, answer_all};
+use uc_script::QueryReader;
+use uc_share::{Name, Reader};
+use uc_tool_io::{Done, RunError, write_bytes};
+use uc_tool_lines::answers_lines;
+use uc_tool_opening::seq_at;
+
+/// How many queries are read and answered at once, so that memory doesn't grow with their number.
+const BATCH: usize = 4096;
+
+/// What a line of a head asks, where `last` is the last sequence of the log.
+fn query_of(last: u64, asked: uc_script::Query) -> Query
+    ensures { result ≡ asks.query_of last asked }
+{
+    match asked {
+        uc_script::Query::Get { key, at } => {
+            let at = seq_at(last, at);
+            Query::Get { key, at }
+        }
+        uc_script::Query::Scan {
+            low,
+            high,
+            limit,
+            at,
+        } => {
+            let at = seq_at(last, at);
+            Query::Scan {
+                low,
+                high,
+                at,
+                limit,
+            }
+        }
+    }
+}
+
+/// The next queries of a head, some of them where any are left.
+fn next_batch(
+    alloc: Global,
+    ahead: &mut QueryReader<'_>,
+) -> Result<Vec<uc_script::Query>, AllocError>
+    ensures parts { IfOk result (λ asked. asked.items ++ ahead.new ≡ ahead.old) }
+    ensures some { IfOk result (λ asked. asked.items ≡ [] → ahead.old ≡ []) }
+{
+    ahead.next_queries(alloc, BATCH)
+}
+
+/// What some lines of a head ask.
+fn queries_of(
+    alloc: Global,
+    last: u64,
+    asked: Vec<uc_script::Query>,
+) -> Result<Vec<Query>, AllocError>
+    ensures { IfOk result (λ queries. queries.items ≡ map (asks.query_of last) asked.items) }
+{
+    asked
+        .into_iter()
+        .map(|asked| query_of(last, asked))
+        .collect(alloc)
+}
+
+/// The lines of the answers to some lines of a head, and the readers, as many as before.
+fn lines_of<O: Operator + Sync, N: Name + Send, R: Threads + Sync>(
+    rt: &R,
+    alloc: Global,
+    readers: Vec<Reader<O, N>>,
+    last: u64,
+    asked: Vec<uc_script::Query>,
+    plan: Plan,
+) -> Result<(Vec<Reader<O, N>>, Vec<u8>), AllocError>
+    requires { plan.workers ≤ vec_len readers }
+    ensures readers { IfOk result (λ done. vec_len done.0 ≡ vec_len readers) }
+    ensures lines { IfOk result (λ done. ForEachHistory O.meaning N.base (λ h.
+        done.1.items ≡ joined (replies_given O.meaning h last asked.items))) }
+{
+    let queries = queries_of(alloc, last, asked)?;
+    let (readers, answers) = answer_all(
+        rt,
+        alloc,
+        readers,
+        &queries,
+        plan.workers,
+        plan.piece,
+        &Free,
+    );
+    match answers {
+        Ok(answers) => Ok((readers, answers_lines(alloc, &answers)?)),
+        Err(AskError::Memory) => Err(AllocError),
+        Err(AskError::BadWorkers | AskError::BadPiece) => unreachable!(),
+    }
+}
+
+/// Prints the answers to all queries of a head, whose bytes these are. The readers are taken: none are left.
+pub(crate) fn print_answers<O: Operator + Sync, N: Name + Send, R: Threads + Sync, W: Write>(
+    rt: &R,
+    alloc: Global,
+    head: &[u8],
+    last: u64,
+    plan: Plan,
+    lent: &mut Vec<Reader<O, N>>,
+    writer: &mut W,
+) -> Result<Done, RunError>
+    requires { plan.workers ≤ vec_len lent.old }
+    ensures printed { ForEachHistory O.meaning N.base (λ h.
+        Prints (replies_given O.meaning h last (queries_in head.now)) (W.contents writer.old) (W.contents writer.new) result) }
+    ensures done { IfOk result (λ done. done ≡ Done.Fine) }
+{
+    let mut readers = mem::replace(lent, Vec::new(alloc));
+    let mut ahead = QueryReader::new(head);
+    'asked: loop {
+        let asked = next_batch(alloc, &mut ahead)?;
+        if asked.is_empty() {
+            return Ok(Done::Fine);
+        }
+        let (back, lines) = lines_of(rt, alloc, readers, last, asked, plan)?;
+        readers = back;
+        write_bytes(writer, &lines)?;
+    }
+}

@@ -1,0 +1,301 @@
+//! `ask`: the queries in front of a log, answered beside compactors.
+ghost use denote.Param.Send.{IsSync, IsSend};
+ghost use Rattle.std.specs.Prelude.{◌≡◌, ◌+◌, ◌≤◌, ◌∷◌, [], All, List, Ok, codes, drop, take, length, vec_len, IfOk, OnOk, IfSome};
+ghost use Rattle.uc_batch.specs.Log.{log_writes};
+ghost use Rattle.uc_batch.specs.Rising.{IsRising};
+ghost use Rattle.uc_bytes.specs.declared.write.Write.{Write as WriteOf};
+ghost use Rattle.uc_script.specs.Head.{head_of, queries_in};
+ghost use Rattle.uc_version_open.specs.Progress.{progress_of};
+ghost use Rattle.uc_query_shared.specs.Given.{ForEachHistory};
+ghost use Rattle.uc_tool_io.specs.Output.{Prints, HasWritten, refused};
+ghost use Rattle.uc_tool_log_lines.specs.Line as texts;
+ghost use Rattle.uc_tool_ask.specs.Ask.{ask_of, of_log, of_writes};
+ghost use Rattle.uc_tool_ask.specs.Given.{replies_given};
+ghost use Rattle.uc_tool_ask.specs.Plans.{IsPlan};
+
+use crate::answering::print_answers;
+use crate::compacting::{Compactor, all_installs};
+use crate::plan::Plan;
+use std::alloc::{AllocError, Global};
+use std::io::{Read, Write};
+use std::marker::{Brand, Send, Sync};
+use std::sync::Wait;
+use std::thread::{Threads, join_mut};
+use uc_batch::Ended;
+use uc_oper::Operator;
+use uc_script::{Head, ScriptError, read_head};
+use uc_share::{Name, Opening, Options, Reader, Seat, Store, Version};
+use uc_tool_io::{Done, RunError, finish, finish_without_input, print_refusal, read_input};
+use uc_tool_log_lines::numbered_line;
+use uc_tool_opening::{print_bad_log, print_refused_opening};
+use uc_version_open::{OpenError, Opener, Recovered, no_refusal_is_leave_to_open, recover};
+
+/// How a run ended, and how many installs its compactors made.
+type Asked = (Result<Done, RunError>, u64);
+
+/// A crew for the seats of a store, each with one of the readers. As many readers are left as there were more.
+fn crew_of<O: Operator, N: Name, W: Wait + Drop>(
+    alloc: Global,
+    store: &Store<O, N, W>,
+    readers: &mut Vec<Reader<O, N>>,
+    seats: Vec<Seat>,
+) -> Result<Vec<Compactor<O, N>>, AllocError>
+    requires tables { All (λ seat. seat.table ≡ store.now.table) seats.items }
+    requires enough { vec_len seats ≤ vec_len readers.old }
+    ensures crew { IfOk result (λ crew. All (λ x. x.seat.table ≡ store.now.table) crew.items) }
+    ensures left { OnOk result (vec_len readers.new + vec_len seats ≡ vec_len readers.old) }
+{
+    let mut crew = Vec::with_capacity(alloc, seats.len())?;
+    for seat in seats {
+        let Some(reader) = readers.pop() else {
+            unreachable!()
+        };
+        crew.push(Compactor { seat, reader })?;
+    }
+    Ok(crew)
+}
+
+/// Prints the answers to the queries of a head while a crew compacts, which has ended then. The crew is moved to its thread: what is
+/// lent to both closures can be followed through one of them alone.
+fn answer_beside_crew<O, N, W, R, V>(
+    rt: &R,
+    alloc: Global,
+    store: &Store<O, N, W>,
+    mut crew: Vec<Compactor<O, N>>,
+    readers: &mut Vec<Reader<O, N>>,
+    last: u64,
+    head: &[u8],
+    plan: Plan,
+    writer: &mut V,
+) -> Asked
+where
+    O: Operator + Send + Sync,
+    N: Name + Send + Sync,
+    W: Wait + Drop + Send,
+    R: Threads + Wait + Sync,
+    V: Write,
+    requires crew { All (λ x. x.seat.table ≡ store.now.table) crew.items }
+    requires readers { plan.workers ≤ vec_len readers.old }
+    ensures printed { ForEachHistory O.meaning N.base (λ h.
+        Prints (replies_given O.meaning h last (queries_in head.now)) (V.contents writer.old) (V.contents writer.new) result.0) }
+    ensures done { IfOk result.0 (λ done. done ≡ Done.Fine) }
+{
+    let (installs, printed) = join_mut(
+        rt,
+        &mut move || -> u64
+            requires { All (λ x. x.seat.table ≡ store.now.table) crew.items }
+        { all_installs(rt, alloc, store, &mut crew) },
+        &mut || -> Result<Done, RunError>
+            requires { plan.workers ≤ vec_len readers.now }
+        { print_answers(rt, alloc, head, last, plan, readers, writer) },
+    );
+    (printed, installs)
+}
+
+/// Opens a store that threads share, and prints the answers to the queries of a head while compactors compact it.
+fn answer_shared<O, N, R, V>(
+    rt: &R,
+    alloc: Global,
+    opened_with: (Opening, Version),
+    head: &[u8],
+    options: &Options,
+    plan: Plan,
+    writer: &mut V,
+) -> Asked
+where
+    O: Operator + Send + Sync,
+    N: Name + Send + Sync,
+    R: Threads + Wait + Sync,
+    V: Write,
+    requires book { opened_with.0.seen.book ≡ N.book }
+    requires base { opened_with.1 ≡ N.base }
+    ensures printed { ForEachHistory O.meaning N.base (λ h.
+        Prints (replies_given O.meaning h opened_with.1.last (queries_in head.now))
+        (V.contents writer.old) (V.contents writer.new) result.0) }
+    ensures done { IfOk result.0 (λ done. done ≡ Done.Fine) }
+{
+    let (opening, version) = opened_with;
+    let last = version.last();
+    let readers = plan.workers + plan.compactors;
+    let opened = Store::<O, N, &R>::open(
+        alloc,
+        rt,
+        opening,
+        version,
+        *options,
+        readers,
+        plan.compactors,
+    );
+    let Ok((store, mut readers, seats)) = opened else {
+        return (Err(RunError::Memory), 0);
+    };
+    let Ok(crew) = crew_of(alloc, &store, &mut readers, seats) else {
+        return (Err(RunError::Memory), 0);
+    };
+    answer_beside_crew(
+        rt,
+        alloc,
+        &store,
+        crew,
+        &mut readers,
+        last,
+        head,
+        plan,
+        writer,
+    )
+}
+
+/// Opens the store that has taken some writes, and prints why it is refused, or the answers to the queries of a head.
+fn print_opened<O: Operator + Send + Sync, R: Threads + Wait + Sync, V: Write>(
+    rt: &R,
+    alloc: Global,
+    opener: Opener,
+    keeps: &[u64],
+    head: &[u8],
+    options: &Options,
+    plan: Plan,
+    writer: &mut V,
+) -> Asked
+    requires taken { (writes : List WriteOf) × IsRising 0 writes × (opener ≡ progress_of options.now writes) }
+    ensures printed { (writes : List WriteOf) → IsRising 0 writes → opener ≡ progress_of options.now writes →
+        Prints (of_writes O.meaning options.now keeps.now (queries_in head.now) writes).replies
+        (V.contents writer.old) (V.contents writer.new) result.0 }
+    ensures done { (writes : List WriteOf) → IsRising 0 writes → opener ≡ progress_of options.now writes →
+        IfOk result.0 (λ done. done ≡ (of_writes O.meaning options.now keeps.now (queries_in head.now) writes).done) }
+{
+    // A law of the layer below, which does nothing when it runs: what isn't refused may open.
+    no_refusal_is_leave_to_open();
+    match opener.finish(alloc, keeps) {
+        Ok(version) => {
+            let opened_with = (Opening::new(), version);
+            answer_shared::<O, Brand, R, V>(rt, alloc, opened_with, head, options, plan, writer)
+        }
+        Err(OpenError::Memory) => (Err(RunError::Memory), 0),
+        Err(error) => (print_refused_opening(alloc, error, writer), 0),
+    }
+}
+
+/// A store that is being opened from the log behind a head of so many bytes, and how far that was read, with the bytes of the
+/// head. The log is let go of.
+fn recover_behind(
+    alloc: Global,
+    mut input: Vec<u8>,
+    size: usize,
+    options: Options,
+) -> Result<(Recovered, Vec<u8>), AllocError>
+    requires { size ≤ vec_len input }
+    ensures opener { IfOk result (λ found.
+        found.0.opener ≡ progress_of options (log_writes (drop size input.items)).list) }
+    ensures ended { IfOk result (λ found. found.0.ended ≡ (log_writes (drop size input.items)).ended) }
+    ensures rising { IfOk result (λ _. IsRising 0 (log_writes (drop size input.items)).list) }
+    ensures head { IfOk result (λ found. found.1.items ≡ take size input.items) }
+{
+    let recovered = recover(alloc, &input[size..], options)?;
+    input.truncate(size);
+    input.shrink_to_fit();
+    Ok((recovered, input))
+}
+
+/// Answers the queries of a head over the log that stands behind it.
+fn answer_log<O: Operator + Send + Sync, R: Threads + Wait + Sync, V: Write>(
+    rt: &R,
+    alloc: Global,
+    input: Vec<u8>,
+    head: Head,
+    options: &Options,
+    plan: Plan,
+    writer: &mut V,
+) -> Asked
+    requires { head.size ≤ vec_len input }
+    ensures printed { Prints (of_log O.meaning options.now head.keeps (queries_in (take head.size input.items))
+        (log_writes (drop head.size input.items))).replies (V.contents writer.old) (V.contents writer.new) result.0 }
+    ensures done { IfOk result.0 (λ done. done ≡ (of_log O.meaning options.now head.keeps
+        (queries_in (take head.size input.items)) (log_writes (drop head.size input.items))).done) }
+{
+    let Ok((recovered, lines)) = recover_behind(alloc, input, head.size, *options) else {
+        return (Err(RunError::Memory), 0);
+    };
+    let Recovered { opener, ended } = recovered;
+    match ended {
+        Ended::Clean | Ended::Torn(_) => print_opened::<O, R, V>(
+            rt,
+            alloc,
+            opener,
+            head.keeps.as_slice(),
+            &lines,
+            options,
+            plan,
+            writer,
+        ),
+        Ended::LogFault(..) | Ended::BatchFault(..) => (print_bad_log(alloc, ended, writer), 0),
+    }
+}
+
+/// Prints which line of a head is at fault.
+fn print_fault<V: Write>(alloc: Global, line: u64, writer: &mut V) -> Result<Done, RunError>
+    ensures printed { Prints (refused (texts.numbered_line (codes "fault line ") line)).replies
+        (V.contents writer.old) (V.contents writer.new) result }
+    ensures done { IfOk result (λ done. done ≡ Done.Refused) }
+{
+    let line = numbered_line(alloc, b"fault line ", line)?;
+    print_refusal(&line, writer)
+}
+
+/// Answers the queries in front of a log.
+fn run<O: Operator + Send + Sync, R: Threads + Wait + Sync, V: Write>(
+    rt: &R,
+    alloc: Global,
+    input: Vec<u8>,
+    options: &Options,
+    plan: Plan,
+    writer: &mut V,
+) -> Asked
+    ensures printed { Prints (ask_of O.meaning options.now input.items).replies
+        (V.contents writer.old) (V.contents writer.new) result.0 }
+    ensures done { IfOk result.0 (λ done. done ≡ (ask_of O.meaning options.now input.items).done) }
+{
+    match read_head(alloc, &input) {
+        Ok(head) => answer_log::<O, R, V>(rt, alloc, input, head, options, plan, writer),
+        Err(ScriptError::Fault(line)) => (print_fault(alloc, line, writer), 0),
+        Err(ScriptError::Memory) => (Err(RunError::Memory), 0),
+    }
+}
+
+/// Answers the queries in front of a log: reads all of the input, checks its head, opens a store from the log behind that, and
+/// prints the answers in the order of the queries. So many workers answer pieces of so many queries, from the versions that are
+/// shown meanwhile, while so many compactors compact what universal compaction picks, each until nothing is picked, memory runs
+/// out, or it took 256 turns. All have ended when it returns. The number counts the installs that the compactors made.
+///
+/// What is written is the text of `ask_of`, a function of the bytes that were read, the operator's meaning and the options:
+/// not of workers, pieces or compactors. A fault of the head is refused with the line that it stands in, then a log with a fault,
+/// and then an opening. After want of memory it is some whole first replies of that text, and then `out of memory`; where the
+/// reader or the writer fails, or the input is longer than 64 MiB, it is a front of a text that says so or of that one.
+///
+/// [`is_plan`](crate::is_plan) says which numbers go together.
+pub fn ask<O: Operator + Send + Sync, R: Read, W: Write>(
+    rt: &(impl Threads + Wait + Sync),
+    alloc: Global,
+    reader: &mut R,
+    writer: &mut W,
+    options: &Options,
+    workers: usize,
+    piece: usize,
+    compactors: usize,
+) -> (Done, u64)
+    requires { IsPlan workers piece compactors }
+    ensures { IfSome (R.remaining reader.old) (λ input.
+        HasWritten (ask_of O.meaning options.now input) input (W.contents writer.old) (W.contents writer.new) result.0) }
+{
+    let plan = Plan {
+        workers,
+        piece,
+        compactors,
+    };
+    match read_input(alloc, reader) {
+        Ok(input) => {
+            let (outcome, installs) = run::<O, _, W>(rt, alloc, input, options, plan, writer);
+            (finish(writer, outcome), installs)
+        }
+        Err(error) => (finish_without_input(writer, error), 0),
+    }
+}

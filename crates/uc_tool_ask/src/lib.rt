@@ -1,0 +1,20 @@
+//! `ask`: the queries in front of a log, answered by workers while compactors install.
+//!
+//! It reads a head of queries, opens a store that threads share from the log behind it, and prints the answers, which workers
+//! take from whatever versions are shown, while compactors compact what universal compaction picks. What it prints is `ask_of`,
+//! a function of the bytes that it reads, of the operator and of the options: workers, pieces and compactors aren't in it. The
+//! law `queries_are_answered_from_the_log` says what that means in the words of plain writes.
+//!
+//! Read `specs/Ask.antt` first, then `asking.rt`, `answering.rt` and `compacting.rt`. Recovering and refusing stand in
+//! `uc_tool_opening`, the lines of answers in `uc_tool_lines`, batches in `uc_query_shared` and the store in `uc_share`.
+#![tactic(auto)]
+
+mod answering;
+mod asking;
+mod compacting;
+mod laws;
+mod plan;
+
+pub use asking::ask;
+pub use laws::queries_are_answered_from_the_log;
+pub use plan::{MOST_COMPACTORS, is_plan};
