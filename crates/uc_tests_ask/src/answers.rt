@@ -36,7 +36,8 @@ fn five(alloc: Global) -> Result<Vec<Op>, Fail> {
 }
 
 /// Seven queries about the five changes, with comments and empty lines between them, which are skipped.
-const HEAD: &[u8] = b"# a snapshot and seven queries\nkeep 2\n\nget 6b last\nget 6b 2\nget 6c last\n\
+const HEAD: &[u8] =
+    b"# a snapshot and seven queries\nkeep 2\n\nget 6b last\nget 6b 2\nget 6c last\n\
     get 6b 3\nscan . - 10 last\nscan . - 0 last\nscan 6b 6c 10 2\nlog\n";
 
 /// What is answered.
@@ -76,7 +77,11 @@ fn the_first_example(rt: HostRuntime) -> Result<(), Fail> {
 #[test]
 fn compactors_install(rt: HostRuntime) -> Result<(), Fail> {
     let alloc = rt.alloc();
-    let input = input_of(alloc, b"get 6b last\nlog\n", &log_of(alloc, &three(alloc)?)?)?;
+    let input = input_of(
+        alloc,
+        b"get 6b last\nlog\n",
+        &log_of(alloc, &three(alloc)?)?,
+    )?;
     for compactors in [0, 1] {
         let run = run_of::<Texts>(&rt, alloc, &small_runs(), &input, (1, 1, compactors));
         let run = run.ok_or("it is a plan")?;

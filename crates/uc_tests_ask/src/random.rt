@@ -100,7 +100,9 @@ fn played<O: Operator + Sync>(
     let options = small_runs();
     let done = play::<O, &[u8], Vec<u8>>(rt, alloc, &mut reader, &mut text, &options);
     let begins = if done == Done::Fine {
-        text.iter().position(|byte| *byte == b'\n').map_or(0, |place| place.saturating_add(1))
+        text.iter()
+            .position(|byte| *byte == b'\n')
+            .map_or(0, |place| place.saturating_add(1))
     } else {
         0
     };
@@ -129,7 +131,14 @@ fn agree<O: Operator + Send + Sync>(
         let input = input_of(alloc, draft.head.as_bytes(), &log)?;
         let plan = plan(&mut dice);
         assert!(rt;
-            prints::<O>(rt, alloc, &small_runs(), &input, plan, (want.as_slice(), done)),
+            prints::<O>(
+                rt,
+                alloc,
+                &small_runs(),
+                &input,
+                plan,
+                (want.as_slice(), done)
+            ),
             "input {number} of seed {seed}"
         );
     }

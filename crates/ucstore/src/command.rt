@@ -32,7 +32,9 @@ or too long an input.";
 
 /// The usual numbers of workers, of queries of a piece, and of compactors of `ucstore ask`.
 const WORKERS: &str = "4";
+
 const PIECE: &str = "16";
+
 const COMPACTORS: &str = "0";
 
 /// Texts that the command line shows and that are made as the program runs, so that what they say stands
