@@ -1,5 +1,5 @@
 -- Answers after every history of a store are answers from the writes that it was opened with.
-use Rattle.std.proofs.Common.{◌≡◌, ℕ, List, [], ◌++◌, Option, None, Result, sym, ap, ◌∙◌, subst}
+use Rattle.std.proofs.Common.{◌≡◌, ℕ, List, [], Option, None, Result, sym, ap, ◌∙◌, subst}
 use Rattle.std.proofs.lemmas.List.{append-nil}
 use Rattle.uc_oper.specs.Operation.{Operation}
 use Rattle.uc_bytes.specs.declared.write.Write.{Write}

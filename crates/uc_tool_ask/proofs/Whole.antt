@@ -12,7 +12,7 @@ use Rattle.uc_version_open.specs.Refusal.{opening_refusal}
 use Rattle.uc_version_open.specs.declared.open_error.OpenError.{OpenError}
 use Rattle.uc_version_pick.specs.declared.options.Options.{Options}
 use Rattle.uc_tool_io.specs.Ending.{IsWhole}
-use Rattle.uc_tool_ask.specs.Ask.{unless_refused, of_writes, unless_faulty, of_log, asked_of, ask_of}
+use Rattle.uc_tool_ask.specs.Ask.{unless_refused, of_writes, unless_faulty, asked_of, ask_of}
 
 opening_whole : (m : Operation) (o : Opening) (queries : List Asked) (refusal : Option OpenError) → IsWhole (unless_refused m o queries refusal).done
 opening_whole m o queries None = tt

@@ -1,4 +1,4 @@
-use Rattle.std.proofs.Common.{rules, ◌≡◌, ℕ, List, map, ap, ◌∙◌}
+use Rattle.std.proofs.Common.{rules, ◌≡◌, List, ap, ◌∙◌}
 use Rattle.std.specs.List.{flat_map}
 use Rattle.uc_query_answer.specs.Answers.{answer_of}
 use Rattle.uc_query_answer.specs.declared.answer.Answer.{Answer}
@@ -10,11 +10,12 @@ use Rattle.uc_tool_ask.specs.Ask.{query_of}
 use Rattle.uc_tool_ask.proofs.Batches.{lines_are}
 use Rattle.uc_tool_ask.proofs.answering.lines_of.Goals as goal
 
-pub returns-in_ok-answers_lines-in-Ok-clause-lines : goal.returns-in_ok-answers_lines-in-Ok-clause-lines
-returns-in_ok-answers_lines-in-Ok-clause-lines g c h legal leads =
+pub returns-in-Ok-clause-lines : goal.returns-in-Ok-clause-lines
+returns-in-Ok-clause-lines g c h legal leads =
     let m = g.O.Operator.meaning in
     let queries = c.deref.ensures.value ∙ c.in_ok-queries.ensures in
-    let answered : c.in-Ok.answers.items ≡ answers_given m h c.deref.result.now = ? in
+    let answered : c.in-Ok.answers.items ≡ answers_given m h c.deref.result.now = (rw c.in-Ok.is at c.answer_all-readers.ensures.answers) h legal leads in
+    let value : c.deref-in-Ok.result.now ≡ c.in-Ok.answers.items = search rules in
     c.in_ok-answers_lines-in-Ok.ensures
-    ∙ ap (λ (xs : List Answer). flat_map answer_lines xs) (c.deref-in-Ok.ensures.value ∙ answered ∙ ap (λ (xs : List Query). answers_given m h xs) queries)
+    ∙ ap (λ (xs : List Answer). flat_map answer_lines xs) (value ∙ answered ∙ ap (λ (xs : List Query). answers_given m h xs) queries)
     ∙ lines_are answer_lines (answer_of m (writes_given h) (version_after h).keeps) (query_of c.args.last) c.args.asked.items

@@ -1,16 +1,24 @@
-use Rattle.std.proofs.Common.{rules, ◌≡◌, ◌≤◌, ℕ, List, [], ◌++◌, map, length, vec_len, refl, ap, sym, ◌∙◌, subst, arith}
+use Rattle.std.proofs.Common.{◌≡◌, ℕ, Bool, true, List, [], ◌∷◌, length, refl, ap, sym, ◌∙◌, subst, arith}
+use Rattle.std.specs.Bool.{◌==◌}
+use Rattle.std.proofs.lemmas.Bool.Decides.{nat_tests}
 use Rattle.std.proofs.lemmas.Result.{err_from_is_err_and}
 use Rattle.uc_script.specs.Head.{queries_in}
 use Rattle.uc_script.specs.declared.query.Query.{Query}
 use Rattle.uc_version_state.specs.Histories.{version_after, writes_given}
 use Rattle.uc_tool_ask.specs.Ask.{reply_to}
 use Rattle.uc_tool_ask.specs.Given.{replies_given}
-use Rattle.uc_tool_io.specs.Output.{joined}
 use Rattle.uc_tool_io.specs.Writing.{AppendsFront}
 use Rattle.std.specs.Io.KnownBytes.{Appends}
 use Rattle.uc_tool_io.proofs.Printing.{GoesOn, begins, no_memory, all_printed}
 use Rattle.uc_tool_ask.proofs.Batches.{replies_parts, batch_sent, batch_stopped}
 use Rattle.uc_tool_ask.proofs.answering.print_answers.Goals as goal
+
+-- a list of no element
+empty_of : (xs : List Query) (n : ℕ) (b : Bool) → n ≡ length xs → b ≡ (n == 0) → b ≡ true → xs ≡ []
+empty_of [] n b is e t = refl
+empty_of (x ∷ xs) n b is e t =
+    let none : n ≡ 0 = grind (arith, nat_tests, e, t) in
+    absurd (omega (arith, none, is))
 
 pub asked-init : goal.asked-init
 asked-init g c =
@@ -32,7 +40,7 @@ pub returns-then-is_empty-clause-printed : goal.returns-then-is_empty-clause-pri
 returns-then-is_empty-clause-printed g c h legal leads =
     let contents = g.W.Write.contents in
     let replies = replies_given g.O.Operator.meaning h c.args.last in
-    let none : c.in_ok-asked.asked.items ≡ [] = search rules in
+    let none : c.in_ok-asked.asked.items ≡ [] = empty_of c.in_ok-asked.asked.items _ c.is_empty.result (omega (arith, c.in_ok-asked.asked.ok.0)) c.is_empty.ensures c.if-is_empty.true in
     let nothing : replies c.asked.ahead ≡ [] = ap replies (c.in_ok-asked.ensures.some none) in
     all_printed (replies (queries_in c.args.head.now)) (replies c.asked.ahead) (contents c.args.writer.now) (contents c.asked.writer) (c.asked.invariant.goes h legal leads) nothing
 

@@ -1,4 +1,4 @@
-use Rattle.std.proofs.Common.{rules, ◌≡◌, ℕ, suc, ◌+◌, ◌<◌, List, [], ◌∷◌, ◌++◌, All, length, get_or, ap, arith}
+use Rattle.std.proofs.Common.{rules, ◌≡◌, suc, ◌+◌, List, [], ◌∷◌, ◌++◌, All, length, ap, arith}
 use Rattle.std.proofs.lemmas.List.{length_push}
 use Rattle.std.proofs.lemmas.List.Elements.{All-push}
 use Rattle.uc_tool_ask.specs.declared.compacting.Compactor.{Compactor}

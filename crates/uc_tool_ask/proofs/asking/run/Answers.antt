@@ -1,6 +1,7 @@
-use Rattle.std.proofs.Common.{rules, ◌≡◌, Err, ap, sym, subst}
+use Rattle.std.proofs.Common.{rules, ◌≡◌, ℕ, codes, Err, ap, sym, subst}
 use Rattle.uc_script.specs.Head.{head_of}
-use Rattle.uc_tool_io.specs.Output.{Output, Prints}
+use Rattle.uc_tool_io.specs.Output.{Output, Prints, refused}
+use Rattle.uc_tool_log_lines.specs.Line.{numbered_line}
 use Rattle.uc_tool_ask.specs.Ask.{asked_of}
 use Rattle.uc_tool_ask.proofs.asking.run.Goals as goal
 
@@ -8,4 +9,5 @@ pub returns-in-Err-Fault-clause-printed : goal.returns-in-Err-Fault-clause-print
 returns-in-Err-Fault-clause-printed g c =
     let contents = g.V.Write.contents in
     let fault : head_of c.args.input.items ≡ Err c.in-Err-Fault.line = search rules in
-    subst (λ (out : Output). Prints out.replies (contents c.args.writer.now) (contents c.print_fault.new.writer) c.print_fault.result) (sym (ap (asked_of g.O.Operator.meaning c.args.options.now c.args.input.items) fault)) c.print_fault.ensures.printed
+    let named = subst (λ (n : ℕ). Prints (refused (numbered_line (codes "fault line ") n)).replies (contents c.args.writer.now) (contents c.print_fault.new.writer) c.print_fault.result) c.in-Err-Fault.line-is c.print_fault.ensures.printed in
+    subst (λ (out : Output). Prints out.replies (contents c.args.writer.now) (contents c.print_fault.new.writer) c.print_fault.result) (sym (ap (asked_of g.O.Operator.meaning c.args.options.now c.args.input.items) fault)) named
