@@ -324,6 +324,7 @@ pub fn operator_name(matches: &ArgMatches<'_>) -> Option<OperatorName> {
 }
 
 /// How many threads `ucstore ask` answers and compacts by, and how it cuts the queries.
+#[derive(Clone, Copy, Debug, PartialEq, Eq)]
 pub struct Plan {
     /// How many workers answer.
     pub workers: usize,
