@@ -340,7 +340,7 @@ fn count(matches: &ArgMatches<'_>, name: &str) -> usize {
 }
 
 /// The plan of `ucstore ask` that the words set.
-pub fn plan(matches: &ArgMatches<'_>) -> Plan {
+pub fn plan_of(matches: &ArgMatches<'_>) -> Plan {
     Plan {
         workers: count(matches, "workers"),
         piece: count(matches, "piece"),

@@ -65,7 +65,7 @@ fn ask_log<R: Read, W: Write>(
         workers,
         piece,
         compactors,
-    } = command::plan(matches);
+    } = command::plan_of(matches);
     // The parser lets no other numbers through.
     if !is_plan(workers, piece, compactors) {
         return Done::Refused;

@@ -92,7 +92,7 @@ fn plan_of(alloc: Global, line: &str) -> Result<(usize, usize, usize), Fail> {
     let matches = command::ucstore(alloc, &shown)?.try_get_matches_from(words.as_slice())?;
     match matches.subcommand() {
         Some((_, words)) => {
-            let plan = command::plan(words);
+            let plan = command::plan_of(words);
             Ok((plan.workers, plan.piece, plan.compactors))
         }
         None => Err(Fail::from(AllocError)),
