@@ -7,114 +7,13 @@
 // again, which recovers the log, answers the queries by so many threads, and prints the lines that `ucstore ask` prints.
 // It waits for no compaction.
 
-#include <rocksdb/db.h>
-#include <rocksdb/env.h>
-#include <rocksdb/merge_operator.h>
-#include <rocksdb/universal_compaction.h>
+#include "../rocksdb_store.h"
 
-#include <algorithm>
 #include <atomic>
-#include <cinttypes>
-#include <cstdint>
-#include <cstdio>
-#include <cstdlib>
-#include <memory>
-#include <string>
-#include <thread>
-#include <utility>
-#include <vector>
 
 namespace {
 
-using rocksdb::Slice;
-using rocksdb::Status;
-
-const std::string kFolder = "/counters";
-
-// Ends the program where a call failed.
-void Expect(const Status& status, const char* what) {
-  if (!status.ok()) {
-    std::fprintf(stderr, "rocksdb: %s: %s\n", what, status.ToString().c_str());
-    std::exit(1);
-  }
-}
-
-// The number that 8 bytes stand for, low byte first; 0 for any other text.
-uint64_t Number(const Slice& bytes) {
-  uint64_t number = 0;
-  if (bytes.size() == 8) {
-    for (int place = 7; place >= 0; place--) {
-      number = number << 8 | static_cast<uint8_t>(bytes[place]);
-    }
-  }
-  return number;
-}
-
-// Adds numbers of 64 bits, whose sums wrap.
-class Counter : public rocksdb::AssociativeMergeOperator {
- public:
-  bool Merge(const Slice&, const Slice* existing, const Slice& operand, std::string* result,
-             rocksdb::Logger*) const override {
-    uint64_t sum = Number(operand) + (existing == nullptr ? 0 : Number(*existing));
-    result->clear();
-    for (int place = 0; place < 8; place++) {
-      result->push_back(static_cast<char>(sum >> (8 * place)));
-    }
-    return true;
-  }
-
-  const char* Name() const override { return "counter"; }
-};
-
-rocksdb::Options OptionsIn(rocksdb::Env* env) {
-  rocksdb::Options options;
-  options.env = env;
-  options.create_if_missing = true;
-  options.compaction_style = rocksdb::kCompactionStyleUniversal;
-  options.level0_file_num_compaction_trigger = 4;
-  options.compaction_options_universal.size_ratio = 1;
-  options.compaction_options_universal.min_merge_width = 2;
-  options.compaction_options_universal.max_size_amplification_percent = 200;
-  options.write_buffer_size = 4 << 20;
-  options.compression = rocksdb::kNoCompression;
-  options.merge_operator = std::make_shared<Counter>();
-  return options;
-}
-
-std::unique_ptr<rocksdb::DB> Open(const rocksdb::Options& options) {
-  rocksdb::DB* db = nullptr;
-  Expect(rocksdb::DB::Open(options, kFolder, &db), "open");
-  return std::unique_ptr<rocksdb::DB>(db);
-}
-
-// The number in a file's name: that of `MANIFEST-000005` is 5.
-uint64_t NumberIn(const std::string& name) {
-  size_t digits = name.find_first_of("0123456789");
-  return digits == std::string::npos ? 0 : std::strtoull(name.c_str() + digits, nullptr, 10);
-}
-
-// The name of a log behind all files that are there, so that it is recovered last.
-std::string NextLog(rocksdb::Env* env) {
-  std::vector<std::string> names;
-  Expect(env->GetChildren(kFolder, &names), "list");
-  uint64_t number = 0;
-  for (const std::string& name : names) number = std::max(number, NumberIn(name));
-  char path[64];
-  std::snprintf(path, sizeof path, "%s/%06" PRIu64 ".log", kFolder.c_str(), number + 1);
-  return path;
-}
-
-// Copies what is left of standard input to a log of the database.
-void PutLog(rocksdb::Env* env) {
-  std::unique_ptr<rocksdb::WritableFile> file;
-  Expect(env->NewWritableFile(NextLog(env), &file, rocksdb::EnvOptions()), "create a log");
-  std::vector<char> part(1 << 20);
-  size_t count;
-  while ((count = std::fread(part.data(), 1, part.size(), stdin)) > 0) {
-    Expect(file->Append(Slice(part.data(), count)), "write a log");
-  }
-  Expect(file->Close(), "close a log");
-}
+using namespace counters;
 
 // A lookup, or a scan of so many rows.
 struct Query {
@@ -155,8 +54,7 @@ std::vector<Query> Head() {
     } else if (std::sscanf(line, "scan %127s - %" SCNu64 " last", key, &limit) == 2) {
       queries.push_back({true, Unhex(key), limit});
     } else {
-      std::fprintf(stderr, "rocksdb: no such line: %s", line);
-      std::exit(1);
+      Fail(std::string("no such line: ") + line);
     }
   }
   return queries;
@@ -202,13 +100,10 @@ std::vector<std::string> Answers(rocksdb::DB* db, const std::vector<Query>& quer
 }  // namespace
 
 int main(int count, char** words) {
-  if (count != 2) {
-    std::fprintf(stderr, "rocksdb: say how many workers\n");
-    return 1;
-  }
+  if (count != 2) Fail("say how many workers");
   std::vector<Query> queries = Head();
   std::unique_ptr<rocksdb::Env> env(rocksdb::NewMemEnv(rocksdb::Env::Default()));
-  rocksdb::Options options = OptionsIn(env.get());
+  rocksdb::Options options = OptionsIn(env.get(), Settings());
   Expect(Open(options)->Close(), "close");
   PutLog(env.get());
   std::unique_ptr<rocksdb::DB> db = Open(options);
