@@ -1,36 +1,14 @@
 //! Runs of a few writes, compacted.
+use crate::given::{Given, Point, Says, built, points_of, run_of, runs_of};
 use std::alloc::Global;
 use std::sync::Arc;
 use std::test::Fail;
 use std::thread::Threads;
-use uc_bytes::{Bytes, Items};
+use uc_bytes::Bytes;
 use uc_compact::{Compacted, compact, inputs_stand};
 use uc_oper::{Append, Counter, Operator};
-use uc_run_entry::{Entry, Fragment, What, is_run};
+use uc_run_entry::{Entry, What};
 use uc_run_table::Run;
-
-/// What a point of a test says.
-#[derive(Clone, Copy)]
-enum Says {
-    Put(&'static [u8]),
-    Delete,
-    Merge(&'static [u8]),
-}
-
-/// A point of a test: its key, its sequence, and what it says.
-type Point = (&'static [u8], u64, Says);
-
-/// A range deletion of a test: its ends and its sequence.
-type Deletion = (&'static [u8], &'static [u8], u64);
-
-/// A run of a test: its range of sequences, its points, and its range deletions, which don't overlap.
-#[derive(Clone, Copy)]
-struct Given {
-    low: u64,
-    high: u64,
-    points: &'static [Point],
-    ranges: &'static [Deletion],
-}
 
 const ONE: &[u8] = &[1, 0, 0, 0, 0, 0, 0, 0];
 
@@ -47,73 +25,6 @@ const ELEVEN: &[u8] = &[11, 0, 0, 0, 0, 0, 0, 0];
 const TWELVE: &[u8] = &[12, 0, 0, 0, 0, 0, 0, 0];
 
 const TEN_THOUSAND: &[u8] = &[0x10, 0x27, 0, 0, 0, 0, 0, 0];
-
-fn what_of(alloc: Global, says: Says) -> Result<What, Fail> {
-    Ok(match says {
-        Says::Put(value) => What::Put(Bytes::from_slice(alloc, value)?),
-        Says::Delete => What::Delete,
-        Says::Merge(operand) => What::Merge(Bytes::from_slice(alloc, operand)?),
-    })
-}
-
-fn points_of(alloc: Global, given: &[Point]) -> Result<Vec<Entry>, Fail> {
-    let mut points = Vec::new(alloc);
-    for &(key, seq, says) in given {
-        points.push(Entry {
-            key: Bytes::from_slice(alloc, key)?,
-            seq,
-            what: what_of(alloc, says)?,
-        })?;
-    }
-    Ok(points)
-}
-
-fn fragments_of(alloc: Global, given: &[Deletion]) -> Result<Vec<Fragment>, Fail> {
-    let mut fragments = Vec::new(alloc);
-    for &(begin, end, seq) in given {
-        let mut seqs = Vec::new(alloc);
-        seqs.push(seq)?;
-        fragments.push(Fragment {
-            begin: Bytes::from_slice(alloc, begin)?,
-            end: Bytes::from_slice(alloc, end)?,
-            seqs: Items::from(seqs),
-        })?;
-    }
-    Ok(fragments)
-}
-
-/// The run of points and fragments that make one.
-fn built(
-    alloc: Global,
-    low: u64,
-    high: u64,
-    points: Vec<Entry>,
-    fragments: Vec<Fragment>,
-) -> Result<Arc<Run>, Fail> {
-    if is_run(low, high, &points, &fragments) {
-        Ok(Arc::new(alloc, Run::build(alloc, low, high, points, fragments)?)?)
-    } else {
-        Err(Fail::new("no run"))
-    }
-}
-
-fn run_of(alloc: Global, given: &Given) -> Result<Arc<Run>, Fail> {
-    built(
-        alloc,
-        given.low,
-        given.high,
-        points_of(alloc, given.points)?,
-        fragments_of(alloc, given.ranges)?,
-    )
-}
-
-fn runs_of(alloc: Global, given: &[Given]) -> Result<Vec<Arc<Run>>, Fail> {
-    let mut runs = Vec::new(alloc);
-    for run in given {
-        runs.push(run_of(alloc, run)?)?;
-    }
-    Ok(runs)
-}
 
 /// The output of a compaction of runs that may be compacted together.
 fn output<O: Operator + Sync>(

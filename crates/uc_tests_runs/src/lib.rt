@@ -2,7 +2,7 @@
 //!
 //! Everything here runs the calls of other crates as their users do, over points that were worked out by hand. `blocks.rt` has
 //! runs of some sizes and lookups in them, `cursors.rt` walks over their points, `memtables.rt` memtables and the runs that they are
-//! flushed to, and `compactions.rt` whole compactions.
+//! flushed to, and `compactions.rt` whole compactions of the runs that `given.rt` makes.
 #![tactic(auto)]
 
 #[cfg(test)]
@@ -11,5 +11,7 @@ mod blocks;
 mod compactions;
 #[cfg(test)]
 mod cursors;
+#[cfg(test)]
+mod given;
 #[cfg(test)]
 mod memtables;
