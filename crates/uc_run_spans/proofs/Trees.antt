@@ -1,9 +1,10 @@
 -- What the nodes of the tree over fragments hold.
-use Rattle.std.proofs.Common.{◌≡◌, ℕ, zero, suc, ◌+◌, ◌-◌, ◌*◌, ◌<◌, ◌≤◌, Bool, true, false, cond, ltb, arith, List, [], ◌∷◌, ◌++◌, append_assoc, length, get_or, drop, map, filter, Option, refl, sym, ap, ◌∙◌, subst, length-append}
+use Rattle.std.proofs.Common.{◌≡◌, ℕ, zero, suc, ◌+◌, ◌-◌, ◌*◌, ◌^◌, ◌<◌, ◌≤◌, min, Bool, true, false, cond, ltb, arith, List, [], ◌∷◌, ◌++◌, append_assoc, length, get_or, drop, map, filter, Option, refl, sym, ap, ◌∙◌, subst, length-append}
 use Rattle.std.specs.Prelude.{not}
-use Rattle.std.specs.List.{AllByRecursion}
+use Rattle.std.specs.List.{AllByRecursion, sum_by}
 use Rattle.std.proofs.lemmas.Bool.Decides.{nat_tests}
 use Rattle.std.proofs.lemmas.List.{get_or-drop, drop-drop, drop_at, length-map, append-nil}
+use Rattle.std.proofs.lemmas.List.Sums.{sum_by-cons}
 use Rattle.uc_run_spans.specs.declared.span.Span.{Span}
 use Rattle.uc_run_spans.specs.declared.node.Node.{Node}
 use Rattle.uc_run_spans.specs.Spans.{stands_in, seqs_in}
@@ -227,37 +228,82 @@ newest_held f at fragments spans l falls =
     ap (λ (xss : List (List ℕ)). newest_of_all at xss) (held_on_the_way f fragments spans (omega (arith, l)))
     ∙ newest_on_the_way f at fragments 0 fragments spans (omega arith) l (omega arith) falls
 
+held_again : (a b c most sum : ℕ) → sum ≡ min (a + b) most → min (sum + c) most ≡ min (a + (b + c)) most
+held_again a b c most sum e = omega (arith, e)
+
+-- ---- and what they hold together is as many as it has
+
+abbrev pub many_in : List (List ℕ) → ℕ
+many_in lists = sum_by (λ (seqs : List ℕ). length seqs) lists
+
+module _ (f : ℕ) where
+  abbrev IsCount : ℕ → Type 0
+  IsCount depth = (low high : ℕ) (spans : List Span) → low ≤ f → f < high → high - low ≤ depth → many_in (on_the_way depth low high f spans) ≡ length (seqs_in f spans)
+
+  count_down : (depth low high : ℕ) (spans : List Span) (b : Bool) → ltb f (middle low high) ≡ b → low ≤ f → f < high → 1 < high - low → high - low ≤ suc depth → IsCount depth →
+      length (held low high spans) + many_in (cond b (on_the_way depth low (middle low high) f (first_half low high spans)) (on_the_way depth (middle low high) high f (second_half low high spans)))
+      ≡ length (seqs_in f spans)
+  count_down depth low high spans true e l m fork le rest =
+      let h : AreHalves low (middle low high) high = halves low high fork in
+      let lt : f < middle low high = below_from f (middle low high) e in
+      ap (λ k. length (held low high spans) + k) (rest low (middle low high) (first_half low high spans) l lt (omega (arith, h.more, le)))
+      ∙ sym (count_here f low high l m spans low (middle low high) l lt)
+  count_down depth low high spans false e l m fork le rest =
+      let h : AreHalves low (middle low high) high = halves low high fork in
+      let ge : middle low high ≤ f = not_below_from f (middle low high) e in
+      ap (λ k. length (held low high spans) + k) (rest (middle low high) high (second_half low high spans) ge m (omega (arith, h.some, le)))
+      ∙ sym (count_here f low high l m spans (middle low high) high ge m)
+
+  count_by : (depth low high : ℕ) (spans : List Span) (b : Bool) → is_leaf low high ≡ b → low ≤ f → f < high → high - low ≤ suc depth → IsCount depth →
+      many_in (held low high spans ∷ cond b [] (cond (ltb f (middle low high)) (on_the_way depth low (middle low high) f (first_half low high spans)) (on_the_way depth (middle low high) high f (second_half low high spans))))
+      ≡ length (seqs_in f spans)
+  count_by depth low high spans true e l m le rest =
+      let one : many_in (held low high spans ∷ []) ≡ length (held low high spans) + many_in [] = sum_by-cons (λ (seqs : List ℕ). length seqs) (held low high spans) [] in
+      let none : length (held low high spans) + many_in [] ≡ length (held low high spans) = omega arith in
+      one ∙ none ∙ ap (λ (seqs : List ℕ). length seqs) (leaf_held f low high l m spans (leaf_from low high e))
+  count_by depth low high spans false e l m le rest =
+      sum_by-cons (λ (seqs : List ℕ). length seqs) (held low high spans) (cond (ltb f (middle low high)) (on_the_way depth low (middle low high) f (first_half low high spans)) (on_the_way depth (middle low high) high f (second_half low high spans)))
+      ∙ count_down depth low high spans (ltb f (middle low high)) refl l m (fork_from low high e) le rest
+
+  count_on_the_way : (depth : ℕ) → IsCount depth
+  count_on_the_way zero low high spans l m le = absurd (omega (arith, l, m, le))
+  count_on_the_way (suc depth) low high spans l m le = count_by depth low high spans (is_leaf low high) refl l m le (count_on_the_way depth)
+
+pub count_held : (f fragments : ℕ) (spans : List Span) → f < fragments → many_in (held_over fragments f (nodes fragments 0 fragments spans)) ≡ length (seqs_in f spans)
+count_held f fragments spans l =
+    ap (λ (xss : List (List ℕ)). many_in xss) (held_on_the_way f fragments spans (omega (arith, l)))
+    ∙ count_on_the_way f fragments 0 fragments spans (omega arith) l (omega arith)
+
 -- ---- a walk down from the root
 
 -- the numbers of the nodes over a fragment below a node
 abbrev below : ℕ → ℕ → Node → List ℕ
 below depth f n = cond (is_leaf n.low n.high) [] (nodes_over depth f (half f n))
 
--- where a walk stands: on a node over the fragment, with the newest of those that it has seen
-pub record Walks (f at fragments : ℕ) (lists : List (List ℕ)) (n : Node) (best : Option ℕ) : Type 0 where
+-- where a walk stands: on a node over the fragment, with what is known of the lists of those below it
+pub record Walks (f fragments : ℕ) (lists : List (List ℕ)) (n : Node) (Knows : List (List ℕ) → Type 0) : Type 0 where
   pub depth : ℕ
   pub from : n.low ≤ f
   pub to : f < n.high
   pub room : n.number + 2 * (n.high - n.low) ≤ 2 * fragments
   pub enough : n.high - n.low ≤ suc depth
-  pub seen : newer best (newest_of_all at (map (list_at lists) (below depth f n))) ≡ newest_of_all at (held_over fragments f lists)
+  pub knows : Knows (map (list_at lists) (below depth f n))
 
-walk_root : (f at fragments : ℕ) (lists : List (List ℕ)) → f < fragments → Walks f at fragments lists (root fragments) (newest_at_or_below at (list_at lists 0))
-walk_root f at zero lists l = absurd (omega (arith, l))
-walk_root f at (suc depth) lists l = record {
+walk_root : (f fragments : ℕ) (lists : List (List ℕ)) (Knows : List (List ℕ) → Type 0) → f < fragments → ((rest : List (List ℕ)) → held_over fragments f lists ≡ list_at lists 0 ∷ rest → Knows rest) → Walks f fragments lists (root fragments) Knows
+walk_root f zero lists Knows l first = absurd (omega (arith, l))
+walk_root f (suc depth) lists Knows l first = record {
   depth = depth;
   from = omega arith;
   to = l;
   room = omega arith;
   enough = omega arith;
-  seen = refl;
+  knows = first (map (list_at lists) (below depth f (root (suc depth)))) refl;
 }
 
-pub walk_starts : (f at fragments : ℕ) (lists : List (List ℕ)) (n : Node) (best : Option ℕ) → f < fragments → n ≡ root fragments → best ≡ newest_at_or_below at (list_at lists n.number) → Walks f at fragments lists n best
-walk_starts f at fragments lists n best l e g =
-    let first : best ≡ newest_at_or_below at (list_at lists 0) = g ∙ ap (λ (m : Node). newest_at_or_below at (list_at lists m.number)) e in
-    subst (λ (b : Option ℕ). Walks f at fragments lists n b) (sym first)
-    (subst (λ (m : Node). Walks f at fragments lists m (newest_at_or_below at (list_at lists 0))) (sym e) (walk_root f at fragments lists l))
+pub walk_starts : (f fragments : ℕ) (lists : List (List ℕ)) (n : Node) (Knows : List (List ℕ) → Type 0) → f < fragments → n ≡ root fragments → ((rest : List (List ℕ)) → held_over fragments f lists ≡ list_at lists n.number ∷ rest → Knows rest) → Walks f fragments lists n Knows
+walk_starts f fragments lists n Knows l e first =
+    subst (λ (m : Node). Walks f fragments lists m Knows) (sym e)
+    (walk_root f fragments lists Knows l (λ rest h. first rest (h ∙ ap (λ (m : Node). list_at lists m.number ∷ rest) (sym e))))
 
 -- the half of a node lies within it
 pub record IsHalf (f : ℕ) (n h : Node) : Type 0 where
@@ -291,13 +337,13 @@ half_by f n false e l from to =
 pub half_within : (f : ℕ) (n : Node) → 1 < n.high - n.low → n.low ≤ f → f < n.high → IsHalf f n (half f n)
 half_within f n l from to = half_by f n (ltb f (middle n.low n.high)) refl l from to
 
-walk_half : (f at fragments : ℕ) (lists : List (List ℕ)) (n : Node) (best : Option ℕ) (depth : ℕ) → is_leaf n.low n.high ≡ false → n.low ≤ f → f < n.high → n.number + 2 * (n.high - n.low) ≤ 2 * fragments → n.high - n.low ≤ suc depth →
-    newer best (newest_of_all at (map (list_at lists) (below depth f n))) ≡ newest_of_all at (held_over fragments f lists) →
-    Walks f at fragments lists (half f n) (newer best (newest_at_or_below at (list_at lists (half f n).number)))
-walk_half f at fragments lists n best zero e from to room enough seen =
+walk_half : (f fragments : ℕ) (lists : List (List ℕ)) (n : Node) (Knows Next : List (List ℕ) → Type 0) (depth : ℕ) → is_leaf n.low n.high ≡ false → n.low ≤ f → f < n.high → n.number + 2 * (n.high - n.low) ≤ 2 * fragments → n.high - n.low ≤ suc depth →
+    Knows (map (list_at lists) (below depth f n)) → ((rest : List (List ℕ)) → Knows (list_at lists (half f n).number ∷ rest) → Next rest) →
+    Walks f fragments lists (half f n) Next
+walk_half f fragments lists n Knows Next zero e from to room enough knows step =
     let fork : 1 < n.high - n.low = fork_from n.low n.high e in
     absurd (omega (arith, fork, enough))
-walk_half f at fragments lists n best (suc depth) e from to room enough seen =
+walk_half f fragments lists n Knows Next (suc depth) e from to room enough knows step =
     let h : IsHalf f n (half f n) = half_within f n (fork_from n.low n.high e) from to in
     record {
       depth = depth;
@@ -305,23 +351,65 @@ walk_half f at fragments lists n best (suc depth) e from to room enough seen =
       to = h.to;
       room = omega (arith, h.room, room);
       enough = omega (arith, h.less, enough);
-      seen = newer_assoc best (newest_at_or_below at (list_at lists (half f n).number)) (newest_of_all at (map (list_at lists) (below depth f (half f n))))
-          ∙ sym (ap (λ b. newer best (newest_of_all at (map (list_at lists) (cond b [] (nodes_over (suc depth) f (half f n)))))) e)
-          ∙ seen;
+      knows = step (map (list_at lists) (below depth f (half f n))) (subst (λ b. Knows (map (list_at lists) (cond b [] (nodes_over (suc depth) f (half f n))))) e knows);
     }
 
-pub walk_goes_on : (f at fragments : ℕ) (lists : List (List ℕ)) (n next : Node) (best later : Option ℕ) → Walks f at fragments lists n best → is_leaf n.low n.high ≡ false → next ≡ half f n → later ≡ newer best (newest_at_or_below at (list_at lists next.number)) → Walks f at fragments lists next later
-walk_goes_on f at fragments lists n next best later w e h g =
-    let one : later ≡ newer best (newest_at_or_below at (list_at lists (half f n).number)) = g ∙ ap (λ (m : Node). newer best (newest_at_or_below at (list_at lists m.number))) h in
-    subst (λ (b : Option ℕ). Walks f at fragments lists next b) (sym one)
-    (subst (λ (m : Node). Walks f at fragments lists m (newer best (newest_at_or_below at (list_at lists (half f n).number)))) (sym h)
-    (walk_half f at fragments lists n best w.depth e w.from w.to w.room w.enough w.seen))
+pub walk_goes_on : (f fragments : ℕ) (lists : List (List ℕ)) (n next : Node) (Knows Next : List (List ℕ) → Type 0) → Walks f fragments lists n Knows → is_leaf n.low n.high ≡ false → next ≡ half f n → ((rest : List (List ℕ)) → Knows (list_at lists next.number ∷ rest) → Next rest) → Walks f fragments lists next Next
+walk_goes_on f fragments lists n next Knows Next w e h step =
+    subst (λ (m : Node). Walks f fragments lists m Next) (sym h)
+    (walk_half f fragments lists n Knows Next w.depth e w.from w.to w.room w.enough w.knows (λ rest k. step rest (subst (λ (m : Node). Knows (list_at lists m.number ∷ rest)) (sym h) k)))
 
-pub walk_ends : (f at fragments : ℕ) (lists : List (List ℕ)) (n : Node) (best : Option ℕ) → Walks f at fragments lists n best → is_leaf n.low n.high ≡ true → best ≡ newest_of_all at (held_over fragments f lists)
-walk_ends f at fragments lists n best w e =
-    sym (newer_none best)
-    ∙ sym (ap (λ b. newer best (newest_of_all at (map (list_at lists) (cond b [] (nodes_over w.depth f (half f n)))))) e)
-    ∙ w.seen
+pub walk_ends : (f fragments : ℕ) (lists : List (List ℕ)) (n : Node) (Knows : List (List ℕ) → Type 0) → Walks f fragments lists n Knows → is_leaf n.low n.high ≡ true → Knows []
+walk_ends f fragments lists n Knows w e = subst (λ b. Knows (map (list_at lists) (cond b [] (nodes_over w.depth f (half f n))))) e w.knows
+
+-- ---- a walk that looks for the newest, and one that counts
+
+small_sum : (count : ℕ) → count < 2 ^ 64 → count ≡ min (count + many_in []) (2 ^ 64 - 1)
+small_sum count l = omega (arith, l)
+
+module _ (f at fragments : ℕ) (lists : List (List ℕ)) where
+  -- the newest so far and the newest of the lists to come are the newest of all
+  abbrev pub HasNewest : Option ℕ → List (List ℕ) → Type 0
+  HasNewest best rest = newer best (newest_of_all at rest) ≡ newest_of_all at (held_over fragments f lists)
+
+  pub newest_starts : (n : Node) (best : Option ℕ) → f < fragments → n ≡ root fragments → best ≡ newest_at_or_below at (list_at lists n.number) → Walks f fragments lists n (HasNewest best)
+  newest_starts n best l e g =
+      walk_starts f fragments lists n (HasNewest best) l e
+      (λ rest h. ap (λ (b : Option ℕ). newer b (newest_of_all at rest)) g ∙ sym (ap (λ (xss : List (List ℕ)). newest_of_all at xss) h))
+
+  pub newest_goes_on : (n next : Node) (best later : Option ℕ) → Walks f fragments lists n (HasNewest best) → is_leaf n.low n.high ≡ false → next ≡ half f n → later ≡ newer best (newest_at_or_below at (list_at lists next.number)) → Walks f fragments lists next (HasNewest later)
+  newest_goes_on n next best later w e h g =
+      walk_goes_on f fragments lists n next (HasNewest best) (HasNewest later) w e h
+      (λ rest k. ap (λ (b : Option ℕ). newer b (newest_of_all at rest)) g ∙ newer_assoc best (newest_at_or_below at (list_at lists next.number)) (newest_of_all at rest) ∙ k)
+
+  pub newest_ends : (n : Node) (best : Option ℕ) → Walks f fragments lists n (HasNewest best) → is_leaf n.low n.high ≡ true → best ≡ newest_of_all at (held_over fragments f lists)
+  newest_ends n best w e = sym (newer_none best) ∙ walk_ends f fragments lists n (HasNewest best) w e
+
+module _ (f fragments : ℕ) (lists : List (List ℕ)) where
+  -- the count so far and that of the lists to come are the count of all, held at the greatest number
+  abbrev pub HasCount : ℕ → List (List ℕ) → Type 0
+  HasCount count rest = (count < 2 ^ 64) × (min (count + many_in rest) (2 ^ 64 - 1) ≡ min (many_in (held_over fragments f lists)) (2 ^ 64 - 1))
+
+  pub count_starts : (n : Node) (count : ℕ) → f < fragments → n ≡ root fragments → count < 2 ^ 64 → count ≡ length (list_at lists n.number) → Walks f fragments lists n (HasCount count)
+  count_starts n count l e small g =
+      walk_starts f fragments lists n (HasCount count) l e
+      (λ rest h.
+      let sum : many_in (list_at lists n.number ∷ rest) ≡ length (list_at lists n.number) + many_in rest = sum_by-cons (λ (seqs : List ℕ). length seqs) (list_at lists n.number) rest in
+      let all : many_in (held_over fragments f lists) ≡ many_in (list_at lists n.number ∷ rest) = ap (λ (xss : List (List ℕ)). many_in xss) h in
+      (small, ap (λ k. min k (2 ^ 64 - 1)) (ap (λ k. k + many_in rest) g ∙ sym sum ∙ sym all)))
+
+  pub count_goes_on : (n next : Node) (count later : ℕ) → Walks f fragments lists n (HasCount count) → is_leaf n.low n.high ≡ false → next ≡ half f n → later ≡ min (count + length (list_at lists next.number)) (2 ^ 64 - 1) → Walks f fragments lists next (HasCount later)
+  count_goes_on n next count later w e h g =
+      walk_goes_on f fragments lists n next (HasCount count) (HasCount later) w e h
+      (λ rest k.
+      let sum : many_in (list_at lists next.number ∷ rest) ≡ length (list_at lists next.number) + many_in rest = sum_by-cons (λ (seqs : List ℕ). length seqs) (list_at lists next.number) rest in
+      let held : min (later + many_in rest) (2 ^ 64 - 1) ≡ min (count + (length (list_at lists next.number) + many_in rest)) (2 ^ 64 - 1) = held_again count (length (list_at lists next.number)) (many_in rest) (2 ^ 64 - 1) later g in
+      (omega (arith, g), held ∙ ap (λ m. min (count + m) (2 ^ 64 - 1)) (sym sum) ∙ k.1))
+
+  pub count_ends : (n : Node) (count : ℕ) → Walks f fragments lists n (HasCount count) → is_leaf n.low n.high ≡ true → count ≡ min (many_in (held_over fragments f lists)) (2 ^ 64 - 1)
+  count_ends n count w e =
+      let ended : HasCount count [] = walk_ends f fragments lists n (HasCount count) w e in
+      small_sum count (ended.0) ∙ ended.1
 
 -- ---- what is pushed, node by node
 
@@ -368,3 +456,14 @@ all_pushed_at low high mid spans firsts seconds old here left right same l e g p
     all_pushed low high spans firsts seconds old here left right l e g put
     (subst (λ m. (depth : ℕ) → m - low ≤ depth → left ≡ here ++ nodes depth low m firsts) same put_left)
     (subst (λ m. (depth : ℕ) → high - m ≤ depth → right ≡ left ++ nodes depth m high seconds) same put_right)
+
+-- ---- the nodes of spans over fragments, as a list of them that is there
+
+pub fragment_below : (count f : ℕ) (lists : List (List ℕ)) → f < length lists → length lists ≡ count → f < count
+fragment_below count f lists l e = omega (arith, l, e)
+
+pub all_nodes : (count : ℕ) (spans : List Span) (lists : List (List ℕ)) → 0 < count → lists ≡ nodes count 0 count spans → length lists + 1 ≡ 2 * count
+all_nodes count spans lists l e =
+    let n : length (nodes count 0 count spans) + 1 ≡ 2 * (count - 0) = length-nodes count 0 count spans l (omega arith) in
+    let g : length lists ≡ length (nodes count 0 count spans) = ap (λ (xss : List (List ℕ)). length xss) e in
+    omega (arith, n, g)

@@ -3,5 +3,6 @@ pub mod Indexed
 pub mod Joined
 pub mod Lists
 pub mod Newest
+pub mod Seqs
 pub mod Spans
 pub mod Tree

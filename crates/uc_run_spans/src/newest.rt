@@ -13,7 +13,7 @@ pub(crate) fn newest_at_or_below(seqs: &[u64], at: u64) -> Option<u64>
 }
 
 /// The greater of two sequences, where there are some.
-pub(crate) fn newer(a: Option<u64>, b: Option<u64>) -> Option<u64>
+pub fn newer(a: Option<u64>, b: Option<u64>) -> Option<u64>
     ensures { result ≡ newest.newer a b }
 {
     match a {

@@ -1,87 +1,177 @@
-//! [`Seqs`]: the sequences of one fragment.
-ghost use Rattle.std.specs.Prelude.{◌≡◌, ◌<◌, ◌++◌, [], length, drop, IfOk};
-ghost use Rattle.std.specs.List.{slice_index_or, slice_get};
-ghost use Rattle.uc_run_spans.specs.Ahead as standing;
+//! [`Seqs`]: the sequences of a fragment, its own or shared.
+ghost use Rattle.std.specs.Prelude.{◌≡◌, ◌↔◌, ◌<◌, ◌-◌, ◌^◌, ◌==◌, [], length, min, IsTrue, IfOk};
+ghost use Rattle.std.specs.Arc.{arc_value};
+ghost use Rattle.std.specs.List.{slice_get, slice_index_or};
+ghost use Rattle.std.proofs.Common.{rules};
+ghost use Rattle.std.specs.Cmp.Rules.{comparing};
+ghost use Rattle.uc_run_spans.specs.Newest as newest;
+ghost use Rattle.uc_run_spans.specs.Seqs.{same_seqs};
+ghost use Rattle.uc_run_spans.specs.Spans.{IsFalling};
 
+use crate::alike::{are_ahead, are_alike, are_equal};
+use crate::falling::are_falling;
+use crate::newest::newest_at_or_below;
+use crate::share::Share;
 use crate::spans::Spans;
 use std::alloc::{AllocError, Global};
 use std::marker::Model;
+use std::sync::Arc;
 
-/// The sequences of a fragment that are still ahead, the newest first. A contract sees their list.
+/// Where the sequences are.
 #[derive(Debug, Drop)]
-pub struct Seqs<'a> {
-    spans: &'a Spans,
-    fragment: usize,
-    at: Option<u64>,
+enum Kind {
+    /// In a list of their own.
+    Own(Vec<u64>),
+    /// Among shared spans.
+    Shared(Share),
 }
 
-impl<'a> Model for Seqs<'a> {
-    ghost use Rattle.std.specs.Prelude.{ℕ, ◌<◌, List, [], length};
-    ghost use Rattle.std.specs.List.{slice_index_or};
-    ghost use Rattle.uc_run_spans.specs.Ahead.{ahead};
+/// The sequences of a fragment. A contract sees their list.
+///
+/// They are numbers of their own, or they are shared: many fragments then have one [`Spans`], and each takes no more than
+/// its place there, however many sequences it has.
+#[derive(Debug, Drop)]
+pub struct Seqs {
+    kind: Kind,
+}
+
+impl Model for Seqs {
+    ghost use Rattle.std.specs.Prelude.{ℕ, List};
+    ghost use Rattle.uc_run_spans.specs.Seqs.{seqs_of};
 
     ghost Value = { List ℕ };
 
-    ghost view = { λ s. ahead s.at (slice_index_or s.spans.now s.fragment []) };
-
-    ghost invariant = { λ s. s.fragment < length s.spans.now };
+    ghost view = { λ seqs. seqs_of seqs.kind };
 }
 
-/// Behind a sequence that was found, the number that those ahead aren't above.
-fn after(found: Option<u64>) -> Option<u64>
-    ensures { result ≡ standing.after found }
-{
-    match found {
-        None => None,
-        Some(seq) => { if seq == 0 { None } else { Some(seq - 1) } }
-    }
-}
-
-/// The first sequence of a fragment that is ahead, if there is one.
-fn first_ahead(spans: &Spans, fragment: usize, at: Option<u64>) -> Option<u64>
-    requires { fragment < length spans.now }
-    ensures { result ≡ slice_get (standing.ahead at (slice_index_or spans.now fragment [])) 0 }
-{
-    match at {
-        None => None,
-        Some(at) => spans.newest_at_or_below(fragment, at),
-    }
-}
-
-impl<'a> Seqs<'a> {
-    /// Before the first sequence of a fragment.
-    pub(crate) fn new(spans: &'a Spans, fragment: usize) -> Seqs<'a>
-        requires { fragment < length spans.now }
-        ensures { result ≡ slice_index_or spans.now fragment [] }
+impl Seqs {
+    /// The sequences of a fragment of shared spans. It takes no memory.
+    pub fn shared(spans: Arc<Spans>, fragment: usize) -> Seqs
+        requires { fragment < length (arc_value spans) }
+        ensures { result ≡ slice_index_or (arc_value spans) fragment [] }
     {
-        let at = spans.greatest();
         Seqs {
-            spans,
-            fragment,
-            at,
+            kind: Kind::Shared(Share::new(spans, fragment)),
         }
     }
 
-    /// The next sequence, if there is one.
-    pub fn next(&mut self) -> Option<u64>
-        ensures next { result ≡ slice_get self.old 0 }
-        ensures rest { self.new ≡ drop 1 self.old }
+    /// How many there are, held at the greatest number.
+    pub fn len(&self) -> u64
+        ensures { result ≡ min (length self.now) (2 ^ 64 - 1) }
     {
-        self.spans.fragments();
-        let found = first_ahead(self.spans, self.fragment, self.at);
-        self.at = after(found);
-        found
+        match &self.kind {
+            Kind::Own(seqs) => seqs.len() as u64,
+            Kind::Shared(share) => share.len(),
+        }
+    }
+
+    /// Whether there are none.
+    pub fn is_empty(&self) -> bool
+        ensures { result ≡ (length self.now == 0) }
+    {
+        self.newest().is_none()
+    }
+
+    /// The first of them, if there is one.
+    pub fn newest(&self) -> Option<u64>
+        ensures { result ≡ slice_get self.now 0 }
+    {
+        match &self.kind {
+            Kind::Own(seqs) => seqs.first().copied(),
+            Kind::Shared(share) => share.ahead().next(),
+        }
+    }
+
+    /// The newest of falling sequences at or below a number, if there is one.
+    ///
+    /// Of shared ones it looks at as many lists as the logarithm of the number of fragments, and searches each.
+    pub fn newest_at_or_below(&self, at: u64) -> Option<u64>
+        requires { IsFalling self.now }
+        ensures { result ≡ newest.newest_at_or_below at self.now }
+    {
+        match &self.kind {
+            Kind::Own(seqs) => newest_at_or_below(seqs, at),
+            Kind::Shared(share) => share.newest_at_or_below(at),
+        }
+    }
+
+    /// Whether each is above the next. Shared ones always are.
+    pub fn are_falling(&self) -> bool
+        ensures { IsTrue result ↔ IsFalling self.now }
+    {
+        match &self.kind {
+            Kind::Own(seqs) => are_falling(seqs),
+            Kind::Shared(share) => {
+                share.falls();
+                true
+            }
+        }
     }
 
     /// The sequences as a vector. It fails only for want of memory.
-    pub fn to_vec(self, alloc: Global) -> Result<Vec<u64>, AllocError>
-        ensures { IfOk result (λ seqs. seqs.items ≡ self.entry) }
+    pub fn to_vec(&self, alloc: Global) -> Result<Vec<u64>, AllocError>
+        ensures { IfOk result (λ seqs. seqs.items ≡ self.now) }
     {
-        let mut seqs = Vec::new(alloc);
-        let mut ahead = self;
-        while let Some(seq) = ahead.next() {
-            seqs.push(seq)?;
+        match &self.kind {
+            Kind::Own(seqs) => Ok(seqs.as_slice().to_vec(alloc)?),
+            Kind::Shared(share) => share.ahead().to_vec(alloc),
         }
-        Ok(seqs)
     }
+
+    /// Whether both have the same sequences.
+    fn is_same(&self, other: &Seqs) -> bool
+        ensures { IsTrue result ↔ (self.now ≡ other.now) }
+    {
+        match &self.kind {
+            Kind::Own(seqs) => match &other.kind {
+                Kind::Own(others) => are_equal(seqs, others),
+                Kind::Shared(share) => are_ahead(share.ahead(), seqs),
+            },
+            Kind::Shared(share) => match &other.kind {
+                Kind::Own(others) => are_ahead(share.ahead(), others),
+                Kind::Shared(others) => are_alike(share.ahead(), others.ahead()),
+            },
+        }
+    }
+}
+
+impl From<Vec<u64>> for Seqs {
+    ghost from_gives = { λ items seqs. seqs ≡ items.items };
+
+    /// Takes the vector over, without memory.
+    fn from(items: Vec<u64>) -> Seqs {
+        Seqs {
+            kind: Kind::Own(items),
+        }
+    }
+}
+
+impl Clone for Seqs {
+    ghost is_clone = { λ seqs copy. copy ≡ seqs };
+
+    /// The same sequences again; shared ones stay shared. It fails only for want of memory.
+    fn clone(&self) -> Result<Seqs, AllocError>
+        ensures { IfOk result (λ copy. copy ≡ self.now) }
+    {
+        Ok(Seqs {
+            kind: match &self.kind {
+                Kind::Own(seqs) => Kind::Own(seqs.clone()?),
+                Kind::Shared(share) => Kind::Shared(share.again()?),
+            },
+        })
+    }
+}
+
+impl PartialEq for Seqs {
+    ghost eq = { same_seqs };
+
+    ghost laws = { Prim.search (comparing, rules) };
+
+    fn eq(&self, other: &Seqs) -> bool {
+        self.is_same(other)
+    }
+}
+
+impl Eq for Seqs {
+    ghost laws = { Prim.search (comparing, rules) };
 }

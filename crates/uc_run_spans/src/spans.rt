@@ -6,12 +6,12 @@ ghost use Rattle.uc_run_spans.specs.Newest as newest;
 ghost use Rattle.uc_run_spans.specs.Spans as standing;
 ghost use Rattle.uc_run_spans.specs.Spans.{IsWithin, IsFalling, listed};
 
+use crate::ahead::SeqsAhead;
 use crate::joining::in_few;
 use crate::lists::Lists;
-use crate::seqs::Seqs;
 use crate::span::Span;
 use crate::tree::nodes;
-use crate::walking::newest_over;
+use crate::walking::{count_over, newest_over};
 use std::alloc::{AllocError, Global};
 use std::marker::Model;
 
@@ -103,6 +103,16 @@ impl Spans {
         newest_over(&self.nodes, self.fragments, fragment, at)
     }
 
+    /// How many sequences stand in a fragment, held at the greatest number.
+    ///
+    /// It looks at as many lists as the logarithm of the number of fragments.
+    pub fn count(&self, fragment: usize) -> u64
+        requires { fragment < length self.now }
+        ensures { result ≡ min (length (slice_index_or self.now fragment [])) (2 ^ 64 - 1) }
+    {
+        count_over(&self.nodes, self.fragments, fragment)
+    }
+
     /// How many sequences the fragments have together, held at the greatest number.
     ///
     /// It goes over the spans once.
@@ -129,10 +139,10 @@ impl Spans {
     }
 
     /// The sequences of a fragment, the newest first.
-    pub fn seqs(&self, fragment: usize) -> Seqs<'_>
+    pub fn seqs(&self, fragment: usize) -> SeqsAhead<'_>
         requires { fragment < length self.now }
         ensures { result ≡ slice_index_or self.now fragment [] }
     {
-        Seqs::new(self, fragment)
+        SeqsAhead::new(self, fragment)
     }
 }

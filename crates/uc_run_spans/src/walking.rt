@@ -1,5 +1,5 @@
 //! Walks down the tree over fragments.
-ghost use Rattle.std.specs.Prelude.{◌≡◌, ◌<◌, ◌+◌, ◌*◌, length};
+ghost use Rattle.std.specs.Prelude.{◌≡◌, ◌<◌, ◌+◌, ◌-◌, ◌*◌, ◌^◌, length, min};
 ghost use Rattle.std.specs.List.{AllByRecursion, sum_by};
 ghost use Rattle.uc_run_spans.specs.Newest as newest;
 ghost use Rattle.uc_run_spans.specs.Newest.{Descends, newest_of_all};
@@ -23,4 +23,19 @@ pub(crate) fn newest_over(nodes: &Lists, fragments: usize, fragment: usize, at: 
         best = newer(best, newest_at_or_below(nodes.list(node.number), at));
     }
     best
+}
+
+/// How many sequences the nodes over a fragment hold together, held at the greatest number.
+pub(crate) fn count_over(nodes: &Lists, fragments: usize, fragment: usize) -> u64
+    requires all { length nodes.now + 1 ≡ 2 * fragments }
+    requires within { fragment < fragments }
+    ensures { result ≡ min (sum_by length (held_over fragments fragment nodes.now)) (2 ^ 64 - 1) }
+{
+    let mut node = Node::root(fragments);
+    let mut count = nodes.list(node.number).len() as u64;
+    while !node.is_leaf() {
+        node = node.half(fragment);
+        count = count.saturating_add(nodes.list(node.number).len() as u64);
+    }
+    count
 }

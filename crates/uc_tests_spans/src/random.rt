@@ -1,7 +1,8 @@
 //! Random spans against plain lists.
 use std::alloc::{AllocError, Global};
+use std::sync::Arc;
 use std::test::Fail;
-use uc_run_spans::{Span, Spans, are_within};
+use uc_run_spans::{Seqs, Span, Spans, are_within};
 
 /// Sequences are below this.
 const MOST_SEQS: u64 = 9;
@@ -61,6 +62,43 @@ fn plain_seqs(alloc: Global, spans: &[Span], fragment: usize) -> Result<Vec<u64>
     Ok(seqs)
 }
 
+/// Whether sequences, of either kind, find what a plain list does.
+fn find_as(seqs: &Seqs, plain: &[u64]) -> bool {
+    if !seqs.are_falling() {
+        return false;
+    }
+    for at in 0..MOST_SEQS + 1 {
+        let first = plain.iter().copied().find(|seq| *seq <= at);
+        if seqs.newest_at_or_below(at) != first {
+            return false;
+        }
+    }
+    true
+}
+
+/// Whether sequences, of either kind, are those of a plain list.
+fn are(alloc: Global, seqs: &Seqs, plain: &[u64]) -> Result<bool, AllocError> {
+    Ok(
+        seqs.len() == plain.len() as u64
+            && seqs.is_empty() == plain.is_empty()
+            && seqs.newest() == plain.first().copied()
+            && find_as(seqs, plain)
+            && seqs.to_vec(alloc)?.as_slice() == plain,
+    )
+}
+
+/// Whether sequences of their own and shared ones are both those of a plain list, and equal.
+fn both_are(alloc: Global, own: &Seqs, shared: &Seqs, plain: &[u64]) -> Result<bool, AllocError> {
+    Ok(
+        are(alloc, own, plain)?
+            && are(alloc, shared, plain)?
+            && own == shared
+            && shared == own
+            && *shared == shared.clone()?
+            && *own == own.clone()?,
+    )
+}
+
 /// Whether a fragment of some spans answers as a plain list does.
 fn answers_as(
     alloc: Global,
@@ -77,7 +115,10 @@ fn answers_as(
             return Ok(false);
         }
     }
-    Ok(spans.seqs(fragment).to_vec(alloc)?.as_slice() == plain)
+    Ok(
+        spans.count(fragment) == plain.len() as u64
+            && spans.seqs(fragment).to_vec(alloc)?.as_slice() == plain,
+    )
 }
 
 /// Whether each fragment of given spans answers as its plain list does, and all together are as many.
@@ -110,6 +151,38 @@ fn random_spans_answer_as_plain_lists(rt: HostRuntime) -> Result<(), Fail> {
         let fragments = random_below(&mut state, 13) as usize;
         let given = random_spans(alloc, &mut state, fragments, most % 41)?;
         assert!(rt; is_one_case(alloc, fragments, &given)?);
+    }
+    Ok(())
+}
+
+/// Whether the sequences of a fragment of given spans, of both kinds, are those of its plain list.
+fn is_one_share(
+    alloc: Global,
+    fragments: usize,
+    given: &[Span],
+    fragment: usize,
+) -> Result<bool, AllocError> {
+    if fragment >= fragments || !are_within(fragments, given) {
+        return Ok(false);
+    }
+    let plain = plain_seqs(alloc, given, fragment)?;
+    let spans = Spans::new(alloc, fragments, given.to_vec(alloc)?)?;
+    if fragment >= spans.fragments() {
+        return Ok(false);
+    }
+    let shared = Seqs::shared(Arc::new(alloc, spans)?, fragment);
+    both_are(alloc, &Seqs::from(plain.to_vec(alloc)?), &shared, &plain)
+}
+
+#[test]
+fn random_sequences_of_both_kinds_are_plain_lists(rt: HostRuntime) -> Result<(), Fail> {
+    let alloc = rt.alloc();
+    let mut state = 2;
+    for most in 0..5_000 {
+        let fragments = (random_below(&mut state, 13) as usize).max(1);
+        let given = random_spans(alloc, &mut state, fragments, most % 41)?;
+        let fragment = random_below(&mut state, fragments as u64) as usize;
+        assert!(rt; is_one_share(alloc, fragments, &given, fragment)?);
     }
     Ok(())
 }

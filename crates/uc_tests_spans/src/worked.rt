@@ -1,7 +1,8 @@
 //! Spans worked by hand.
 use std::alloc::{AllocError, Global};
+use std::sync::Arc;
 use std::test::Fail;
-use uc_run_spans::{Span, Spans, are_within};
+use uc_run_spans::{Seqs, Span, Spans, are_within};
 
 /// Spans as their sequence, first fragment and end, and the sequences of each fragment.
 struct Case {
@@ -76,6 +77,9 @@ fn have_lists(alloc: Global, spans: &Spans, lists: &[&[u64]]) -> Result<bool, Al
         if fragment >= spans.fragments() {
             return Ok(false);
         }
+        if spans.count(fragment) != list.len() as u64 {
+            return Ok(false);
+        }
         if spans.seqs(fragment).to_vec(alloc)?.as_slice() != *list {
             return Ok(false);
         }
@@ -117,5 +121,57 @@ fn each_case_is_the_same_as_itself_alone(rt: HostRuntime) -> Result<(), Fail> {
             assert_eq!(rt; are_alike(rt.alloc(), case, other)?, place == other_place);
         }
     }
+    Ok(())
+}
+
+/// The sequences of each fragment of a case, shared.
+fn shared_of(alloc: Global, case: &Case) -> Result<Vec<Seqs>, AllocError> {
+    let mut shared = Vec::new(alloc);
+    let Some(spans) = spans_of(alloc, case)? else {
+        return Ok(shared);
+    };
+    let spans = Arc::new(alloc, spans)?;
+    for fragment in 0..spans.fragments() {
+        shared.push(Seqs::shared(spans.clone()?, fragment))?;
+    }
+    Ok(shared)
+}
+
+/// Whether shared sequences are equal to some of their own exactly where their lists are.
+fn are_equal_alike(
+    alloc: Global,
+    shared: &[Seqs],
+    lists: &[&[u64]],
+    other: &[u64],
+) -> Result<bool, AllocError> {
+    let own = Seqs::from(other.to_vec(alloc)?);
+    for (seqs, list) in shared.iter().zip(lists) {
+        if (*seqs == own) != (*list == other) || (own == *seqs) != (*list == other) {
+            return Ok(false);
+        }
+    }
+    Ok(shared.len() == lists.len())
+}
+
+/// Sequences to compare with, some of which don't fall.
+static OTHERS: [&[u64]; 7] = [&[], &[3], &[3, 2], &[2, 3], &[3, 2, 1], &[7, 5], &[4]];
+
+#[test]
+fn shared_sequences_equal_their_lists_alone(rt: HostRuntime) -> Result<(), Fail> {
+    for case in cases() {
+        let shared = shared_of(rt.alloc(), case)?;
+        for other in &OTHERS {
+            assert!(rt; are_equal_alike(rt.alloc(), &shared, case.lists, other)?);
+        }
+    }
+    Ok(())
+}
+
+#[test]
+fn sequences_of_their_own_may_rise(rt: HostRuntime) -> Result<(), Fail> {
+    let rising = Seqs::from([1, 2].to_vec(rt.alloc())?);
+    assert!(rt; !rising.are_falling());
+    assert_eq!(rt; rising.newest(), Some(1));
+    assert_eq!(rt; rising.len(), 2);
     Ok(())
 }

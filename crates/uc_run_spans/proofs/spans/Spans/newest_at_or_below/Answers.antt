@@ -1,33 +1,24 @@
-use Rattle.std.proofs.Common.{◌≡◌, ℕ, ◌+◌, ◌*◌, ◌-◌, ◌<◌, List, [], length, get_or, arith, ap, sym, ◌∙◌, subst}
+use Rattle.std.proofs.Common.{ℕ, ◌<◌, List, [], length, get_or, arith, ap, sym, ◌∙◌, subst}
 use Rattle.std.specs.List.{AllByRecursion}
 use Rattle.uc_run_spans.specs.declared.span.Span.{Span}
 use Rattle.uc_run_spans.specs.Newest.{Descends, newest_at_or_below, newest_of_all}
-use Rattle.uc_run_spans.specs.Tree.{nodes, held_over}
+use Rattle.uc_run_spans.specs.Tree.{held_over}
 use Rattle.uc_run_spans.proofs.Joins.{joined_descend, joined_stay}
 use Rattle.uc_run_spans.proofs.Listed.{length-listed, listed_at}
-use Rattle.uc_run_spans.proofs.Trees.{length-nodes, nodes_descend, newest_held}
+use Rattle.uc_run_spans.proofs.Trees.{nodes_descend, newest_held, fragment_below, all_nodes}
 use Rattle.uc_run_spans.proofs.spans.Spans.newest_at_or_below.Goals as goal
-
-many : (count : ℕ) (spans : List Span) (lists : List (List ℕ)) (f : ℕ) → f < length lists → length lists ≡ count → f < count
-many count spans lists f l e = omega (arith, l, e)
-
-all : (count : ℕ) (spans : List Span) (lists : List (List ℕ)) → 0 < count → lists ≡ nodes count 0 count spans → length lists + 1 ≡ 2 * count
-all count spans lists l e =
-    let n : length (nodes count 0 count spans) + 1 ≡ 2 * (count - 0) = length-nodes count 0 count spans l (omega arith) in
-    let g : length lists ≡ length (nodes count 0 count spans) = ap (λ (xss : List (List ℕ)). length xss) e in
-    omega (arith, n, g)
 
 pub newest_over-requires-clause-within : goal.newest_over-requires-clause-within
 newest_over-requires-clause-within c =
-    many c.self.inside.fragments c.self.inside.spans.items c.args.self.now c.args.fragment c.requires
+    fragment_below c.self.inside.fragments c.args.fragment c.args.self.now c.requires
     (sym (ap (λ (xss : List (List ℕ)). length xss) c.self.view_is) ∙ length-listed c.self.inside.fragments c.self.inside.spans.items)
 
 pub newest_over-requires-clause-all : goal.newest_over-requires-clause-all
 newest_over-requires-clause-all c =
     let l : c.args.fragment < c.self.inside.fragments =
-    many c.self.inside.fragments c.self.inside.spans.items c.args.self.now c.args.fragment c.requires
+    fragment_below c.self.inside.fragments c.args.fragment c.args.self.now c.requires
     (sym (ap (λ (xss : List (List ℕ)). length xss) c.self.view_is) ∙ length-listed c.self.inside.fragments c.self.inside.spans.items) in
-    all c.self.inside.fragments c.self.inside.spans.items c.self.inside.nodes (omega (arith, l)) c.self.invariant.indexed
+    all_nodes c.self.inside.fragments c.self.inside.spans.items c.self.inside.nodes (omega (arith, l)) c.self.invariant.indexed
 
 pub newest_over-requires-clause-falling : goal.newest_over-requires-clause-falling
 newest_over-requires-clause-falling c =
@@ -40,7 +31,7 @@ returns c =
     let spans : List Span = c.self.inside.spans.items in
     let f : ℕ = c.args.fragment in
     let l : c.args.fragment < c.self.inside.fragments =
-    many count spans c.args.self.now f c.requires
+    fragment_below count f c.args.self.now c.requires
     (sym (ap (λ (xss : List (List ℕ)). length xss) c.self.view_is) ∙ length-listed count spans) in
     c.newest_over.ensures
     ∙ ap (λ (xss : List (List ℕ)). newest_of_all c.args.at (held_over count f xss)) c.self.invariant.indexed

@@ -1,5 +1,5 @@
 use Rattle.std.proofs.Common.{◌≡◌, ◌++◌, length}
-use Rattle.uc_run_spans.proofs.seqs.Seqs.to_vec.Given as goal
+use Rattle.uc_run_spans.proofs.ahead.SeqsAhead.to_vec.Given as goal
 
 abbrev pub invariant-loop-seq : goal.invariant-loop-seq
 invariant-loop-seq l = l.seqs.items ++ l.ahead ≡ l.fn.self

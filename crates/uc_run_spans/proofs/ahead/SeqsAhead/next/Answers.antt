@@ -2,7 +2,7 @@ use Rattle.std.proofs.Common.{ℕ, List, [], get_or, drop, Option, ap, ◌∙◌
 use Rattle.uc_run_spans.specs.Ahead.{ahead, after}
 use Rattle.uc_run_spans.specs.Spans.{IsFalling}
 use Rattle.uc_run_spans.proofs.Listed.{rest_ahead, all_at}
-use Rattle.uc_run_spans.proofs.seqs.Seqs.next.Goals as goal
+use Rattle.uc_run_spans.proofs.ahead.SeqsAhead.next.Goals as goal
 
 pub returns-clause-rest : goal.returns-clause-rest
 returns-clause-rest c =
