@@ -5,3 +5,4 @@ pub mod Covers
 pub mod Lookup
 pub mod Covering
 pub mod Apart
+pub mod Falling

@@ -1,5 +1,5 @@
 //! Which points and fragments make a run.
-ghost use Rattle.std.specs.Prelude.{◌≡◌, ◌&&◌, [], ◌∷◌, filter, IfSome, IfNone, MatchOption, if◌then◌else◌};
+ghost use Rattle.std.specs.Prelude.{◌≡◌, ◌≤◌, ◌&&◌, [], ◌∷◌, filter, IfSome, IfNone, MatchOption, if◌then◌else◌};
 ghost use Rattle.std.specs.Prelude.{◌↔◌, true, Contains, IsTrue};
 ghost use Rattle.std.specs.List.{AllByRecursion};
 ghost use Rattle.std.specs.List.Sorted.{IsStrictlySortedBy};
@@ -13,6 +13,7 @@ use crate::entry::Entry;
 use crate::fragment::Fragment;
 use std::cmp::Ordering;
 use uc_bytes::MAX_SEQUENCE;
+use uc_run_spans::Seqs;
 
 /// Whether a sequence lies in a range of sequences.
 fn is_within(low: u64, high: u64, seq: u64) -> bool
@@ -37,13 +38,6 @@ fn are_sorted(points: &[Entry]) -> bool
     ensures { IsTrue result ↔ IsStrictlySortedBy entry_cmp points.now }
 {
     points.is_sorted_by(is_before)
-}
-
-/// Whether each sequence is above the next.
-fn are_falling(seqs: &[u64]) -> bool
-    ensures { IsTrue result ↔ IsFalling seqs.now }
-{
-    seqs.is_sorted_by(|seq, next| next < seq)
 }
 
 /// Whether a fragment has keys.
@@ -79,19 +73,39 @@ fn are_in_order(fragments: &[Fragment]) -> bool
     first_has_keys(fragments) && fragments.is_sorted_by(is_followed_by)
 }
 
+/// Whether all of falling sequences are at or below a number: the newest is.
+fn are_upto(high: u64, seqs: &Seqs) -> bool
+    requires { IsFalling seqs.now }
+    ensures { IsTrue result ↔ AllByRecursion (λ n. n ≤ high) seqs.now }
+{
+    match seqs.newest() {
+        None => true,
+        Some(newest) => newest <= high,
+    }
+}
+
+/// Whether all of falling sequences are at or above a number: none is below it.
+fn are_from(low: u64, seqs: &Seqs) -> bool
+    requires { IsFalling seqs.now }
+    ensures { IsTrue result ↔ AllByRecursion (λ n. low ≤ n) seqs.now }
+{
+    low == 0 || seqs.newest_at_or_below(low - 1).is_none()
+}
+
+/// Whether all of falling sequences lie in a range.
+fn are_within(low: u64, high: u64, seqs: &Seqs) -> bool
+    requires { IsFalling seqs.now }
+    ensures { IsTrue result ↔ AllByRecursion (IsWithin low high) seqs.now }
+{
+    are_upto(high, seqs) && are_from(low, seqs)
+}
+
 /// Whether a fragment has sequences, which fall and lie in a range.
 fn is_whole(low: u64, high: u64, fragment: &Fragment) -> bool
     ensures { IsTrue result ↔ IsWhole low high fragment.now }
 {
-    let seqs = fragment.seqs.as_slice();
-    !seqs.is_empty() && are_falling(seqs) && are_within(low, high, seqs)
-}
-
-/// Whether all sequences lie in a range.
-fn are_within(low: u64, high: u64, seqs: &[u64]) -> bool
-    ensures { IsTrue result ↔ AllByRecursion (IsWithin low high) seqs.now }
-{
-    seqs.iter().all(|seq| is_within(low, high, *seq))
+    let seqs = &fragment.seqs;
+    !seqs.is_empty() && seqs.are_falling() && are_within(low, high, seqs)
 }
 
 /// Whether the fragment covers a key: from its begin to below its end.
@@ -139,11 +153,14 @@ pub fn covering_fragment<'a>(fragments: &'a [Fragment], key: &[u8]) -> Option<&'
 }
 
 /// Whether a sequence is among some that fall.
-fn has_seq(seqs: &[u64], seq: u64) -> bool
+fn has_seq(seqs: &Seqs, seq: u64) -> bool
     requires { IsFalling seqs.now }
     ensures { IsTrue result ↔ Contains seqs.now seq }
 {
-    seqs.binary_search_by(|other| seq.cmp(other)).is_ok()
+    match seqs.newest_at_or_below(seq) {
+        None => false,
+        Some(newest) => newest == seq,
+    }
 }
 
 /// Whether no fragment that covers a point's key has its sequence.
@@ -154,7 +171,7 @@ fn is_apart(point: &Entry, fragments: &[Fragment]) -> bool
 {
     match covering_fragment(fragments, point.key.as_slice()) {
         None => true,
-        Some(fragment) => !has_seq(fragment.seqs.as_slice(), point.seq),
+        Some(fragment) => !has_seq(&fragment.seqs, point.seq),
     }
 }
 

@@ -2,7 +2,8 @@
 ghost use Rattle.std.specs.Prelude.{◌≡◌, IfOk};
 
 use std::alloc::AllocError;
-use uc_bytes::{Bytes, Items};
+use uc_bytes::Bytes;
+use uc_run_spans::Seqs;
 
 /// The range deletions over the keys from `begin` to below `end`, each of which covers all of these keys
 /// (RocksDB's fragmented range tombstones: RocksDB wiki, "DeleteRange").
@@ -13,7 +14,7 @@ pub struct Fragment {
     /// The least key behind those that are covered.
     pub end: Bytes,
     /// The sequences of the range deletions, the newest first.
-    pub seqs: Items<u64>,
+    pub seqs: Seqs,
 }
 
 impl Clone for Fragment {

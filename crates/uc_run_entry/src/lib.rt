@@ -22,4 +22,5 @@ pub use laws::{
     plain_list_does_what_is_found, plain_list_is_in_order, stripes_of_plain_list_do_what_is_found,
 };
 pub use point::{INLINE_BYTES, Point, points_of};
+pub use uc_run_spans::Seqs;
 pub use what_ref::WhatRef;
