@@ -27,6 +27,6 @@ pub use uc_run_entry::{
     plain_list_is_in_order, stripes_of_plain_list_do_what_is_found,
 };
 pub use uc_run_fragment::{
-    Range, cut_ranges, fragments_are_in_order, fragments_cover_what_ranges_cover,
+    Fragments, Range, cut_ranges, fragments_are_in_order, fragments_cover_what_ranges_cover,
 };
 pub use uc_run_table::{Run, next_key_is_the_least};

@@ -3,9 +3,9 @@ pub mod SameSets
 pub mod Pieces
 pub mod Over
 pub mod Seqs
+pub mod Covered
 pub mod Cuts
-pub mod Once
-pub mod Newest
-pub mod Filled
+pub mod Equal
+pub mod Partitions
 pub mod Spanned
 pub mod Written

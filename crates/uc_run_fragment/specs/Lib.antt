@@ -1,2 +1,3 @@
 pub mod Cutting
-pub mod Filling
+pub mod Shared
+pub mod Spanning

@@ -1,17 +1,21 @@
 //! [`cut_ranges`]: the fragments of ranges.
-ghost use Rattle.std.specs.Prelude.{◌≡◌, [], length, nat_lt, map, filter, OnOk, IfOk};
-ghost use Rattle.std.specs.List.Sorted.{IsPermutation};
-ghost use Rattle.uc_run_entry.specs.Order.{AreInOrder};
+ghost use Rattle.std.specs.Prelude.{◌≡◌, ◌<◌, ◌+◌, ◌-◌, [], length, map, IfOk};
+ghost use Rattle.std.specs.Arc.{arc_value};
+ghost use Rattle.std.specs.List.{slice_index_or};
 ghost use Rattle.uc_run_fragment.specs.Cutting as cutting;
-ghost use Rattle.uc_run_fragment.specs.Cutting.{fragments_of, fragment_over, pieces};
-ghost use Rattle.uc_run_fragment.specs.Filling.{with_seq, with_range, filled, AreNewestFirst};
+ghost use Rattle.uc_run_fragment.specs.Cutting.{fragments_of, pieces};
+ghost use Rattle.uc_run_fragment.specs.Spanning as spanning;
+ghost use Rattle.uc_run_fragment.specs.Spanning.{with_seqs};
 
-use crate::piece::Piece;
+use crate::fragments::{FEW, Fragments};
 use crate::range::Range;
+use crate::spanning::spans_of;
 use std::alloc::{AllocError, Global};
-use std::cmp::Reverse;
 use std::collections::BTreeSet;
+use std::sync::Arc;
+use uc_bytes::Bytes;
 use uc_run_entry::Fragment;
+use uc_run_spans::{Seqs, Spans};
 
 /// The cut points: both ends of each range that covers a key, in byte order, each once.
 fn cut_points<'a>(alloc: Global, ranges: &[Range<'a>]) -> Result<BTreeSet<&'a [u8]>, AllocError>
@@ -27,80 +31,58 @@ fn cut_points<'a>(alloc: Global, ranges: &[Range<'a>]) -> Result<BTreeSet<&'a [u
     Ok(cuts)
 }
 
-/// The pieces between neighbouring cut points, without sequences.
-fn pieces_between<'a>(alloc: Global, cuts: BTreeSet<&'a [u8]>) -> Result<Vec<Piece<'a>>, AllocError>
-    ensures { IfOk result (λ made.
-        made.items ≡ map (fragment_over []) (pieces (map (λ cut. cut.now) cuts.entry.keys))) }
+/// The cut points in a vector.
+fn in_order<'a>(alloc: Global, cuts: BTreeSet<&'a [u8]>) -> Result<Vec<&'a [u8]>, AllocError>
+    ensures { IfOk result (λ list. map (λ cut. cut.now) list.items ≡ map (λ cut. cut.now) cuts.entry.keys) }
 {
-    let mut made = Vec::new(alloc);
-    let mut ends = cuts.into_iter();
-    let Some(first) = ends.next() else {
-        return Ok(made);
-    };
-    let mut begin = first;
-    for end in ends {
-        made.push(Piece::new(alloc, begin, end))?;
-        begin = end;
-    }
-    Ok(made)
+    cuts.into_iter().collect(alloc)
 }
 
-/// The ranges, the newest first.
-fn newest_first<'b, 'a>(
+/// The sequences of a piece: its own numbers where they are few, and otherwise a share of the spans.
+fn seqs_over(alloc: Global, spans: &Arc<Spans>, piece: usize) -> Result<Seqs, AllocError>
+    requires { piece < length (arc_value spans.now) }
+    ensures { IfOk result (λ seqs. seqs ≡ slice_index_or (arc_value spans.now) piece []) }
+{
+    if spans.count(piece) <= FEW {
+        Ok(Seqs::from(spans.seqs(piece).to_vec(alloc)?))
+    } else {
+        Ok(Seqs::shared(spans.clone()?, piece))
+    }
+}
+
+/// The fragment that a piece becomes, with copies of the cut points on both sides.
+fn fragment_at(
     alloc: Global,
-    ranges: &'b [Range<'a>],
-) -> Result<Vec<&'b Range<'a>>, AllocError>
-    ensures permutation { IfOk result (λ sorted. IsPermutation ranges.now (map (λ range. range.now) sorted.items)) }
-    ensures newest_first { IfOk result (λ sorted. AreNewestFirst (map (λ range. range.now) sorted.items)) }
+    cuts: &[&[u8]],
+    piece: usize,
+    seqs: Seqs,
+) -> Result<Fragment, AllocError>
+    requires { piece + 1 < length cuts.now }
+    ensures { IfOk result (λ fragment. fragment ≡
+        record {
+          begin = slice_index_or (map (λ cut. cut.now) cuts.now) piece [];
+          end = slice_index_or (map (λ cut. cut.now) cuts.now) (piece + 1) [];
+          seqs = seqs;
+        }) }
 {
-    let mut sorted: Vec<&'b Range<'a>> = ranges.iter().collect(alloc)?;
-    sorted.sort_unstable_by_key(|range| Reverse(range.seq()));
-    Ok(sorted)
+    Ok(Fragment {
+        begin: Bytes::from_slice(alloc, cuts[piece])?,
+        end: Bytes::from_slice(alloc, cuts[piece + 1])?,
+        seqs,
+    })
 }
 
-/// Pushes a sequence to each piece.
-fn push_to_each(pieces: &mut [Piece<'_>], seq: u64) -> Result<(), AllocError>
-    ensures { OnOk result (pieces.new ≡ map (with_seq seq) pieces.old) }
-{
-    for piece in pieces.iter_mut() {
-        piece.push(seq)?;
-    }
-    Ok(())
-}
-
-/// Pushes the sequence of a range to the pieces that it spans.
-fn push_range(pieces: &mut [Piece<'_>], range: &Range<'_>) -> Result<(), AllocError>
-    requires { AreInOrder pieces.old }
-    ensures { OnOk result (pieces.new ≡ map (with_range range.now) pieces.old) }
-{
-    let from = pieces.partition_point(|piece| piece.begins_before(range.begin()));
-    let to = pieces.partition_point(|piece| piece.ends_by(range.end()));
-    // A range without keys spans no piece, and may end before it begins.
-    if from < to {
-        push_to_each(&mut pieces[from..to], range.seq())?;
-    }
-    Ok(())
-}
-
-/// Pushes the sequences of ranges to the pieces that they span, one range after the other.
-fn push_ranges(pieces: &mut [Piece<'_>], ranges: &[&Range<'_>]) -> Result<(), AllocError>
-    requires { AreInOrder pieces.old }
-    ensures { OnOk result (pieces.new ≡ filled pieces.old (map (λ range. range.now) ranges.now)) }
-{
-    for range in ranges {
-        push_range(pieces, range)?;
-    }
-    Ok(())
-}
-
-/// The fragments that pieces with sequences become.
-fn covered(alloc: Global, pieces: Vec<Piece<'_>>) -> Result<Vec<Fragment>, AllocError>
-    ensures { IfOk result (λ fragments. fragments.items ≡ filter (λ f. nat_lt 0 (length f.seqs)) pieces.entry.items) }
+/// The fragments that the pieces between cut points become which some span lies over.
+fn covered(alloc: Global, cuts: &[&[u8]], spans: &Arc<Spans>) -> Result<Vec<Fragment>, AllocError>
+    requires { length (arc_value spans.now) ≡ length cuts.now - 1 }
+    ensures { IfOk result (λ fragments. fragments.items ≡
+        spanning.covered (with_seqs (pieces (map (λ cut. cut.now) cuts.now)) (arc_value spans.now))) }
 {
     let mut fragments = Vec::new(alloc);
-    for piece in pieces {
-        if piece.is_covered() {
-            fragments.push(piece.into_fragment(alloc)?)?;
+    for piece in 0..spans.fragments() {
+        let seqs = seqs_over(alloc, spans, piece)?;
+        if !seqs.is_empty() {
+            fragments.push(fragment_at(alloc, cuts, piece, seqs)?)?;
         }
     }
     Ok(fragments)
@@ -109,12 +91,16 @@ fn covered(alloc: Global, pieces: Vec<Piece<'_>>) -> Result<Vec<Fragment>, Alloc
 /// The fragments of some ranges: the pieces between neighbouring ends of them that some range covers, in order,
 /// each with the sequences of the ranges over it, the newest first and each once. It fails only for want of memory.
 ///
-/// For n ranges it takes n log n steps, and one for each piece that a range spans: the size of the result, where
-/// the sequences of the ranges differ.
-pub fn cut_ranges(alloc: Global, ranges: &[Range<'_>]) -> Result<Vec<Fragment>, AllocError>
-    ensures { IfOk result (λ fragments. fragments.items ≡ fragments_of ranges.now) }
+/// For n ranges it takes n log n steps and numbers, however they overlap.
+pub fn cut_ranges(alloc: Global, ranges: &[Range<'_>]) -> Result<Fragments, AllocError>
+    ensures { IfOk result (λ fragments. fragments ≡ fragments_of ranges.now) }
 {
-    let mut pieces = pieces_between(alloc, cut_points(alloc, ranges)?)?;
-    push_ranges(&mut pieces, &newest_first(alloc, ranges)?)?;
-    covered(alloc, pieces)
+    let cuts = in_order(alloc, cut_points(alloc, ranges)?)?;
+    let lists = spans_of(alloc, &cuts, ranges)?;
+    let spans = Arc::new(
+        alloc,
+        Spans::new(alloc, cuts.len().saturating_sub(1), lists)?,
+    )?;
+    let fragments = covered(alloc, &cuts, &spans)?;
+    Ok(Fragments::with_spans(fragments, spans))
 }

@@ -7,10 +7,12 @@
 #![tactic(auto)]
 
 mod cutting;
+mod fragments;
 mod laws;
-mod piece;
 mod range;
+mod spanning;
 
 pub use cutting::cut_ranges;
+pub use fragments::Fragments;
 pub use laws::{fragments_are_in_order, fragments_cover_what_ranges_cover};
 pub use range::Range;

@@ -12,7 +12,7 @@ use Rattle.uc_run_entry.specs.Order.{entry_cmp}
 use Rattle.uc_run_entry.specs.Seek.{is_passed}
 use Rattle.uc_run_table.specs.Fences.{IsFenced}
 use Rattle.uc_run_table.specs.Prefixes.{AreRising}
-use Rattle.uc_run_table.proofs.Cuts.{partitioned, part_parted, part_point}
+use Rattle.uc_run_fragment.proofs.Partitions.{partitioned, part_parted, part_point}
 use Rattle.uc_run_table.proofs.Order.{passed_before}
 
 any : Entry

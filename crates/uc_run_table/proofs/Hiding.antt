@@ -1,45 +1,25 @@
--- The fragment over a key hides it where its oldest range deletion is seen.
-use Rattle.std.proofs.Common.{◌≡◌, ℕ, suc, ◌-◌, ◌<◌, Bool, true, false, cond, List, [], ◌∷◌, length, Some, None, filter, refl, sym, ap, ◌∙◌, arith}
-use Rattle.std.specs.Prelude.{◌&&◌, ◌||◌, nat_le, option_map}
+-- The fragment over a key hides it where one of its range deletions is seen.
+use Rattle.std.proofs.Common.{◌≡◌, ℕ, Bool, true, false, cond, List, [], ◌∷◌, Some, None, filter, refl, sym, ap, ◌∙◌}
+use Rattle.std.specs.Prelude.{◌&&◌, ◌||◌, is_some, nat_le, option_map}
 use Rattle.std.specs.List.{find, list_any, slice_get}
-use Rattle.std.specs.List.Sorted.{IsStrictlySortedBy}
-use Rattle.std.proofs.lemmas.Bool.Decides.{nat_tests}
 use Rattle.uc_run_entry.specs.declared.fragment.Fragment.{Fragment}
-use Rattle.uc_run_entry.specs.Order.{IsFalling}
 use Rattle.uc_run_entry.specs.Run.{covers}
 use Rattle.uc_run_table.specs.Hiding.{hides}
 
--- ---- the last of falling sequences decides
+-- ---- whether a fragment has a range deletion that is seen
 
 module _ (at : ℕ) where
   abbrev pub seen : List ℕ → Bool
   seen seqs = list_any (λ seq. nat_le seq at) seqs
 
-  or_none : (a : Bool) → a ≡ (a || false)
-  or_none true = refl
-  or_none false = refl
+  some_by : (seq : ℕ) (kept : List ℕ) (rest b : Bool) → is_some (slice_get kept 0) ≡ rest → is_some (slice_get (cond b (seq ∷ kept) kept) 0) ≡ (b || rest)
+  some_by seq kept rest true e = refl
+  some_by seq kept rest false e = e
 
-  below_first : (x y : ℕ) (rest : Bool) (a b : Bool) → nat_le x at ≡ a → nat_le y at ≡ b → y < x → (a || (b || rest)) ≡ (b || rest)
-  below_first x y rest true true e f l = refl
-  below_first x y rest true false e f l = absurd (grind (arith, nat_tests))
-  below_first x y rest false b e f l = refl
-
-  -- the first of falling sequences may be left out where there is another
-  pub first_out : (x y : ℕ) (seqs : List ℕ) → IsFalling (x ∷ y ∷ seqs) → seen (x ∷ y ∷ seqs) ≡ seen (y ∷ seqs)
-  unfolding IsStrictlySortedBy
-  first_out x y seqs falls = below_first x y (seen seqs) (nat_le x at) (nat_le y at) refl refl (let e = falls.0.0 in grind (arith, nat_tests))
-
-  pub last_decides : (seqs : List ℕ) (oldest : ℕ) → IsFalling seqs → Some oldest ≡ slice_get seqs (length seqs - 1) → nat_le oldest at ≡ seen seqs
-  unfolding IsStrictlySortedBy
-  last_decides [] oldest falls is = absurd cc
-  last_decides (x ∷ []) oldest falls is =
-      let same : oldest ≡ x = cc in
-      ap (λ seq. nat_le seq at) same ∙ or_none (nat_le x at)
-  last_decides (x ∷ y ∷ seqs) oldest falls is =
-      let long : length (x ∷ y ∷ seqs) - 1 ≡ suc (length seqs) = omega arith in
-      let rest : length (y ∷ seqs) - 1 ≡ length seqs = omega arith in
-      last_decides (y ∷ seqs) oldest falls.1 (is ∙ ap (slice_get (x ∷ y ∷ seqs)) long ∙ ap (slice_get (y ∷ seqs)) (sym rest))
-      ∙ sym (first_out x y seqs falls)
+  -- one of them is seen exactly where there is a newest among those that are
+  pub some_seen : (seqs : List ℕ) → is_some (slice_get (filter (λ seq. nat_le seq at) seqs) 0) ≡ seen seqs
+  some_seen [] = refl
+  some_seen (seq ∷ seqs) = some_by seq (filter (λ n. nat_le n at) seqs) (seen seqs) (nat_le seq at) (some_seen seqs)
 
 -- ---- the first that passes two tests
 

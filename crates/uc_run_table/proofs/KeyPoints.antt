@@ -9,7 +9,7 @@ use Rattle.uc_run_entry.specs.Order.{entry_cmp}
 use Rattle.uc_run_entry.specs.Seek.{is_passed}
 use Rattle.uc_run_entry.specs.Lookup.{is_visible}
 use Rattle.uc_run_table.specs.Places.{is_newer}
-use Rattle.uc_run_table.proofs.Cuts.{partitioned, filter-cut, places_in_order, part_at}
+use Rattle.uc_run_fragment.proofs.Partitions.{partitioned, filter-cut, places_in_order, part_at}
 use Rattle.uc_run_table.proofs.Order.{newer_before, newer_hidden, here_visible, behind_hidden, before_newer, passed_both}
 
 module _ (points : List Entry) (sorted : IsStrictlySortedBy entry_cmp points) (key : List ℕ) (at begin end : ℕ) (begin_bound : begin ≤ length points) (end_bound : end ≤ length points) (first : IsPartitionPoint (λ p. is_passed key false p.key ≡ true) (λ p. is_passed key false p.key ≡ false) points begin) (last : IsPartitionPoint (λ p. is_passed key true p.key ≡ true) (λ p. is_passed key true p.key ≡ false) points end) where

@@ -1,4 +1,3 @@
-pub mod Cuts
 pub mod Order
 pub mod Effects
 pub mod Fenced
@@ -7,7 +6,6 @@ pub mod PrefixOrder
 pub mod Fronts
 pub mod Decided
 pub mod LeastKey
-pub mod Equal
 pub mod Passing
 pub mod NearPlace
 pub mod FoundThere

@@ -10,7 +10,7 @@ use Rattle.uc_run_entry.specs.declared.entry.Entry.{Entry}
 use Rattle.uc_run_entry.specs.declared.entry.What.TheVariants.{Delete}
 use Rattle.uc_run_entry.specs.Order.{entry_cmp}
 use Rattle.uc_run_entry.specs.Seek.{is_passed, seek_place}
-use Rattle.uc_run_table.proofs.Cuts.{partitioned, part_at, places_in_order}
+use Rattle.uc_run_fragment.proofs.Partitions.{partitioned, part_at, places_in_order}
 use Rattle.uc_run_table.proofs.Order.{passed_before, passed_both}
 
 module _ {X : Type 0} (test : X → Bool) where

@@ -8,7 +8,7 @@ ghost use Rattle.uc_run_entry.specs.Run.{covers};
 ghost use Rattle.uc_run_entry.specs.Lookup as lookup;
 ghost use Rattle.uc_run_table.specs.Places.{PointsFall};
 
-use crate::places::{greatest_at, newer_than};
+use crate::places::newer_than;
 use std::alloc::{AllocError, Global};
 use uc_oper::{Effect, Operator};
 use uc_run_entry::{Fragment, Point, covering_fragment};
@@ -51,7 +51,7 @@ fn newest_over(fragments: &[Fragment], key: &[u8], at: u64) -> Option<u64>
         (flat_map (λ f. f.seqs) (filter (λ f. covers f key.now) fragments.now))) 0 }
 {
     let fragment = covering_fragment(fragments, key)?;
-    greatest_at(fragment.seqs.as_slice(), at)
+    fragment.seqs.newest_at_or_below(at)
 }
 
 /// What the key's points at or below the sequence do above the newest range deletion over it, which is that of one of the

@@ -7,6 +7,7 @@ ghost use Rattle.uc_run_table.specs.Cursors as cursors;
 ghost use Rattle.uc_run_table.specs.Hiding.{hides};
 
 use uc_run_entry::{Fragment, covering_fragment};
+use uc_run_spans::Seqs;
 
 /// Whether a fragment ends at or before a key.
 fn ends_by(fragment: &Fragment, key: &[u8]) -> bool
@@ -75,14 +76,11 @@ pub(crate) fn fragments_ended(fragments: &[Fragment], place: usize, key: &[u8]) 
 }
 
 /// Whether one of falling sequences is at or below a sequence.
-fn is_any_by(seqs: &[u64], at: u64) -> bool
+fn is_any_by(seqs: &Seqs, at: u64) -> bool
     requires { IsFalling seqs.now }
     ensures { result ≡ list_any (λ seq. nat_le seq at) seqs.now }
 {
-    match seqs.last() {
-        Some(oldest) => *oldest <= at,
-        None => false,
-    }
+    seqs.newest_at_or_below(at).is_some()
 }
 
 /// Where the fragment over the key ends, if it has a range deletion at or below the sequence.
@@ -92,7 +90,7 @@ pub(crate) fn end_of_hiding<'a>(fragments: &'a [Fragment], key: &[u8], at: u64) 
     ensures { option_map (λ end. end.now) result ≡ option_map (λ f. f.end) (find (hides at key.now) fragments.now) }
 {
     let fragment = covering_fragment(fragments, key)?;
-    if is_any_by(fragment.seqs.as_slice(), at) {
+    if is_any_by(&fragment.seqs, at) {
         Some(fragment.end.as_slice())
     } else {
         None

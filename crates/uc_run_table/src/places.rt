@@ -90,12 +90,3 @@ pub(crate) fn newer_than<'a>(points: &'a [Point], seq: u64) -> &'a [Point]
     let count = points.partition_point(|point| seq < point.seq());
     &points[..count]
 }
-
-/// The greatest of falling sequences at or below a sequence.
-pub(crate) fn greatest_at(seqs: &[u64], at: u64) -> Option<u64>
-    requires { IsFalling seqs.now }
-    ensures { result ≡ slice_get (filter (λ seq. nat_le seq at) seqs.now) 0 }
-{
-    let newer = seqs.partition_point(|seq| at < *seq);
-    seqs[newer..].first().copied()
-}

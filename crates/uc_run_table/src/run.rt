@@ -14,12 +14,13 @@ use crate::cursor::Cursor;
 use crate::fences::{Fences, fences_of, seek_by_fences};
 use crate::lookup::effect_found;
 use crate::places::points_on;
-use crate::same::{same_fragments, same_points};
+use crate::same::same_points;
 use crate::size::size_of;
 use std::alloc::{AllocError, Global};
 use std::marker::Model;
 use uc_oper::{Effect, Operator};
 use uc_run_entry::{Entry, Fragment, Point, WhatRef, plain_list_does_what_is_found, points_of};
+use uc_run_fragment::Fragments;
 
 /// An immutable sorted table (LevelDB `table_format.md`, in memory): points in order of key, fragments of range
 /// deletions, and the range of their sequences. A contract sees it as these.
@@ -29,7 +30,7 @@ pub struct Run {
     high: u64,
     points: Vec<Point>,
     fences: Fences,
-    fragments: Vec<Fragment>,
+    fragments: Fragments,
     size: u64,
 }
 
@@ -66,7 +67,7 @@ impl Run {
             }) }
     {
         let points = points_of(alloc, &points)?;
-        Run::from_points(alloc, low, high, points, fragments)
+        Run::from_points(alloc, low, high, points, Fragments::from(fragments))
     }
 
     /// The run of points that are packed already, and fragments. Want of memory loses them.
@@ -75,20 +76,13 @@ impl Run {
         low: u64,
         high: u64,
         points: Vec<Point>,
-        fragments: Vec<Fragment>,
+        fragments: Fragments,
     ) -> Result<Run, AllocError>
-        requires { IsRun low high points.items fragments.items }
+        requires { IsRun low high points.items fragments }
         ensures { IfOk result (λ run.
-            run ≡
-            record {
-              low = low;
-              high = high;
-              points = points.items;
-              fragments =
-                  fragments.items;
-            }) }
+            run ≡ record { low = low; high = high; points = points.items; fragments = fragments }) }
     {
-        let size = size_of(&points, &fragments);
+        let size = size_of(&points, fragments.as_slice());
         let fences = fences_of(alloc, &points)?;
         Ok(Run {
             low,
@@ -139,7 +133,7 @@ impl Run {
     pub fn fragments(&self) -> &[Fragment]
         ensures { result.now ≡ self.now.fragments }
     {
-        &self.fragments
+        self.fragments.as_slice()
     }
 
     /// The point at a place in the order of key, the newest of a key first: its key, its sequence, and what it says.
@@ -221,7 +215,7 @@ impl Run {
     {
         plain_list_does_what_is_found::<O>();
         let on = points_on(&self.points, &self.fences, key, at);
-        effect_found::<O>(alloc, on, &self.fragments, key, at)
+        effect_found::<O>(alloc, on, self.fragments.as_slice(), key, at)
     }
 
     /// Whether the runs have equal points, fragments and ranges.
@@ -231,7 +225,7 @@ impl Run {
         self.low == other.low
             && self.high == other.high
             && same_points(&self.points, &other.points)
-            && same_fragments(&self.fragments, &other.fragments)
+            && self.fragments.same(&other.fragments)
     }
 
     /// How many bytes its points and fragments have, with 8 for each sequence, held at 2^64 - 1.

@@ -1,7 +1,7 @@
-//! Whether points and fragments are equal.
+//! Whether points are equal.
 ghost use Rattle.std.specs.Prelude.{◌≡◌, ◌↔◌, IsTrue};
 
-use uc_run_entry::{Fragment, Point};
+use uc_run_entry::Point;
 
 /// Whether points are equal.
 pub(crate) fn same_points(points: &[Point], others: &[Point]) -> bool
@@ -12,11 +12,4 @@ pub(crate) fn same_points(points: &[Point], others: &[Point]) -> bool
             .iter()
             .zip(others)
             .all(|(point, other)| point.same(other))
-}
-
-/// Whether fragments are equal.
-pub(crate) fn same_fragments(fragments: &[Fragment], others: &[Fragment]) -> bool
-    ensures { IsTrue result ↔ (fragments.now ≡ others.now) }
-{
-    fragments == others
 }

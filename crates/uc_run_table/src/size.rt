@@ -33,7 +33,7 @@ fn fragment_size(fragment: &Fragment) -> u64
     ensures { result ≡ min (size.fragment_size fragment.now) (2 ^ 64 - 1) }
 {
     let ends = (fragment.begin.len() as u64).saturating_add(fragment.end.len() as u64);
-    ends.saturating_add((fragment.seqs.as_slice().len() as u64).saturating_mul(8))
+    ends.saturating_add(fragment.seqs.len().saturating_mul(8))
 }
 
 /// The size of all points, held at the greatest number.

@@ -3,7 +3,7 @@ use std::alloc::{AllocError, Global};
 use std::test::Fail;
 use uc_run_entry::Fragment;
 use uc_run_fragment::{
-    Range, cut_ranges, fragments_are_in_order, fragments_cover_what_ranges_cover,
+    Fragments, Range, cut_ranges, fragments_are_in_order, fragments_cover_what_ranges_cover,
 };
 
 /// Ranges and the fragments of them: a begin and an end, with a sequence or with some.
@@ -85,10 +85,16 @@ const CUTS: [Cut; 9] = [
 ];
 
 /// Whether a fragment has these ends and sequences.
-fn is(fragment: &Fragment, begin: &[u8], end: &[u8], seqs: &[u64]) -> bool {
-    fragment.begin.as_slice() == begin
+fn is(
+    alloc: Global,
+    fragment: &Fragment,
+    begin: &[u8],
+    end: &[u8],
+    seqs: &[u64],
+) -> Result<bool, AllocError> {
+    Ok(fragment.begin.as_slice() == begin
         && fragment.end.as_slice() == end
-        && fragment.seqs.as_slice() == seqs
+        && fragment.seqs.to_vec(alloc)?.as_slice() == seqs)
 }
 
 #[test]
@@ -100,9 +106,9 @@ fn ranges_are_cut_into_fragments(rt: HostRuntime) -> Result<(), Fail> {
             ranges.push(Range::new(begin, end, *seq))?;
         }
         let fragments = cut_ranges(alloc, &ranges)?;
-        assert_eq!(rt; fragments.len(), cut.fragments.len());
-        for (fragment, (begin, end, seqs)) in fragments.iter().zip(cut.fragments) {
-            assert!(rt; is(fragment, begin, end, seqs));
+        assert_eq!(rt; fragments.as_slice().len(), cut.fragments.len());
+        for (fragment, (begin, end, seqs)) in fragments.as_slice().iter().zip(cut.fragments) {
+            assert!(rt; is(alloc, fragment, begin, end, seqs)?);
         }
     }
     Ok(())
@@ -110,6 +116,11 @@ fn ranges_are_cut_into_fragments(rt: HostRuntime) -> Result<(), Fail> {
 
 /// Ends of random ranges, and keys that are looked for.
 const KEYS: [&[u8]; 8] = [b"", b"a", b"aa", b"ab", b"b", b"b\x00", b"c", b"\xff"];
+
+/// Ends of many random ranges.
+const MANY_KEYS: [&[u8]; 12] = [
+    b"", b"a", b"aa", b"ab", b"b", b"b\x00", b"c", b"ca", b"d", b"da", b"e", b"\xff",
+];
 
 /// Sequences of random ranges are below this.
 const MOST_SEQS: u64 = 5;
@@ -150,7 +161,7 @@ fn seqs_of_fragments(
     let mut seqs = Vec::new(alloc);
     for fragment in fragments {
         if fragment.begin.as_slice() <= key && key < fragment.end.as_slice() {
-            seqs.extend_from_slice(fragment.seqs.as_slice())?;
+            seqs.extend_from_slice(&fragment.seqs.to_vec(alloc)?)?;
         }
     }
     Ok(seqs)
@@ -170,10 +181,105 @@ fn random_ranges_cover_what_their_fragments_cover(rt: HostRuntime) -> Result<(),
         let fragments = cut_ranges(alloc, &ranges)?;
         for key in KEYS {
             let expected = seqs_of_ranges(alloc, &ranges, key)?;
-            assert_eq!(rt; seqs_of_fragments(alloc, &fragments, key)?, expected);
+            assert_eq!(rt; seqs_of_fragments(alloc, fragments.as_slice(), key)?, expected);
         }
     }
     Ok(())
+}
+
+/// Random ranges, each with a sequence of its own, above those before it.
+fn random_ranges(
+    alloc: Global,
+    state: &mut u64,
+    count: u64,
+) -> Result<Vec<Range<'static>>, AllocError> {
+    let mut ranges = Vec::new(alloc);
+    for seq in 1..=count {
+        let begin = MANY_KEYS[(next_random(state) % 12) as usize];
+        let end = MANY_KEYS[(next_random(state) % 12) as usize];
+        ranges.push(Range::new(begin, end, seq))?;
+    }
+    Ok(ranges)
+}
+
+/// The sequences of the ranges over a key, the newest first, of ranges whose sequences rise.
+fn rising_over(alloc: Global, ranges: &[Range<'_>], key: &[u8]) -> Result<Vec<u64>, AllocError> {
+    let mut seqs = Vec::new(alloc);
+    for range in ranges.iter().rev() {
+        if range.begin() <= key && key < range.end() {
+            seqs.push(range.seq())?;
+        }
+    }
+    Ok(seqs)
+}
+
+/// The first of falling sequences at or below a number, found by a look at all of them.
+fn first_by(seqs: &[u64], at: u64) -> Option<u64> {
+    seqs.iter().copied().find(|seq| *seq <= at)
+}
+
+/// Whether the fragments have these sequences over a key, and give the newest of them for each number.
+fn are_over(
+    alloc: Global,
+    fragments: &[Fragment],
+    key: &[u8],
+    seqs: &[u64],
+) -> Result<bool, AllocError> {
+    let Some(fragment) = fragments
+        .iter()
+        .find(|fragment| fragment.begin.as_slice() <= key && key < fragment.end.as_slice())
+    else {
+        return Ok(seqs.is_empty());
+    };
+    Ok(fragment.seqs.len() == seqs.len() as u64
+        && fragment.seqs.are_falling()
+        && fragment.seqs.to_vec(alloc)?.as_slice() == seqs
+        && (0..42).all(|at| fragment.seqs.newest_at_or_below(at) == first_by(seqs, at)))
+}
+
+#[test]
+fn many_ranges_that_overlap_share_spans(rt: HostRuntime) -> Result<(), Fail> {
+    let alloc = rt.alloc();
+    let mut state = 30;
+    let mut longest = 0;
+    for round in 0..20_000 {
+        let ranges = random_ranges(alloc, &mut state, round % 41)?;
+        let fragments = cut_ranges(alloc, &ranges)?;
+        assert!(rt; fragments.same(&cut_ranges(alloc, &ranges)?));
+        for key in MANY_KEYS {
+            let seqs = rising_over(alloc, &ranges, key)?;
+            longest = longest.max(seqs.len());
+            assert!(rt; are_over(alloc, fragments.as_slice(), key, &seqs)?);
+        }
+    }
+    assert!(rt; longest > 20);
+    Ok(())
+}
+
+#[test]
+fn fragments_differ_by_an_end_or_a_sequence(rt: HostRuntime) -> Result<(), Fail> {
+    let alloc = rt.alloc();
+    let mut state = 31;
+    let ranges = random_ranges(alloc, &mut state, 40)?;
+    let fragments = cut_ranges(alloc, &ranges)?;
+    assert!(rt; fragments.same(&cut_ranges(alloc, &ranges)?));
+    assert!(rt; !fragments.same(&cut_ranges(alloc, &ranges[1..])?));
+    let own = Fragments::from(fragments.as_slice().to_vec(alloc)?);
+    assert!(rt; fragments.same(&own) && own.same(&fragments));
+    // The same spans over pieces with other ends.
+    let lower = cut_ranges(alloc, &nested(alloc, b"a", b"y")?)?;
+    let higher = cut_ranges(alloc, &nested(alloc, b"b", b"y")?)?;
+    assert!(rt; !lower.same(&higher));
+    Ok(())
+}
+
+/// Twenty ranges over the same keys.
+fn nested<'a>(alloc: Global, begin: &'a [u8], end: &'a [u8]) -> Result<Vec<Range<'a>>, AllocError> {
+    let mut ranges = Vec::new(alloc);
+    for seq in 1..=20 {
+        ranges.push(Range::new(begin, end, seq))?;
+    }
+    Ok(ranges)
 }
 
 #[test]

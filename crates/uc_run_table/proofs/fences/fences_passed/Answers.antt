@@ -3,7 +3,7 @@ use Rattle.std.specs.List.Sorted.{IsPartitionPoint, IsPartitionedBy}
 use Rattle.uc_run_entry.specs.Order.{entry_cmp}
 use Rattle.uc_run_entry.specs.Seek as seek
 use Rattle.uc_run_table.specs.Prefixes.{AreRising}
-use Rattle.uc_run_table.proofs.Cuts.{partitioned, part_parted, part_point}
+use Rattle.uc_run_fragment.proofs.Partitions.{partitioned, part_parted, part_point}
 use Rattle.uc_run_table.proofs.Order.{passed_before}
 use Rattle.uc_run_table.proofs.Fenced.{fences_parted, fences_rise}
 use Rattle.uc_run_table.proofs.fences.fences_passed.Goals as goal

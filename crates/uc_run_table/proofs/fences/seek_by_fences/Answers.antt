@@ -2,7 +2,7 @@ use Rattle.std.proofs.Common.{rules, ◌≡◌, ◌<◌, ◌*◌, min, length, t
 use Rattle.std.specs.List.Sorted.{IsPartitionPoint}
 use Rattle.uc_run_entry.specs.Order.{entry_cmp}
 use Rattle.uc_run_entry.specs.Seek as seek
-use Rattle.uc_run_table.proofs.Cuts.{partitioned, count-front}
+use Rattle.uc_run_fragment.proofs.Partitions.{partitioned, count-front}
 use Rattle.uc_run_table.proofs.Order.{passed_before}
 use Rattle.uc_run_table.proofs.Fenced.{none_passed, last_parted, last_place}
 use Rattle.uc_run_table.proofs.fences.seek_by_fences.Goals as goal

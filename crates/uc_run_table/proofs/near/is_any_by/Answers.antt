@@ -1,9 +1,7 @@
-use Rattle.std.proofs.Common.{rules, ◌≡◌, ◌-◌, length, Some}
-use Rattle.std.specs.List.{slice_get}
-use Rattle.uc_run_table.proofs.Hiding.{last_decides}
+use Rattle.std.proofs.Common.{ap, ◌∙◌}
+use Rattle.std.specs.Prelude.{is_some}
+use Rattle.uc_run_table.proofs.Hiding.{some_seen}
 use Rattle.uc_run_table.proofs.near.is_any_by.Goals as goal
 
-pub returns-in-Some : goal.returns-in-Some
-returns-in-Some c =
-    let last : Some c.in-Some.oldest.now ≡ slice_get c.args.seqs.now (length c.args.seqs.now - 1) = search rules in
-    last_decides c.args.at c.args.seqs.now c.in-Some.oldest.now c.requires last
+pub returns : goal.returns
+returns c = c.is_some.ensures ∙ ap is_some c.newest_at_or_below.ensures ∙ some_seen c.args.at c.args.seqs.now

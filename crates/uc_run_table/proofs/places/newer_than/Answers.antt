@@ -1,7 +1,7 @@
 use Rattle.std.proofs.Common.{rules, sym, ltb}
 use Rattle.std.proofs.lemmas.List.Sorted.{IsPartitionPoint-from_clause}
 use Rattle.uc_run_table.specs.Places.{newest_first}
-use Rattle.uc_run_table.proofs.Cuts.{partitioned, filter-front}
+use Rattle.uc_run_fragment.proofs.Partitions.{partitioned, filter-front}
 use Rattle.uc_run_table.proofs.Order.{seq_before}
 use Rattle.uc_run_table.proofs.places.newer_than.Goals as goal
 

@@ -1,6 +1,6 @@
 use Rattle.std.proofs.Common.{rules}
-use Rattle.uc_run_table.proofs.Equal.{equal_by}
-use Rattle.uc_run_table.proofs.same.same_fragments.Goals as goal
+use Rattle.uc_run_fragment.proofs.Equal.{equal_by}
+use Rattle.uc_run_fragment.proofs.fragments.same_one_by_one.Goals as goal
 
 pub returns : goal.returns
 returns c = equal_by _ (λ x y. ((λ e. search rules), (λ e. search rules))) c.args.fragments.now c.args.others.now c.eq.result c.eq.ensures
