@@ -85,10 +85,18 @@ const CUTS: [Cut; 9] = [
 ];
 
 /// Whether a fragment has these ends and sequences.
-fn is(fragment: &Fragment, begin: &[u8], end: &[u8], seqs: &[u64]) -> bool {
-    fragment.begin.as_slice() == begin
-        && fragment.end.as_slice() == end
-        && fragment.seqs.as_slice() == seqs
+fn is(
+    alloc: Global,
+    fragment: &Fragment,
+    begin: &[u8],
+    end: &[u8],
+    seqs: &[u64],
+) -> Result<bool, AllocError> {
+    Ok(
+        fragment.begin.as_slice() == begin
+            && fragment.end.as_slice() == end
+            && fragment.seqs.to_vec(alloc)?.as_slice() == seqs,
+    )
 }
 
 #[test]
@@ -102,7 +110,7 @@ fn ranges_are_cut_into_fragments(rt: HostRuntime) -> Result<(), Fail> {
         let fragments = cut_ranges(alloc, &ranges)?;
         assert_eq!(rt; fragments.len(), cut.fragments.len());
         for (fragment, (begin, end, seqs)) in fragments.iter().zip(cut.fragments) {
-            assert!(rt; is(fragment, begin, end, seqs));
+            assert!(rt; is(alloc, fragment, begin, end, seqs)?);
         }
     }
     Ok(())
@@ -150,7 +158,7 @@ fn seqs_of_fragments(
     let mut seqs = Vec::new(alloc);
     for fragment in fragments {
         if fragment.begin.as_slice() <= key && key < fragment.end.as_slice() {
-            seqs.extend_from_slice(fragment.seqs.as_slice())?;
+            seqs.extend_from_slice(&fragment.seqs.to_vec(alloc)?)?;
         }
     }
     Ok(seqs)
