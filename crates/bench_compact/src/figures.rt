@@ -1,4 +1,5 @@
 //! [`Figures`]: what a run holds, so that two programs' runs can be compared.
+use std::alloc::{AllocError, Global};
 use std::fmt;
 use uc_run::{Fragment, Run};
 use uc_run_entry::{Point, WhatRef};
@@ -13,21 +14,21 @@ pub(crate) struct Figures {
 }
 
 impl Figures {
-    /// Those of a run.
-    pub(crate) fn of(run: &Run) -> Figures {
+    /// Those of a run. It fails only for want of memory.
+    pub(crate) fn of(alloc: Global, run: &Run) -> Result<Figures, AllocError> {
         let mut checksum = 0;
         for point in run.entries() {
             checksum = with_point(checksum, point);
         }
         for fragment in run.fragments() {
-            checksum = with_fragment(checksum, fragment);
+            checksum = with_fragment(alloc, checksum, fragment)?;
         }
-        Figures {
+        Ok(Figures {
             points: run.points(),
             fragments: run.fragments().len(),
             size: run.size(),
             checksum,
-        }
+        })
     }
 }
 
@@ -67,11 +68,11 @@ fn with_point(checksum: u64, point: &Point) -> u64 {
 }
 
 /// A checksum and then a fragment.
-fn with_fragment(checksum: u64, fragment: &Fragment) -> u64 {
+fn with_fragment(alloc: Global, checksum: u64, fragment: &Fragment) -> Result<u64, AllocError> {
     let mut sum = with_bytes(checksum, fragment.begin.as_slice());
     sum = with_bytes(sum, fragment.end.as_slice());
-    for seq in fragment.seqs.as_slice() {
+    for seq in &fragment.seqs.to_vec(alloc)? {
         sum = with_number(sum, *seq);
     }
-    sum
+    Ok(sum)
 }

@@ -53,7 +53,8 @@ fn measured_by<O: Operator + Sync>(
     let start = Instant::now(rt)?;
     let made = compact::<O>(rt, alloc, &runs, &keeps, plan.oldest)?;
     let nanoseconds = start.elapsed(rt)?.as_nanos();
-    Ok((nanoseconds, Figures::of(made.output())))
+    let figures = Figures::of(alloc, made.output())?;
+    Ok((nanoseconds, figures))
 }
 
 /// The same by the operator that the shape's merges want.

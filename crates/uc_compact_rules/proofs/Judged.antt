@@ -10,7 +10,7 @@ use Rattle.std.specs.Bool.{MatchBool}
 use Rattle.std.proofs.lemmas.Bool.Decides.{nat_tests}
 use Rattle.std.proofs.lemmas.Cmp.{nat_cmp_total, back_total, on_total}
 use Rattle.uc_run_entry.specs.declared.entry.Entry.{Entry}
-use Rattle.uc_run_entry.proofs.Sorted.{sorted_by}
+use Rattle.uc_run_spans.proofs.Neighbours.{sorted_by}
 use Rattle.uc_compact_rules.specs.Choice.{PointsFall}
 
 -- numbers that rise

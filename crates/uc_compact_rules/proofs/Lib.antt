@@ -15,3 +15,6 @@ pub mod Onward
 pub mod InTurn
 pub mod Judged
 pub mod OnTop
+pub mod Best
+pub mod Newest
+pub mod Apart

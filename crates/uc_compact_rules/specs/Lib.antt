@@ -3,3 +3,4 @@ pub mod Inputs
 pub mod Output
 pub mod Values
 pub mod Choice
+pub mod Together

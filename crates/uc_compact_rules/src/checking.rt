@@ -3,9 +3,9 @@ ghost use Rattle.std.specs.Prelude.{◌≡◌, ◌≢◌, ◌<◌, ◌↔◌, Is
 ghost use Rattle.std.specs.List.{AllByRecursion};
 ghost use Rattle.std.specs.List.Sorted.{IsStrictlySortedBy};
 ghost use Rattle.std.specs.Ordering.{nat_cmp};
-ghost use Rattle.uc_run_entry.specs.Order.{IsFalling};
 ghost use Rattle.uc_compact_rules.specs.Choice.{AreOfOneKey, PointsFall};
 
+use crate::over::Over;
 use uc_run_entry::Point;
 
 /// Whether each keep is below the next.
@@ -15,18 +15,11 @@ pub fn keeps_rise(keeps: &[u64]) -> bool
     keeps.is_sorted_by(|keep, next| keep < next)
 }
 
-/// Whether each sequence is above the next.
-pub fn seqs_fall(seqs: &[u64]) -> bool
-    ensures { IsTrue result ↔ IsFalling seqs.now }
-{
-    seqs.is_sorted_by(|seq, next| next < seq)
-}
-
 /// Whether no sequence is 0.
-pub fn seqs_are_from_one(seqs: &[u64]) -> bool
+pub fn seqs_are_from_one(seqs: &Over<'_>) -> bool
     ensures { IsTrue result ↔ AllByRecursion (λ n. 0 < n) seqs.now }
 {
-    seqs.iter().all(|seq| 0 < *seq)
+    seqs.newest_at_or_below(0).is_none()
 }
 
 /// Whether each point is newer than the next.
@@ -44,14 +37,19 @@ fn points_are_from_one(points: &[&Point]) -> bool
 }
 
 /// Whether a point's sequence isn't among some.
-fn is_apart(point: &Point, seqs: &[u64]) -> bool
+fn is_apart(point: &Point, seqs: &Over<'_>) -> bool
     ensures { IsTrue result ↔ AllByRecursion (λ n. n ≢ point.now.seq) seqs.now }
 {
-    seqs.iter().all(|seq| *seq != point.seq())
+    seqs.falls();
+    let seq = point.seq();
+    match seqs.newest_at_or_below(seq) {
+        None => true,
+        Some(newest) => newest != seq,
+    }
 }
 
 /// Whether no point has one of the sequences.
-fn are_apart(points: &[&Point], seqs: &[u64]) -> bool
+fn are_apart(points: &[&Point], seqs: &Over<'_>) -> bool
     ensures { IsTrue result ↔
         AllByRecursion (λ p. AllByRecursion (λ n. n ≢ p.seq) seqs.now)
         (map (λ p. p.now) points.now) }
@@ -59,13 +57,13 @@ fn are_apart(points: &[&Point], seqs: &[u64]) -> bool
     points.iter().all(|point| is_apart(point, seqs))
 }
 
-/// Whether points and sequences are like those of one key: both from 1 on and the newest first, and no sequence is in both.
-/// [`push_kept_points`](crate::push_kept_points) takes these.
-pub fn are_of_one_key(points: &[&Point], seqs: &[u64]) -> bool
+/// Whether points and sequences are like those of one key: the points from 1 on and the newest first, the sequences from 1
+/// on, and no sequence is in both. [`push_kept_points`](crate::push_kept_points) takes these.
+pub fn are_of_one_key(points: &[&Point], seqs: &Over<'_>) -> bool
     ensures { IsTrue result ↔ AreOfOneKey (map (λ p. p.now) points.now) seqs.now }
 {
+    seqs.falls();
     points_fall(points)
-        && seqs_fall(seqs)
         && points_are_from_one(points)
         && seqs_are_from_one(seqs)
         && are_apart(points, seqs)

@@ -1,5 +1,6 @@
 //! What a key's points do, as one effect.
 ghost use Rattle.std.specs.Prelude.{◌≡◌, map, IfOk};
+ghost use Rattle.std.specs.Option.{option_to_list};
 ghost use Rattle.uc_oper.specs.Operation.{Operation};
 ghost use Rattle.uc_oper.specs.declared.effect.Effect.{Effect as EffectOf};
 ghost use Rattle.uc_run_entry.specs.Lookup as lookup;
@@ -79,20 +80,21 @@ fn points_effect<O: Operator + Sync>(
     }
 }
 
-/// What a key's points and the range deletions over it do, both the newest first.
+/// What a key's points, the newest first, and the range deletions over it do, of which the newest is given, if there is one.
 pub(crate) fn effect_above_newest<O: Operator + Sync>(
     rt: &(impl Threads + Sync),
     alloc: Global,
     points: &[&Point],
-    seqs: &[u64],
+    newest: Option<u64>,
 ) -> Result<Effect, AllocError>
     requires { PointsFall (map (λ p. p.now) points.now) }
-    ensures { IfOk result (λ effect. effect ≡ lookup.above_newest O.meaning (map (λ p. p.now) points.now) seqs.now) }
+    ensures { IfOk result (λ effect.
+        effect ≡ lookup.above_newest O.meaning (map (λ p. p.now) points.now) (option_to_list newest)) }
 {
-    match seqs.first() {
+    match newest {
         None => points_effect::<O>(rt, alloc, Effect::Keep, points),
         Some(newest) => {
-            let newer = &points[..points_above(points, *newest)];
+            let newer = &points[..points_above(points, newest)];
             points_effect::<O>(rt, alloc, Effect::Set(None), newer)
         }
     }

@@ -1,43 +1,54 @@
 //! [`kept_seqs`]: what is kept of a fragment's sequences.
-ghost use Rattle.std.specs.Prelude.{◌≡◌, ◌<◌, Some, None, nat_lt, if◌then◌else◌, IfOk};
-ghost use Rattle.std.specs.List.{AllByRecursion};
+ghost use Rattle.std.specs.Prelude.{◌≡◌, ◌<◌, ◌≤◌, ℕ, List, Some, None, filter, nat_lt, nat_le, if◌then◌else◌, IfOk};
+ghost use Rattle.std.specs.List.{AllByRecursion, slice_get};
 ghost use Rattle.std.specs.List.Sorted.{IsStrictlySortedBy};
 ghost use Rattle.std.specs.Ordering.{nat_cmp};
 ghost use Rattle.uc_run_entry.specs.Order.{IsFalling};
-ghost use Rattle.uc_compact_rules.specs.Output.{greatest, seqs_kept};
+ghost use Rattle.uc_compact_rules.specs.Output.{seq_kept, seqs_kept};
+ghost use Rattle.uc_compact_rules.specs.Stripes.{stripe_of};
 
 use crate::keeping::Keeping;
+use crate::over::Over;
+use crate::stripe::Stripe;
 use std::alloc::{AllocError, Global};
 
-/// The sequence that is kept of a stripe's, where one is.
-fn newest_kept(own: &[u64], bottom: bool) -> Option<u64>
-    requires fall { IsFalling own.now }
-    requires from_one { AllByRecursion (λ n. 0 < n) own.now }
-    ensures { result ≡
-        (if bottom then None else if nat_lt 0 (greatest own.now) then Some (greatest own.now) else
-        None) }
+/// The sequence that is kept of a stripe's, where one is. The stripe is that of `newest`, the newest that isn't above it.
+fn newest_kept(keeping: &Keeping<'_>, stripe: &Stripe, newest: u64, seqs: &Over<'_>) -> Option<u64>
+    ensures { (rest : List ℕ) → IsFalling rest → AllByRecursion (λ n. 0 < n) rest → slice_get rest 0 ≡ Some newest →
+        stripe.now ≡ stripe_of keeping.now.keeps newest →
+        ((at : ℕ) → at ≤ newest → filter (λ n. nat_le n at) seqs.now ≡ filter (λ n. nat_le n at) rest) →
+        result ≡ seq_kept keeping.now rest stripe.now }
 {
-    if bottom { None } else { own.first().copied() }
+    if keeping.is_bottom(stripe) {
+        None
+    } else if stripe.has(newest) {
+        Some(newest)
+    } else {
+        stripe.newest_of(seqs)
+    }
 }
 
 /// Of each stripe but the bottom one, the greatest of a fragment's sequences. They come the newest first.
 ///
-/// It takes time for the stripes that have sequences, and not for the others.
-pub fn kept_seqs(alloc: Global, seqs: &[u64], keeping: &Keeping<'_>) -> Result<Vec<u64>, AllocError>
-    requires fall { IsFalling seqs.now }
+/// It takes time for the stripes that have sequences, and not for the others, nor for the sequences that aren't kept.
+pub fn kept_seqs(
+    alloc: Global,
+    seqs: &Over<'_>,
+    keeping: &Keeping<'_>,
+) -> Result<Vec<u64>, AllocError>
     requires from_one { AllByRecursion (λ n. 0 < n) seqs.now }
     requires keeps_rise { IsStrictlySortedBy nat_cmp keeping.now.keeps }
     ensures { IfOk result (λ kept. kept.items ≡ seqs_kept keeping.now seqs.now) }
 {
+    seqs.falls();
     let mut kept = Vec::new(alloc);
-    let mut rest = seqs;
-    while let Some(newest) = rest.first() {
-        let stripe = keeping.stripe_of(*newest);
-        let (own, below) = stripe.split_seqs(rest);
-        if let Some(seq) = newest_kept(own, keeping.is_bottom(&stripe)) {
+    let mut next = seqs.newest();
+    while let Some(newest) = next {
+        let stripe = keeping.stripe_of(newest);
+        if let Some(seq) = newest_kept(keeping, &stripe, newest, seqs) {
             kept.push(seq)?;
         }
-        rest = below;
+        next = seqs.newest_at_or_below(stripe.above());
     }
     Ok(kept)
 }

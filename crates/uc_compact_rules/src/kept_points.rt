@@ -1,15 +1,16 @@
 //! [`push_kept_points`]: what is kept of one key's points.
 ghost use Rattle.std.specs.Prelude.{◌≡◌, ◌<◌, ◌↔◌, ◌++◌, [], map, nat_lt, IsTrue, IfOk, OnOk};
 ghost use Rattle.std.specs.List.{AllByRecursion, cons_option};
+ghost use Rattle.std.specs.Option.{option_to_list};
 ghost use Rattle.std.specs.List.Sorted.{IsStrictlySortedBy};
 ghost use Rattle.std.specs.Ordering.{nat_cmp};
-ghost use Rattle.uc_run_entry.specs.Order.{IsFalling};
 ghost use Rattle.uc_compact_rules.specs.Choice as choice;
 ghost use Rattle.uc_compact_rules.specs.Choice.{AreOfOneKey, PointsFall, points_for};
 ghost use Rattle.uc_compact_rules.specs.Output as output;
 
 use crate::folding::effect_above_newest;
 use crate::keeping::Keeping;
+use crate::over::Over;
 use std::alloc::{AllocError, Global};
 use std::marker::Sync;
 use std::thread::Threads;
@@ -46,42 +47,40 @@ fn what_kept<O: Operator>(
     }
 }
 
-/// Whether the newest of the range deletions is above a sequence.
-fn is_cleared(seq: u64, seqs: &[u64]) -> bool
-    requires { IsFalling seqs.now }
-    ensures { result ≡ nat_lt seq (output.greatest seqs.now) }
+/// Whether a range deletion is above a sequence, where there is one.
+fn is_cleared(seq: u64, newest: Option<u64>) -> bool
+    ensures { result ≡ nat_lt seq (output.greatest (option_to_list newest)) }
 {
-    match seqs.first() {
+    match newest {
         None => false,
-        Some(newest) => seq < *newest,
+        Some(newest) => seq < newest,
     }
 }
 
-/// Whether the range deletions are all below a sequence.
-fn are_below(seqs: &[u64], seq: u64) -> bool
-    requires { IsFalling seqs.now }
-    ensures { IsTrue result ↔ AllByRecursion (λ n. n < seq) seqs.now }
+/// Whether a range deletion is below a sequence, where there is one.
+fn is_below(newest: Option<u64>, seq: u64) -> bool
+    ensures { IsTrue result ↔ AllByRecursion (λ n. n < seq) (option_to_list newest) }
 {
-    match seqs.first() {
+    match newest {
         None => true,
-        Some(newest) => *newest < seq,
+        Some(newest) => newest < seq,
     }
 }
 
-/// The point that stands for a stripe's points of a key, where they need one.
+/// The point that stands for a stripe's points of a key, where they need one. Of the range deletions of the stripe over
+/// the key it takes the newest, if there is one.
 fn point_for<O: Operator + Sync>(
     rt: &(impl Threads + Sync),
     alloc: Global,
     bottom: bool,
     key: &[u8],
     points: &[&Point],
-    seqs: &[u64],
+    range: Option<u64>,
 ) -> Result<Option<Point>, AllocError>
     requires fall { PointsFall (map (λ p. p.now) points.now) }
     requires from_one { AllByRecursion (λ p. 0 < p.seq) (map (λ p. p.now) points.now) }
-    requires seqs_fall { IsFalling seqs.now }
     ensures { IfOk result (λ point.
-        point ≡ choice.point_for O.meaning bottom key.now (map (λ p. p.now) points.now) seqs.now) }
+        point ≡ choice.point_for O.meaning bottom key.now (map (λ p. p.now) points.now) (option_to_list range)) }
 {
     let Some(newest) = points.first() else {
         return Ok(None);
@@ -89,12 +88,12 @@ fn point_for<O: Operator + Sync>(
     let seq = newest.seq();
     // A put that nothing hides stands as it is, so its value is copied once.
     if let WhatRef::Put(value) = newest.what()
-        && are_below(seqs, seq)
+        && is_below(range, seq)
     {
         return Ok(Some(Point::new(alloc, key, seq, WhatRef::Put(value))?));
     }
-    let effect = effect_above_newest::<O>(rt, alloc, points, seqs)?;
-    let cleared = is_cleared(seq, seqs);
+    let effect = effect_above_newest::<O>(rt, alloc, points, range)?;
+    let cleared = is_cleared(seq, range);
     match what_kept::<O>(alloc, bottom, effect, cleared)? {
         None => Ok(None),
         Some(what) => Ok(Some(Point::new(alloc, key, seq, WhatRef::of(&what))?)),
@@ -123,7 +122,7 @@ pub fn push_kept_points<O: Operator + Sync>(
     kept: &mut Vec<Point>,
     key: &[u8],
     points: &[&Point],
-    seqs: &[u64],
+    seqs: &Over<'_>,
     keeping: &Keeping<'_>,
 ) -> Result<(), AllocError>
     requires of_one_key { AreOfOneKey (map (λ p. p.now) points.now) seqs.now }
@@ -138,9 +137,9 @@ pub fn push_kept_points<O: Operator + Sync>(
     while let Some(newest) = rest.first() {
         let stripe = keeping.stripe_of(newest.seq());
         let (own, count) = stripe.own_points(rest);
-        let (over, _) = stripe.split_seqs(seqs);
+        let range = stripe.newest_of(seqs);
         let bottom = keeping.is_bottom(&stripe);
-        push_some(kept, point_for::<O>(rt, alloc, bottom, key, own, over)?)?;
+        push_some(kept, point_for::<O>(rt, alloc, bottom, key, own, range)?)?;
         rest = &rest[count..];
     }
     Ok(())

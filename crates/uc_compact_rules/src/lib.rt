@@ -11,10 +11,11 @@ mod fragment_seqs;
 mod keeping;
 mod kept_points;
 mod laws;
+mod over;
 mod parts;
 mod stripe;
 
-pub use checking::{are_of_one_key, keeps_rise, seqs_are_from_one, seqs_fall};
+pub use checking::{are_of_one_key, keeps_rise, seqs_are_from_one};
 pub use fragment_seqs::kept_seqs;
 pub use keeping::Keeping;
 pub use kept_points::push_kept_points;
@@ -23,3 +24,4 @@ pub use laws::{
     compaction_keeps_what_is_read, compaction_of_the_oldest_leaves_values,
     points_are_chosen_key_by_key, runs_compose, sequences_have_one_stripe,
 };
+pub use over::Over;

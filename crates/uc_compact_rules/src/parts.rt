@@ -1,6 +1,5 @@
-//! Parts of what falls: of points, and of sequences.
+//! Parts of points that fall.
 ghost use Rattle.std.specs.Prelude.{◌≡◌, ◌≤◌, length, map, take, drop, filter, nat_le, nat_lt};
-ghost use Rattle.uc_run_entry.specs.Order.{IsFalling};
 ghost use Rattle.uc_compact_rules.specs.Choice.{PointsFall};
 
 use uc_run_entry::Point;
@@ -15,14 +14,4 @@ pub(crate) fn points_above(points: &[&Point], seq: u64) -> usize
         filter (λ p. nat_le p.seq seq) (map (λ p. p.now) points.now) }
 {
     points.partition_point(|point| seq < point.seq())
-}
-
-/// The sequences above one, and the others.
-pub(crate) fn part_seqs(seqs: &[u64], seq: u64) -> (&[u64], &[u64])
-    requires { IsFalling seqs.now }
-    ensures newer { result.0.now ≡ filter (λ n. nat_lt seq n) seqs.now }
-    ensures older { result.1.now ≡ filter (λ n. nat_le n seq) seqs.now }
-{
-    let place = seqs.partition_point(|other| seq < *other);
-    seqs.split_at(place)
 }

@@ -1,13 +1,14 @@
 //! [`Stripe`]: the sequences between two neighbouring keeps.
-ghost use Rattle.std.specs.Prelude.{◌≡◌, ◌<◌, ◌≤◌, ◌-◌, ◌^◌, ◌∷◌, length, map, drop, filter, nat_le};
-ghost use Rattle.std.specs.List.{slice_index_or};
+ghost use Rattle.std.specs.Prelude.{◌≡◌, ◌≤◌, ◌-◌, ◌^◌, ◌∷◌, length, map, drop, filter, nat_le, nat_lt};
+ghost use Rattle.std.specs.List.{slice_get, slice_index_or};
+ghost use Rattle.std.specs.Option.{option_to_list};
 ghost use Rattle.std.specs.List.Sorted.{IsStrictlySortedBy};
 ghost use Rattle.std.specs.Ordering.{nat_cmp};
-ghost use Rattle.uc_run_entry.specs.Order.{IsFalling};
 ghost use Rattle.uc_compact_rules.specs.Choice.{PointsFall};
 ghost use Rattle.uc_compact_rules.specs.Stripes as stripes;
 
-use crate::parts::{part_seqs, points_above};
+use crate::over::Over;
+use crate::parts::points_above;
 use std::marker::Model;
 use uc_bytes::MAX_SEQUENCE;
 use uc_run_entry::Point;
@@ -45,6 +46,16 @@ fn keep_at(keeps: &[u64], place: usize) -> u64
     }
 }
 
+/// A sequence, where there is one above a number.
+fn above(number: u64, seq: Option<u64>) -> Option<u64>
+    ensures { result ≡ slice_get (filter (λ n. nat_lt number n) (option_to_list seq)) 0 }
+{
+    match seq {
+        Some(seq) if number < seq => Some(seq),
+        _ => None,
+    }
+}
+
 impl Stripe {
     /// The stripe of a sequence. It looks at as many keeps as the logarithm of their number.
     pub(crate) fn of(keeps: &[u64], seq: u64) -> Stripe
@@ -56,6 +67,13 @@ impl Stripe {
             above: keep_before(keeps, place),
             upto: keep_at(keeps, place),
         }
+    }
+
+    /// The greatest sequence below the stripe.
+    pub(crate) fn above(&self) -> u64
+        ensures { result ≡ self.now.above }
+    {
+        self.above
     }
 
     /// Whether the stripe has a sequence.
@@ -80,14 +98,11 @@ impl Stripe {
         (own, count)
     }
 
-    /// The sequences of the stripe, and those below it.
-    pub(crate) fn split_seqs<'b>(&self, seqs: &'b [u64]) -> (&'b [u64], &'b [u64])
-        requires { IsFalling seqs.now }
-        ensures own { result.0.now ≡ filter (stripes.is_in self.now) seqs.now }
-        ensures below { result.1.now ≡ filter (λ n. nat_le n self.now.above) seqs.now }
+    /// The newest sequence of the stripe, if it has one of these.
+    pub(crate) fn newest_of(&self, seqs: &Over<'_>) -> Option<u64>
+        ensures { result ≡ slice_get (filter (stripes.is_in self.now) seqs.now) 0 }
     {
-        let (newer, below) = part_seqs(seqs, self.above);
-        let (_, own) = part_seqs(newer, self.upto);
-        (own, below)
+        seqs.falls();
+        above(self.above, seqs.newest_at_or_below(self.upto))
     }
 }

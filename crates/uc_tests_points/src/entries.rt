@@ -1,10 +1,10 @@
 //! Points and fragments that make a run, and some that don't.
 use std::alloc::Global;
 use std::test::Fail;
-use uc_bytes::{Bytes, Items};
+use uc_bytes::Bytes;
 use uc_oper::Counter;
 use uc_run_entry::{
-    Entry, Fragment, What, covering_fragment, is_run, plain_list_does_what_is_found,
+    Entry, Fragment, Seqs, What, covering_fragment, is_run, plain_list_does_what_is_found,
     plain_list_is_in_order, stripes_of_plain_list_do_what_is_found,
 };
 
@@ -66,7 +66,7 @@ fn fragments(alloc: Global, fragments: &[FragmentOf]) -> Result<Vec<Fragment>, F
         list.push(Fragment {
             begin: Bytes::from_slice(alloc, begin)?,
             end: Bytes::from_slice(alloc, end)?,
-            seqs: Items::from(Vec::from_slice(alloc, seqs)?),
+            seqs: Seqs::from(Vec::from_slice(alloc, seqs)?),
         })?;
     }
     Ok(list)

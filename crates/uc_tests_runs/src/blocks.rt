@@ -2,9 +2,9 @@
 use std::alloc::Global;
 use std::process::Abort;
 use std::test::Fail;
-use uc_bytes::{Bytes, Items};
+use uc_bytes::Bytes;
 use uc_oper::{Append, Effect};
-use uc_run_entry::{Entry, Fragment, What, WhatRef, is_run};
+use uc_run_entry::{Entry, Fragment, Seqs, What, WhatRef, is_run};
 use uc_run_table::{Run, next_key_is_the_least};
 
 fn bytes(alloc: Global, text: &[u8]) -> Result<Bytes, Fail> {
@@ -230,7 +230,7 @@ fn merges(alloc: Global) -> Result<Run, Fail> {
     let fragment = Fragment {
         begin: bytes(alloc, b"j")?,
         end: bytes(alloc, b"l")?,
-        seqs: Items::from(Vec::from_slice(alloc, &[4])?),
+        seqs: Seqs::from(Vec::from_slice(alloc, &[4])?),
     };
     built(alloc, points, vec![in alloc; fragment]?)
 }

@@ -2,9 +2,9 @@
 use std::alloc::Global;
 use std::process::Abort;
 use std::test::Fail;
-use uc_bytes::{Bytes, Items};
+use uc_bytes::Bytes;
 use uc_oper::Append;
-use uc_run_entry::{Entry, Fragment, What, is_run};
+use uc_run_entry::{Entry, Fragment, Seqs, What, is_run};
 use uc_run_table::{Cursor, Run};
 
 fn bytes(alloc: Global, text: &[u8]) -> Result<Bytes, Fail> {
@@ -58,7 +58,7 @@ fn fragments(alloc: Global) -> Result<Vec<Fragment>, Fail> {
         fragments.push(Fragment {
             begin: bytes(alloc, &[*begin])?,
             end: bytes(alloc, &[*end])?,
-            seqs: Items::from(Vec::from_slice(alloc, seqs)?),
+            seqs: Seqs::from(Vec::from_slice(alloc, seqs)?),
         })?;
     }
     Ok(fragments)

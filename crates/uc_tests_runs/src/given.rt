@@ -2,8 +2,8 @@
 use std::alloc::Global;
 use std::sync::Arc;
 use std::test::Fail;
-use uc_bytes::{Bytes, Items};
-use uc_run_entry::{Entry, Fragment, What, is_run};
+use uc_bytes::Bytes;
+use uc_run_entry::{Entry, Fragment, Seqs, What, is_run};
 use uc_run_table::Run;
 
 /// What a point of a test says.
@@ -60,7 +60,7 @@ fn fragments_of(alloc: Global, given: &[Deletion]) -> Result<Vec<Fragment>, Fail
         fragments.push(Fragment {
             begin: Bytes::from_slice(alloc, begin)?,
             end: Bytes::from_slice(alloc, end)?,
-            seqs: Items::from(seqs),
+            seqs: Seqs::from(seqs),
         })?;
     }
     Ok(fragments)

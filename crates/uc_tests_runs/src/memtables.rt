@@ -2,10 +2,11 @@
 use std::alloc::Global;
 use std::process::Abort;
 use std::test::Fail;
-use uc_bytes::{Bytes, Items, MAX_SEQUENCE, Op, OpRef, Write, WriteRef};
+use uc_bytes::{Bytes, MAX_SEQUENCE, Op, OpRef, Write, WriteRef};
 use uc_model::effect_at;
 use uc_oper::{Append, Counter, Effect, Operator};
 use uc_run::{Fragment, Memtable, Run, flush_keeps_every_effect, flushed_writes_are_a_run, is_run};
+use uc_run_entry::Seqs;
 
 fn bytes(alloc: Global, text: &[u8]) -> Result<Bytes, Fail> {
     Ok(Bytes::from_slice(alloc, text)?)
@@ -104,7 +105,7 @@ fn fragment(alloc: Global, piece: (&[u8], &[u8], &[u64])) -> Result<Fragment, Fa
     Ok(Fragment {
         begin: bytes(alloc, begin)?,
         end: bytes(alloc, end)?,
-        seqs: Items::from(Vec::from_slice(alloc, seqs)?),
+        seqs: Seqs::from(Vec::from_slice(alloc, seqs)?),
     })
 }
 

@@ -1,7 +1,12 @@
-use Rattle.std.proofs.Common.{rules}
-use Rattle.uc_compact_rules.proofs.Onward.{newest_is}
+use Rattle.std.proofs.Common.{sym, ◌∙◌}
+use Rattle.uc_compact_rules.proofs.Newest.{bottom_keeps_none, first_is_kept, newest_is_kept}
 use Rattle.uc_compact_rules.proofs.fragment_seqs.newest_kept.Goals as goal
 
-pub returns-else-bottom : goal.returns-else-bottom
-returns-else-bottom c =
-    rw c.if-bottom.false (newest_is c.args.own.now c.args.bottom c.copied.result c.requires.fall c.requires.from_one (search rules))
+pub returns-then-is_bottom : goal.returns-then-is_bottom
+returns-then-is_bottom c = λ rest fall some first is same. bottom_keeps_none c.args.keeping.now c.args.stripe.now c.args.newest c.args.seqs.now rest fall some first (sym c.is_bottom.ensures ∙ c.if-is_bottom.true)
+
+pub returns-then-has : goal.returns-then-has
+returns-then-has c = λ rest fall some first is same. first_is_kept c.args.keeping.now c.args.stripe.now c.args.newest c.args.seqs.now rest fall some first (sym c.is_bottom.ensures ∙ c.if-is_bottom.false) (sym c.has.ensures ∙ c.if-has.true)
+
+pub returns-else-has : goal.returns-else-has
+returns-else-has c = λ rest fall some first is same. newest_is_kept c.args.keeping.now c.args.stripe.now c.args.newest c.args.seqs.now rest fall some first c.newest_of.result (sym c.is_bottom.ensures ∙ c.if-is_bottom.false) (sym c.has.ensures ∙ c.if-has.false) is same c.newest_of.ensures

@@ -1,12 +1,13 @@
 use Rattle.std.proofs.Common.{rules, ◌≡◌, ◌<◌, ◌≤◌, ◌-◌, List, [], ◌++◌, leb, length, map, take, drop, arith, filter, Some, None, sym, ap, ◌∙◌, subst}
 use Rattle.std.specs.Prelude.{Option}
 use Rattle.std.specs.List.{AllByRecursion, cons_option, slice_get}
+use Rattle.std.specs.Option.{option_to_list}
 use Rattle.uc_run_entry.specs.declared.entry.Entry.{Entry}
-use Rattle.uc_run_entry.specs.Order.{IsFalling}
 use Rattle.uc_compact_rules.specs.Stripes.{is_in, is_bottom, stripe_of}
 use Rattle.uc_compact_rules.specs.Choice.{PointsFall, point_for, points_for}
 use Rattle.uc_compact_rules.proofs.Lists.{all-filter}
 use Rattle.uc_compact_rules.proofs.Parting.{points_filter, falling_filter}
+use Rattle.uc_compact_rules.proofs.Newest.{newest_alone}
 use Rattle.uc_compact_rules.proofs.Onward.{first_seen, point_step, left_is, left_fewer, same_point, pushed, none_left, nothing_left, append-none}
 use Rattle.uc_compact_rules.proofs.kept_points.push_kept_points.Goals as goal
 
@@ -15,9 +16,6 @@ point_for-requires-clause-fall g c κs within = subst PointsFall (sym c.own_poin
 
 pub point_for-requires-clause-from_one : goal.point_for-requires-clause-from_one
 point_for-requires-clause-from_one g c κs within = subst (AllByRecursion (λ (p : Entry). 0 < p.seq)) (sym c.own_points-count.ensures.own) (all-filter (λ (p : Entry). 0 < p.seq) (λ p. is_in c.stripe_of-stripe.result p.seq) (map (λ p. p.now) c.loop-newest.rest.now) c.loop-newest.invariant.from_one)
-
-pub point_for-requires-clause-seqs_fall : goal.point_for-requires-clause-seqs_fall
-point_for-requires-clause-seqs_fall g c κs within = subst IsFalling (sym c.split_seqs.ensures.own) (falling_filter (is_in c.stripe_of-stripe.result) c.args.seqs.now c.requires.of_one_key.seqs_fall)
 
 pub offset_bounds-rest-count : goal.offset_bounds-rest-count
 offset_bounds-rest-count g c =
@@ -50,7 +48,9 @@ loop-newest-preserved g c =
     let stripe = c.stripe_of-stripe.ensures ∙ ap (stripe_of k.keeps) c.seq.ensures.value in
     let step = point_step m key k seqs c.requires.keeps_rise ps c.in-Some.newest.now.now (first_seen (λ p. p.now) rest c.in-Some.newest.now first) c.loop-newest.invariant.fall s stripe in
     let point = point_for m (is_bottom k s) key (filter (λ p. is_in s p.seq) ps) (filter (is_in s) seqs) in
-    let made : c.in_ok-point_for.field-0 ≡ point = c.in_ok-point_for.ensures ∙ same_point m key c.is_bottom-bottom.ensures c.own_points-count.ensures.own c.split_seqs.ensures.own in
+    let made : c.in_ok-point_for.field-0 ≡ point = c.in_ok-point_for.ensures
+    ∙ same_point m key c.is_bottom-bottom.ensures c.own_points-count.ensures.own (ap option_to_list c.newest_of-range.ensures)
+    ∙ newest_alone m (is_bottom k s) key (filter (λ p. is_in s p.seq) ps) (filter (is_in s) seqs) (falling_filter (is_in s) seqs c.requires.of_one_key.seqs_fall) in
     let grown : c.push_some.new.kept.items ≡ c.loop-newest.kept.items ++ cons_option point [] = c.in_ok-push_some.ensures ∙ ap (λ (o : Option Entry). c.loop-newest.kept.items ++ cons_option o []) made in
     record {
       fall = subst PointsFall (sym left) (points_filter (λ q. leb q.seq s.above) ps c.loop-newest.invariant.fall);
