@@ -1,5 +1,6 @@
 //! [`Store`]: a store that threads share.
-ghost use Rattle.std.specs.Prelude.{◌≡◌, ◌<◌, ◌≤◌, ◌↔◌, ℕ, Bool, List, false, true, Contains, IsTrue, IsOk, IfOk, IfErr, OnOk, fold, length, slice_index_or};
+ghost use Rattle.std.specs.Prelude.{◌≡◌, ◌<◌, ◌≤◌, ◌↔◌, ℕ, Bool, List, false, true, Contains, fold, length, slice_index_or};
+ghost use Rattle.std.specs.Prelude.{IsTrue, IsOk, IfOk, IfErr, OnOk};
 ghost use mathlib.Core.List.{IsPrefix};
 ghost use Rattle.std.specs.List.{AllByRecursion};
 ghost use Rattle.uc_claims.specs.Holding.{free_seat, AreDistinct};

@@ -4,13 +4,16 @@
 //! out by hand. Read `runs.rt` first: it has one run of each program.
 //!
 //! `reports.rt` has reports on logs, `devices.rt` readers and writers that fail, for scripts and for logs, `queries.rt`
-//! answers to queries by the plain programs, and `reply_lines.rt` the line of each reply. It goes through all crates.
+//! answers to queries by the plain programs, `reply_lines.rt` the line of each reply, and `reasons.rt` why runs are refused, as a
+//! reader is told. It goes through all crates.
 #![tactic(auto)]
 
 #[cfg(test)]
 mod devices;
 #[cfg(test)]
 mod queries;
+#[cfg(test)]
+mod reasons;
 #[cfg(test)]
 mod reply_lines;
 #[cfg(test)]

@@ -9,7 +9,9 @@
 //! Read `uc_tool_io`'s `specs/Output.antt` first, then the head of the subcommand that matters.
 #![tactic(auto)]
 
-pub use uc_tool_ask::{MOST_COMPACTORS, ask, is_plan, queries_are_answered_from_the_log};
+pub use uc_tool_ask::{
+    MOST_COMPACTORS, ask, ask_with_reason, is_plan, queries_are_answered_from_the_log,
+};
 pub use uc_tool_dump::dump;
 pub use uc_tool_io::Done;
 pub use uc_tool_opening::Reason;

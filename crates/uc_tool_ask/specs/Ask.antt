@@ -9,6 +9,7 @@ use Rattle.uc_batch.specs.declared.ended.Ended.TheVariants as ended
 use Rattle.uc_script.specs.Head.{Head, head_of}
 use Rattle.uc_script.specs.declared.query.Query.{Query as Asked}
 use Rattle.uc_script.specs.declared.query.Query.TheVariants as asked
+use Rattle.uc_tool_faults.specs.declared.part.Source.TheVariants as source
 use Rattle.uc_version_pick.specs.declared.options.Options.{Options}
 use Rattle.uc_version_state.specs.Openings.{Opening, opened}
 use Rattle.uc_version_open.specs.Refusal.{opening_refusal}
@@ -21,6 +22,7 @@ use Rattle.uc_tool_io.specs.declared.done.Done.TheVariants.{Fine}
 use Rattle.uc_tool_lines.specs.AnswerLines.{answer_lines}
 use Rattle.uc_tool_log_lines.specs.Line.{numbered_line}
 use Rattle.uc_tool_opening.specs.Opening.{seq_at}
+use Rattle.uc_tool_opening.specs.Reasons.{Cause, AtLine, log_cause}
 use Rattle.uc_tool_opening.specs.Refusals.{opening_refusal_line, bad_log}
 
 -- what a line of a head asks, where `last` is the last sequence of the log
@@ -69,3 +71,12 @@ asked_of m options input (Ok head) = of_log m options head.keeps head.queries (l
 -- what is printed for the bytes of a head and a log, under an operator and options
 abbrev pub ask_of : Operation → Options → List ℕ → Output
 ask_of m options input = asked_of m options input (head_of input)
+
+-- what refuses a head and the log behind it, by what is read of the head
+abbrev pub head_cause : Options → List ℕ → Result Head ℕ → Option Cause
+head_cause options input (Err line) = Some (AtLine source.Head input line)
+head_cause options input (Ok head) = log_cause options head.keeps (log_writes (drop head.size input))
+
+-- what the bytes of a head and a log are refused for, under options, if they are
+abbrev pub cause_of : Options → List ℕ → Option Cause
+cause_of options input = head_cause options input (head_of input)

@@ -1,15 +1,18 @@
 //! `ask`: the queries in front of a log, answered beside compactors.
 ghost use denote.Param.Send.{IsSync, IsSend};
-ghost use Rattle.std.specs.Prelude.{◌≡◌, ◌+◌, ◌≤◌, ◌∷◌, [], All, List, Ok, codes, drop, take, length, vec_len, IfOk, OnOk, IfSome};
+ghost use Rattle.std.specs.Prelude.{◌≡◌, ◌+◌, ◌≤◌, ◌∷◌, [], All, List, Ok, None, codes, drop, take, length, vec_len};
+ghost use Rattle.std.specs.Prelude.{IfOk, OnOk, IfSome};
 ghost use Rattle.uc_batch.specs.Log.{log_writes};
 ghost use Rattle.uc_batch.specs.Rising.{IsRising};
 ghost use Rattle.uc_bytes.specs.declared.write.Write.{Write as WriteOf};
 ghost use Rattle.uc_script.specs.Head.{head_of, queries_in};
+ghost use Rattle.uc_version_state.specs.Openings.{Opening as OpeningOf};
 ghost use Rattle.uc_version_open.specs.Progress.{progress_of};
 ghost use Rattle.uc_query_shared.specs.Given.{ForEachHistory};
 ghost use Rattle.uc_tool_io.specs.Output.{Prints, HasWritten, refused};
 ghost use Rattle.uc_tool_log_lines.specs.Line as texts;
-ghost use Rattle.uc_tool_ask.specs.Ask.{ask_of, of_log, of_writes};
+ghost use Rattle.uc_tool_opening.specs.Reasons.{IsReason, opening_cause, log_cause};
+ghost use Rattle.uc_tool_ask.specs.Ask.{ask_of, of_log, of_writes, cause_of};
 ghost use Rattle.uc_tool_ask.specs.Given.{replies_given};
 ghost use Rattle.uc_tool_ask.specs.Plans.{IsPlan};
 
@@ -25,9 +28,12 @@ use uc_batch::Ended;
 use uc_oper::Operator;
 use uc_script::{Head, ScriptError, read_head};
 use uc_share::{Name, Opening, Options, Reader, Seat, Store, Version};
+use uc_tool_faults::Source;
 use uc_tool_io::{Done, RunError, finish, finish_without_input, print_refusal, read_input};
 use uc_tool_log_lines::numbered_line;
-use uc_tool_opening::{print_bad_log, print_refused_opening};
+use uc_tool_opening::{
+    Reason, print_bad_log, print_refused_opening, reason_of_line, reason_of_opening,
+};
 use uc_version_open::{OpenError, Opener, Recovered, no_refusal_is_leave_to_open, recover};
 
 /// How a run ended, and how many installs its compactors made.
@@ -145,7 +151,8 @@ where
     )
 }
 
-/// Opens the store that has taken some writes, and prints why it is refused, or the answers to the queries of a head.
+/// Opens the store that has taken some writes, and prints why it is refused, or the answers to the queries of a head. Where it is
+/// refused, it tells why.
 fn print_opened<O: Operator + Send + Sync, R: Threads + Wait + Sync, V: Write>(
     rt: &R,
     alloc: Global,
@@ -155,13 +162,18 @@ fn print_opened<O: Operator + Send + Sync, R: Threads + Wait + Sync, V: Write>(
     options: &Options,
     plan: Plan,
     writer: &mut V,
+    reason: &mut Option<Reason>,
 ) -> Asked
     requires taken { (writes : List WriteOf) × IsRising 0 writes × (opener ≡ progress_of options.now writes) }
+    requires none { reason.old ≡ None }
     ensures printed { (writes : List WriteOf) → IsRising 0 writes → opener ≡ progress_of options.now writes →
         Prints (of_writes O.meaning options.now keeps.now (queries_in head.now) writes).replies
         (V.contents writer.old) (V.contents writer.new) result.0 }
     ensures done { (writes : List WriteOf) → IsRising 0 writes → opener ≡ progress_of options.now writes →
         IfOk result.0 (λ done. done ≡ (of_writes O.meaning options.now keeps.now (queries_in head.now) writes).done) }
+    ensures told { (writes : List WriteOf) → IsRising 0 writes → opener ≡ progress_of options.now writes →
+        let opening : OpeningOf = record { writes = writes; keeps = keeps.now; options = options.now } in
+        IsReason (opening_cause opening) reason.new }
 {
     // A law of the layer below, which does nothing when it runs: what isn't refused may open.
     no_refusal_is_leave_to_open();
@@ -171,7 +183,10 @@ fn print_opened<O: Operator + Send + Sync, R: Threads + Wait + Sync, V: Write>(
             answer_shared::<O, Brand, R, V>(rt, alloc, opened_with, head, options, plan, writer)
         }
         Err(OpenError::Memory) => (Err(RunError::Memory), 0),
-        Err(error) => (print_refused_opening(alloc, error, writer), 0),
+        Err(error) => {
+            *reason = reason_of_opening(error, options);
+            (print_refused_opening(alloc, error, writer), 0)
+        }
     }
 }
 
@@ -205,12 +220,15 @@ fn answer_log<O: Operator + Send + Sync, R: Threads + Wait + Sync, V: Write>(
     options: &Options,
     plan: Plan,
     writer: &mut V,
+    reason: &mut Option<Reason>,
 ) -> Asked
-    requires { head.size ≤ vec_len input }
+    requires size { head.size ≤ vec_len input }
+    requires none { reason.old ≡ None }
     ensures printed { Prints (of_log O.meaning options.now head.keeps (queries_in (take head.size input.items))
         (log_writes (drop head.size input.items))).replies (V.contents writer.old) (V.contents writer.new) result.0 }
     ensures done { IfOk result.0 (λ done. done ≡ (of_log O.meaning options.now head.keeps
         (queries_in (take head.size input.items)) (log_writes (drop head.size input.items))).done) }
+    ensures told { IsReason (log_cause options.now head.keeps (log_writes (drop head.size input.items))) reason.new }
 {
     let Ok((recovered, lines)) = recover_behind(alloc, input, head.size, *options) else {
         return (Err(RunError::Memory), 0);
@@ -226,6 +244,7 @@ fn answer_log<O: Operator + Send + Sync, R: Threads + Wait + Sync, V: Write>(
             options,
             plan,
             writer,
+            reason,
         ),
         Ended::LogFault(..) | Ended::BatchFault(..) => (print_bad_log(alloc, ended, writer), 0),
     }
@@ -241,7 +260,7 @@ fn print_fault<V: Write>(alloc: Global, line: u64, writer: &mut V) -> Result<Don
     print_refusal(&line, writer)
 }
 
-/// Answers the queries in front of a log.
+/// Answers the queries in front of a log, or tells why they are refused.
 fn run<O: Operator + Send + Sync, R: Threads + Wait + Sync, V: Write>(
     rt: &R,
     alloc: Global,
@@ -249,15 +268,57 @@ fn run<O: Operator + Send + Sync, R: Threads + Wait + Sync, V: Write>(
     options: &Options,
     plan: Plan,
     writer: &mut V,
+    reason: &mut Option<Reason>,
 ) -> Asked
+    requires { reason.old ≡ None }
     ensures printed { Prints (ask_of O.meaning options.now input.items).replies
         (V.contents writer.old) (V.contents writer.new) result.0 }
     ensures done { IfOk result.0 (λ done. done ≡ (ask_of O.meaning options.now input.items).done) }
+    ensures told { IsReason (cause_of options.now input.items) reason.new }
 {
     match read_head(alloc, &input) {
-        Ok(head) => answer_log::<O, R, V>(rt, alloc, input, head, options, plan, writer),
-        Err(ScriptError::Fault(line)) => (print_fault(alloc, line, writer), 0),
+        Ok(head) => answer_log::<O, R, V>(rt, alloc, input, head, options, plan, writer, reason),
+        Err(ScriptError::Fault(line)) => {
+            *reason = reason_of_line(alloc, Source::Head, &input, line);
+            (print_fault(alloc, line, writer), 0)
+        }
         Err(ScriptError::Memory) => (Err(RunError::Memory), 0),
+    }
+}
+
+/// Answers the queries in front of a log as [`ask`] does. Where they are refused for a fault of the head or at the opening, it
+/// gives the reason too, which is that of the line that was at fault or of the opening that was refused, and else none. Where
+/// there is no memory for it, it gives none, and prints and ends all the same.
+pub fn ask_with_reason<O: Operator + Send + Sync, R: Read, W: Write>(
+    rt: &(impl Threads + Wait + Sync),
+    alloc: Global,
+    reader: &mut R,
+    writer: &mut W,
+    options: &Options,
+    workers: usize,
+    piece: usize,
+    compactors: usize,
+    reason: &mut Option<Reason>,
+) -> (Done, u64)
+    requires { IsPlan workers piece compactors }
+    ensures written { IfSome (R.remaining reader.old) (λ input.
+        HasWritten (ask_of O.meaning options.now input) input (W.contents writer.old) (W.contents writer.new) result.0) }
+    ensures told { IfSome (R.remaining reader.old) (λ input. IsReason (cause_of options.now input) reason.new) }
+{
+    *reason = None;
+    let plan = Plan {
+        workers,
+        piece,
+        compactors,
+    };
+    match read_input(alloc, reader) {
+        Ok(input) => {
+            let (outcome, installs) = run::<O, _, W>(
+                rt, alloc, input, options, plan, writer, reason,
+            );
+            (finish(writer, outcome), installs)
+        }
+        Err(error) => (finish_without_input(writer, error), 0),
     }
 }
 
@@ -286,16 +347,16 @@ pub fn ask<O: Operator + Send + Sync, R: Read, W: Write>(
     ensures { IfSome (R.remaining reader.old) (λ input.
         HasWritten (ask_of O.meaning options.now input) input (W.contents writer.old) (W.contents writer.new) result.0) }
 {
-    let plan = Plan {
+    let mut reason = None;
+    ask_with_reason::<O, R, W>(
+        rt,
+        alloc,
+        reader,
+        writer,
+        options,
         workers,
         piece,
         compactors,
-    };
-    match read_input(alloc, reader) {
-        Ok(input) => {
-            let (outcome, installs) = run::<O, _, W>(rt, alloc, input, options, plan, writer);
-            (finish(writer, outcome), installs)
-        }
-        Err(error) => (finish_without_input(writer, error), 0),
-    }
+        &mut reason,
+    )
 }

@@ -15,6 +15,6 @@ mod compacting;
 mod laws;
 mod plan;
 
-pub use asking::ask;
+pub use asking::{ask, ask_with_reason};
 pub use laws::queries_are_answered_from_the_log;
 pub use plan::{MOST_COMPACTORS, is_plan};

@@ -1,1 +1,2 @@
 pub mod LogAgain
+pub mod Reasons

@@ -1,3 +1,4 @@
 pub mod Opening
 pub mod Refusals
 pub mod Faults
+pub mod Reasons

@@ -1,8 +1,15 @@
 //! [`Reason`]: why a run is refused, for a reader.
 
-use crate::opening_fault::OpeningFault;
+ghost use Rattle.std.specs.Prelude.{◌≡◌, Some};
+ghost use Rattle.uc_tool_opening.specs.Reasons as reasons;
+ghost use Rattle.uc_tool_opening.specs.Reasons.{AtLine, IsReason};
+
+use crate::opening_fault::{OpeningFault, fault_of_opening};
+use std::alloc::Global;
 use thiserror::Error;
-use uc_tool_faults::Explanation;
+use uc_tool_faults::{Explanation, Source, explain};
+use uc_version_open::OpenError;
+use uc_version_pick::Options;
 
 /// Why a run is refused, for a reader. It prints as one line, beside the fixed line of the run.
 #[derive(Debug, Drop, PartialEq, Eq, Error)]
@@ -13,4 +20,20 @@ pub enum Reason {
     /// What stands against the opening.
     #[error("{0}")]
     Opening(OpeningFault),
+}
+
+/// Why a text of this kind is refused whose first line at fault has this number, where there is memory to say it.
+pub fn reason_of_line(alloc: Global, source: Source, text: &[u8], number: u64) -> Option<Reason>
+    ensures { IsReason (Some (AtLine source text.now number)) result }
+{
+    explain(alloc, source, text, number)
+        .unwrap_or(None)
+        .map(Reason::Line)
+}
+
+/// Why an opening under these options is refused so. It is `None` where [`fault_of_opening`] is.
+pub fn reason_of_opening(error: OpenError, options: &Options) -> Option<Reason>
+    ensures { result ≡ reasons.reason_of_opening error options.now }
+{
+    fault_of_opening(error, options).map(Reason::Opening)
 }

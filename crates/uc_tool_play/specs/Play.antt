@@ -7,7 +7,10 @@ use Rattle.uc_query_answer.specs.declared.query.Query.TheVariants as query
 use Rattle.uc_script.specs.Script.{script_of}
 use Rattle.uc_script.specs.declared.call.Call.{Call}
 use Rattle.uc_script.specs.declared.call.Call.TheVariants.{Get, Scan, Claim, Install, Abandon, Compact, Pick, Report}
+use Rattle.uc_script.specs.declared.error.ScriptError.{ScriptError}
+use Rattle.uc_script.specs.declared.error.ScriptError.TheVariants as errors
 use Rattle.uc_script.specs.declared.script.Script.{Script}
+use Rattle.uc_tool_faults.specs.declared.part.Source.TheVariants as source
 use Rattle.uc_version_pick.specs.declared.options.Options.{Options}
 use Rattle.uc_version_state.specs.Versions.{Stored}
 use Rattle.uc_version_state.specs.Openings.{Opening, opened}
@@ -20,6 +23,7 @@ use Rattle.uc_query.specs.declared.call.Call.{Call as StoreCall}
 use Rattle.uc_query.specs.declared.call.Call.TheVariants as store
 use Rattle.uc_tool_log_lines.specs.Line.{numbered_line}
 use Rattle.uc_tool_opening.specs.Opening.{seq_at}
+use Rattle.uc_tool_opening.specs.Reasons.{Cause, AtLine, opening_cause}
 use Rattle.uc_tool_opening.specs.Refusals.{opening_refusal_line}
 use Rattle.uc_tool_lines.specs.ReplyLines.{reply_lines}
 use Rattle.uc_tool_io.specs.Output.{Output, refused}
@@ -71,3 +75,17 @@ played m options (Ok script) = script_output m options script
 -- what a run of a script's bytes prints, under an operator and options
 abbrev pub play_of : Operation → Options → List ℕ → Output
 play_of m options input = played m options (script_of input)
+
+-- what refuses a script whose reading failed so
+abbrev pub fault_cause : List ℕ → ScriptError → Option Cause
+fault_cause input errors.Memory = None
+fault_cause input (errors.Fault line) = Some (AtLine source.Script input line)
+
+-- what refuses a script, by what is read of its bytes
+abbrev pub script_cause : Options → List ℕ → Result Script ℕ → Option Cause
+script_cause options input (Err line) = Some (AtLine source.Script input line)
+script_cause options input (Ok script) = opening_cause (opening_of options script)
+
+-- what the run of a script's bytes is refused for, under options, if it is
+abbrev pub cause_of : Options → List ℕ → Option Cause
+cause_of options input = script_cause options input (script_of input)

@@ -1,13 +1,14 @@
 //! `play`: a store over the writes of a script, and the replies to its calls.
 
-ghost use Rattle.std.specs.Prelude.{◌≡◌, ◌≤◌, All, Ok, true, vec_len, IfOk, IfSome};
+ghost use Rattle.std.specs.Prelude.{◌≡◌, ◌≤◌, All, Ok, None, true, vec_len, IfOk, IfErr, OnOk, IfSome};
 ghost use Rattle.uc_script.specs.Names.{NameIsGood};
 ghost use Rattle.uc_script.specs.Reading.{Gives};
 ghost use Rattle.uc_script.specs.Script.{script_of};
 ghost use Rattle.uc_version_pick.specs.Options.{are_good};
 ghost use Rattle.uc_tool_io.specs.declared.input.TheConstants.{INPUT_LIMIT};
 ghost use Rattle.uc_tool_opening.specs.Opening.{FitsLog};
-ghost use Rattle.uc_tool_play.specs.Play.{output_of, script_output, play_of};
+ghost use Rattle.uc_tool_opening.specs.Reasons.{IsReason, opening_cause};
+ghost use Rattle.uc_tool_play.specs.Play.{opening_of, output_of, script_output, play_of, fault_cause, cause_of};
 ghost use Rattle.uc_tool_io.specs.Output.{Prints, HasWritten};
 
 use crate::calling::print_replies;
@@ -19,32 +20,30 @@ use uc_oper::Operator;
 use uc_script::{
     Call, Script, ScriptError, a_script_names_no_more_than_it_has, names_are_in_range, read_script,
 };
-use uc_tool_faults::{Explanation, Source, explain};
+use uc_tool_faults::Source;
 use uc_tool_io::{
     Done, RunError, finish, finish_without_input, print_refusal, read_input, write_bytes,
 };
 use uc_tool_log_lines::numbered_line;
-use uc_tool_opening::{Reason, fault_of_opening, open_ops, print_refused_opening};
+use uc_tool_opening::{Reason, open_ops, print_refused_opening, reason_of_line, reason_of_opening};
 use uc_version::Owned;
 use uc_version_open::OpenError;
 use uc_version_pick::Options;
 use uc_version_state::Version;
 
-/// What is said of the line of a script whose number its reader told, where there is memory for it.
-fn explanation_of(alloc: Global, script: &[u8], number: u64) -> Option<Explanation> {
-    explain(alloc, Source::Script, script, number).unwrap_or(None)
-}
-
-/// Reads a script, and lets go of its text.
+/// Reads a script, and lets go of its text. Where that has a fault, it tells why.
 fn script_in(
     alloc: Global,
     input: Vec<u8>,
     reason: &mut Option<Reason>,
 ) -> Result<Script, ScriptError>
-    requires { vec_len input ≤ INPUT_LIMIT }
+    requires short { vec_len input ≤ INPUT_LIMIT }
+    requires none { reason.old ≡ None }
     ensures read { Gives (λ script. script) result (script_of input.items) }
     ensures fits { IfOk result (λ script. FitsLog script.ops) }
     ensures names { IfOk result (λ script. All NameIsGood script.calls) }
+    ensures none { OnOk result (reason.new ≡ None) }
+    ensures told { IfErr result (λ error. IsReason (fault_cause input.items error) reason.new) }
 {
     // Laws of the layer below, which do nothing when they run: no write is longer than the script, and no name is
     // above what a store has.
@@ -52,7 +51,7 @@ fn script_in(
     names_are_in_range();
     let script = read_script(alloc, &input);
     if let Err(ScriptError::Fault(number)) = &script {
-        *reason = explanation_of(alloc, &input, *number).map(Reason::Line);
+        *reason = reason_of_line(alloc, Source::Script, &input, *number);
     }
     script
 }
@@ -91,9 +90,11 @@ fn print_script<O: Operator + Sync, W: Write>(
 ) -> Result<Done, RunError>
     requires fits { FitsLog script.ops }
     requires names { All NameIsGood script.calls }
+    requires none { reason.old ≡ None }
     ensures printed { Prints (script_output O.meaning options.now script).replies
         (W.contents writer.old) (W.contents writer.new) result }
     ensures done { IfOk result (λ done. done ≡ (script_output O.meaning options.now script).done) }
+    ensures told { IsReason (opening_cause (opening_of options.now script)) reason.new }
 {
     let Script { ops, keeps, calls } = script;
     match open_ops(alloc, ops, keeps, *options) {
@@ -102,7 +103,7 @@ fn print_script<O: Operator + Sync, W: Write>(
         }
         Err(OpenError::Memory) => Err(RunError::Memory),
         Err(error) => {
-            *reason = fault_of_opening(error, options).map(Reason::Opening);
+            *reason = reason_of_opening(error, options);
             print_refused_opening(alloc, error, writer)
         }
     }
@@ -117,10 +118,12 @@ fn run<O: Operator + Sync, W: Write>(
     writer: &mut W,
     reason: &mut Option<Reason>,
 ) -> Result<Done, RunError>
-    requires { vec_len input ≤ INPUT_LIMIT }
+    requires short { vec_len input ≤ INPUT_LIMIT }
+    requires none { reason.old ≡ None }
     ensures printed { Prints (play_of O.meaning options.now input.items).replies
         (W.contents writer.old) (W.contents writer.new) result }
     ensures done { IfOk result (λ done. done ≡ (play_of O.meaning options.now input.items).done) }
+    ensures told { IsReason (cause_of options.now input.items) reason.new }
 {
     match script_in(alloc, input, reason) {
         Ok(script) => print_script::<O, W>(rt, alloc, script, options, writer, reason),
@@ -132,8 +135,9 @@ fn run<O: Operator + Sync, W: Write>(
     }
 }
 
-/// Runs a script as [`play`] does. Where it is refused for a fault of the script or at its opening, it gives the reason too;
-/// where there is no memory for that, it gives none, and prints and ends all the same.
+/// Runs a script as [`play`] does. Where it is refused for a fault of the script or at its opening, it gives the reason too,
+/// which is that of the line that was at fault or of the opening that was refused, and else none. Where there is no memory for
+/// it, it gives none, and prints and ends all the same.
 pub fn play_with_reason<O: Operator + Sync, R: Read, W: Write>(
     rt: &(impl Threads + Sync),
     alloc: Global,
@@ -142,8 +146,9 @@ pub fn play_with_reason<O: Operator + Sync, R: Read, W: Write>(
     options: &Options,
     reason: &mut Option<Reason>,
 ) -> Done
-    ensures { IfSome (R.remaining reader.old) (λ input.
+    ensures written { IfSome (R.remaining reader.old) (λ input.
         HasWritten (play_of O.meaning options.now input) input (W.contents writer.old) (W.contents writer.new) result) }
+    ensures told { IfSome (R.remaining reader.old) (λ input. IsReason (cause_of options.now input) reason.new) }
 {
     *reason = None;
     match read_input(alloc, reader) {

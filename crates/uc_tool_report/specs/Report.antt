@@ -23,6 +23,7 @@ use Rattle.uc_tool_lines.specs.RefusalLines.{install_refusal_line}
 use Rattle.uc_tool_lines.specs.ReplyLines.{compacted_line}
 use Rattle.uc_tool_lines.specs.ReportLines.{report_lines}
 use Rattle.uc_tool_io.specs.Output.{Output, refused}
+use Rattle.uc_tool_opening.specs.Reasons.{Cause, log_cause}
 use Rattle.uc_tool_opening.specs.Refusals.{opening_refusal_line, bad_log}
 use Rattle.uc_tool_io.specs.declared.done.Done.TheVariants.{Fine}
 
@@ -99,3 +100,7 @@ reported m options log = unless_faulty m options log.list log.ended
 -- what the report on a log's bytes prints, under an operator and options
 abbrev pub report_of : Operation → Options → List ℕ → Output
 report_of m options input = reported m options (log_writes input)
+
+-- what the report on a log's bytes is refused for, under options, if it is
+abbrev pub cause_of : Options → List ℕ → Option Cause
+cause_of options input = log_cause options [] (log_writes input)

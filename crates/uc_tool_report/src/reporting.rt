@@ -1,12 +1,14 @@
 //! `report_log`: what a store holds that opens from a log, before and after its compaction.
 
-ghost use Rattle.std.specs.Prelude.{◌≡◌, [], ◌∷◌, List, true, IfOk, IfSome};
+ghost use Rattle.std.specs.Prelude.{◌≡◌, [], ◌∷◌, List, None, true, IfOk, IfSome};
 ghost use Rattle.uc_batch.specs.Rising.{IsRising};
 ghost use Rattle.uc_version_open.specs.Progress.{progress_of};
 ghost use Rattle.uc_version_pick.specs.Options.{are_good};
 ghost use Rattle.uc_bytes.specs.declared.write.Write.{Write as WriteOf};
+ghost use Rattle.uc_version_state.specs.Openings.{Opening};
 ghost use Rattle.uc_version.specs.Owners.{unclaimed};
-ghost use Rattle.uc_tool_report.specs.Report.{store_lines, output_of, of_writes, report_of};
+ghost use Rattle.uc_tool_opening.specs.Reasons.{IsReason, opening_cause};
+ghost use Rattle.uc_tool_report.specs.Report.{store_lines, output_of, of_writes, report_of, cause_of};
 ghost use Rattle.uc_tool_io.specs.Output.{Prints, HasWritten};
 
 use crate::compacting::print_compactions;
@@ -20,7 +22,7 @@ use uc_query::report;
 use uc_tool_io::{Done, RunError, finish, finish_without_input, read_input, write_bytes};
 use uc_tool_lines::report_lines;
 use uc_tool_opening::{
-    Reason, fault_of_opening, print_bad_log, print_refused_opening, recover_log,
+    Reason, print_bad_log, print_refused_opening, reason_of_opening, recover_log,
 };
 use uc_version::Owned;
 use uc_version_open::{OpenError, Opener, Recovered};
@@ -71,16 +73,20 @@ fn print_opened<O: Operator + Sync, W: Write>(
     reason: &mut Option<Reason>,
 ) -> Result<Done, RunError>
     requires taken { (writes : List WriteOf) × IsRising 0 writes × (opener ≡ progress_of options.now writes) }
+    requires none { reason.old ≡ None }
     ensures printed { (writes : List WriteOf) → IsRising 0 writes → opener ≡ progress_of options.now writes →
         Prints (of_writes O.meaning options.now writes).replies (W.contents writer.old) (W.contents writer.new) result }
     ensures done { (writes : List WriteOf) → IsRising 0 writes → opener ≡ progress_of options.now writes →
         IfOk result (λ done. done ≡ (of_writes O.meaning options.now writes).done) }
+    ensures told { (writes : List WriteOf) → IsRising 0 writes → opener ≡ progress_of options.now writes →
+        let opening : Opening = record { writes = writes; keeps = []; options = options.now } in
+        IsReason (opening_cause opening) reason.new }
 {
     match opener.finish(alloc, &[]) {
         Ok(version) => print_reports::<O, W>(rt, alloc, version, options, writer),
         Err(OpenError::Memory) => Err(RunError::Memory),
         Err(error) => {
-            *reason = fault_of_opening(error, options).map(Reason::Opening);
+            *reason = reason_of_opening(error, options);
             print_refused_opening(alloc, error, writer)
         }
     }
@@ -95,9 +101,11 @@ fn run<O: Operator + Sync, W: Write>(
     writer: &mut W,
     reason: &mut Option<Reason>,
 ) -> Result<Done, RunError>
+    requires { reason.old ≡ None }
     ensures printed { Prints (report_of O.meaning options.now input.items).replies
         (W.contents writer.old) (W.contents writer.new) result }
     ensures done { IfOk result (λ done. done ≡ (report_of O.meaning options.now input.items).done) }
+    ensures told { IsReason (cause_of options.now input.items) reason.new }
 {
     let Recovered { opener, ended } = recover_log(alloc, input, *options)?;
     match ended {
@@ -108,7 +116,8 @@ fn run<O: Operator + Sync, W: Write>(
     }
 }
 
-/// Reports on a log as [`report_log`] does. Where the opening is refused, it gives the reason too.
+/// Reports on a log as [`report_log`] does. Where the opening is refused, it gives the reason too, which is that of this
+/// opening, and else none.
 pub fn report_log_with_reason<O: Operator + Sync, R: Read, W: Write>(
     rt: &(impl Threads + Sync),
     alloc: Global,
@@ -117,8 +126,9 @@ pub fn report_log_with_reason<O: Operator + Sync, R: Read, W: Write>(
     options: &Options,
     reason: &mut Option<Reason>,
 ) -> Done
-    ensures { IfSome (R.remaining reader.old) (λ input.
+    ensures written { IfSome (R.remaining reader.old) (λ input.
         HasWritten (report_of O.meaning options.now input) input (W.contents writer.old) (W.contents writer.new) result) }
+    ensures told { IfSome (R.remaining reader.old) (λ input. IsReason (cause_of options.now input) reason.new) }
 {
     *reason = None;
     match read_input(alloc, reader) {

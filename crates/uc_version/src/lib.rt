@@ -1,9 +1,10 @@
 //! The store in one owner's hands: which stretches of runs are compacted, and what is put in their place.
 //!
 //! An [`Owned`] has a version, and the claims of those who compact stretches of its runs. Read `specs/Owners.antt` first,
-//! then `specs/Claiming.antt` and `specs/Installing.antt`, and `owned.rt`; and `specs/AtOnce.antt` with `at_once.rt`. What holds of compactions of any version's runs,
-//! and of their installs, whoever claims them, stands in `specs/Compacting.antt`, `stretches.rt` and `refusal.rt`. What a
-//! version is stands in `uc_version_state`, and the picker in `uc_version_pick`; their public items are given out here too.
+//! then `specs/Claiming.antt` and `specs/Installing.antt`, and `owned.rt`; and `specs/AtOnce.antt` with `at_once.rt`. What
+//! holds of compactions of any version's runs, and of their installs, whoever claims them, stands in `specs/Compacting.antt`,
+//! `stretches.rt` and `refusal.rt`. What a version is stands in `uc_version_state`, and the picker in `uc_version_pick`; their
+//! public items are given out here too.
 #![tactic(auto)]
 
 mod at_once;

@@ -20,7 +20,7 @@ use std::sync::Wait;
 use std::thread::Threads;
 use uc_oper::{Append, Counter, Maximum};
 use uc_tool::{
-    Done, OperatorName, Reason, Refusal, ask, dump, is_plan, play_with_reason,
+    Done, OperatorName, Reason, Refusal, ask_with_reason, dump, is_plan, play_with_reason,
     report_log_with_reason,
 };
 
@@ -59,6 +59,7 @@ fn ask_log<R: Read, W: Write>(
     matches: &ArgMatches<'_>,
     reader: &mut R,
     writer: &mut W,
+    reason: &mut Option<Reason>,
 ) -> Done {
     let options = command::options(matches);
     let Plan {
@@ -71,14 +72,14 @@ fn ask_log<R: Read, W: Write>(
         return Done::Refused;
     }
     let (done, _installs) = match command::operator_name(matches) {
-        Some(OperatorName::Counter) => ask::<Counter, R, W>(
-            rt, alloc, reader, writer, &options, workers, piece, compactors,
+        Some(OperatorName::Counter) => ask_with_reason::<Counter, R, W>(
+            rt, alloc, reader, writer, &options, workers, piece, compactors, reason,
         ),
-        Some(OperatorName::Append) => ask::<Append<COMMA>, R, W>(
-            rt, alloc, reader, writer, &options, workers, piece, compactors,
+        Some(OperatorName::Append) => ask_with_reason::<Append<COMMA>, R, W>(
+            rt, alloc, reader, writer, &options, workers, piece, compactors, reason,
         ),
-        Some(OperatorName::Maximum) => ask::<Maximum, R, W>(
-            rt, alloc, reader, writer, &options, workers, piece, compactors,
+        Some(OperatorName::Maximum) => ask_with_reason::<Maximum, R, W>(
+            rt, alloc, reader, writer, &options, workers, piece, compactors, reason,
         ),
         // The parser lets no other name through.
         None => (Done::Refused, 0),
@@ -140,7 +141,7 @@ fn run<R: Print + Eprint + Input + AllocGlobal + Threads + Wait + Sync, S: AsStr
         Some(("play", play)) => {
             play_script(rt, alloc, play, &mut reader, &mut writer, &mut reason)
         }
-        Some(("ask", words)) => ask_log(rt, alloc, words, &mut reader, &mut writer),
+        Some(("ask", words)) => { ask_log(rt, alloc, words, &mut reader, &mut writer, &mut reason) }
         Some(("report", words)) => {
             report(rt, alloc, words, &mut reader, &mut writer, &mut reason)
         }

@@ -1,12 +1,13 @@
 use Rattle.std.proofs.Common.{◌≤◌, length, Err, ap, arith}
-use Rattle.uc_tool_report.specs.Report.{report_of}
+use Rattle.uc_tool_report.specs.Report.{report_of, cause_of}
 use Rattle.uc_tool_io.specs.declared.input.TheConstants.{INPUT_LIMIT}
 use Rattle.uc_tool_report.proofs.Reports.{report_whole}
 use Rattle.uc_tool_io.proofs.Written.{of_input, of_unread}
+use Rattle.uc_tool_opening.proofs.Reasons.{told_of_input, told_of_unread}
 use Rattle.uc_tool_report.proofs.reporting.report_log_with_reason.Goals as goal
 
-pub returns-in-Ok : goal.returns-in-Ok
-returns-in-Ok g c =
+pub returns-in-Ok-clause-written : goal.returns-in-Ok-clause-written
+returns-in-Ok-clause-written g c =
     let m = g.O.Operator.meaning in
     let o = c.args.options.now in
     let contents = g.W.Write.contents in
@@ -14,7 +15,14 @@ returns-in-Ok g c =
     let short : length input.items ≤ INPUT_LIMIT = omega (arith, input.ok.0, c.in-Ok.ensures.short) in
     of_input (report_of m o) (report_whole m o) (g.R.Read.remaining c.args.reader.now) input.items (contents c.args.writer.now) (contents c.run-outcome.new.writer) (contents c.finish.new.writer) c.run-outcome.result c.finish.result c.in-Ok.ensures.whole short c.run-outcome.ensures.printed c.run-outcome.ensures.done c.finish.ensures
 
-pub returns-in-Err : goal.returns-in-Err
-returns-in-Err g c =
+pub returns-in-Ok-clause-told : goal.returns-in-Ok-clause-told
+returns-in-Ok-clause-told g c =
+    told_of_input (cause_of c.args.options.now) (g.R.Read.remaining c.args.reader.now) c.in-Ok.input.items c.run-outcome.new.reason c.in-Ok.ensures.whole c.run-outcome.ensures.told
+
+pub returns-in-Err-clause-written : goal.returns-in-Err-clause-written
+returns-in-Err-clause-written g c =
     let contents = g.W.Write.contents in
     of_unread (report_of g.O.Operator.meaning c.args.options.now) (g.R.Read.remaining c.args.reader.now) (contents c.args.writer.now) (contents c.finish_without_input.new.writer) c.in-Err.error c.finish_without_input.result (λ is. c.in-Err.ensures.long (ap (λ e. Err e) is)) c.finish_without_input.ensures
+
+pub returns-in-Err-clause-told : goal.returns-in-Err-clause-told
+returns-in-Err-clause-told g c = told_of_unread (cause_of c.args.options.now) (g.R.Read.remaining c.args.reader.now)

@@ -1,0 +1,236 @@
+//! Why runs are refused, as a reader is told beside what they print.
+use std::alloc::Global;
+use std::marker::Sync;
+use std::sync::Wait;
+use std::test::Fail;
+use std::thread::Threads;
+use uc_oper::Counter;
+use uc_tests_shared::options::small;
+use uc_tool::{
+    Options, Reason, ask_with_reason, is_plan, play_with_reason, report_log_with_reason,
+};
+
+/// A program that tells why it refuses what it reads.
+#[derive(Clone, Copy)]
+enum Program {
+    Play,
+    Ask,
+    Report,
+}
+
+/// What a program reads, the size of a memtable, and what a reader is told, which is nothing where it isn't refused.
+struct Row {
+    program: Program,
+    input: &'static [u8],
+    memtable: u64,
+    said: &'static str,
+}
+
+/// Scripts. The log of their own writes has no fault.
+static SCRIPTS: [Row; 8] = [
+    Row {
+        program: Program::Play,
+        input: b"put 6b 31\nput 6b\nopen\n",
+        memtable: 1,
+        said: "line 2, `put 6b`: it has too few fields for `put KEY VALUE`",
+    },
+    Row {
+        program: Program::Play,
+        input: b"open\nget 6b last\n\nput 6b 31\n",
+        memtable: 1,
+        said: "line 4, `put 6b 31`: its first word has no place here: after `open` \
+            a line begins with get, scan, claim, install, abandon, compact, pick or report",
+    },
+    Row {
+        program: Program::Play,
+        input: b"put 6b 31\n",
+        memtable: 1,
+        said: "line 2 is missing: it has to be `open`",
+    },
+    // A fault of the script comes before its opening.
+    Row {
+        program: Program::Play,
+        input: b"keep +1\nopen\n",
+        memtable: 0,
+        said: "line 1, `keep +1`: field 2 of `keep SEQUENCE` has to be \
+            a number from 0 to 18446744073709551615, without sign or needless zeros",
+    },
+    Row {
+        program: Program::Play,
+        input: b"open\n",
+        memtable: 0,
+        said: "--memtable is 0: a memtable is flushed at 1 byte at the least",
+    },
+    Row {
+        program: Program::Play,
+        input: b"put 6b 31\nkeep 0\nkeep 9\nkeep 8\nopen\n",
+        memtable: 1,
+        said: "sequence 9 is to be kept, and is above the last one",
+    },
+    // A call that is refused leaves the run as it is.
+    Row {
+        program: Program::Play,
+        input: b"put 6b 31\nopen\nget 6b last\nclaim 0 0 2\n",
+        memtable: 1,
+        said: "",
+    },
+    Row {
+        program: Program::Play,
+        input: b"open\n",
+        memtable: 1,
+        said: "",
+    },
+];
+
+/// Heads, and behind them the log of a batch that sets the key `a` to `1`, or one whose last byte is another.
+static HEADS: [Row; 7] = [
+    Row {
+        program: Program::Ask,
+        input: b"# one\nget 61\nlog\n\xe9\x9f\x78\x19\x11\x00\x01\
+            \x01\x00\x00\x00\x00\x00\x00\x00\x01\x00\x00\x00\x01\x01a\x011",
+        memtable: 1,
+        said: "line 2, `get 61`: it has too few fields for `get KEY SEQUENCE`",
+    },
+    Row {
+        program: Program::Ask,
+        input: b"get 61 last\nlog",
+        memtable: 1,
+        said: "line 2, `log`: its line feed is missing, behind which the log begins",
+    },
+    // A fault of the head comes before one of the log, and that before the opening; of a log at fault nothing more is told.
+    Row {
+        program: Program::Ask,
+        input: b"open\nlog\n\xe9\x9f\x78\x19\x11\x00\x01\
+            \x01\x00\x00\x00\x00\x00\x00\x00\x01\x00\x00\x00\x01\x01a\x012",
+        memtable: 0,
+        said: "line 1, `open`: its first word has no place here: \
+            in front of a log a line begins with keep, get, scan or log",
+    },
+    Row {
+        program: Program::Ask,
+        input: b"keep 9\nlog\n\xe9\x9f\x78\x19\x11\x00\x01\
+            \x01\x00\x00\x00\x00\x00\x00\x00\x01\x00\x00\x00\x01\x01a\x012",
+        memtable: 0,
+        said: "",
+    },
+    Row {
+        program: Program::Ask,
+        input: b"keep 9\nlog\n\xe9\x9f\x78\x19\x11\x00\x01\
+            \x01\x00\x00\x00\x00\x00\x00\x00\x01\x00\x00\x00\x01\x01a\x011",
+        memtable: 0,
+        said: "--memtable is 0: a memtable is flushed at 1 byte at the least",
+    },
+    Row {
+        program: Program::Ask,
+        input: b"keep 9\nlog\n\xe9\x9f\x78\x19\x11\x00\x01\
+            \x01\x00\x00\x00\x00\x00\x00\x00\x01\x00\x00\x00\x01\x01a\x011",
+        memtable: 1,
+        said: "sequence 9 is to be kept, and is above the last one",
+    },
+    Row {
+        program: Program::Ask,
+        input: b"get 61 last\nlog\n\xe9\x9f\x78\x19\x11\x00\x01\
+            \x01\x00\x00\x00\x00\x00\x00\x00\x01\x00\x00\x00\x01\x01a\x011",
+        memtable: 1,
+        said: "",
+    },
+];
+
+/// The same logs without a head.
+static LOGS: [Row; 3] = [
+    Row {
+        program: Program::Report,
+        input: b"\xe9\x9f\x78\x19\x11\x00\x01\
+            \x01\x00\x00\x00\x00\x00\x00\x00\x01\x00\x00\x00\x01\x01a\x011",
+        memtable: 0,
+        said: "--memtable is 0: a memtable is flushed at 1 byte at the least",
+    },
+    Row {
+        program: Program::Report,
+        input: b"\xe9\x9f\x78\x19\x11\x00\x01\
+            \x01\x00\x00\x00\x00\x00\x00\x00\x01\x00\x00\x00\x01\x01a\x012",
+        memtable: 0,
+        said: "",
+    },
+    Row {
+        program: Program::Report,
+        input: b"\xe9\x9f\x78\x19\x11\x00\x01\
+            \x01\x00\x00\x00\x00\x00\x00\x00\x01\x00\x00\x00\x01\x01a\x011",
+        memtable: 1,
+        said: "",
+    },
+];
+
+/// Runs the program of a row, which leaves its own reason in place of an earlier one.
+fn run(rt: &(impl Threads + Wait + Sync), alloc: Global, row: &Row, reason: &mut Option<Reason>) {
+    let options = Options {
+        memtable: row.memtable,
+        ..small()
+    };
+    let (mut reader, mut text) = (row.input, Vec::new(alloc));
+    match row.program {
+        Program::Play => {
+            let _ = play_with_reason::<Counter, &[u8], Vec<u8>>(
+                rt,
+                alloc,
+                &mut reader,
+                &mut text,
+                &options,
+                reason,
+            );
+        }
+        Program::Ask if is_plan(2, 3, 1) => {
+            let _ = ask_with_reason::<Counter, &[u8], Vec<u8>>(
+                rt,
+                alloc,
+                &mut reader,
+                &mut text,
+                &options,
+                2,
+                3,
+                1,
+                reason,
+            );
+        }
+        Program::Ask => *reason = None,
+        Program::Report => {
+            let _ = report_log_with_reason::<Counter, &[u8], Vec<u8>>(
+                rt,
+                alloc,
+                &mut reader,
+                &mut text,
+                &options,
+                reason,
+            );
+        }
+    }
+}
+
+/// Whether a reader is told this, or nothing where it is empty.
+fn is_told(alloc: Global, reason: &Option<Reason>, said: &str) -> Result<bool, Fail> {
+    match reason {
+        None => Ok(said.is_empty()),
+        Some(reason) => Ok(reason.to_string(alloc)?.as_str() == said),
+    }
+}
+
+/// Each run of these tells its own reason, whatever the run before it told.
+fn all_told(rt: &(impl Threads + Wait + Sync), alloc: Global, rows: &[Row]) -> Result<bool, Fail> {
+    let mut reason = None;
+    for row in rows {
+        run(rt, alloc, row, &mut reason);
+        if !is_told(alloc, &reason, row.said)? {
+            return Ok(false);
+        }
+    }
+    Ok(true)
+}
+
+#[test]
+fn reasons_of_refused_runs(rt: HostRuntime) -> Result<(), Fail> {
+    let alloc = rt.alloc();
+    assert!(rt; all_told(&rt, alloc, &SCRIPTS)?);
+    assert!(rt; all_told(&rt, alloc, &HEADS)?);
+    assert!(rt; all_told(&rt, alloc, &LOGS)?);
+    Ok(())
+}
