@@ -7,7 +7,7 @@ use Rattle.uc_run_entry.specs.declared.entry.Entry.{Entry}
 use Rattle.uc_run_entry.specs.declared.fragment.Fragment.{Fragment}
 use Rattle.uc_run_entry.specs.Order.{IsFalling, AreInOrder}
 use Rattle.uc_run_entry.specs.Run.{Contents, IsRun, IsWithin}
-use Rattle.uc_run_fragment.specs.Cutting.{RangeOf, fragments_of}
+use Rattle.uc_run_fragment.specs.Cutting.{fragments_of}
 use Rattle.uc_run_fragment.proofs.Pieces.{in_order, seqs_fall}
 use Rattle.uc_compact_rules.specs.Inputs.{Compaction, AreRuns, Stand, low_of, high_of, points_of, ranges_of, keeping_of}
 use Rattle.uc_compact_rules.specs.Stripes.{Keeping}
@@ -24,10 +24,6 @@ module _ (m : Operation) (c : Compaction) (are : AreRuns c.inputs) (stand : Stan
   both : (fs : List Fragment) → AllByRecursion (λ (f : Fragment). IsFalling f.seqs) fs → AllByRecursion (λ (f : Fragment). AllByRecursion (IsWithin (low_of c.inputs) (high_of c.inputs)) f.seqs) fs → AllByRecursion IsFragment fs
   both [] falls within = tt
   both (f ∷ fs) falls within = (record { falls = falls.0; from_one = within_from_one f.seqs within.0 }, both fs falls.1 within.1)
-
-  -- the pieces
-  pub cut_are : (cut : List Fragment) (ranges lent : List RangeOf) → ranges ≡ ranges_of c.inputs → lent ≡ ranges → cut ≡ fragments_of lent → cut ≡ fragments_of (ranges_of c.inputs)
-  cut_are cut ranges lent e f made = made ∙ ap fragments_of (f ∙ e)
 
   pub are_fragments : (cut : List Fragment) → cut ≡ fragments_of (ranges_of c.inputs) → AllByRecursion IsFragment cut
   are_fragments cut e = subst (AllByRecursion IsFragment) (sym e) (both (fragments_of (ranges_of c.inputs)) (seqs_fall (ranges_of c.inputs)) (cut_within m c are stand))

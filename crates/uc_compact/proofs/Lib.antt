@@ -8,3 +8,5 @@ pub mod Least
 pub mod Taking
 pub mod Merging
 pub mod Stepping
+mod Cutting
+mod Gathered

@@ -3,3 +3,4 @@ pub mod Parts
 pub mod Groups
 pub mod Heads
 pub mod Ahead
+pub mod Pieces

@@ -7,15 +7,15 @@ ghost use Rattle.uc_compact_rules.specs.Output as output;
 use crate::compacted::Compacted;
 use crate::fragments::fragments_kept;
 use crate::inputs::{are_runs, high_seq, low_seq, shared};
+use crate::pieces::pieces_of;
 use crate::points::points_kept;
-use crate::ranges::ranges_of;
 use std::alloc::{AllocError, Global};
 use std::marker::{PhantomData, Sync};
 use std::sync::Arc;
 use std::thread::Threads;
 use uc_compact_rules::{Keeping, compaction_gives_a_run, points_are_chosen_key_by_key};
 use uc_oper::Operator;
-use uc_run_fragment::cut_ranges;
+use uc_run_fragment::Fragments;
 use uc_run_table::Run;
 
 /// Where the last run is the oldest of all, a sequence of the stripe below which nothing stands.
@@ -43,10 +43,16 @@ fn output_of<O: Operator + Sync>(
     compaction_gives_a_run::<O>();
     points_are_chosen_key_by_key::<O>();
     let keeping = Keeping::new(keeps, bottom_of(inputs, oldest));
-    let cut = cut_ranges(alloc, &ranges_of(alloc, inputs)?)?;
-    let points = points_kept::<O>(rt, alloc, inputs, &cut, &keeping)?;
-    let fragments = fragments_kept(alloc, cut, &keeping)?;
-    Run::from_points(alloc, low_seq(inputs), high_seq(inputs), points, fragments)
+    let pieces = pieces_of(alloc, inputs)?;
+    let points = points_kept::<O>(rt, alloc, inputs, &pieces, &keeping)?;
+    let fragments = fragments_kept(alloc, &pieces, &keeping)?;
+    Run::from_points(
+        alloc,
+        low_seq(inputs),
+        high_seq(inputs),
+        points,
+        Fragments::from(fragments),
+    )
 }
 
 /// Several runs, the newest first, made into one that reads as they do at every kept sequence, and at and above the
@@ -55,7 +61,8 @@ fn output_of<O: Operator + Sync>(
 /// sequence. It fails only for want of memory.
 ///
 /// It goes once over the points. Of a key's points between two neighbouring keeps at most one is left, and many
-/// operands of one key are folded in two threads.
+/// operands of one key are folded in two threads. Of the range deletions over a key it looks for the newest between two
+/// neighbouring keeps, and for no other.
 pub fn compact<O: Operator + Sync>(
     rt: &(impl Threads + Sync),
     alloc: Global,

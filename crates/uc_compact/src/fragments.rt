@@ -1,54 +1,57 @@
 //! The fragments that a compaction keeps.
-ghost use Rattle.std.specs.Prelude.{◌≡◌, ℕ, ◌<◌, length, map, filter, nat_lt, IfOk};
+ghost use Rattle.std.specs.Prelude.{◌≡◌, ◌++◌, [], ◌∷◌, length, map, filter, nat_lt, IfOk, OnOk};
 ghost use Rattle.std.specs.List.{AllByRecursion};
 ghost use Rattle.std.specs.List.Sorted.{IsStrictlySortedBy};
 ghost use Rattle.std.specs.Ordering.{nat_cmp};
-ghost use Rattle.uc_run_entry.specs.Order.{IsFalling};
 ghost use Rattle.uc_compact_rules.specs.Output.{fragment_kept};
 ghost use Rattle.uc_compact.specs.Parts.{IsFragment};
 
+use crate::piece::Piece;
 use std::alloc::{AllocError, Global};
-use uc_bytes::Items;
+use uc_bytes::Bytes;
 use uc_compact_rules::{Keeping, kept_seqs};
-use uc_run_entry::Fragment;
+use uc_run_entry::{Fragment, Seqs};
 
-/// A fragment with the sequences that are kept of it.
-fn with_kept_seqs(
+/// Pushes the fragment that is kept of a piece, where some of its sequences are kept.
+fn push_kept(
     alloc: Global,
-    fragment: Fragment,
+    kept: &mut Vec<Fragment>,
+    piece: &Piece<'_>,
     keeping: &Keeping<'_>,
-) -> Result<Fragment, AllocError>
-    requires is_one { IsFragment fragment }
+) -> Result<(), AllocError>
+    requires is_one { IsFragment piece.now }
     requires keeps_rise { IsStrictlySortedBy nat_cmp keeping.now.keeps }
-    ensures { IfOk result (λ kept. kept ≡ fragment_kept keeping.now fragment) }
+    ensures { OnOk result
+        (kept.new.items ≡
+        kept.old.items
+        ++ filter (λ f. nat_lt 0 (length f.seqs)) (map (fragment_kept keeping.now) (piece.now ∷ []))) }
 {
-    let Fragment { begin, end, seqs } = fragment;
-    let kept = kept_seqs(alloc, seqs.as_slice(), keeping)?;
-    Ok(Fragment {
-        begin,
-        end,
-        seqs: Items::from(kept),
-    })
+    let seqs = kept_seqs(alloc, &piece.over(), keeping)?;
+    if !seqs.is_empty() {
+        kept.push(Fragment {
+            begin: Bytes::from_slice(alloc, piece.begin())?,
+            end: Bytes::from_slice(alloc, piece.end())?,
+            seqs: Seqs::from(seqs),
+        })?;
+    }
+    Ok(())
 }
 
 /// The fragments that have sequences which are kept.
 pub(crate) fn fragments_kept(
     alloc: Global,
-    cut: Vec<Fragment>,
+    pieces: &[Piece<'_>],
     keeping: &Keeping<'_>,
 ) -> Result<Vec<Fragment>, AllocError>
-    requires are { AllByRecursion IsFragment cut.items }
+    requires are { AllByRecursion IsFragment pieces.now }
     requires keeps_rise { IsStrictlySortedBy nat_cmp keeping.now.keeps }
     ensures { IfOk result (λ kept.
         kept.items ≡
-        filter (λ f. nat_lt 0 (length f.seqs)) (map (fragment_kept keeping.now) cut.items)) }
+        filter (λ f. nat_lt 0 (length f.seqs)) (map (fragment_kept keeping.now) pieces.now)) }
 {
     let mut kept = Vec::new(alloc);
-    for fragment in cut {
-        let fragment = with_kept_seqs(alloc, fragment, keeping)?;
-        if !fragment.seqs.as_slice().is_empty() {
-            kept.push(fragment)?;
-        }
+    for piece in pieces {
+        push_kept(alloc, &mut kept, piece, keeping)?;
     }
     Ok(kept)
 }

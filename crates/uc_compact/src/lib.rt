@@ -14,8 +14,9 @@ mod cursor;
 mod fragments;
 mod groups;
 mod inputs;
+mod piece;
+mod pieces;
 mod points;
-mod ranges;
 
 pub use compacted::Compacted;
 pub use compacting::compact;

@@ -12,23 +12,25 @@ ghost use Rattle.uc_compact_rules.specs.Choice.{AreOfOneKey, points_for, points_
 ghost use Rattle.uc_compact_rules.specs.Inputs.{AreRuns, points_of};
 
 use crate::groups::Groups;
+use crate::piece::Piece;
+use crate::pieces::covering_piece;
 use std::alloc::{AllocError, Global};
 use std::marker::Sync;
 use std::sync::Arc;
 use std::thread::Threads;
-use uc_compact_rules::{Keeping, push_kept_points};
+use uc_compact_rules::{Keeping, Over, push_kept_points};
 use uc_oper::Operator;
-use uc_run_entry::{Fragment, Point, covering_fragment};
+use uc_run_entry::Point;
 use uc_run_table::Run;
 
 /// The sequences of the range deletions over a key.
-fn seqs_over<'a>(fragments: &'a [Fragment], key: &[u8]) -> &'a [u64]
-    requires { AreInOrder fragments.now }
-    ensures { result.now ≡ choice.seqs_over key.now fragments.now }
+fn seqs_over<'a>(pieces: &'a [Piece<'_>], key: &[u8]) -> Over<'a>
+    requires { AreInOrder pieces.now }
+    ensures { result ≡ choice.seqs_over key.now pieces.now }
 {
-    match covering_fragment(fragments, key) {
-        None => &[],
-        Some(fragment) => fragment.seqs.as_slice(),
+    match covering_piece(pieces, key) {
+        None => Over::new(&[]),
+        Some(piece) => piece.over(),
     }
 }
 
@@ -38,24 +40,24 @@ fn push_groups<O: Operator + Sync>(
     alloc: Global,
     kept: &mut Vec<Point>,
     groups: &mut Groups<'_>,
-    fragments: &[Fragment],
+    pieces: &[Piece<'_>],
     keeping: &Keeping<'_>,
 ) -> Result<(), AllocError>
-    requires order { AreInOrder fragments.now }
+    requires order { AreInOrder pieces.now }
     requires keeps_rise { IsStrictlySortedBy nat_cmp keeping.now.keeps }
-    requires each { AllByRecursion (λ g. AreOfOneKey g.points (choice.seqs_over g.key fragments.now)) groups.old }
+    requires each { AllByRecursion (λ g. AreOfOneKey g.points (choice.seqs_over g.key pieces.now)) groups.old }
     ensures { OnOk result
         (kept.new.items ≡
         kept.old.items
         ++ flat_map
         (λ g.
         points_for O.meaning keeping.now g.key g.points
-        (choice.seqs_over g.key fragments.now)) groups.old) }
+        (choice.seqs_over g.key pieces.now)) groups.old) }
 {
     let mut points = Vec::new(alloc);
     while let Some(key) = groups.next_into(&mut points)? {
-        let seqs = seqs_over(fragments, key);
-        push_kept_points::<O>(rt, alloc, kept, key, &points, seqs, keeping)?;
+        let seqs = seqs_over(pieces, key);
+        push_kept_points::<O>(rt, alloc, kept, key, &points, &seqs, keeping)?;
     }
     Ok(())
 }
@@ -76,26 +78,26 @@ pub(crate) fn points_kept<O: Operator + Sync>(
     rt: &(impl Threads + Sync),
     alloc: Global,
     inputs: &[Arc<Run>],
-    fragments: &[Fragment],
+    pieces: &[Piece<'_>],
     keeping: &Keeping<'_>,
 ) -> Result<Vec<Point>, AllocError>
     requires runs { AreRuns (map arc_value inputs.now) }
-    requires order { AreInOrder fragments.now }
+    requires order { AreInOrder pieces.now }
     requires keeps_rise { IsStrictlySortedBy nat_cmp keeping.now.keeps }
     requires each { (key : List ℕ) →
         AreOfOneKey (points_named key (points_of (map arc_value inputs.now)))
-        (choice.seqs_over key fragments.now) }
+        (choice.seqs_over key pieces.now) }
     ensures { IfOk result (λ kept.
         kept.items ≡
         flat_map
         (λ key.
         points_for O.meaning keeping.now key
         (points_named key (points_of (map arc_value inputs.now)))
-        (choice.seqs_over key fragments.now))
+        (choice.seqs_over key pieces.now))
         (keys_of (points_of (map arc_value inputs.now)))) }
 {
     let mut kept = Vec::new(alloc);
     let mut groups = Groups::over(alloc, &points_in(alloc, inputs)?)?;
-    push_groups::<O>(rt, alloc, &mut kept, &mut groups, fragments, keeping)?;
+    push_groups::<O>(rt, alloc, &mut kept, &mut groups, pieces, keeping)?;
     Ok(kept)
 }

@@ -1,6 +1,6 @@
-use Rattle.std.proofs.Common.{◌≡◌, ltb, length, map, filter}
+use Rattle.std.proofs.Common.{◌≡◌, ltb, length, map, filter, take}
 use Rattle.uc_compact_rules.specs.Output.{fragment_kept}
 use Rattle.uc_compact.proofs.fragments.fragments_kept.Given as goal
 
-abbrev pub invariant-loop-fragment : goal.invariant-loop-fragment
-invariant-loop-fragment l = l.kept.items ≡ filter (λ f. ltb 0 (length f.seqs)) (map (fragment_kept l.keeping) l.yielded)
+abbrev pub invariant-loop-piece : goal.invariant-loop-piece
+invariant-loop-piece l = l.kept.items ≡ filter (λ f. ltb 0 (length f.seqs)) (map (fragment_kept l.keeping) (take l.piece-index l.pieces))

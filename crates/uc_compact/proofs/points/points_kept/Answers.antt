@@ -9,12 +9,12 @@ over-requires g c = sorted_by (λ points. points.now) c.in_ok-points_in.field-0.
 
 pub push_groups-requires-clause-each : goal.push_groups-requires-clause-each
 push_groups-requires-clause-each g c = λ κs lives.
-    each_by g.O.Operator.meaning c.args.keeping.now c.args.fragments.now (points_of (map arc_value c.args.inputs.now)) c.in_ok-groups.groups
+    each_by g.O.Operator.meaning c.args.keeping.now c.args.pieces.now (points_of (map arc_value c.args.inputs.now)) c.in_ok-groups.groups
     (groups_are (λ points. points.now) c.in_ok-points_in.field-0.items c.deref.result.now (map arc_value c.args.inputs.now) c.in_ok-groups.groups c.in_ok-points_in.ensures c.deref.ensures.value c.in_ok-groups.ensures)
     c.requires.each
 
 pub returns : goal.returns
 returns g c =
-    kept_by g.O.Operator.meaning c.args.keeping.now c.args.fragments.now (points_of (map arc_value c.args.inputs.now)) c.in_ok-groups.groups c.new-kept.result.items c.push_groups.new.kept.items
+    kept_by g.O.Operator.meaning c.args.keeping.now c.args.pieces.now (points_of (map arc_value c.args.inputs.now)) c.in_ok-groups.groups c.new-kept.result.items c.push_groups.new.kept.items
     (groups_are (λ points. points.now) c.in_ok-points_in.field-0.items c.deref.result.now (map arc_value c.args.inputs.now) c.in_ok-groups.groups c.in_ok-points_in.ensures c.deref.ensures.value c.in_ok-groups.ensures)
     c.new-kept.ensures.items c.in_ok-push_groups.ensures
