@@ -8,7 +8,7 @@ use Rattle.uc_query.specs.Answered.{IsAnswered}
 use Rattle.std.specs.List.{AllZip}
 use Rattle.uc_tool_play.specs.Play.{call_of, opening_of}
 use Rattle.uc_tool_play.proofs.ReadAnswers.{unclaimed_is_owner, unnamed_are_held, all_read}
-use Rattle.uc_tool_play.proofs.laws.reads_are_answered_from_plain_writes.Goals as goal
+use Rattle.uc_tool_play.proofs.laws.replies_are_answered_from_plain_writes.Goals as goal
 
 pub returns : goal.returns
 returns g c = λ options script rising fine.
