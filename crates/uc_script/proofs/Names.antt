@@ -7,14 +7,13 @@ use Rattle.std.proofs.lemmas.Bool.{ltb-true}
 use Rattle.std.proofs.lemmas.List.Elements.{All-from_recursion}
 use Rattle.uc_script.specs.Lines.{lines_of, fields_of, is_skipped, says}
 use Rattle.uc_script.specs.Texts.{◌>>=◌, number_of, name_of}
-use Rattle.uc_script.specs.Queries.{get_of, scan_of, call_for}
+use Rattle.uc_script.specs.Queries.{get_of, scan_of}
 use Rattle.uc_script.specs.Script.{claim_of, compact_of, call_alone, call_with_one, call_with_two, call_of, call_line, call_in, asked, script_of}
 use Rattle.uc_script.specs.Cases.{ComesTo, asks, no_setup, no_open, no_call}
 use Rattle.uc_script.specs.Names.{NameIsGood}
 use Rattle.uc_script.specs.declared.call.Call.{Call}
-use Rattle.uc_script.specs.declared.call.Call.TheVariants.{Claim, Install, Abandon, Compact, Pick, Report}
+use Rattle.uc_script.specs.declared.call.Call.TheVariants.{Read, Claim, Install, Abandon, Compact, Pick, Report}
 use Rattle.uc_script.specs.declared.query.Query.{Query}
-use Rattle.uc_script.specs.declared.query.Query.TheVariants.{Get, Scan}
 use Rattle.uc_script.specs.declared.call_line.CallLine.TheVariants as asking
 use Rattle.uc_script.specs.declared.script.Script.{Script}
 
@@ -41,10 +40,9 @@ name_small field n e = number_step (number_of field) n e
 abbrev IsSmall : Option ℕ → Type 0
 IsSmall name = (n : ℕ) → name ≡ Some n → n < 32
 
-query_good : (query : Option Query) → IsGood (option_map call_for query)
+query_good : (query : Option Query) → IsGood (option_map Read query)
 query_good None = tt
-query_good (Some (Get key at)) = tt
-query_good (Some (Scan low high limit at)) = tt
+query_good (Some query) = tt
 
 claim_good : (name first count : Option ℕ) → IsSmall name → IsGood (name >>= λ n. first >>= λ f. count >>= λ c. Some (Claim n f c))
 claim_good None first count small = tt
@@ -88,7 +86,7 @@ fields_good [] = tt
 fields_good (word ∷ []) = alone_good (says word (codes "pick")) (says word (codes "report"))
 fields_good (word ∷ name ∷ []) = one_good (says word (codes "install")) (says word (codes "abandon")) (name_of name) (name_small name)
 fields_good (word ∷ first ∷ second ∷ []) =
-    either_good (says word (codes "compact")) (compact_of first second) (option_map call_for (get_of word first second)) (compact_good (number_of first) (number_of second)) (query_good (get_of word first second))
+    either_good (says word (codes "compact")) (compact_of first second) (option_map Read (get_of word first second)) (compact_good (number_of first) (number_of second)) (query_good (get_of word first second))
 fields_good (word ∷ name ∷ first ∷ count ∷ []) =
     if_good (says word (codes "claim")) (claim_of name first count) (claim_good (name_of name) (number_of first) (number_of count) (name_small name))
 fields_good (word ∷ low ∷ high ∷ limit ∷ at ∷ []) = query_good (scan_of word low high limit at)

@@ -2,8 +2,6 @@
 use Rattle.std.specs.Prelude.{ℕ, List, codes, Option, Some, None, if◌then◌else◌}
 use Rattle.uc_script.specs.Lines.{says}
 use Rattle.uc_script.specs.Texts.{◌>>=◌, number_of, text_of, seq_of, high_of}
-use Rattle.uc_script.specs.declared.call.Call.{Call}
-use Rattle.uc_script.specs.declared.call.Call.TheVariants as calls
 use Rattle.uc_script.specs.declared.query.Query.{Query}
 use Rattle.uc_script.specs.declared.query.Query.TheVariants.{Get, Scan}
 
@@ -26,8 +24,3 @@ scan_of word low high limit at =
       s ← seq_of at
       Some (Scan l h n s))
     else None
-
--- The call of a script that asks to read this.
-abbrev pub call_for : Query → Call
-call_for (Get key at) = calls.Get key at
-call_for (Scan low high limit at) = calls.Scan low high limit at

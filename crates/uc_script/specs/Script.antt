@@ -4,9 +4,9 @@ use Rattle.std.specs.List.{before_first, after_first, filter_map}
 use Rattle.std.specs.Option.{option_map, option_or}
 use Rattle.uc_script.specs.Lines.{lines_of, fields_of, is_skipped, says}
 use Rattle.uc_script.specs.Texts.{◌>>=◌, number_of, name_of, text_of}
-use Rattle.uc_script.specs.Queries.{get_of, scan_of, call_for}
+use Rattle.uc_script.specs.Queries.{get_of, scan_of}
 use Rattle.uc_script.specs.declared.call.Call.{Call}
-use Rattle.uc_script.specs.declared.call.Call.TheVariants.{Claim, Install, Abandon, Compact, Pick, Report}
+use Rattle.uc_script.specs.declared.call.Call.TheVariants.{Read, Claim, Install, Abandon, Compact, Pick, Report}
 use Rattle.uc_script.specs.declared.setup_line.SetupLine.{SetupLine}
 use Rattle.uc_script.specs.declared.setup_line.SetupLine.TheVariants as setup
 use Rattle.uc_script.specs.declared.call_line.CallLine.{CallLine}
@@ -86,7 +86,7 @@ call_with_one word name = do
 unfoldable pub call_with_two : List ℕ → List ℕ → List ℕ → Option Call
 call_with_two word first second =
     if says word (codes "compact") then compact_of first second
-    else option_map call_for (get_of word first second)
+    else option_map Read (get_of word first second)
 
 -- What a line after the first `open` says by its fields.
 unfoldable pub call_of : List (List ℕ) → Option Call
@@ -94,7 +94,7 @@ call_of (word ∷ []) = call_alone word
 call_of (word ∷ name ∷ []) = call_with_one word name
 call_of (word ∷ first ∷ second ∷ []) = call_with_two word first second
 call_of (word ∷ name ∷ first ∷ count ∷ []) = if says word (codes "claim") then claim_of name first count else None
-call_of (word ∷ low ∷ high ∷ limit ∷ at ∷ []) = option_map call_for (scan_of word low high limit at)
+call_of (word ∷ low ∷ high ∷ limit ∷ at ∷ []) = option_map Read (scan_of word low high limit at)
 call_of _ = None
 
 -- What a line after the first `open` says, or None where it is not as it should be.

@@ -1,11 +1,6 @@
 //! [`Call`]: what a script asks of the store.
 
-ghost use Rattle.std.specs.Prelude.{◌≡◌};
-ghost use Rattle.uc_script.specs.Queries.{call_for};
-
 use crate::query::Query;
-use crate::seq::Seq;
-use uc_bytes::Bytes;
 
 /// How many names a script has for its claims: 0 to 31.
 pub const NAMES: usize = 32;
@@ -13,24 +8,8 @@ pub const NAMES: usize = 32;
 /// What a script asks of the store after its `open`.
 #[derive(Debug, Drop, PartialEq, Eq)]
 pub enum Call {
-    /// The value of a key. A script writes `get K S`.
-    Get {
-        /// The key.
-        key: Bytes,
-        /// The sequence at which to read.
-        at: Seq,
-    },
-    /// The rows from `low` on, in order of key. A script writes `scan LOW HIGH LIMIT S`.
-    Scan {
-        /// The first key that may be a row's.
-        low: Bytes,
-        /// The rows are below this key; no end where there is none. A script writes `-` for none.
-        high: Option<Bytes>,
-        /// How many rows there are at most.
-        limit: u64,
-        /// The sequence at which to read.
-        at: Seq,
-    },
+    /// To read. A script writes `get K S` or `scan LOW HIGH LIMIT S`.
+    Read(Query),
     /// A claim of `count` neighbouring runs, to be known by a name below [`NAMES`]. A script writes
     /// `claim N FIRST COUNT`.
     Claim {
@@ -64,25 +43,4 @@ pub enum Call {
     Pick,
     /// What the store holds, in figures. A script writes `report`.
     Report,
-}
-
-impl From<Query> for Call {
-    ghost from_gives = { λ query call. call ≡ call_for query };
-
-    fn from(query: Query) -> Call {
-        match query {
-            Query::Get { key, at } => Call::Get { key, at },
-            Query::Scan {
-                low,
-                high,
-                limit,
-                at,
-            } => Call::Scan {
-                low,
-                high,
-                limit,
-                at,
-            },
-        }
-    }
 }

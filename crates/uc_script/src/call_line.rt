@@ -34,7 +34,7 @@ pub(crate) fn read_call_line(alloc: Global, line: &[u8]) -> Result<Option<CallLi
             claim(name, first, count)
         }
         Fields::Five(word, low, end, limit, at) => {
-            read_scan(alloc, word, low, end, limit, at)?.map(Call::from)
+            read_scan(alloc, word, low, end, limit, at)?.map(Call::Read)
         }
         _ => None,
     };
@@ -83,7 +83,7 @@ fn call_with_two(
     if word == b"compact".as_slice() {
         return Ok(compact(first, second));
     }
-    Ok(read_get(alloc, word, first, second)?.map(Call::from))
+    Ok(read_get(alloc, word, first, second)?.map(Call::Read))
 }
 
 /// The arguments of `claim N FIRST COUNT`.

@@ -4,7 +4,7 @@ use std::alloc::Global;
 use std::process::Abort;
 use std::test::Fail;
 use uc_bytes::{Bytes, Op, OpKind};
-use uc_script::{Call, ScriptError, Seq, push_hex, push_number, read_script};
+use uc_script::{Call, Query, ScriptError, Seq, push_hex, push_number, read_script};
 
 /// The line at fault, if there is one.
 fn fault(rt: &impl Abort, alloc: Global, text: &[u8]) -> Option<u64> {
@@ -231,13 +231,15 @@ type Asked<'a> = (Option<&'a [u8]>, Option<&'a [u8]>, Option<u64>, Option<Seq>);
 
 fn asked(call: &Call) -> Asked<'_> {
     match call {
-        Call::Get { key, at } => (Some(key.as_slice()), None, None, Some(*at)),
-        Call::Scan {
-            low,
-            high,
-            limit,
-            at,
-        } => {
+        Call::Read(Query::Get { key, at }) => (Some(key.as_slice()), None, None, Some(*at)),
+        Call::Read(
+            Query::Scan {
+                low,
+                high,
+                limit,
+                at,
+            },
+        ) => {
             let high = high.as_ref().map(Bytes::as_slice);
             (Some(low.as_slice()), high, Some(*limit), Some(*at))
         }

@@ -1,6 +1,7 @@
 pub use Rattle.uc_tool_io.specs.Input
 pub use Rattle.uc_tool_io.specs.Output
 pub use Rattle.uc_tool_opening.specs.Opening
+pub use Rattle.uc_tool_opening.specs.Asked
 pub use Rattle.uc_tool_opening.specs.Reasons
 pub use Rattle.uc_tool_io.specs.Writing
 pub use Rattle.uc_tool_io.specs.Texts

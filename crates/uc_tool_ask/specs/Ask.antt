@@ -8,29 +8,22 @@ use Rattle.uc_batch.specs.declared.ended.Ended.{Ended}
 use Rattle.uc_batch.specs.declared.ended.Ended.TheVariants as ended
 use Rattle.uc_script.specs.Head.{Head, head_of}
 use Rattle.uc_script.specs.declared.query.Query.{Query as Asked}
-use Rattle.uc_script.specs.declared.query.Query.TheVariants as asked
 use Rattle.uc_tool_faults.specs.declared.part.Source.TheVariants as source
 use Rattle.uc_version_pick.specs.declared.options.Options.{Options}
 use Rattle.uc_version_state.specs.Openings.{Opening, opened}
 use Rattle.uc_version_open.specs.Refusal.{opening_refusal}
 use Rattle.uc_version_open.specs.declared.open_error.OpenError.{OpenError}
 use Rattle.uc_query_answer.specs.Answers.{answer_of}
-use Rattle.uc_query_answer.specs.declared.query.Query.{Query}
-use Rattle.uc_query_answer.specs.declared.query.Query.TheVariants as query
 use Rattle.uc_tool_io.specs.Output.{Output, refused}
 use Rattle.uc_tool_io.specs.declared.done.Done.TheVariants.{Fine}
 use Rattle.uc_tool_lines.specs.AnswerLines.{answer_lines}
 use Rattle.uc_tool_log_lines.specs.Line.{numbered_line}
-use Rattle.uc_tool_opening.specs.Opening.{seq_at}
+use Rattle.uc_tool_opening.specs.Asked.{query_of}
 use Rattle.uc_tool_opening.specs.Reasons.{Cause, AtLine, log_cause}
 use Rattle.uc_tool_opening.specs.Refusals.{opening_refusal_line, bad_log}
 
--- what a line of a head asks, where `last` is the last sequence of the log
-abbrev pub query_of : ℕ → Asked → Query
-query_of last (asked.Get key at) = query.Get key (seq_at last at)
-query_of last (asked.Scan low high limit at) = query.Scan low high (seq_at last at) limit
-
--- the lines of the answer to it, from these writes, at the sequences that are kept
+-- the lines of the answer to what a line of a head asks, from these writes, at the sequences that are kept, where `last` is the
+-- last sequence of the log
 abbrev pub reply_to : Operation → List Write → List ℕ → ℕ → Asked → List ℕ
 reply_to m writes keeps last asked = answer_lines (answer_of m writes keeps (query_of last asked))
 

@@ -5,7 +5,7 @@ ghost use Rattle.uc_script.specs.Head.{queries_in};
 ghost use Rattle.uc_query_answer.specs.Answers.{answer_of};
 ghost use Rattle.uc_query_shared.specs.Given.{ForEachHistory};
 ghost use Rattle.uc_tool_io.specs.Output.{Prints, joined};
-ghost use Rattle.uc_tool_ask.specs.Ask as asks;
+ghost use Rattle.uc_tool_opening.specs.Asked as lines;
 ghost use Rattle.uc_tool_ask.specs.Given.{replies_given};
 
 use crate::plan::Plan;
@@ -21,36 +21,10 @@ use uc_script::QueryReader;
 use uc_share::{Name, Reader};
 use uc_tool_io::{Done, RunError, write_bytes};
 use uc_tool_lines::answers_lines;
-use uc_tool_opening::seq_at;
+use uc_tool_opening::query_of;
 
 /// How many queries are read and answered at once, so that memory doesn't grow with their number.
 const BATCH: usize = 4096;
-
-/// What a line of a head asks, where `last` is the last sequence of the log.
-fn query_of(last: u64, asked: uc_script::Query) -> Query
-    ensures { result ≡ asks.query_of last asked }
-{
-    match asked {
-        uc_script::Query::Get { key, at } => {
-            let at = seq_at(last, at);
-            Query::Get { key, at }
-        }
-        uc_script::Query::Scan {
-            low,
-            high,
-            limit,
-            at,
-        } => {
-            let at = seq_at(last, at);
-            Query::Scan {
-                low,
-                high,
-                at,
-                limit,
-            }
-        }
-    }
-}
 
 /// The next queries of a head, some of them where any are left.
 fn next_batch(
@@ -69,7 +43,7 @@ fn queries_of(
     last: u64,
     asked: Vec<uc_script::Query>,
 ) -> Result<Vec<Query>, AllocError>
-    ensures { IfOk result (λ queries. queries.items ≡ map (asks.query_of last) asked.items) }
+    ensures { IfOk result (λ queries. queries.items ≡ map (lines.query_of last) asked.items) }
 {
     asked
         .into_iter()

@@ -11,7 +11,7 @@ ghost use Rattle.uc_version_open.specs.Progress.{progress_of};
 ghost use Rattle.uc_query_shared.specs.Given.{ForEachHistory};
 ghost use Rattle.uc_tool_io.specs.Output.{Prints, HasWritten, refused};
 ghost use Rattle.uc_tool_log_lines.specs.Line as texts;
-ghost use Rattle.uc_tool_opening.specs.Reasons.{IsReason, opening_cause, log_cause};
+ghost use Rattle.uc_tool_opening.specs.Reasons.{IsReason, TellsOpening, opening_cause, log_cause};
 ghost use Rattle.uc_tool_ask.specs.Ask.{ask_of, of_log, of_writes, cause_of};
 ghost use Rattle.uc_tool_ask.specs.Given.{replies_given};
 ghost use Rattle.uc_tool_ask.specs.Plans.{IsPlan};
@@ -174,6 +174,9 @@ fn print_opened<O: Operator + Send + Sync, R: Threads + Wait + Sync, V: Write>(
     ensures told { (writes : List WriteOf) → IsRising 0 writes → opener ≡ progress_of options.now writes →
         let opening : OpeningOf = record { writes = writes; keeps = keeps.now; options = options.now } in
         IsReason (opening_cause opening) reason.new }
+    ensures opening { (writes : List WriteOf) → IsRising 0 writes → opener ≡ progress_of options.now writes →
+        let opening : OpeningOf = record { writes = writes; keeps = keeps.now; options = options.now } in
+        OnOk result.0 (TellsOpening (opening_cause opening) reason.new) }
 {
     // A law of the layer below, which does nothing when it runs: what isn't refused may open.
     no_refusal_is_leave_to_open();
@@ -229,6 +232,8 @@ fn answer_log<O: Operator + Send + Sync, R: Threads + Wait + Sync, V: Write>(
     ensures done { IfOk result.0 (λ done. done ≡ (of_log O.meaning options.now head.keeps
         (queries_in (take head.size input.items)) (log_writes (drop head.size input.items))).done) }
     ensures told { IsReason (log_cause options.now head.keeps (log_writes (drop head.size input.items))) reason.new }
+    ensures opening { OnOk result.0
+        (TellsOpening (log_cause options.now head.keeps (log_writes (drop head.size input.items))) reason.new) }
 {
     let Ok((recovered, lines)) = recover_behind(alloc, input, head.size, *options) else {
         return (Err(RunError::Memory), 0);
@@ -275,6 +280,7 @@ fn run<O: Operator + Send + Sync, R: Threads + Wait + Sync, V: Write>(
         (V.contents writer.old) (V.contents writer.new) result.0 }
     ensures done { IfOk result.0 (λ done. done ≡ (ask_of O.meaning options.now input.items).done) }
     ensures told { IsReason (cause_of options.now input.items) reason.new }
+    ensures opening { OnOk result.0 (TellsOpening (cause_of options.now input.items) reason.new) }
 {
     match read_head(alloc, &input) {
         Ok(head) => answer_log::<O, R, V>(rt, alloc, input, head, options, plan, writer, reason),
@@ -288,7 +294,7 @@ fn run<O: Operator + Send + Sync, R: Threads + Wait + Sync, V: Write>(
 
 /// Answers the queries in front of a log as [`ask`] does. Where they are refused for a fault of the head or at the opening, it
 /// gives the reason too, which is that of the line that was at fault or of the opening that was refused, and else none. Where
-/// there is no memory for it, it gives none, and prints and ends all the same.
+/// there is no memory for what is said of a line, it gives none, and prints and ends all the same.
 pub fn ask_with_reason<O: Operator + Send + Sync, R: Read, W: Write>(
     rt: &(impl Threads + Wait + Sync),
     alloc: Global,
@@ -304,6 +310,8 @@ pub fn ask_with_reason<O: Operator + Send + Sync, R: Read, W: Write>(
     ensures written { IfSome (R.remaining reader.old) (λ input.
         HasWritten (ask_of O.meaning options.now input) input (W.contents writer.old) (W.contents writer.new) result.0) }
     ensures told { IfSome (R.remaining reader.old) (λ input. IsReason (cause_of options.now input) reason.new) }
+    ensures opening { result.0 ≡ Done.Refused →
+        IfSome (R.remaining reader.old) (λ input. TellsOpening (cause_of options.now input) reason.new) }
 {
     *reason = None;
     let plan = Plan {

@@ -8,7 +8,8 @@ ghost use Rattle.uc_version_open.specs.Refusal.{opening_refusal};
 ghost use Rattle.uc_query_answer.specs.Answers.{answer_of};
 ghost use Rattle.uc_tool_io.specs.declared.done.Done.TheVariants.{Fine};
 ghost use Rattle.uc_tool_lines.specs.AnswerLines.{answer_lines};
-ghost use Rattle.uc_tool_ask.specs.Ask.{ask_of, query_of};
+ghost use Rattle.uc_tool_opening.specs.Asked.{query_of};
+ghost use Rattle.uc_tool_ask.specs.Ask.{ask_of};
 ghost use Rattle.uc_tool_ask.specs.Readable.{IsReadable};
 
 use uc_oper::Operator;

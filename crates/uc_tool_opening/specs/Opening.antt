@@ -1,8 +1,6 @@
--- A script's writes as a log, a batch for each write; and the sequence that is called the last.
+-- A script's writes as a log, a batch for each write.
 use Rattle.std.specs.Prelude.{ℕ, ◌+◌, ◌≤◌, ◌^◌, List, [], ◌∷◌, length, All}
 use Rattle.uc_bytes.specs.declared.op.Op.{Op}
-use Rattle.uc_script.specs.declared.seq.Seq.{Seq}
-use Rattle.uc_script.specs.declared.seq.Seq.TheVariants.{Number, Last}
 use Rattle.uc_batch.specs.Spelling.{batch_text, FitsOp}
 
 -- a batch for each operation, the first with this sequence
@@ -14,8 +12,3 @@ batch_texts seq (op ∷ ops) = batch_text seq (op ∷ []) ∷ batch_texts (seq +
 pub record FitsLog (ops : List Op) : Type 0 where
   pub few : length ops + 1 ≤ 2 ^ 56
   pub strings : All FitsOp ops
-
--- the sequence that a line names, where `last` is the last one at opening
-abbrev pub seq_at : ℕ → Seq → ℕ
-seq_at last (Number number) = number
-seq_at last Last = last

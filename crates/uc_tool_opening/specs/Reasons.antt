@@ -1,5 +1,5 @@
 -- Why a run is refused, as a reader is told beside the line that the run prints.
-use Rattle.std.specs.Prelude.{◌≡◌, ℕ, List, Option, Some, None, IfSome}
+use Rattle.std.specs.Prelude.{◌≡◌, ℕ, ⊤, List, Option, Some, None, IfSome}
 use Rattle.std.specs.Option.{option_map}
 use Rattle.uc_batch.specs.WriteLog.{WriteLog}
 use Rattle.uc_batch.specs.declared.ended.Ended.{Ended}
@@ -36,6 +36,12 @@ IsReason cause told = IfSome told (Explains cause)
 -- what is told of an opening that was refused so
 abbrev pub reason_of_opening : OpenError → Options → Option Reason
 reason_of_opening error options = option_map reason.Opening (fault_of_opening error options)
+
+-- Where an opening is what was refused, what stands against it is told. It takes no memory.
+abbrev pub TellsOpening : Option Cause → Option Reason → Type 0
+TellsOpening None told = ⊤
+TellsOpening (Some (AtLine source text number)) told = ⊤
+TellsOpening (Some (AtOpening error options)) told = told ≡ reason_of_opening error options
 
 -- the cause of an opening that is refused, if it is
 abbrev pub opening_cause : Opening → Option Cause

@@ -8,16 +8,20 @@
 //! Beside that line a reader may be told more: [`Reason`] is what is wrong with the first line at fault, or the option or
 //! number that stands against the opening. `specs/Reasons.antt` says which reason a run has.
 //!
+//! [`query_of`] says what a line that reads asks, for scripts and for what stands in front of a log alike.
+//!
 //! Read `specs/Opening.antt` and `specs/Refusals.antt` first, then `opening.rt` and `refusing.rt`. That the log of a
 //! script's writes gives them back is proved in `proofs/LogAgain.antt`.
 #![tactic(auto)]
 
+mod asked;
 mod opening;
 mod opening_fault;
 mod reason;
 mod refusing;
 
-pub use opening::{open_ops, recover_log, seq_at};
+pub use asked::query_of;
+pub use opening::{open_ops, recover_log};
 pub use opening_fault::{OpeningFault, fault_of_opening, option_fault};
 pub use reason::{Reason, reason_of_line, reason_of_opening};
 pub use refusing::{opening_refusal_line, print_bad_log, print_refused_opening};

@@ -9,7 +9,6 @@ ghost use Rattle.uc_version_state.specs.Openings.{Opening, opened};
 ghost use Rattle.uc_version_open.specs.Progress.{progress_of};
 ghost use Rattle.uc_version_open.specs.Refusal.{opening_refusal};
 ghost use Rattle.uc_version_open.specs.declared.open_error.OpenError.TheVariants.{Memory};
-ghost use Rattle.uc_tool_opening.specs.Opening as openings;
 ghost use Rattle.uc_tool_opening.specs.Opening.{batch_texts, FitsLog};
 
 use std::alloc::{AllocError, Global};
@@ -17,7 +16,7 @@ use std::slice;
 use uc_batch::{write_batch, written_batch_is_read};
 use uc_bytes::Op;
 use uc_logrec::{LogWriter, written_log_is_read};
-use uc_script::{Keeps, Ops, Seq};
+use uc_script::{Keeps, Ops};
 use uc_version_open::{OpenError, Opener, Recovered, recover};
 use uc_version_pick::Options;
 use uc_version_state::Version;
@@ -83,14 +82,4 @@ pub fn open_ops(
         IfErr result (λ error. error ≢ Memory → opening_refusal opening ≡ Some error) }
 {
     opener_of(alloc, ops, options)?.finish(alloc, keeps.as_slice())
-}
-
-/// The sequence that a line names, where `last` is the last one at opening.
-pub fn seq_at(last: u64, at: Seq) -> u64
-    ensures { result ≡ openings.seq_at last at }
-{
-    match at {
-        Seq::Number(number) => number,
-        Seq::Last => last,
-    }
 }

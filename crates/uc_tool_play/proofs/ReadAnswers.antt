@@ -8,7 +8,6 @@ use Rattle.uc_oper.specs.Operation.{Operation}
 use Rattle.uc_bytes.specs.declared.write.Write.{Write}
 use Rattle.uc_query_answer.specs.declared.answer.Answer.{Answer}
 use Rattle.uc_query_answer.specs.Answers.{answer_of}
-use Rattle.uc_query_answer.specs.declared.query.Query.TheVariants as query
 use Rattle.uc_claims.specs.Holding.{AreDistinct}
 use Rattle.uc_version_pick.specs.declared.options.Options.{Options}
 use Rattle.uc_version_pick.specs.Options.{are_good}
@@ -26,10 +25,10 @@ use Rattle.uc_query.specs.declared.call.Call.{Call as StoreCall}
 use Rattle.uc_query.specs.declared.reply.Reply.{Reply}
 use Rattle.uc_query.specs.declared.reply.Reply.TheVariants.{Answers}
 use Rattle.uc_script.specs.declared.call.Call.{Call}
-use Rattle.uc_script.specs.declared.call.Call.TheVariants.{Get, Scan, Claim, Install, Abandon, Compact, Pick, Report}
+use Rattle.uc_script.specs.declared.call.Call.TheVariants.{Read, Claim, Install, Abandon, Compact, Pick, Report}
 use Rattle.uc_tool_lines.specs.AnswerLines.{answer_lines}
 use Rattle.uc_tool_lines.specs.ReplyLines.{reply_lines}
-use Rattle.uc_tool_opening.specs.Opening.{seq_at}
+use Rattle.uc_tool_opening.specs.Asked.{query_of}
 use Rattle.uc_tool_play.specs.Play.{call_of}
 use Rattle.uc_tool_play.specs.Reading.{IsRead}
 
@@ -79,8 +78,7 @@ module _ (m : Operation) (writes : List Write) (keeps : List ℕ) (last : ℕ) w
   alone reply answer is = ap reply_lines is ∙ append-nil (answer_lines answer)
 
   read : (call : Call) (reply : Reply) → IsAnswered m writes keeps (call_of last call) reply → IsRead m writes keeps last call (reply_lines reply)
-  read (Get key at) reply is = alone reply (answer_of m writes keeps (query.Get key (seq_at last at))) is
-  read (Scan low high limit at) reply is = alone reply (answer_of m writes keeps (query.Scan low high (seq_at last at) limit)) is
+  read (Read asked) reply is = alone reply (answer_of m writes keeps (query_of last asked)) is
   read (Claim name first count) reply is = tt
   read (Install name) reply is = tt
   read (Abandon name) reply is = tt
@@ -90,8 +88,7 @@ module _ (m : Operation) (writes : List Write) (keeps : List ℕ) (last : ℕ) w
 
   -- no call of a script ends its run
   goes_on : (s : State) (call : Call) → IsOk (turn_of m s (call_of last call))
-  goes_on s (Get key at) = refl
-  goes_on s (Scan low high limit at) = refl
+  goes_on s (Read asked) = refl
   goes_on s (Claim name first count) = refl
   goes_on s (Install name) = refl
   goes_on s (Abandon name) = refl

@@ -3,10 +3,9 @@ use Rattle.std.specs.Prelude.{ℕ, List, [], ◌∷◌, map, codes, Option, Some
 use Rattle.uc_oper.specs.Operation.{Operation}
 use Rattle.uc_batch.specs.Batch.{numbered}
 use Rattle.uc_query_answer.specs.declared.query.Query.{Query}
-use Rattle.uc_query_answer.specs.declared.query.Query.TheVariants as query
 use Rattle.uc_script.specs.Script.{script_of}
 use Rattle.uc_script.specs.declared.call.Call.{Call}
-use Rattle.uc_script.specs.declared.call.Call.TheVariants.{Get, Scan, Claim, Install, Abandon, Compact, Pick, Report}
+use Rattle.uc_script.specs.declared.call.Call.TheVariants.{Read, Claim, Install, Abandon, Compact, Pick, Report}
 use Rattle.uc_script.specs.declared.error.ScriptError.{ScriptError}
 use Rattle.uc_script.specs.declared.error.ScriptError.TheVariants as errors
 use Rattle.uc_script.specs.declared.script.Script.{Script}
@@ -22,7 +21,7 @@ use Rattle.uc_query.specs.Running.{run_of, unnamed}
 use Rattle.uc_query.specs.declared.call.Call.{Call as StoreCall}
 use Rattle.uc_query.specs.declared.call.Call.TheVariants as store
 use Rattle.uc_tool_log_lines.specs.Line.{numbered_line}
-use Rattle.uc_tool_opening.specs.Opening.{seq_at}
+use Rattle.uc_tool_opening.specs.Asked.{query_of}
 use Rattle.uc_tool_opening.specs.Reasons.{Cause, AtLine, opening_cause}
 use Rattle.uc_tool_opening.specs.Refusals.{opening_refusal_line}
 use Rattle.uc_tool_lines.specs.ReplyLines.{reply_lines}
@@ -35,8 +34,7 @@ asked_alone q = store.Ask (q ∷ []) 1 1
 
 -- what a script's call asks of the store, where `last` is the last sequence at opening
 abbrev pub call_of : ℕ → Call → StoreCall
-call_of last (Get key at) = asked_alone (query.Get key (seq_at last at))
-call_of last (Scan low high limit at) = asked_alone (query.Scan low high (seq_at last at) limit)
+call_of last (Read asked) = asked_alone (query_of last asked)
 call_of last (Claim name first count) = store.Claim name (record { first = first; count = count })
 call_of last (Install name) = store.Install name
 call_of last (Abandon name) = store.Abandon name

@@ -20,7 +20,7 @@ use uc_query::{AskError, NamedClaims, Query};
 use uc_script::Call;
 use uc_tool_io::{RunError, write_bytes};
 use uc_tool_lines::reply_lines;
-use uc_tool_opening::seq_at;
+use uc_tool_opening::query_of;
 use uc_version::Owned;
 use uc_version_pick::Stretch;
 
@@ -38,25 +38,7 @@ fn call_of(alloc: Global, last: u64, call: Call) -> Result<uc_query::Call, Alloc
     ensures { IfOk result (λ asked. asked ≡ plays.call_of last call) }
 {
     match call {
-        Call::Get { key, at } => {
-            let at = seq_at(last, at);
-            asked_alone(alloc, Query::Get { key, at })
-        }
-        Call::Scan {
-            low,
-            high,
-            limit,
-            at,
-        } => {
-            let at = seq_at(last, at);
-            let query = Query::Scan {
-                low,
-                high,
-                at,
-                limit,
-            };
-            asked_alone(alloc, query)
-        }
+        Call::Read(asked) => asked_alone(alloc, query_of(last, asked)),
         Call::Claim { name, first, count } => {
             Ok(uc_query::Call::Claim(name, Stretch { first, count }))
         }

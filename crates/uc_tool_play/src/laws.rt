@@ -1,5 +1,5 @@
 //! What holds of what is printed.
-ghost use Rattle.std.specs.Prelude.{◌≡◌, None};
+ghost use Rattle.std.specs.Prelude.{◌≡◌, ℕ, ◌≤◌, List, Ok, None, length};
 ghost use Rattle.std.specs.List.{AllZip};
 ghost use Rattle.uc_batch.specs.Batch.{numbered};
 ghost use Rattle.uc_batch.specs.Rising.{IsRising};
@@ -8,18 +8,20 @@ ghost use Rattle.uc_version_state.specs.Openings.{opened};
 ghost use Rattle.uc_version_open.specs.Refusal.{opening_refusal};
 ghost use Rattle.uc_version.specs.Owners.{unclaimed};
 ghost use Rattle.uc_query.specs.Running.{unnamed};
+ghost use Rattle.uc_script.specs.Script.{script_of};
 ghost use Rattle.uc_script.specs.declared.script.Script.{Script};
-ghost use Rattle.uc_tool_play.specs.Play.{opening_of, replies_of};
-ghost use Rattle.uc_tool_play.specs.Reading.{IsRead};
+ghost use Rattle.uc_tool_io.specs.declared.input.TheConstants.{INPUT_LIMIT};
+ghost use Rattle.uc_tool_play.specs.Play.{opening_of, replies_of, play_of};
+ghost use Rattle.uc_tool_play.specs.Reading.{AnswersReads, IsRead};
 
 use uc_oper::Operator;
 use uc_query::asks_are_answered_from_plain_writes;
+use uc_script::a_script_names_no_more_than_it_has;
 use uc_version_open::no_refusal_is_leave_to_open;
 use uc_version_state::opening_gives_a_version;
 
-/// Whatever a script claims, compacts and installs in between, each of its `get` and `scan` lines has the reply that its plain
-/// writes give, one thread folding them with the operator.
-pub fn reads_are_answered_from_plain_writes<O: Operator>()
+/// The replies to the calls of a script whose writes rise and whose store opens.
+fn replies_are_answered_from_plain_writes<O: Operator>()
     ensures { (options : Options) (script : Script) → IsRising 0 (numbered 1 script.ops) →
         opening_refusal (opening_of options script) ≡ None →
         let version = opened (opening_of options script) in
@@ -29,4 +31,16 @@ pub fn reads_are_answered_from_plain_writes<O: Operator>()
     opening_gives_a_version();
     no_refusal_is_leave_to_open();
     asks_are_answered_from_plain_writes::<O>();
+}
+
+/// What is printed for the bytes of a script that is read and whose store opens: that it opened, and a reply to each of its
+/// calls. Whatever the script claims, compacts and installs in between, each of its `get` and `scan` lines has the reply that
+/// its plain writes give, one thread folding them with the operator.
+pub fn reads_are_answered_from_plain_writes<O: Operator>()
+    ensures { (options : Options) (input : List ℕ) (script : Script) → length input ≤ INPUT_LIMIT →
+        script_of input ≡ Ok script → opening_refusal (opening_of options script) ≡ None →
+        AnswersReads O.meaning (opening_of options script) script.calls (play_of O.meaning options input) }
+{
+    a_script_names_no_more_than_it_has();
+    replies_are_answered_from_plain_writes::<O>();
 }

@@ -7,7 +7,7 @@ ghost use Rattle.uc_script.specs.Script.{script_of};
 ghost use Rattle.uc_version_pick.specs.Options.{are_good};
 ghost use Rattle.uc_tool_io.specs.declared.input.TheConstants.{INPUT_LIMIT};
 ghost use Rattle.uc_tool_opening.specs.Opening.{FitsLog};
-ghost use Rattle.uc_tool_opening.specs.Reasons.{IsReason, opening_cause};
+ghost use Rattle.uc_tool_opening.specs.Reasons.{IsReason, TellsOpening, opening_cause};
 ghost use Rattle.uc_tool_play.specs.Play.{opening_of, output_of, script_output, play_of, fault_cause, cause_of};
 ghost use Rattle.uc_tool_io.specs.Output.{Prints, HasWritten};
 
@@ -95,6 +95,7 @@ fn print_script<O: Operator + Sync, W: Write>(
         (W.contents writer.old) (W.contents writer.new) result }
     ensures done { IfOk result (λ done. done ≡ (script_output O.meaning options.now script).done) }
     ensures told { IsReason (opening_cause (opening_of options.now script)) reason.new }
+    ensures opening { OnOk result (TellsOpening (opening_cause (opening_of options.now script)) reason.new) }
 {
     let Script { ops, keeps, calls } = script;
     match open_ops(alloc, ops, keeps, *options) {
@@ -124,6 +125,7 @@ fn run<O: Operator + Sync, W: Write>(
         (W.contents writer.old) (W.contents writer.new) result }
     ensures done { IfOk result (λ done. done ≡ (play_of O.meaning options.now input.items).done) }
     ensures told { IsReason (cause_of options.now input.items) reason.new }
+    ensures opening { OnOk result (TellsOpening (cause_of options.now input.items) reason.new) }
 {
     match script_in(alloc, input, reason) {
         Ok(script) => print_script::<O, W>(rt, alloc, script, options, writer, reason),
@@ -137,7 +139,7 @@ fn run<O: Operator + Sync, W: Write>(
 
 /// Runs a script as [`play`] does. Where it is refused for a fault of the script or at its opening, it gives the reason too,
 /// which is that of the line that was at fault or of the opening that was refused, and else none. Where there is no memory for
-/// it, it gives none, and prints and ends all the same.
+/// what is said of a line, it gives none, and prints and ends all the same.
 pub fn play_with_reason<O: Operator + Sync, R: Read, W: Write>(
     rt: &(impl Threads + Sync),
     alloc: Global,
@@ -149,6 +151,8 @@ pub fn play_with_reason<O: Operator + Sync, R: Read, W: Write>(
     ensures written { IfSome (R.remaining reader.old) (λ input.
         HasWritten (play_of O.meaning options.now input) input (W.contents writer.old) (W.contents writer.new) result) }
     ensures told { IfSome (R.remaining reader.old) (λ input. IsReason (cause_of options.now input) reason.new) }
+    ensures opening { result ≡ Done.Refused →
+        IfSome (R.remaining reader.old) (λ input. TellsOpening (cause_of options.now input) reason.new) }
 {
     *reason = None;
     match read_input(alloc, reader) {

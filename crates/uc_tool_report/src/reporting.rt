@@ -1,13 +1,13 @@
 //! `report_log`: what a store holds that opens from a log, before and after its compaction.
 
-ghost use Rattle.std.specs.Prelude.{◌≡◌, [], ◌∷◌, List, None, true, IfOk, IfSome};
+ghost use Rattle.std.specs.Prelude.{◌≡◌, [], ◌∷◌, List, None, true, IfOk, OnOk, IfSome};
 ghost use Rattle.uc_batch.specs.Rising.{IsRising};
 ghost use Rattle.uc_version_open.specs.Progress.{progress_of};
 ghost use Rattle.uc_version_pick.specs.Options.{are_good};
 ghost use Rattle.uc_bytes.specs.declared.write.Write.{Write as WriteOf};
 ghost use Rattle.uc_version_state.specs.Openings.{Opening};
 ghost use Rattle.uc_version.specs.Owners.{unclaimed};
-ghost use Rattle.uc_tool_opening.specs.Reasons.{IsReason, opening_cause};
+ghost use Rattle.uc_tool_opening.specs.Reasons.{IsReason, TellsOpening, opening_cause};
 ghost use Rattle.uc_tool_report.specs.Report.{store_lines, output_of, of_writes, report_of, cause_of};
 ghost use Rattle.uc_tool_io.specs.Output.{Prints, HasWritten};
 
@@ -81,6 +81,9 @@ fn print_opened<O: Operator + Sync, W: Write>(
     ensures told { (writes : List WriteOf) → IsRising 0 writes → opener ≡ progress_of options.now writes →
         let opening : Opening = record { writes = writes; keeps = []; options = options.now } in
         IsReason (opening_cause opening) reason.new }
+    ensures opening { (writes : List WriteOf) → IsRising 0 writes → opener ≡ progress_of options.now writes →
+        let opening : Opening = record { writes = writes; keeps = []; options = options.now } in
+        OnOk result (TellsOpening (opening_cause opening) reason.new) }
 {
     match opener.finish(alloc, &[]) {
         Ok(version) => print_reports::<O, W>(rt, alloc, version, options, writer),
@@ -106,6 +109,7 @@ fn run<O: Operator + Sync, W: Write>(
         (W.contents writer.old) (W.contents writer.new) result }
     ensures done { IfOk result (λ done. done ≡ (report_of O.meaning options.now input.items).done) }
     ensures told { IsReason (cause_of options.now input.items) reason.new }
+    ensures opening { OnOk result (TellsOpening (cause_of options.now input.items) reason.new) }
 {
     let Recovered { opener, ended } = recover_log(alloc, input, *options)?;
     match ended {
@@ -129,6 +133,8 @@ pub fn report_log_with_reason<O: Operator + Sync, R: Read, W: Write>(
     ensures written { IfSome (R.remaining reader.old) (λ input.
         HasWritten (report_of O.meaning options.now input) input (W.contents writer.old) (W.contents writer.new) result) }
     ensures told { IfSome (R.remaining reader.old) (λ input. IsReason (cause_of options.now input) reason.new) }
+    ensures opening { result ≡ Done.Refused →
+        IfSome (R.remaining reader.old) (λ input. TellsOpening (cause_of options.now input) reason.new) }
 {
     *reason = None;
     match read_input(alloc, reader) {
