@@ -1,15 +1,15 @@
 //! What is kept of one key's points and of one fragment's sequences, and the laws, called.
-use std::alloc::Global;
+use std::alloc::{AllocError, Global};
 use std::test::Fail;
 use std::thread::Threads;
 use uc_compact_rules::{
-    Keeping, are_of_one_key, compaction_gives_a_run, compaction_keeps_one_of_each_stripe,
+    Keeping, Over, are_of_one_key, compaction_gives_a_run, compaction_keeps_one_of_each_stripe,
     compaction_keeps_what_is_read, compaction_of_the_oldest_leaves_values, keeps_rise, kept_seqs,
-    points_are_chosen_key_by_key, push_kept_points, runs_compose, seqs_are_from_one, seqs_fall,
+    points_are_chosen_key_by_key, push_kept_points, runs_compose, seqs_are_from_one,
     sequences_have_one_stripe,
 };
 use uc_oper::{Append, Counter};
-use uc_run_entry::{Point, WhatRef};
+use uc_run_entry::{Point, Seqs, WhatRef};
 
 /// A point of a test: its sequence, and what it says.
 type Given = (u8, WhatRef<'static>);
@@ -145,16 +145,34 @@ fn points_of(alloc: Global, given: &[Given]) -> Result<Vec<Point>, Fail> {
     Ok(points)
 }
 
-/// What is pushed behind one point that stands there.
+/// Every other one of some sequences, from the first or the second on.
+fn every_other(alloc: Global, seqs: &[u64], first: usize) -> Result<Seqs, AllocError> {
+    let mut part = Vec::new(alloc);
+    for (place, seq) in seqs.iter().enumerate() {
+        if place % 2 == first {
+            part.push(*seq)?;
+        }
+    }
+    Ok(Seqs::from(part))
+}
+
+/// What is pushed behind one point that stands there, where the sequences come from two lists.
 fn kept_of(rt: &(impl Threads + Sync), alloc: Global, case: &OfKey) -> Result<Vec<Point>, Fail> {
     let points = points_of(alloc, case.points)?;
     let points: Vec<&Point> = points.iter().collect(alloc)?;
-    if !are_of_one_key(&points, case.seqs) || !keeps_rise(case.keeps) {
+    let first = every_other(alloc, case.seqs, 0)?;
+    let second = every_other(alloc, case.seqs, 1)?;
+    if !first.are_falling() || !second.are_falling() || !keeps_rise(case.keeps) {
+        return Err(Fail::new("no sequences or keeps"));
+    }
+    let lists = [&first, &second];
+    let over = Over::new(&lists);
+    if !are_of_one_key(&points, &over) {
         return Err(Fail::new("no points of one key"));
     }
     let keeping = Keeping::new(case.keeps, case.bottom);
     let mut kept = points_of(alloc, &[(1, WhatRef::Delete)])?;
-    push_kept_points::<Append<0x2C>>(rt, alloc, &mut kept, b"k", &points, case.seqs, &keeping)?;
+    push_kept_points::<Append<0x2C>>(rt, alloc, &mut kept, b"k", &points, &over, &keeping)?;
     Ok(kept)
 }
 
@@ -235,15 +253,86 @@ const SEQS: [OfFragment; 6] = [
     },
 ];
 
+/// What is kept of sequences that come from two lists.
+fn kept_of_seqs(alloc: Global, case: &OfFragment) -> Result<Vec<u64>, Fail> {
+    let first = every_other(alloc, case.seqs, 0)?;
+    let second = every_other(alloc, case.seqs, 1)?;
+    if !first.are_falling() || !second.are_falling() || !keeps_rise(case.keeps) {
+        return Err(Fail::new("no sequences or keeps"));
+    }
+    let lists = [&first, &second];
+    let over = Over::new(&lists);
+    if !seqs_are_from_one(&over) {
+        return Err(Fail::new("no sequences of a fragment"));
+    }
+    Ok(kept_seqs(alloc, &over, &Keeping::new(case.keeps, case.bottom))?)
+}
+
 #[test]
 fn seqs_that_are_kept(rt: HostRuntime) -> Result<(), Fail> {
     let alloc = rt.alloc();
     for (place, case) in SEQS.iter().enumerate() {
-        if !seqs_fall(case.seqs) || !seqs_are_from_one(case.seqs) || !keeps_rise(case.keeps) {
-            return Err(Fail::new("no sequences of a fragment"));
-        }
-        let kept = kept_seqs(alloc, case.seqs, &Keeping::new(case.keeps, case.bottom))?;
+        let kept = kept_of_seqs(alloc, case)?;
         assert!(rt; kept.as_slice() == case.wanted, "case {place}");
+    }
+    Ok(())
+}
+
+/// Two lists, and their sequences together.
+struct OfLists {
+    first: &'static [u64],
+    second: &'static [u64],
+    wanted: &'static [u64],
+}
+
+/// Worked by hand.
+static LISTS: [OfLists; 4] = [
+    OfLists {
+        first: &[],
+        second: &[],
+        wanted: &[],
+    },
+    OfLists {
+        first: &[],
+        second: &[5, 3],
+        wanted: &[5, 3],
+    },
+    // One behind the other.
+    OfLists {
+        first: &[9, 8],
+        second: &[5, 3],
+        wanted: &[9, 8, 5, 3],
+    },
+    // One among the other, and some in both.
+    OfLists {
+        first: &[8, 5, 1],
+        second: &[9, 8, 3, 1],
+        wanted: &[9, 8, 5, 3, 1],
+    },
+];
+
+/// Whether two lists together find what a plain list does.
+fn find_as(alloc: Global, case: &OfLists) -> Result<bool, Fail> {
+    let first = Seqs::from(case.first.to_vec(alloc)?);
+    let second = Seqs::from(case.second.to_vec(alloc)?);
+    if !first.are_falling() || !second.are_falling() {
+        return Ok(false);
+    }
+    let lists = [&first, &second];
+    let over = Over::new(&lists);
+    for at in 0..12 {
+        let wanted = case.wanted.iter().copied().find(|seq| *seq <= at);
+        if over.newest_at_or_below(at) != wanted {
+            return Ok(false);
+        }
+    }
+    Ok(over.newest() == case.wanted.first().copied())
+}
+
+#[test]
+fn lists_together(rt: HostRuntime) -> Result<(), Fail> {
+    for case in &LISTS {
+        assert!(rt; find_as(rt.alloc(), case)?);
     }
     Ok(())
 }
