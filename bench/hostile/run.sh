@@ -82,10 +82,10 @@ measure() { # INPUT WORD..
 }
 
 # The figures of a row, and which goals it misses.
-print_row() { # NAME BYTES LOG HALF_TIME STATUS WHOLE_TIME MEMORY STATUS
-    awk -v name="$1" -v bytes="$2" -v log="$3" -v half="$4" -v half_status="$5" -v whole="$6" -v memory="$7" -v status="$8" 'BEGIN {
+print_row() { # NAME BYTES KIND HALF_TIME STATUS WHOLE_TIME MEMORY STATUS
+    awk -v name="$1" -v bytes="$2" -v kind="$3" -v half="$4" -v half_status="$5" -v whole="$6" -v memory="$7" -v status="$8" 'BEGIN {
         half /= 1e6; whole /= 1e6; memory /= 1024; bytes /= 1048576
-        bound = bytes * (log == "log" ? 3.5 : 6)
+        bound = bytes * (kind == "log" ? 3.5 : 6)
         if (bound < 16) bound = 16
         if (status > 3 || half_status > 3) misses = misses " status " (status > half_status ? status : half_status)
         if (whole >= 0.05 && whole > 2.3 * half) misses = misses " ratio"
@@ -100,8 +100,8 @@ printf '%-34s %8s %9s %6s %9s %6s %s\n' input MiB seconds ratio MiB factor misse
 rows | while read -r input amount subcommand options; do
     name="$subcommand ${options#--operator } $input"
     is_asked_for "$name" "$@" || continue
-    log=text
-    case $subcommand in dump | report) log=log ;; esac
+    kind=text
+    case $subcommand in dump | report) kind=log ;; esac
     "$folder/generate" "$input" $((amount / 2)) > "$folder/half" || fail "no input"
     "$folder/generate" "$input" "$amount" > "$folder/whole" || fail "no input"
     # shellcheck disable=SC2086
@@ -110,5 +110,5 @@ rows | while read -r input amount subcommand options; do
     whole=$(measure "$folder/whole" "$subcommand" $options)
     read -r half_time _ half_status <<< "$half"
     read -r whole_time memory status <<< "$whole"
-    print_row "$name" "$(stat -c %s "$folder/whole")" "$log" "$half_time" "$half_status" "$whole_time" "$memory" "$status"
+    print_row "$name" "$(stat -c %s "$folder/whole")" "$kind" "$half_time" "$half_status" "$whole_time" "$memory" "$status"
 done
