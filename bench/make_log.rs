@@ -17,22 +17,10 @@
 //! `lines` reads lines from standard input, `put KEY VALUE`, `delete KEY`, `merge KEY OPERAND` and
 //! `range BEGIN END` in hexadecimal, and makes a batch of each.
 
-mod crc32c;
+mod log_writer;
 
+use log_writer::{DELETE, MERGE, PUT, RANGE, head, push_payload, push_varint, string};
 use std::io::{self, BufRead, BufWriter, Write};
-
-const BLOCK: usize = 32_768;
-const HEADER: usize = 7;
-
-const FULL: u8 = 1;
-const FIRST: u8 = 2;
-const MIDDLE: u8 = 3;
-const LAST: u8 = 4;
-
-const DELETE: u8 = 0;
-const PUT: u8 = 1;
-const MERGE: u8 = 2;
-const RANGE: u8 = 15;
 
 /// How many keys the counters have.
 const KEYS: u64 = 300_000;
@@ -50,53 +38,6 @@ const NEIGHBOURS: u64 = 1_000;
 const RANGED: u64 = 900;
 /// How many writes a batch of these has.
 const DELETED_BATCH: usize = 100;
-
-/// The masked checksum of a record's type and data.
-fn checksum(kind: u8, data: &[u8]) -> u32 {
-    let crc = !crc32c::update(crc32c::update(!0, &[kind]), data);
-    crc.rotate_right(15).wrapping_add(0xa282_ead8)
-}
-
-fn push_record(log: &mut Vec<u8>, kind: u8, data: &[u8]) {
-    log.extend_from_slice(&checksum(kind, data).to_le_bytes());
-    log.extend_from_slice(&(data.len() as u16).to_le_bytes());
-    log.push(kind);
-    log.extend_from_slice(data);
-}
-
-/// Adds a payload at the end of the log.
-fn push_payload(log: &mut Vec<u8>, payload: &[u8]) {
-    let room = BLOCK - log.len() % BLOCK;
-    if room < HEADER {
-        log.resize(log.len() + room, 0);
-    }
-    let mut left = payload;
-    let mut is_first = true;
-    loop {
-        let room = BLOCK - log.len() % BLOCK - HEADER;
-        let (data, behind) = left.split_at(left.len().min(room));
-        let kind = match (is_first, behind.is_empty()) {
-            (true, true) => FULL,
-            (true, false) => FIRST,
-            (false, false) => MIDDLE,
-            (false, true) => LAST,
-        };
-        push_record(log, kind, data);
-        if behind.is_empty() {
-            return;
-        }
-        left = behind;
-        is_first = false;
-    }
-}
-
-fn push_varint(out: &mut Vec<u8>, mut number: usize) {
-    while number >= 128 {
-        out.push((number % 128 + 128) as u8);
-        number /= 128;
-    }
-    out.push(number as u8);
-}
 
 /// Bytes drawn by lot, the same in each run.
 struct Lot(u64);
@@ -191,19 +132,6 @@ fn push_hot_write(lot: &mut Lot, out: &mut Vec<u8>) {
     });
 }
 
-/// A text behind its length.
-fn string(bytes: &[u8]) -> Vec<u8> {
-    let mut out = Vec::new();
-    push_varint(&mut out, bytes.len());
-    out.extend_from_slice(bytes);
-    out
-}
-
-/// The head of a batch.
-fn head(seq: u64, writes: u32) -> Vec<u8> {
-    [&seq.to_le_bytes()[..], &writes.to_le_bytes()].concat()
-}
-
 /// As many batches as fit so many bytes.
 fn make_log(kind: Kind, size: usize) -> Vec<u8> {
     let mut log = Vec::with_capacity(size);
@@ -253,8 +181,11 @@ fn ranged_log() -> Vec<u8> {
     }))
 }
 
-/// The bytes that hexadecimal digits stand for.
+/// The bytes that hexadecimal digits stand for, or a dot for none.
 fn bytes_of(digits: &str) -> Option<Vec<u8>> {
+    if digits == "." {
+        return Some(Vec::new());
+    }
     let pairs = (0..digits.len()).step_by(2);
     pairs
         .map(|at| u8::from_str_radix(digits.get(at..at + 2)?, 16).ok())

@@ -1,11 +1,12 @@
 //! Damages a log at each byte and cuts it at each place, and compares what a program says of it with another program that
 //! decodes the same.
 //!
-//!     damage LOG PROGRAM OTHER [WORD..]
+//!     damage LOG PROGRAM OTHER
 //!
 //! Each byte is changed in three ways, once as it is and once with the checksum of its record made right again, so that what
-//! stands behind the checksum is reached too. The words are PROGRAM's. It prints a line: the log, the damaged logs that
-//! were tried, how many endings they had between them, and how many were answered otherwise. Its status is 1 where one was.
+//! stands behind the checksum is reached too. `PROGRAM dump` has to print what OTHER prints, and `PROGRAM ask`, asked nothing of
+//! the log, has to print its fault, or nothing where it has none. It prints a line: the log, the damaged logs that were tried, how
+//! many endings they had between them, and how many were answered otherwise. Its status is 1 where one was.
 
 #[path = "../bench/log.rs"]
 #[allow(dead_code)]
@@ -23,16 +24,22 @@ const CHANGES: [u8; 3] = [0x01, 0x80, 0xff];
 /// A record's header: four bytes of checksum, two of length, and the kind, which the checksum covers.
 const HEADER: usize = 7;
 
-/// What a program says of a log, with its status.
-fn answer(program: &str, words: &[String], log: &[u8]) -> io::Result<(Vec<u8>, Option<i32>)> {
+/// The status of a program that was given a log with a fault.
+const BAD_LOG: i32 = 3;
+
+/// A text with the status behind it.
+type Answer = (Vec<u8>, Option<i32>);
+
+/// What a program says of an input.
+fn answer(program: &str, words: &[&str], input: &[u8]) -> io::Result<Answer> {
     let mut child = Command::new(program)
         .args(words)
         .stdin(Stdio::piped())
         .stdout(Stdio::piped())
         .stderr(Stdio::null())
         .spawn()?;
-    // The logs are smaller than a pipe.
-    child.stdin.take().expect("standard input is piped").write_all(log)?;
+    // The inputs are smaller than a pipe.
+    child.stdin.take().expect("standard input is piped").write_all(input)?;
     let output = child.wait_with_output()?;
     Ok((output.stdout, output.status.code()))
 }
@@ -59,6 +66,15 @@ fn repaired(mut log: Vec<u8>, place: usize) -> Option<Vec<u8>> {
     None
 }
 
+/// What is right where a log is asked nothing, by what is right of its dump: the fault that this ends in.
+fn asked_nothing(dumped: &Answer) -> Answer {
+    if dumped.1 != Some(BAD_LOG) {
+        return (Vec::new(), Some(0));
+    }
+    let last = dumped.0.split_inclusive(|byte| *byte == b'\n').last();
+    (last.unwrap_or_default().to_vec(), dumped.1)
+}
+
 /// Every damaged log.
 fn damaged(log: &[u8]) -> Vec<Vec<u8>> {
     let mut all: Vec<Vec<u8>> = (0..=log.len()).map(|cut| log[..cut].to_vec()).collect();
@@ -73,15 +89,16 @@ fn damaged(log: &[u8]) -> Vec<Vec<u8>> {
     all
 }
 
-fn compare(file: &str, program: &str, other: &str, words: &[String]) -> io::Result<bool> {
+fn compare(file: &str, program: &str, other: &str) -> io::Result<bool> {
     let log = fs::read(file)?;
     let (mut tried, mut wrong) = (0_u64, 0_u64);
     let mut endings = BTreeSet::new();
     for log in damaged(&log) {
-        let ours = answer(program, words, &log)?;
+        let ours = answer(program, &["dump"], &log)?;
         let theirs = answer(other, &[], &log)?;
+        let asked = answer(program, &["ask", "--operator", "append"], &[b"log\n", &log[..]].concat())?;
         tried += 1;
-        if ours != theirs {
+        if ours != theirs || asked != asked_nothing(&theirs) {
             wrong += 1;
             eprintln!("{file}: answered otherwise: {log:02x?}");
         }
@@ -95,11 +112,11 @@ fn compare(file: &str, program: &str, other: &str, words: &[String]) -> io::Resu
 
 fn main() -> ExitCode {
     let words: Vec<String> = std::env::args().collect();
-    let [_, log, program, other, rest @ ..] = words.as_slice() else {
-        eprintln!("damage LOG PROGRAM OTHER [WORD..]");
+    let [_, log, program, other] = words.as_slice() else {
+        eprintln!("damage LOG PROGRAM OTHER");
         return ExitCode::from(2);
     };
-    match compare(log, program, other, rest) {
+    match compare(log, program, other) {
         Ok(true) => ExitCode::SUCCESS,
         Ok(false) => ExitCode::from(1),
         Err(error) => {

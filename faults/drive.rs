@@ -1,19 +1,24 @@
-//! Runs a program again and again with one request for memory refused, the first one, then the second, and so on until a
-//! run makes fewer requests; and once more each with all later requests refused too. It judges each run.
+//! Runs a program again and again with one request for memory refused, the first one, then the second, and so on until N is
+//! beyond the most that any run made; and once more each with all later requests refused too. It judges each run by itself, so
+//! the requests of a program with threads may come in another order each time. As many runs go on at once as there are processors.
 //!
-//! A run is right where it answers as the run that is refused nothing, or where its text is some first replies of that one,
-//! each whole, and then `out of memory`, with status 4; or where it has no text and says so in one line on standard error, as
-//! it does while it reads its words. A run that ends by a signal, hangs for ten seconds or says anything else is wrong.
+//!     drive program LIBRARY NAME INPUT PROGRAM [WORD..]
+//!     drive call LIBRARY NAME PROBE
 //!
-//!     drive LIBRARY NAME INPUT PROGRAM [WORD..]
+//! A run of a program is right where it answers as the run that is refused nothing, or where its text is some first replies of
+//! that one, each whole, and then `out of memory`, with status 4; or where it has no text and says so in one line on standard
+//! error, as it does while it reads its words. A run of a probe makes one call, whose requests alone are counted, and judges
+//! it; it is right where it says `NAME right` or `NAME out of memory`. A run that ends by a signal, hangs for ten seconds or says
+//! anything else is wrong.
 //!
-//! prints a line: the name, the requests that a run makes, the runs that were refused one, those of them that answered `out of
-//! memory`, and the wrong ones. Its status is 1 where one is wrong.
+//! It prints a line: the name, the most requests that a run made, the runs that were refused one, those of them that were
+//! out of memory, and the wrong ones. Its status is 1 where one is wrong.
 
 use std::fs::{self, File};
-use std::io::Read;
+use std::io::{self, Read};
 use std::path::{Path, PathBuf};
 use std::process::{Child, Command, ExitCode, Stdio};
+use std::sync::Mutex;
 use std::thread::{self, JoinHandle};
 use std::time::{Duration, Instant};
 
@@ -23,13 +28,21 @@ const NO_MEMORY: (&str, i32) = ("out of memory\n", 4);
 /// How long a run may take.
 const LONGEST: Duration = Duration::from_secs(10);
 
-/// What is run: the program with its words, its input, the library that refuses, and the file in which that counts.
+/// Whether a program is run or a single call.
+#[derive(Clone, Copy, PartialEq)]
+enum Kind {
+    Program,
+    Call,
+}
+
+/// What is run: the program with its words, its input, and the library that refuses.
 struct Case {
+    kind: Kind,
+    name: String,
     library: PathBuf,
     program: PathBuf,
     words: Vec<String>,
     input: PathBuf,
-    count: PathBuf,
 }
 
 /// How a run ended: its text, what it said on standard error, its status (none for a signal or a run that hangs), and the
@@ -49,18 +62,52 @@ enum Refuse {
     From(u64),
 }
 
+/// What came of the runs so far.
+struct Tally {
+    next: u64,
+    most: u64,
+    refused: u64,
+    wanting: u64,
+    wrong: u64,
+}
+
 impl Case {
-    fn run(&self, refuse: Refuse) -> std::io::Result<Run> {
-        fs::write(&self.count, 0_u64.to_ne_bytes())?;
+    /// What the words of the command line ask for.
+    fn named(words: &[String]) -> Option<Case> {
+        let (kind, name, library, input, program, rest) = match words {
+            [_, kind, library, name, input, program, rest @ ..] if kind == "program" => {
+                (Kind::Program, name, library, input.as_str(), program, rest)
+            }
+            [_, kind, library, name, program] if kind == "call" => {
+                (Kind::Call, name, library, "/dev/null", program, &words[3..4])
+            }
+            _ => return None,
+        };
+        Some(Case {
+            kind,
+            name: name.clone(),
+            library: library.into(),
+            program: program.into(),
+            words: rest.to_vec(),
+            input: input.into(),
+        })
+    }
+
+    /// Runs it once; the library counts in a file.
+    fn run(&self, count: &Path, refuse: Refuse) -> io::Result<Run> {
+        fs::write(count, 0_u64.to_ne_bytes())?;
         let mut command = Command::new(&self.program);
         command
             .args(&self.words)
             .env_clear()
             .env("LD_PRELOAD", &self.library)
-            .env("REFUSE_COUNT", &self.count)
+            .env("REFUSE_COUNT", count)
             .stdin(File::open(&self.input)?)
             .stdout(Stdio::piped())
             .stderr(Stdio::piped());
+        if self.kind == Kind::Call {
+            command.env("REFUSE_MARKED", "1");
+        }
         match refuse {
             Refuse::Nothing => {}
             Refuse::One(number) => {
@@ -76,7 +123,7 @@ impl Case {
         let status = wait(&mut child)?;
         let text = text.join().expect("the reading thread ends")?;
         let said = said.join().expect("the reading thread ends")?;
-        let count = fs::read(&self.count)?;
+        let count = fs::read(count)?;
         let count = count.try_into().expect("the counter has eight bytes");
         Ok(Run {
             text,
@@ -88,7 +135,7 @@ impl Case {
 }
 
 /// Reads a stream to its end, in a thread of its own.
-fn text_of(mut stream: impl Read + Send + 'static) -> JoinHandle<std::io::Result<String>> {
+fn text_of(mut stream: impl Read + Send + 'static) -> JoinHandle<io::Result<String>> {
     thread::spawn(move || {
         let mut bytes = Vec::new();
         stream.read_to_end(&mut bytes)?;
@@ -97,7 +144,7 @@ fn text_of(mut stream: impl Read + Send + 'static) -> JoinHandle<std::io::Result
 }
 
 /// The status of a program that ends by itself in time.
-fn wait(child: &mut Child) -> std::io::Result<Option<i32>> {
+fn wait(child: &mut Child) -> io::Result<Option<i32>> {
     let started = Instant::now();
     loop {
         if let Some(status) = child.try_wait()? {
@@ -143,57 +190,83 @@ fn ends_of_replies(text: &str) -> Vec<usize> {
     ends
 }
 
-/// Whether a run is some first replies of the right text and then says that memory is wanting, or says so at once.
-fn ends_for_memory(run: &Run, right: &str, ends: &[usize]) -> bool {
+/// Whether a run is out of memory as it may be: a program's text is some first replies of the right text and then says so, or
+/// it says so at once; a probe found all else as it was.
+fn ends_for_memory(case: &Case, run: &Run, right: &str, ends: &[usize]) -> bool {
+    if case.kind == Kind::Call {
+        return run.status == Some(0) && run.text == format!("{} out of memory\n", case.name);
+    }
     let begins = |first: &str| right.starts_with(first) && ends.contains(&first.len());
     let says_so = run.text.is_empty() && run.said.ends_with(NO_MEMORY.0) && run.said.lines().count() == 1;
     run.status == Some(NO_MEMORY.1) && (says_so || run.text.strip_suffix(NO_MEMORY.0).is_some_and(begins))
 }
 
-fn drive(name: &str, case: &Case) -> std::io::Result<bool> {
-    let right = case.run(Refuse::Nothing)?;
+/// Draws numbers of requests to refuse, until they are beyond the most that a run made.
+fn draw(case: &Case, count: &Path, right: &Run, tally: &Mutex<Tally>, refuse: fn(u64) -> Refuse) -> io::Result<()> {
     let ends = ends_of_replies(&right.text);
-    let (mut refused, mut wanting, mut wrong) = (0_u64, 0_u64, 0_u64);
-    for refuse in [Refuse::One as fn(u64) -> Refuse, Refuse::From] {
-        for number in 1.. {
-            let run = case.run(refuse(number))?;
-            if run.requests < number {
-                break;
+    loop {
+        let number = {
+            let mut tally = tally.lock().expect("no thread panics");
+            if tally.next > tally.most {
+                return Ok(());
             }
-            refused += 1;
-            if ends_for_memory(&run, &right.text, &ends) {
-                wanting += 1;
-            } else if run.text != right.text || run.status != right.status {
-                wrong += 1;
-                eprintln!("{name}: wrong where request {number} is refused: {:?}, {:?}, {:?}", run.status, run.text, run.said);
-            }
+            tally.next += 1;
+            tally.next - 1
+        };
+        let run = case.run(count, refuse(number))?;
+        let mut tally = tally.lock().expect("no thread panics");
+        tally.most = tally.most.max(run.requests);
+        let is_refused = run.requests >= number;
+        tally.refused += u64::from(is_refused);
+        if is_refused && ends_for_memory(case, &run, &right.text, &ends) {
+            tally.wanting += 1;
+        } else if run.text != right.text || run.status != right.status {
+            tally.wrong += 1;
+            let Run { text, said, status, .. } = run;
+            eprintln!("{}: wrong where request {number} is refused: {status:?}, {text:?}, {said:?}", case.name);
         }
     }
-    println!("{name:<28} {:>9} {refused:>9} {wanting:>9} {wrong:>7}", right.requests);
+}
+
+/// Refuses each request once, by several threads that each have a file to count in.
+fn drive(case: &Case, folder: &Path) -> io::Result<bool> {
+    let right = case.run(&folder.join("right"), Refuse::Nothing)?;
+    if case.kind == Kind::Call && right.text != format!("{} right\n", case.name) {
+        return Err(io::Error::other(format!("it says {:?}, {:?}", right.text, right.said)));
+    }
+    let threads = thread::available_parallelism()?.get();
+    let mut tally = Tally { next: 1, most: right.requests, refused: 0, wanting: 0, wrong: 0 };
+    for refuse in [Refuse::One as fn(u64) -> Refuse, Refuse::From] {
+        let shared = Mutex::new(Tally { next: 1, ..tally });
+        thread::scope(|scope| -> io::Result<()> {
+            let draws = (0..threads).map(|thread| {
+                let (count, right, shared) = (folder.join(thread.to_string()), &right, &shared);
+                scope.spawn(move || draw(case, &count, right, shared, refuse))
+            });
+            let draws: Vec<_> = draws.collect();
+            draws.into_iter().try_for_each(|draw| draw.join().expect("no thread panics"))
+        })?;
+        tally = shared.into_inner().expect("no thread panics");
+    }
+    let Tally { most, refused, wanting, wrong, .. } = tally;
+    println!("{:<34} {most:>9} {refused:>9} {wanting:>9} {wrong:>7}", case.name);
     Ok(wrong == 0)
 }
 
 fn main() -> ExitCode {
     let words: Vec<String> = std::env::args().collect();
-    let [_, library, name, input, program, rest @ ..] = words.as_slice() else {
-        eprintln!("drive LIBRARY NAME INPUT PROGRAM [WORD..]");
+    let Some(case) = Case::named(&words) else {
+        eprintln!("drive program LIBRARY NAME INPUT PROGRAM [WORD..]\ndrive call LIBRARY NAME PROBE");
         return ExitCode::from(2);
     };
-    let count = std::env::temp_dir().join(format!("refuse-{}", std::process::id()));
-    let case = Case {
-        library: Path::new(library).into(),
-        program: Path::new(program).into(),
-        words: rest.to_vec(),
-        input: Path::new(input).into(),
-        count,
-    };
-    let is_right = drive(name, &case);
-    let _ = fs::remove_file(&case.count);
+    let folder = std::env::temp_dir().join(format!("refuse-{}", std::process::id()));
+    let is_right = fs::create_dir(&folder).and_then(|()| drive(&case, &folder));
+    let _ = fs::remove_dir_all(&folder);
     match is_right {
         Ok(true) => ExitCode::SUCCESS,
         Ok(false) => ExitCode::from(1),
         Err(error) => {
-            eprintln!("{name}: {error}");
+            eprintln!("{}: {error}", case.name);
             ExitCode::from(2)
         }
     }

@@ -3,6 +3,7 @@
  *
  * REFUSE_AT=N       the request that is refused, from 1 on; without it none is
  * REFUSE_ON=1       and all later ones too
+ * REFUSE_MARKED=1   only what is asked for between two marks counts, each a request of a size that nothing else asks for
  * REFUSE_COUNT=PATH a file of 8 bytes, which holds the number of requests so far, also where the program is killed
  */
 #define _GNU_SOURCE
@@ -14,6 +15,9 @@
 #include <sys/mman.h>
 #include <unistd.h>
 
+/* The marks, in bytes: where counting begins, and where it ends. */
+enum { MARK_BEGIN = 1000003, MARK_END = 1000033 };
+
 /* glibc's own names of what is replaced here. */
 extern void *__libc_malloc(size_t size);
 extern void *__libc_calloc(size_t count, size_t size);
@@ -23,6 +27,8 @@ extern void *__libc_memalign(size_t alignment, size_t size);
 static _Atomic uint64_t *count;
 static uint64_t first;
 static int later;
+static int marked;
+static atomic_int counting;
 
 __attribute__((constructor)) static void begin(void) {
     const char *at = getenv("REFUSE_AT");
@@ -35,30 +41,39 @@ __attribute__((constructor)) static void begin(void) {
     if (page == MAP_FAILED) return;
     first = at == NULL ? 0 : strtoull(at, NULL, 10);
     later = getenv("REFUSE_ON") != NULL;
+    marked = getenv("REFUSE_MARKED") != NULL;
+    counting = !marked;
     count = page;
 }
 
+/* Whether a request is a mark, which is never refused. */
+static int marks(size_t size) {
+    if (!marked || (size != MARK_BEGIN && size != MARK_END)) return 0;
+    counting = size == MARK_BEGIN;
+    return 1;
+}
+
 /* Whether this request is refused. */
-static int refused(void) {
-    if (count == NULL) return 0;
+static int refused(size_t size) {
+    if (count == NULL || marks(size) || !counting) return 0;
     uint64_t number = atomic_fetch_add(count, 1) + 1;
     if (first == 0 || number < first || (number > first && !later)) return 0;
     errno = ENOMEM;
     return 1;
 }
 
-void *malloc(size_t size) { return refused() ? NULL : __libc_malloc(size); }
+void *malloc(size_t size) { return refused(size) ? NULL : __libc_malloc(size); }
 
-void *calloc(size_t number, size_t size) { return refused() ? NULL : __libc_calloc(number, size); }
+void *calloc(size_t number, size_t size) { return refused(size) ? NULL : __libc_calloc(number, size); }
 
-void *realloc(void *old, size_t size) { return refused() ? NULL : __libc_realloc(old, size); }
+void *realloc(void *old, size_t size) { return refused(size) ? NULL : __libc_realloc(old, size); }
 
-void *memalign(size_t alignment, size_t size) { return refused() ? NULL : __libc_memalign(alignment, size); }
+void *memalign(size_t alignment, size_t size) { return refused(size) ? NULL : __libc_memalign(alignment, size); }
 
-void *aligned_alloc(size_t alignment, size_t size) { return refused() ? NULL : __libc_memalign(alignment, size); }
+void *aligned_alloc(size_t alignment, size_t size) { return refused(size) ? NULL : __libc_memalign(alignment, size); }
 
 int posix_memalign(void **result, size_t alignment, size_t size) {
-    void *made = refused() ? NULL : __libc_memalign(alignment, size);
+    void *made = refused(size) ? NULL : __libc_memalign(alignment, size);
     if (made == NULL) return ENOMEM;
     *result = made;
     return 0;

@@ -1,10 +1,11 @@
 #!/bin/bash
 # Tries the built program on refused memory, damaged logs and failing devices. docs/RELIABILITY.md says what that covers.
 #
-#     faults/run.sh [memory] [damage] [devices]
+#     faults/run.sh [memory] [asks] [calls] [damage] [devices]
 #
-# Without words it tries all three, in some three minutes. The last line says how many rows were wrong, and the status is 1 where
-# one was. Needs cc, rustc, glibc, and crates/ucstore/out/ucstore, which ./build makes, or another program, named by OURS.
+# Without words it tries all of these. The last line says how many rows were wrong, and the status is 1 where one was. Needs cc,
+# rustc, glibc, crates/ucstore/out/ucstore, which ./build makes, or another program, named by OURS, and for `calls`
+# crates/probe_memory/out/probe_memory, which `rt run` makes in its crate's folder, or another one, named by PROBE.
 set -eu
 here=$(cd "$(dirname "${BASH_SOURCE[0]}")" && pwd)
 top=$here/..
@@ -21,12 +22,17 @@ build() { # NAME SOURCE
 refuse() { # NAME INPUT WORD..
     local name=$1 input=$2
     shift 2
-    "$work/drive" "$work/refuse.so" "$name" "$input" "$ours" "$@" || wrong=$((wrong + 1))
+    "$work/drive" program "$work/refuse.so" "$name" "$input" "$ours" "$@" || wrong=$((wrong + 1))
+}
+
+build_drive() {
+    [ ! -e "$work/drive" ] || return 0
+    cc -O2 -shared -fPIC -o "$work/refuse.so" "$here/refuse.c"
+    build drive "$here/drive.rs"
 }
 
 memory() {
-    cc -O2 -shared -fPIC -o "$work/refuse.so" "$here/refuse.c"
-    build drive "$here/drive.rs"
+    build_drive
     printf '%-34s %9s %9s %9s %7s\n' 'refused memory' requests refused wanting wrong
     refuse "play first" "$top/examples/first.script" play --operator counter
     refuse "play merge" "$top/examples/merge.script" play --operator append
@@ -42,13 +48,90 @@ memory() {
     done
 }
 
+# A script's snapshots and queries in front of a log of its changes.
+asked_of() { # SCRIPT
+    grep '^keep ' "$1"
+    sed '1,/^open$/d' "$1"
+    echo log
+    grep -E '^(put|merge|delete|range) ' "$1" | "$work/make_log" lines
+}
+
+# `ask` prints of a script's queries what `play` prints behind its first line.
+same_as_played() { # NAME SCRIPT INPUT WORD..
+    local name=$1 script=$2 input=$3
+    shift 3
+    "$ours" play "$@" < "$script" | tail -n +2 > "$work/played"
+    "$ours" ask "$@" < "$input" > "$work/asked" || true
+    if ! cmp -s "$work/played" "$work/asked"; then
+        echo "$name: play prints another text"
+        wrong=$((wrong + 1))
+    fi
+}
+
+# Queries answered by one worker and by four, without compactors and beside two, each request refused.
+refuse_asks() { # NAME INPUT WORD..
+    local name=$1 input=$2 workers compactors
+    shift 2
+    for workers in 1 4; do
+        for compactors in 0 2; do
+            refuse "$name, $workers beside $compactors" "$input" ask "$@" --workers "$workers" --compactors "$compactors"
+        done
+    done
+}
+
+# 4,200 queries, which is more than are answered at once. One in 700 is of a kept sequence.
+many_script() {
+    printf 'put 61 31\nmerge 61 32\nput 62 33\nkeep 2\nopen\n'
+    awk 'BEGIN { for (i = 1; i <= 4200; i++) print i % 700 ? "get . 1" : "get 61 2" }'
+}
+
+asks() {
+    local operator log=$top/examples/logs/all_kinds.log runs=(--memtable 1 --trigger 2 --percent 25)
+    build_drive
+    build make_log "$top/bench/make_log.rs"
+    printf '%-34s %9s %9s %9s %7s\n' 'refused memory' requests refused wanting wrong
+    asked_of "$here/queries.script" > "$work/queries"
+    for operator in append maximum; do
+        same_as_played "ask $operator" "$here/queries.script" "$work/queries" --operator "$operator" "${runs[@]}"
+        refuse_asks "ask $operator" "$work/queries" --operator "$operator" --piece 2 "${runs[@]}"
+    done
+    many_script > "$work/many.script"
+    asked_of "$work/many.script" > "$work/many"
+    same_as_played "ask many" "$work/many.script" "$work/many" --operator append "${runs[@]}"
+    refuse_asks "ask many" "$work/many" --operator append --piece 500 "${runs[@]}"
+    # The log's own kinds of records, and a snapshot behind the second of its writes.
+    { printf 'keep 2\nscan . - 20 last\nscan . - 20 2\nlog\n' && cat "$log"; } > "$work/kinds"
+    refuse_asks "ask all kinds" "$work/kinds" --operator append "${runs[@]}"
+    cat "$top/examples/ask.head" "$top/examples/ask.log" > "$work/example"
+    refuse "ask example" "$work/example" ask --operator append
+    printf 'get 61 last\nget 6\nlog\n' > "$work/fault"
+    refuse "ask, a fault of a line" "$work/fault" ask --operator append
+    { printf 'get 61 last\nlog\n' && cat "$top/examples/logs/log_fault_bad_checksum.log"; } > "$work/fault"
+    refuse "ask, a fault of the log" "$work/fault" ask --operator append
+    { printf 'keep 99\nget 61 last\nlog\n' && cat "$log"; } > "$work/fault"
+    refuse "ask, a snapshot ahead" "$work/fault" ask --operator append
+    refuse "ask, a bad option" "$work/fault" ask --operator append --memtable 0
+}
+
+# Single calls of the library, each request refused between two marks. The probe judges what comes of it.
+calls() {
+    local name probe
+    probe=$(realpath -e "${PROBE:-$top/crates/probe_memory/out/probe_memory}")
+    build_drive
+    "$probe" list > "$work/calls"
+    printf '%-34s %9s %9s %9s %7s\n' 'refused memory' requests refused wanting wrong
+    while IFS= read -r name; do
+        "$work/drive" call "$work/refuse.so" "$name" "$probe" || wrong=$((wrong + 1))
+    done < "$work/calls"
+}
+
 # Each byte of a log is changed and each cut is made; a decoder in plain Rust has to say the same.
 damage() {
     build damage "$here/damage.rs"
     build decoder "$top/bench/dump/baseline.rs"
     printf '%-34s %9s %9s %7s\n' 'damaged log' logs endings wrong
     for log in "$top"/examples/logs/*.log "$top/examples/report.log"; do
-        "$work/damage" "$log" "$ours" "$work/decoder" dump || wrong=$((wrong + 1))
+        "$work/damage" "$log" "$ours" "$work/decoder" || wrong=$((wrong + 1))
     done
 }
 
@@ -76,11 +159,11 @@ devices() {
 }
 
 if [ $# -eq 0 ]; then
-    set -- memory damage devices
+    set -- memory asks calls damage devices
 fi
 for part in "$@"; do
     case $part in
-        memory | damage | devices) "$part" ;;
+        memory | asks | calls | damage | devices) "$part" ;;
         *)
             echo "run.sh: no part is named $part" >&2
             exit 2
