@@ -1,0 +1,160 @@
+//! What calls are lent: a few changes, and what is made of them.
+use std::alloc::Global;
+use uc_batch::{Writes, fits_batch, write_batch};
+use uc_bytes::{Bytes, Op, OpRef, WriteRef};
+use uc_logrec::LogWriter;
+use uc_oper::Append;
+use uc_query_answer::{Answer, Query, answer_writes};
+use uc_version::{MOST_SLOTS, Options, Owned, Placed, Version, open_plain, open_version};
+
+/// Merges join texts by commas.
+pub(crate) type Texts = Append<b','>;
+
+/// How many changes there are. Each is a run of its own.
+pub(crate) const CHANGES: u64 = 8;
+
+/// The sequences that are kept beside the last one.
+pub(crate) const KEEPS: [u64; 2] = [2, 5];
+
+/// A text that has no room inside a point.
+pub(crate) const LONG: &[u8] =
+    b"seventy bytes of text, which is more than fits a point of a sorted run";
+
+/// The change with a number.
+fn change(number: u64) -> OpRef<'static> {
+    match number {
+        1 => OpRef::put(b"k", LONG),
+        2 => OpRef::merge(b"k", b"b"),
+        3 => OpRef::put(LONG, b"x"),
+        4 => OpRef::delete_range(b"k", b"l"),
+        5 => OpRef::merge(b"k", LONG),
+        6 => OpRef::delete(b"m"),
+        7 => OpRef::merge(b"k", b"c"),
+        _ => OpRef::put(b"n", LONG),
+    }
+}
+
+/// The changes as writes, numbered from 1.
+pub(crate) fn writes(alloc: Global) -> Option<Writes> {
+    let mut list = Vec::new(alloc);
+    for number in 1..=CHANGES {
+        let write = WriteRef::new(number, change(number)).to_write(alloc).ok()?;
+        list.push(write).ok()?;
+    }
+    Writes::of(list)
+}
+
+/// The changes.
+pub(crate) fn ops(alloc: Global) -> Option<Vec<Op>> {
+    let mut ops = Vec::new(alloc);
+    for number in 1..=CHANGES {
+        ops.push(change(number).to_op(alloc).ok()?).ok()?;
+    }
+    Some(ops)
+}
+
+/// The changes as a batch from a sequence on.
+pub(crate) fn batch_of(alloc: Global, seq: u64, ops: &[Op]) -> Option<Vec<u8>> {
+    if !fits_batch(seq, ops) {
+        return None;
+    }
+    write_batch(alloc, seq, ops).ok()
+}
+
+/// A log of them in one batch.
+pub(crate) fn log(alloc: Global) -> Option<Vec<u8>> {
+    let mut log = LogWriter::new(alloc);
+    log.add(&batch_of(alloc, 1, &ops(alloc)?)?).ok()?;
+    Some(log.finish())
+}
+
+/// Options under which each change is a run, and two runs are compacted.
+pub(crate) fn small_runs() -> Options {
+    Options {
+        memtable: 1,
+        trigger: 2,
+        percent: 25,
+        ..Options::usual()
+    }
+}
+
+/// The version of the changes.
+pub(crate) fn version(alloc: Global) -> Option<Version> {
+    open_version(alloc, &writes(alloc)?, &KEEPS, &small_runs()).ok()
+}
+
+/// A store of them.
+pub(crate) fn owned(alloc: Global) -> Option<Owned<Texts>> {
+    open_plain(alloc, &writes(alloc)?, &KEEPS, small_runs()).ok()
+}
+
+/// A lookup of the key `k`.
+pub(crate) fn lookup(alloc: Global, at: u64) -> Option<Query> {
+    let key = Bytes::from_slice(alloc, b"k").ok()?;
+    Some(Query::Get { key, at })
+}
+
+/// A scan of so many rows of all keys.
+pub(crate) fn scan(alloc: Global, at: u64, limit: u64) -> Option<Query> {
+    let low = Bytes::from_slice(alloc, b"").ok()?;
+    Some(Query::Scan {
+        low,
+        high: None,
+        at,
+        limit,
+    })
+}
+
+/// Lookups and scans at kept sequences, and a lookup at one that isn't kept.
+pub(crate) fn queries(alloc: Global) -> Option<Vec<Query>> {
+    let mut queries = Vec::new(alloc);
+    for at in [CHANGES, 2, 3, 5] {
+        queries.push(lookup(alloc, at)?).ok()?;
+    }
+    for at in [CHANGES, 2] {
+        queries.push(scan(alloc, at, 10)?).ok()?;
+    }
+    queries.push(scan(alloc, 5, 1)?).ok()?;
+    Some(queries)
+}
+
+/// The answer to a query from the plain writes.
+pub(crate) fn answer(alloc: Global, query: &Query) -> Option<Answer> {
+    let keeps = [2, 5, CHANGES];
+    answer_writes::<Texts>(alloc, &writes(alloc)?, &keeps, query).ok()
+}
+
+/// The answers to queries from the plain writes.
+pub(crate) fn answers(alloc: Global, queries: &[Query]) -> Option<Vec<Answer>> {
+    let mut answers = Vec::new(alloc);
+    for query in queries {
+        answers.push(answer(alloc, query)?).ok()?;
+    }
+    Some(answers)
+}
+
+/// Whether runs have the same ids, slots and contents.
+fn same_runs(runs: &[Placed], others: &[Placed]) -> bool {
+    runs.len() == others.len()
+        && runs.iter().zip(others).all(|(run, other)| {
+            run.id() == other.id() && run.slot() == other.slot() && run.run().same(other.run())
+        })
+}
+
+/// Whether versions are the same. It takes no memory.
+pub(crate) fn same_version(version: &Version, other: &Version) -> bool {
+    same_runs(version.runs(), other.runs())
+        && version.keeps() == other.keeps()
+        && version.last() == other.last()
+        && version.next_id() == other.next_id()
+}
+
+/// Whether any slot of a store is claimed.
+pub(crate) fn is_busy(owned: &Owned<Texts>) -> bool {
+    for slot in 0..MOST_SLOTS {
+        if owned.busy(slot) {
+            return true;
+        }
+    }
+    false
+}
