@@ -1,4 +1,4 @@
-use Rattle.std.proofs.Common.{rules, ◌≡◌, [], ◌∷◌, ◌-◌, map, length, filter, subst, ap, sym, ◌∙◌, arith}
+use Rattle.std.proofs.Common.{rules, ◌≡◌, [], ◌∷◌, ◌-◌, map, length, filter, subst, ap, sym, ◌∙◌}
 use Rattle.std.specs.Arc.{arc_value}
 use Rattle.std.specs.List.{AllByRecursion, flat_map}
 use Rattle.std.specs.List.Sorted.{IsStrictlySortedBy}
@@ -6,8 +6,8 @@ use Rattle.std.proofs.lemmas.Cmp.{nat_list_cmp_total}
 use Rattle.std.proofs.lemmas.List.{length-map}
 use Rattle.std.proofs.lemmas.List.FromFn.{length-map-range_with_len}
 use Rattle.uc_bytes.specs.Bytes.{bytes_cmp}
-use Rattle.uc_run_fragment.specs.Cutting.{cut_points, has_keys, pieces, fragment_over}
-use Rattle.uc_run_fragment.specs.Spanning.{spans_of, some_of, covered, with_seqs}
+use Rattle.uc_run_fragment.specs.Cutting.{cut_points, has_keys, pieces}
+use Rattle.uc_run_fragment.specs.Spanning.{spans_of, covered, with_seqs}
 use Rattle.uc_run_fragment.proofs.Covered.{all_within, seqs_of_covered}
 use Rattle.uc_run_fragment.proofs.Sets.{sorted_set}
 use Rattle.uc_run_fragment.proofs.Spanned.{spanned, length-pieces}

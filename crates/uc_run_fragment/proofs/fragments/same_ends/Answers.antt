@@ -1,4 +1,4 @@
-use Rattle.std.proofs.Common.{rules, tests, map, length, sym, ◌∙◌}
+use Rattle.std.proofs.Common.{rules, tests, map, sym, ◌∙◌}
 use Rattle.std.proofs.lemmas.Iterator.{YieldsList-from_slice, YieldsList-from_zip, same_from_all}
 use Rattle.std.proofs.lemmas.List.{length-map}
 use Rattle.uc_run_fragment.specs.Shared.{ends_of}
