@@ -1,5 +1,5 @@
 //! The answers to the queries of a head, printed some at a time.
-ghost use Rattle.std.specs.Prelude.{◌≡◌, ◌≤◌, ◌++◌, [], map, vec_len, length, IfOk, OnOk};
+ghost use Rattle.std.specs.Prelude.{◌≡◌, ◌<◌, ◌≤◌, ◌++◌, [], map, vec_len, length, IfOk, OnOk};
 ghost use Rattle.std.specs.List.{flat_map};
 ghost use Rattle.uc_script.specs.Head.{queries_in};
 ghost use Rattle.uc_query_answer.specs.Answers.{answer_of};
@@ -23,8 +23,24 @@ use uc_tool_io::{Done, RunError, write_bytes};
 use uc_tool_lines::answers_lines;
 use uc_tool_opening::seq_at;
 
-/// How many queries are read and answered at once, so that memory doesn't grow with their number.
+/// How many queries are read and answered at once at the most, so that memory doesn't grow with their number.
 const BATCH: usize = 4096;
+
+/// How many bytes the answers to a batch may have before the next one has fewer queries, so that memory doesn't grow with the
+/// length of answers either.
+const LINES: usize = 1 << 20;
+
+/// How many queries the next batch has, by how many the last one had, and how many bytes its answers.
+fn next_size(size: usize, lines: usize) -> usize
+    requires { 0 < size }
+    ensures { 0 < result }
+{
+    if lines > LINES {
+        (size / 2).max(1)
+    } else {
+        size.saturating_mul(2).min(BATCH)
+    }
+}
 
 /// What a line of a head asks, where `last` is the last sequence of the log.
 fn query_of(last: u64, asked: uc_script::Query) -> Query
@@ -52,15 +68,17 @@ fn query_of(last: u64, asked: uc_script::Query) -> Query
     }
 }
 
-/// The next queries of a head, some of them where any are left.
+/// The next queries of a head, so many of them where so many are left.
 fn next_batch(
     alloc: Global,
     ahead: &mut QueryReader<'_>,
+    size: usize,
 ) -> Result<Vec<uc_script::Query>, AllocError>
+    requires { 0 < size }
     ensures parts { IfOk result (λ asked. asked.items ++ ahead.new ≡ ahead.old) }
     ensures some { IfOk result (λ asked. asked.items ≡ [] → ahead.old ≡ []) }
 {
-    ahead.next_queries(alloc, BATCH)
+    ahead.next_queries(alloc, size)
 }
 
 /// What some lines of a head ask.
@@ -125,13 +143,15 @@ pub(crate) fn print_answers<O: Operator + Sync, N: Name + Send, R: Threads + Syn
 {
     let mut readers = mem::replace(lent, Vec::new(alloc));
     let mut ahead = QueryReader::new(head);
+    let mut size = plan.workers;
     'asked: loop {
-        let asked = next_batch(alloc, &mut ahead)?;
+        let asked = next_batch(alloc, &mut ahead, size)?;
         if asked.is_empty() {
             return Ok(Done::Fine);
         }
         let (back, lines) = lines_of(rt, alloc, readers, last, asked, plan)?;
         readers = back;
+        size = next_size(size, lines.len());
         write_bytes(writer, &lines)?;
     }
 }
