@@ -1,5 +1,5 @@
 //! The answers to the queries of a head, printed some at a time.
-ghost use Rattle.std.specs.Prelude.{◌≡◌, ◌≤◌, ◌++◌, [], map, vec_len, length, IfOk, OnOk};
+ghost use Rattle.std.specs.Prelude.{◌≡◌, ◌<◌, ◌≤◌, ◌++◌, [], map, vec_len, length, IfOk, OnOk};
 ghost use Rattle.std.specs.List.{flat_map};
 ghost use Rattle.uc_script.specs.Head.{queries_in};
 ghost use Rattle.uc_query_answer.specs.Answers.{answer_of};
@@ -23,18 +23,36 @@ use uc_tool_io::{Done, RunError, write_bytes};
 use uc_tool_lines::answers_lines;
 use uc_tool_opening::query_of;
 
-/// How many queries are read and answered at once, so that memory doesn't grow with their number.
+/// How many queries are read and answered at once at the most, so that memory doesn't grow with their number.
 const BATCH: usize = 4096;
 
-/// The next queries of a head, some of them where any are left.
+/// How many bytes the answers to a batch may have before the next one has fewer queries, so that memory doesn't grow with the
+/// length of answers either.
+const LINES: usize = 1 << 20;
+
+/// How many queries the next batch has, by how many the last one had, and how many bytes its answers.
+fn next_size(size: usize, lines: usize) -> usize
+    requires { 0 < size }
+    ensures { 0 < result }
+{
+    if lines > LINES {
+        (size / 2).max(1)
+    } else {
+        size.saturating_mul(2).min(BATCH)
+    }
+}
+
+/// The next queries of a head, so many of them where so many are left.
 fn next_batch(
     alloc: Global,
     ahead: &mut QueryReader<'_>,
+    size: usize,
 ) -> Result<Vec<uc_script::Query>, AllocError>
+    requires { 0 < size }
     ensures parts { IfOk result (λ asked. asked.items ++ ahead.new ≡ ahead.old) }
     ensures some { IfOk result (λ asked. asked.items ≡ [] → ahead.old ≡ []) }
 {
-    ahead.next_queries(alloc, BATCH)
+    ahead.next_queries(alloc, size)
 }
 
 /// What some lines of a head ask.
@@ -99,13 +117,15 @@ pub(crate) fn print_answers<O: Operator + Sync, N: Name + Send, R: Threads + Syn
 {
     let mut readers = mem::replace(lent, Vec::new(alloc));
     let mut ahead = QueryReader::new(head);
+    let mut size = plan.workers;
     'asked: loop {
-        let asked = next_batch(alloc, &mut ahead)?;
+        let asked = next_batch(alloc, &mut ahead, size)?;
         if asked.is_empty() {
             return Ok(Done::Fine);
         }
         let (back, lines) = lines_of(rt, alloc, readers, last, asked, plan)?;
         readers = back;
+        size = next_size(size, lines.len());
         write_bytes(writer, &lines)?;
     }
 }

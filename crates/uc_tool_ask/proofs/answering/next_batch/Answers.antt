@@ -4,7 +4,6 @@ use Rattle.std.specs.Global.{Vec}
 use Rattle.std.specs.declared.alloc.AllocError.{AllocError}
 use Rattle.std.proofs.lemmas.List.{take-append-drop}
 use Rattle.uc_script.specs.declared.query.Query.{Query}
-use Rattle.uc_tool_ask.specs.declared.answering.TheConstants.{BATCH}
 use Rattle.uc_tool_ask.proofs.answering.next_batch.Goals as goal
 
 -- so many, and those behind them
@@ -14,4 +13,4 @@ parts n old new (Ok given) first rest = ap (λ (xs : List Query). xs ++ new) fir
 parts n old new (Err e) first rest = tt
 
 pub returns-clause-parts : goal.returns-clause-parts
-returns-clause-parts c = parts BATCH c.args.ahead.now c.next_queries.new.self c.next_queries.result c.next_queries.ensures.given c.next_queries.ensures.left
+returns-clause-parts c = parts c.args.size c.args.ahead.now c.next_queries.new.self c.next_queries.result c.next_queries.ensures.given c.next_queries.ensures.left

@@ -25,6 +25,7 @@ asked-init g c =
     let old = g.W.Write.contents c.args.writer.now in
     record {
       enough = rw c.replace-readers.ensures.value c.requires;
+      some = c.args.plan.is_plan.some_worker;
       goes = λ h legal leads. let all = replies_given g.O.Operator.meaning h c.args.last (queries_in c.args.head.now) in
           subst (λ (qs : List Query). GoesOn all (replies_given g.O.Operator.meaning h c.args.last qs) old old) (sym c.new-ahead.ensures) (begins all old);
     }
@@ -75,6 +76,7 @@ asked-preserved g c =
     let after = contents c.write_bytes.new.writer in
     record {
       enough = rw c.in_ok-back.ensures.readers c.asked.invariant.enough;
+      some = c.next_size-size.ensures;
       goes = λ h legal leads.
           let replies = replies_given m h c.args.last in
           let next = replies_parts (reply_to m (writes_given h) (version_after h).keeps c.args.last) c.in_ok-asked.asked.items c.next_batch.new.ahead c.asked.ahead c.in_ok-asked.ensures.parts in

@@ -1,4 +1,4 @@
-use Rattle.std.proofs.Common.{◌≤◌, length, vec_len}
+use Rattle.std.proofs.Common.{◌≤◌, ◌<◌, length, vec_len}
 use Rattle.uc_script.specs.Head.{queries_in}
 use Rattle.uc_query_shared.specs.Given.{ForEachHistory}
 use Rattle.uc_tool_ask.specs.Given.{replies_given}
@@ -8,6 +8,7 @@ use Rattle.uc_tool_ask.proofs.answering.print_answers.Given as goal
 abbrev pub invariant-asked : goal.invariant-asked
 invariant-asked g l = record {
   enough : l.plan.workers ≤ vec_len l.readers;
+  some : 0 < l.size;
   goes : ForEachHistory g.O.Operator.meaning g.N.Name.base (λ h. GoesOn (replies_given g.O.Operator.meaning h l.last (queries_in l.head)) (replies_given g.O.Operator.meaning h l.last l.ahead) (g.W.Write.contents l.fn.writer) (g.W.Write.contents l.writer));
 }
 
