@@ -27,7 +27,7 @@ const TWELVE: &[u8] = &[12, 0, 0, 0, 0, 0, 0, 0];
 const TEN_THOUSAND: &[u8] = &[0x10, 0x27, 0, 0, 0, 0, 0, 0];
 
 /// The output of a compaction of runs that may be compacted together.
-fn output<O: Operator + Sync>(
+pub(crate) fn output<O: Operator + Sync>(
     rt: &(impl Threads + Sync),
     alloc: Global,
     runs: &[Arc<Run>],

@@ -20,7 +20,11 @@ fn insert(rt: &impl Abort, memtable: &mut Memtable, seq: u64, op: OpRef<'_>) -> 
 }
 
 /// Inserts a write that owns its texts, with a sequence above the last.
-fn insert_owned(rt: &impl Abort, memtable: &mut Memtable, write: &Write) -> Result<(), Fail> {
+pub(crate) fn insert_owned(
+    rt: &impl Abort,
+    memtable: &mut Memtable,
+    write: &Write,
+) -> Result<(), Fail> {
     assert!(rt; memtable.last() < write.seq);
     assert!(rt; write.seq <= MAX_SEQUENCE);
     Ok(memtable.insert(write)?)
@@ -214,11 +218,11 @@ const KEYS: [&[u8]; 6] = [b"", b"a", b"aa", b"b", b"c", b"\xff"];
 
 /// A linear congruential generator, with the constants of Knuth's MMIX.
 #[derive(Drop)]
-struct Dice(u64);
+pub(crate) struct Dice(pub(crate) u64);
 
 impl Dice {
     /// A number below `sides`, or 0.
-    fn roll(&mut self, sides: u64) -> u64 {
+    pub(crate) fn roll(&mut self, sides: u64) -> u64 {
         self.0 = self
             .0
             .wrapping_mul(6_364_136_223_846_793_005)
@@ -267,7 +271,7 @@ fn drawn(rt: &impl Abort, alloc: Global, dice: &mut Dice) -> Result<(Memtable, V
 }
 
 /// Whether a lookup in a run finds what the writes do.
-fn keeps_effect<O: Operator>(
+pub(crate) fn keeps_effect<O: Operator>(
     alloc: Global,
     run: &Run,
     writes: &[Write],
