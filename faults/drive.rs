@@ -3,11 +3,13 @@
 //! the requests of a program with threads may come in another order each time. As many runs go on at once as there are processors.
 //!
 //!     drive program LIBRARY NAME INPUT PROGRAM [WORD..]
+//!     drive threads LIBRARY NAME INPUT PROGRAM [WORD..]
 //!     drive call LIBRARY NAME PROBE
 //!
 //! A run of a program is right where it answers as the run that is refused nothing, or where its text is some first replies of
 //! that one, each whole, and then `out of memory`, with status 4; or where it has no text and says so in one line on standard
-//! error, as it does while it reads its words. A run of a probe makes one call, whose requests alone are counted, and judges
+//! error, as it does while it reads its words. With `threads` requests for threads are refused in place of those for memory, and
+//! judged alike. A run of a probe makes one call, whose requests alone are counted, and judges
 //! it; it is right where it says `NAME right` or `NAME out of memory`. A run that ends by a signal, hangs for ten seconds or says
 //! anything else is wrong.
 //!
@@ -28,10 +30,11 @@ const NO_MEMORY: (&str, i32) = ("out of memory\n", 4);
 /// How long a run may take.
 const LONGEST: Duration = Duration::from_secs(10);
 
-/// Whether a program is run or a single call.
+/// What is run, a program or a single call, and what is refused to it: memory, or threads.
 #[derive(Clone, Copy, PartialEq)]
 enum Kind {
     Program,
+    Threads,
     Call,
 }
 
@@ -78,6 +81,9 @@ impl Case {
             [_, kind, library, name, input, program, rest @ ..] if kind == "program" => {
                 (Kind::Program, name, library, input.as_str(), program, rest)
             }
+            [_, kind, library, name, input, program, rest @ ..] if kind == "threads" => {
+                (Kind::Threads, name, library, input.as_str(), program, rest)
+            }
             [_, kind, library, name, program] if kind == "call" => {
                 (Kind::Call, name, library, "/dev/null", program, &words[3..4])
             }
@@ -105,8 +111,14 @@ impl Case {
             .stdin(File::open(&self.input)?)
             .stdout(Stdio::piped())
             .stderr(Stdio::piped());
-        if self.kind == Kind::Call {
-            command.env("REFUSE_MARKED", "1");
+        match self.kind {
+            Kind::Program => {}
+            Kind::Threads => {
+                command.env("REFUSE_THREADS", "1");
+            }
+            Kind::Call => {
+                command.env("REFUSE_MARKED", "1");
+            }
         }
         match refuse {
             Refuse::Nothing => {}
@@ -256,7 +268,7 @@ fn drive(case: &Case, folder: &Path) -> io::Result<bool> {
 fn main() -> ExitCode {
     let words: Vec<String> = std::env::args().collect();
     let Some(case) = Case::named(&words) else {
-        eprintln!("drive program LIBRARY NAME INPUT PROGRAM [WORD..]\ndrive call LIBRARY NAME PROBE");
+        eprintln!("drive program|threads LIBRARY NAME INPUT PROGRAM [WORD..]\ndrive call LIBRARY NAME PROBE");
         return ExitCode::from(2);
     };
     let folder = std::env::temp_dir().join(format!("refuse-{}", std::process::id()));

@@ -1,14 +1,17 @@
-/* Refuses requests for memory: preloaded into a program, it counts what the program asks for after its start, and
- * refuses one request of them, or that one and all later ones. For tests alone; nothing here is part of the program.
+/* Refuses requests for memory, or for threads: preloaded into a program, it counts what the program asks for after its
+ * start, and refuses one request of them, or that one and all later ones. For tests alone; nothing here is part of the program.
  *
  * REFUSE_AT=N       the request that is refused, from 1 on; without it none is
  * REFUSE_ON=1       and all later ones too
+ * REFUSE_THREADS=1  threads are counted and refused, and memory isn't
  * REFUSE_MARKED=1   only what is asked for between two marks counts, each a request of a size that nothing else asks for
  * REFUSE_COUNT=PATH a file of 8 bytes, which holds the number of requests so far, also where the program is killed
  */
 #define _GNU_SOURCE
+#include <dlfcn.h>
 #include <errno.h>
 #include <fcntl.h>
+#include <pthread.h>
 #include <stdatomic.h>
 #include <stdint.h>
 #include <stdlib.h>
@@ -27,6 +30,7 @@ extern void *__libc_memalign(size_t alignment, size_t size);
 static _Atomic uint64_t *count;
 static uint64_t first;
 static int later;
+static int threads;
 static int marked;
 static atomic_int counting;
 
@@ -41,6 +45,7 @@ __attribute__((constructor)) static void begin(void) {
     if (page == MAP_FAILED) return;
     first = at == NULL ? 0 : strtoull(at, NULL, 10);
     later = getenv("REFUSE_ON") != NULL;
+    threads = getenv("REFUSE_THREADS") != NULL;
     marked = getenv("REFUSE_MARKED") != NULL;
     counting = !marked;
     count = page;
@@ -53,11 +58,15 @@ static int marks(size_t size) {
     return 1;
 }
 
-/* Whether this request is refused. */
-static int refused(size_t size) {
-    if (count == NULL || marks(size) || !counting) return 0;
+/* Counts a request, and says whether it is to be refused. */
+static int is_next_refused(void) {
     uint64_t number = atomic_fetch_add(count, 1) + 1;
-    if (first == 0 || number < first || (number > first && !later)) return 0;
+    return first != 0 && (number == first || (number > first && later));
+}
+
+/* Whether this request for memory is refused. */
+static int refused(size_t size) {
+    if (count == NULL || threads || marks(size) || !counting || !is_next_refused()) return 0;
     errno = ENOMEM;
     return 1;
 }
@@ -77,4 +86,10 @@ int posix_memalign(void **result, size_t alignment, size_t size) {
     if (made == NULL) return ENOMEM;
     *result = made;
     return 0;
+}
+
+int pthread_create(pthread_t *thread, const pthread_attr_t *attributes, void *(*work)(void *), void *given) {
+    if (count != NULL && threads && is_next_refused()) return EAGAIN;
+    int (*create)(pthread_t *, const pthread_attr_t *, void *(*)(void *), void *) = dlsym(RTLD_NEXT, "pthread_create");
+    return create(thread, attributes, work, given);
 }

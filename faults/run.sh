@@ -1,7 +1,8 @@
 #!/bin/bash
-# Tries the built program on refused memory, damaged logs and failing devices. docs/RELIABILITY.md says what that covers.
+# Tries the built program on refused memory and threads, damaged logs and failing devices. docs/RELIABILITY.md says what that
+# covers.
 #
-#     faults/run.sh [memory] [asks] [calls] [damage] [devices]
+#     faults/run.sh [memory] [asks] [threads] [calls] [damage] [devices]
 #
 # Without words it tries all of these. The last line says how many rows were wrong, and the status is 1 where one was. Needs cc,
 # rustc, glibc, crates/ucstore/out/ucstore, which ./build makes, or another program, named by OURS, and for `calls`
@@ -113,6 +114,22 @@ asks() {
     refuse "ask, a bad option" "$work/fault" ask --operator append --memtable 0
 }
 
+# Each thread that is asked for is refused once, alone and with all later ones.
+threads() {
+    local workers compactors
+    build_drive
+    build make_log "$top/bench/make_log.rs"
+    asked_of "$here/queries.script" > "$work/queries"
+    printf '%-34s %9s %9s %9s %7s\n' 'refused threads' requests refused wanting wrong
+    for workers in 1 4 64; do
+        for compactors in 0 2 16; do
+            "$work/drive" threads "$work/refuse.so" "ask, $workers beside $compactors" "$work/queries" "$ours" ask \
+                --operator append --piece 2 --memtable 1 --trigger 2 --percent 25 --workers "$workers" \
+                --compactors "$compactors" || wrong=$((wrong + 1))
+        done
+    done
+}
+
 # Single calls of the library, each request refused between two marks. The probe judges what comes of it.
 calls() {
     local name probe
@@ -159,11 +176,11 @@ devices() {
 }
 
 if [ $# -eq 0 ]; then
-    set -- memory asks calls damage devices
+    set -- memory asks threads calls damage devices
 fi
 for part in "$@"; do
     case $part in
-        memory | asks | calls | damage | devices) "$part" ;;
+        memory | asks | threads | calls | damage | devices) "$part" ;;
         *)
             echo "run.sh: no part is named $part" >&2
             exit 2
