@@ -146,8 +146,26 @@ impl Point {
         })
     }
 
-    /// Whether both say the same.
+    /// Whether both say the same. Points that do are packed alike unless a deletion has a text, so that is looked at first: it is
+    /// one comparison of bytes.
     pub fn same(&self, other: &Point) -> bool
+        ensures { IsTrue result ↔ (self.now ≡ other.now) }
+    {
+        self.is_packed_as(other) || self.says_the_same(other)
+    }
+
+    /// Whether both are packed alike, part by part.
+    #[inline]
+    fn is_packed_as(&self, other: &Point) -> bool
+        ensures { IsTrue result → self.now ≡ other.now }
+    {
+        self.trailer == other.trailer
+            && self.key_len == other.key_len
+            && self.texts.as_slice() == other.texts.as_slice()
+    }
+
+    /// Whether both say the same, however they are packed.
+    fn says_the_same(&self, other: &Point) -> bool
         ensures { IsTrue result ↔ (self.now ≡ other.now) }
     {
         self.key() == other.key() && self.seq() == other.seq() && self.what() == other.what()
