@@ -14,6 +14,7 @@ mod pin;
 mod publisher;
 mod reader;
 mod rule;
+mod share;
 mod shown;
 
 pub use front::{Book, Front, Opening};

@@ -35,8 +35,8 @@ impl<O: Operator, N: Name, W: Wait + Drop> Publisher<O, N, W> {
         ensures { IfOk result (λ readers. readers.items ≡ replicate count []) }
     {
         let mut readers = Vec::with_capacity(alloc, count)?;
-        for _ in 0..count {
-            readers.push(self.reader(front.again())?)?;
+        for number in 0..count {
+            readers.push(self.reader(front.again(), number)?)?;
         }
         Ok(readers)
     }

@@ -8,6 +8,7 @@ use crate::front::{Book, Front};
 use crate::name::Name;
 use crate::reader::Reader;
 use crate::rule::{Rises, Sees};
+use crate::share::Shares;
 use crate::shown::Shown;
 use left_right::writer::Writer;
 use std::alloc::{AllocError, Global};
@@ -59,11 +60,12 @@ fn next_shown<O: Operator, N: Name>(
     if front.len() >= MOST_EVENTS {
         return Err(AllocError);
     }
-    let version = Arc::new(alloc, shown.version().after::<O>(alloc, event)?)?;
+    let version = shown.version().after::<O>(alloc, event)?;
+    let shares = Arc::new(alloc, Shares::new(alloc, version, shown.readers())?)?;
     if !front.add(book, event) {
         return Err(AllocError);
     }
-    Ok(Shown::new(version, front))
+    Ok(Shown::new(shares, front))
 }
 
 impl<O: Operator, N: Name, W: Wait + Drop> Publisher<O, N, W> {
@@ -82,7 +84,8 @@ impl<O: Operator, N: Name, W: Wait + Drop> Publisher<O, N, W> {
         requires front { front ≡ [] }
         ensures { IfOk result (λ publisher. publisher ≡ moment N.book N.base []) }
     {
-        let first = Shown::new(Arc::new(alloc, version)?, front);
+        let shares = Shares::new(alloc, version, readers)?;
+        let first = Shown::new(Arc::new(alloc, shares)?, front);
         let second = first.again()?;
         let third = first.again()?;
         let mut writer = Writer::new(alloc, first, second, readers)?;
@@ -93,12 +96,12 @@ impl<O: Operator, N: Name, W: Wait + Drop> Publisher<O, N, W> {
         Ok(Publisher { writer, rt })
     }
 
-    /// A reader that has seen the opening. It is refused where as many as there may be are there already.
-    pub fn reader(&self, front: Front<N>) -> Result<Reader<O, N>, AllocError>
+    /// A reader that has seen the opening, with this number. It is refused where as many as there may be are there already.
+    pub fn reader(&self, front: Front<N>, number: usize) -> Result<Reader<O, N>, AllocError>
         requires { front ≡ [] }
         ensures { IfOk result (λ reader. reader ≡ []) }
     {
-        Ok(Reader::new(self.writer.factory().reader()?, front))
+        Ok(Reader::new(self.writer.factory().reader()?, front, number))
     }
 
     /// What it shows is of the store's own history, and leads from the opening to the version. It does nothing.

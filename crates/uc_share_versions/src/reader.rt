@@ -3,7 +3,7 @@ ghost use Rattle.std.specs.Prelude.{◌≡◌, ◌≤◌, [], length, fold, IfOk
 ghost use mathlib.Core.List.{IsPrefix};
 ghost use Rattle.left_right.specs.Sides.{view};
 ghost use Rattle.uc_version_state.specs.Histories.{MayFollow, after};
-ghost use Rattle.uc_share_versions.specs.Fronts.{moment, IsMoment};
+ghost use Rattle.uc_share_versions.specs.Fronts.{moment};
 
 use crate::front::Front;
 use crate::name::Name;
@@ -25,6 +25,7 @@ pub(crate) type Place<O, N> = reader::Reader<Shown, u64, Rises<O, N>>;
 pub struct Reader<O: Operator, N: Name> {
     place: Option<Place<O, N>>,
     front: Front<N>,
+    number: usize,
 }
 
 impl<O: Operator, N: Name> Model for Reader<O, N> {
@@ -40,30 +41,34 @@ impl<O: Operator, N: Name> Model for Reader<O, N> {
     ghost invariant = { λ r. IfSome r.place (λ p. length r.front ≤ sides.view p.place) × MayFollow O.meaning N.base r.front };
 }
 
-/// Looks at what is shown, and takes a copy of it. It waits for nobody.
-fn look<O: Operator, N: Name>(place: Place<O, N>) -> (Place<O, N>, Result<Shown, AllocError>)
+/// Looks at what is shown, and pins it for the reader with this number. It waits for nobody.
+fn look<O: Operator, N: Name>(
+    place: Place<O, N>,
+    number: usize,
+) -> (Place<O, N>, Result<Pin<O, N>, AllocError>)
     ensures rises { view place.place ≤ view result.0.place }
-    ensures shown { IfOk result.1 (λ shown.
-        (view result.0.place ≡ length shown.events) × IsMoment O.meaning N.book N.base shown) }
+    ensures all { IfOk result.1 (λ pin. view result.0.place ≡ length pin.events) }
 {
     match place.enter_as::<Sees<O, N>>() {
         Err(place) => (place, Err(AllocError)),
         Ok(reading) => {
-            let shown = reading.get().again();
-            (reading.leave(), shown)
+            let pin = reading.get().pin::<O, N>(number);
+            (reading.leave(), pin)
         }
     }
 }
 
 impl<O: Operator, N: Name> Reader<O, N> {
-    /// A reader that has seen the store's opening.
-    pub(crate) fn new(place: Place<O, N>, front: Front<N>) -> Reader<O, N>
+    /// A reader that has seen the store's opening. Of its number only the speed depends: readers of one number have one share of
+    /// each version.
+    pub(crate) fn new(place: Place<O, N>, front: Front<N>, number: usize) -> Reader<O, N>
         requires { front ≡ [] }
         ensures { result ≡ [] }
     {
         Reader {
             place: Some(place),
             front,
+            number,
         }
     }
 
@@ -92,13 +97,13 @@ impl<O: Operator, N: Name> Reader<O, N> {
         let Some(place) = self.place.take() else {
             return Err(AllocError);
         };
-        let (place, shown) = look(place);
+        let (place, pin) = look(place, self.number);
         self.place = Some(place);
-        let shown = shown?;
-        let front = shown.front::<N>();
+        let pin = pin?;
+        let front = pin.front();
         self.front.begins(&front);
         self.front = front;
-        Ok(Pin::new(shown))
+        Ok(pin)
     }
 
     /// Enters until it has seen what is shown, of which a front is given. Nothing else is shown meanwhile where the caller has

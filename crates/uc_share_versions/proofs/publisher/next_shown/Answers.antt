@@ -9,6 +9,6 @@ pub returns : goal.returns
 returns g c =
     let now = c.args.shown.now in
     let e = c.args.event.now in
-    let made : c.new-2.result ≡ moment g.N.Name.book (after now.version e) (now.events ++ e ∷ []) = search rules in
-    let same : c.new-2.result ≡ after_event e now = made ∙ ap (λ (b : Book). moment b (after now.version e) (now.events ++ e ∷ [])) (sym c.requires.moment.book_is) in
+    let made : c.new-3.result ≡ moment g.N.Name.book (after now.version e) (now.events ++ e ∷ []) = search rules in
+    let same : c.new-3.result ≡ after_event e now = made ∙ ap (λ (b : Book). moment b (after now.version e) (now.events ++ e ∷ [])) (sym c.requires.moment.book_is) in
     (same, subst (λ (s : Moment). IsMoment g.O.Operator.meaning g.N.Name.book g.N.Name.base s) (sym same) (grows g.O.Operator.meaning g.N.Name.book g.N.Name.base now e c.requires.moment c.requires.may))
