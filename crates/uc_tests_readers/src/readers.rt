@@ -37,8 +37,9 @@ fn two_readers_pin<O: Operator + Sync, N: Name, W: Wait + Drop>(
     let seen = front.again();
     let (first, second) = (front.again(), front.again());
     let publisher = Publisher::<O, N, W>::new(alloc, handle, version, front, 2)?;
-    let mut early = publisher.reader(first)?;
-    let mut late = publisher.reader(second)?;
+    let mut early = publisher.reader(first, 0)?;
+    // A reader for which there is no share of its own.
+    let mut late = publisher.reader(second, 2)?;
     let old = early.pin()?;
     assert!(rt; has_ids(old.version(), &[4, 3, 2, 1]));
     let publisher = compacted(rt, alloc, publisher, &book, Stretch { first: 1, count: 2 })?;

@@ -131,6 +131,25 @@ fn what_is_for_the_oldest_run_is_refused(rt: HostRuntime) -> Result<(), Fail> {
 }
 
 /// Why a store that has no id left refuses an install. What is claimed can be given back and claimed again.
+fn last_refusal<O: Operator + Sync, N: Name, W: Wait + Drop>(
+    rt: &(impl Threads + Wait + Sync),
+    alloc: Global,
+    store: &Store<O, N, W>,
+    worker: Worker<O, N>,
+) -> Result<InstallError, Fail>
+    requires { worker.1.table ≡ store.now.table }
+{
+    let (mut reader, seat) = worker;
+    let pin = store.pin(&mut reader)?;
+    let held = claimed(store, seat, pin, &mut reader, NEWEST).ok_or("the claim is refused")?;
+    let made = held.compact(rt, alloc)?;
+    let (held, error) = install_refusal(rt, alloc, store, held, made, &mut reader)?;
+    let (seat, pin) = store.abandon(held);
+    claimed(store, seat, pin, &mut reader, NEWEST).ok_or("the claim is refused")?;
+    Ok(error)
+}
+
+/// The same of a store that is opened here.
 fn refusal_of_last<O: Operator + Sync, N: Name, W: Wait + Drop>(
     rt: &(impl Threads + Wait + Sync),
     handle: W,
@@ -142,14 +161,7 @@ fn refusal_of_last<O: Operator + Sync, N: Name, W: Wait + Drop>(
     requires base { version ≡ N.base }
 {
     let (store, (worker, _)) = opened::<O, N, W>(handle, alloc, opening, version)?;
-    let (mut reader, seat) = worker;
-    let pin = store.pin(&mut reader)?;
-    let held = claimed(&store, seat, pin, &mut reader, NEWEST).ok_or("the claim is refused")?;
-    let made = held.compact(rt, alloc)?;
-    let (held, error) = install_refusal(rt, alloc, &store, held, made, &mut reader)?;
-    let (seat, pin) = store.abandon(held);
-    claimed(&store, seat, pin, &mut reader, NEWEST).ok_or("the claim is refused")?;
-    Ok(error)
+    last_refusal(rt, alloc, &store, worker)
 }
 
 #[test]
