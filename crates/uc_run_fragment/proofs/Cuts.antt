@@ -16,13 +16,13 @@ use denote.Ref.{Bor}
 abbrev ends : RangeOf → List (List ℕ)
 ends r = r.begin ∷ r.end ∷ []
 
-abbrev insert : List (List ℕ) → List ℕ → List (List ℕ)
+abbrev pub insert : List (List ℕ) → List ℕ → List (List ℕ)
 insert cuts cut = insert_key bytes_cmp cuts cut
 
-abbrev seen : List (Bor (List ℕ)) → List (List ℕ)
+abbrev pub seen : List (Bor (List ℕ)) → List (List ℕ)
 seen cuts = map (λ c. c.now) cuts
 
-abbrev insert_seen : List (Bor (List ℕ)) → Bor (List ℕ) → List (Bor (List ℕ))
+abbrev pub insert_seen : List (Bor (List ℕ)) → Bor (List ℕ) → List (Bor (List ℕ))
 insert_seen cuts cut = insert_key (λ x y. bytes_cmp x.now y.now) cuts cut
 
 seen_placed : (k x : Bor (List ℕ)) (xs put : List (Bor (List ℕ))) (o : Ordering) →
@@ -32,7 +32,7 @@ seen_placed k x xs put Equal = refl
 seen_placed k x xs put Greater = refl
 
 -- an insertion of a borrowed key
-seen_inserted : (cuts : List (Bor (List ℕ))) (cut : Bor (List ℕ)) → seen (insert_seen cuts cut) ≡ insert (seen cuts) cut.now
+pub seen_inserted : (cuts : List (Bor (List ℕ))) (cut : Bor (List ℕ)) → seen (insert_seen cuts cut) ≡ insert (seen cuts) cut.now
 seen_inserted [] k = refl
 seen_inserted (x ∷ xs) k =
     seen_placed k x xs (insert_seen xs k) (bytes_cmp k.now x.now)

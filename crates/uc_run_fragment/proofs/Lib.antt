@@ -1,11 +1,10 @@
-pub mod Sets
-pub mod SameSets
+pub use Rattle.uc_run_spans.proofs.Sets
+pub use Rattle.uc_run_spans.proofs.SameSets
 pub mod Pieces
 pub mod Over
 pub mod Seqs
 pub mod Covered
 pub mod Cuts
-pub mod Equal
 pub mod Partitions
 pub mod Spanned
 pub mod Written

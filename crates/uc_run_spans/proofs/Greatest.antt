@@ -7,10 +7,6 @@ use Rattle.std.proofs.lemmas.Bool.Decides.{nat_tests}
 use Rattle.uc_run_spans.specs.declared.span.Span.{Span}
 use Rattle.uc_run_spans.specs.Newest.{Descends, newest_at_or_below, newer}
 
-pub all_same : {X : Type 0} {P Q : X → Type 0} → ((x : X) → P x → Q x) → (xs : List X) → AllByRecursion P xs → AllByRecursion Q xs
-all_same f [] h = tt
-all_same f (x ∷ xs) h = (f x h.0, all_same f xs h.1)
-
 -- ---- places in a list that descends
 
 head_above : (x : ℕ) (xs : List ℕ) → AllByRecursion (λ y. y ≤ x) xs → (j d : ℕ) → j < length xs → get_or xs j d ≤ x

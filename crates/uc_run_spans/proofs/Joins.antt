@@ -14,8 +14,8 @@ use Rattle.uc_run_spans.specs.Joined.{Follows, AreSorted, IsBehind, AreJoined, j
 use Rattle.std.proofs.lemmas.List.Sorted.{IsPermutation-sym}
 use Rattle.std.proofs.lemmas.Cmp.{nat_cmp_total, back_total}
 use Rattle.uc_run_spans.proofs.Sets.{sorted_set, all_back}
-use Rattle.uc_run_spans.proofs.SameSets.{permutation_passes, same_sorted, same_set, all_inserted}
-use Rattle.uc_run_spans.proofs.Greatest.{all_same, SpansDescend, seq_of}
+use Rattle.uc_run_spans.proofs.SameSets.{all_same, permutation_passes, same_sorted, same_set, all_inserted}
+use Rattle.uc_run_spans.proofs.Greatest.{SpansDescend, seq_of}
 
 -- ---- what a sort by sequence and first fragment leaves
 

@@ -1,5 +1,5 @@
-mod Sets
-mod SameSets
+pub mod Sets
+pub mod SameSets
 mod Cuts
 mod Flat
 pub mod Filters
@@ -7,7 +7,6 @@ mod Greatest
 mod Joins
 mod Trees
 mod Listed
-mod Equal
-mod Totals
+pub mod Equal
 pub mod Neighbours
 mod Together

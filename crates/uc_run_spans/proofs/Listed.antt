@@ -14,8 +14,9 @@ use Rattle.std.specs.Ordering.{nat_cmp, flip_args}
 use Rattle.std.specs.declared.cmp.Ordering.TheVariants.{Less, Equal, Greater}
 use Rattle.uc_run_spans.specs.Ahead.{ahead, after}
 use Rattle.uc_run_spans.specs.Joined.{AreJoined}
-use Rattle.uc_run_spans.proofs.Greatest.{all-filter, descend_seqs, all_same}
+use Rattle.uc_run_spans.proofs.Greatest.{all-filter, descend_seqs}
 use Rattle.uc_run_spans.proofs.Joins.{falling_falls, joined_stay, joined_below}
+use Rattle.uc_run_spans.proofs.SameSets.{all_same}
 
 pub length-listed : (count : ℕ) (spans : List Span) → length (listed count spans) ≡ count
 length-listed count spans = length-map-range_with_len (λ f. falling (seqs_in f spans)) 0 count

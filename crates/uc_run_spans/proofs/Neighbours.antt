@@ -12,7 +12,7 @@ use Rattle.std.proofs.lemmas.Bool.Decides.{nat_tests}
 use Rattle.std.proofs.lemmas.Cmp.{nat_cmp_total, back_total}
 use Rattle.uc_run_spans.specs.Newest.{Descends}
 use Rattle.uc_run_spans.specs.Spans.{IsFalling}
-use Rattle.uc_run_spans.proofs.Greatest.{all_same}
+use Rattle.uc_run_spans.proofs.SameSets.{all_same}
 
 -- each element stands before all those behind it
 abbrev pub AllPairs : {X : Type 0} → (X → X → Type 0) → List X → Type 0

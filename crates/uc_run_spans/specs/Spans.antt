@@ -1,5 +1,5 @@
 -- Sequences over neighbouring fragments, and the lists of the fragments that they stand in.
-use Rattle.std.specs.Prelude.{ℕ, ◌-◌, ◌<◌, ◌≤◌, Bool, ◌&&◌, Option, Some, None, List, [], ◌∷◌, map, fold, filter, nat_lt, nat_le}
+use Rattle.std.specs.Prelude.{ℕ, ◌<◌, ◌≤◌, Bool, ◌&&◌, Option, Some, None, List, [], ◌∷◌, map, fold, filter, nat_lt, nat_le}
 use Rattle.std.specs.List.{range_with_len}
 use Rattle.std.specs.List.Sorted.{IsStrictlySortedBy}
 use Rattle.std.specs.Ordering.{nat_cmp, flip_args}
@@ -25,10 +25,6 @@ falling seqs = fold (insert_key (flip_args nat_cmp)) [] seqs
 -- each sequence is above those after it
 abbrev pub IsFalling : List ℕ → Type 0
 IsFalling seqs = IsStrictlySortedBy (flip_args nat_cmp) seqs
-
--- how many fragments a span has
-abbrev pub size_of : Span → ℕ
-size_of s = s.end - s.first
 
 -- the sequence of the first span, where there is one
 abbrev pub first_seq : List Span → Option ℕ

@@ -1,6 +1,6 @@
 //! [`Spans`]: sequences over neighbouring fragments, with an index of them.
 ghost use Rattle.std.specs.Prelude.{◌≡◌, ◌↔◌, ◌<◌, ◌-◌, ◌^◌, [], length, min, IsTrue, IfOk};
-ghost use Rattle.std.specs.List.{AllByRecursion, slice_index_or, sum_by};
+ghost use Rattle.std.specs.List.{AllByRecursion, slice_index_or};
 ghost use Rattle.uc_run_spans.specs.Ahead.{ahead};
 ghost use Rattle.uc_run_spans.specs.Newest as newest;
 ghost use Rattle.uc_run_spans.specs.Spans as standing;
@@ -14,17 +14,6 @@ use crate::tree::nodes;
 use crate::walking::{count_over, newest_over};
 use std::alloc::{AllocError, Global};
 use std::marker::Model;
-
-/// How many fragments spans have together, held at the greatest number.
-fn total_of(spans: &[Span]) -> u64
-    ensures { result ≡ min (sum_by standing.size_of spans.now) (2 ^ 64 - 1) }
-{
-    let mut sum = 0_u64;
-    for span in spans {
-        sum = sum.saturating_add(span.end.saturating_sub(span.first) as u64);
-    }
-    sum
-}
 
 /// Whether spans are equal.
 fn are_same(spans: &[Span], others: &[Span]) -> bool
@@ -111,15 +100,6 @@ impl Spans {
         ensures { result ≡ min (length (slice_index_or self.now fragment [])) (2 ^ 64 - 1) }
     {
         count_over(&self.nodes, self.fragments, fragment)
-    }
-
-    /// How many sequences the fragments have together, held at the greatest number.
-    ///
-    /// It goes over the spans once.
-    pub fn total(&self) -> u64
-        ensures { result ≡ min (sum_by length self.now) (2 ^ 64 - 1) }
-    {
-        total_of(&self.spans)
     }
 
     /// Whether the fragments of both have the same sequences.

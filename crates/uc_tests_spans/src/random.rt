@@ -121,8 +121,17 @@ fn answers_as(
     )
 }
 
+/// How many sequences the fragments of spans have together, each asked as a share of them.
+fn shared_count(spans: &Arc<Spans>) -> Result<u64, AllocError> {
+    let mut count = 0_u64;
+    for fragment in 0..spans.fragments() {
+        count = count.saturating_add(Seqs::shared(spans.clone()?, fragment).len());
+    }
+    Ok(count)
+}
+
 /// Whether each fragment of given spans answers as its plain list does, and all together are as many.
-fn all_answer(alloc: Global, spans: &Spans, given: &[Span]) -> Result<bool, AllocError> {
+fn all_answer(alloc: Global, spans: &Arc<Spans>, given: &[Span]) -> Result<bool, AllocError> {
     let mut total = 0_u64;
     for fragment in 0..spans.fragments() {
         let plain = plain_seqs(alloc, given, fragment)?;
@@ -131,7 +140,7 @@ fn all_answer(alloc: Global, spans: &Spans, given: &[Span]) -> Result<bool, Allo
         }
         total = total.saturating_add(plain.len() as u64);
     }
-    Ok(spans.total() == total)
+    Ok(shared_count(spans)? == total)
 }
 
 /// Whether given spans over so many fragments answer as plain lists do.
@@ -139,7 +148,10 @@ fn is_one_case(alloc: Global, fragments: usize, given: &[Span]) -> Result<bool, 
     if !are_within(fragments, given) {
         return Ok(false);
     }
-    let spans = Spans::new(alloc, fragments, given.to_vec(alloc)?)?;
+    let spans = Arc::new(
+        alloc,
+        Spans::new(alloc, fragments, given.to_vec(alloc)?)?,
+    )?;
     Ok(spans.fragments() == fragments && all_answer(alloc, &spans, given)?)
 }
 

@@ -9,7 +9,7 @@ use Rattle.uc_bytes.specs.Bytes.{bytes_cmp}
 use Rattle.uc_run_fragment.specs.Cutting.{cut_points, has_keys, pieces}
 use Rattle.uc_run_fragment.specs.Spanning.{spans_of, covered, with_seqs}
 use Rattle.uc_run_fragment.proofs.Covered.{all_within, seqs_of_covered}
-use Rattle.uc_run_fragment.proofs.Sets.{sorted_set}
+use Rattle.uc_run_spans.proofs.Sets.{sorted_set}
 use Rattle.uc_run_fragment.proofs.Spanned.{spanned, length-pieces}
 use Rattle.uc_run_spans.specs.Spans.{IsWithin, seqs_in, falling, listed}
 use Rattle.uc_run_fragment.proofs.cutting.cut_ranges.Goals as goal
