@@ -48,6 +48,12 @@ lines_at text end h =
     let found = position_some is_end text end h in
     rw (← found.1) (lines_first text found.0)
 
+-- that place is in the text
+pub end_within : (text : List ℕ) (end : ℕ) → position is_end text ≡ Some end → end < length text
+end_within text end h =
+    let found = position_some is_end text end h in
+    omega (arith, found.0, found.1)
+
 -- a text without an LF is one line
 pub lines_whole : (text : List ℕ) → 0 < length text → position is_end text ≡ None → lines_of text ≡ text ∷ []
 lines_whole [] some h = absurd (omega arith)

@@ -8,6 +8,8 @@ pub mod HeadWhole
 pub mod HeadJudged
 pub mod HeadRead
 pub mod QueriesAhead
+pub mod CallsAhead
+pub mod Rests
 pub mod Judged
 pub mod Numbers
 pub mod Printed

@@ -3,6 +3,7 @@ pub mod Fields
 pub mod Texts
 pub mod Queries
 pub mod Script
+pub mod Calls
 pub mod Head
 pub mod HeadReading
 pub mod HeadCases

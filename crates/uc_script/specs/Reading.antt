@@ -1,5 +1,5 @@
 -- Reading line by line, and what a reader returns. `Script.script_of` says what it comes to.
-use Rattle.std.specs.Prelude.{◌≡◌, ℕ, ◌+◌, List, [], ◌∷◌, ◌++◌, Some, None, Result, Ok, Err}
+use Rattle.std.specs.Prelude.{◌≡◌, ℕ, ◌+◌, ◌-◌, List, [], ◌∷◌, ◌++◌, length, drop, Some, None, Result, Ok, Err}
 use Rattle.uc_script.specs.Script.{setup_line, call_line}
 use Rattle.uc_script.specs.declared.error.ScriptError.{ScriptError}
 use Rattle.uc_script.specs.declared.error.ScriptError.TheVariants as errors
@@ -19,6 +19,10 @@ Fails (errors.Fault line) read = read ≡ Err line
 abbrev pub Gives : {X Y : Type 0} → (X → Y) → Result X ScriptError → Result Y ℕ → Type 0
 Gives view (Ok x) read = read ≡ Ok (view x)
 Gives view (Err e) read = Fails e read
+
+-- What is left of a text, behind as many bytes as it is shorter.
+unfoldable pub IsRest : List ℕ → List ℕ → Type 0
+IsRest text rest = rest ≡ drop (length text - length rest) text
 
 -- What was read up to the first `open`: the number of the line after it, and the lines from there on.
 pub record Setup : Type 0 where
@@ -49,6 +53,14 @@ calls_after calls number (line ∷ lines) = elim (call_line line) [
     | asking.Skipped ↦ calls_after calls (number + 1) lines
     | asking.Ask call ↦ calls_after (calls ++ call ∷ []) (number + 1) lines
   ]
+]
+
+-- Lines from the one of this number on, of which no call is held.
+abbrev pub judged_after : ℕ → List (List ℕ) → Result (Unit {0}) ℕ
+judged_after number [] = Ok tt
+judged_after number (line ∷ lines) = elim (call_line line) [
+  | None ↦ Err number
+  | Some said ↦ judged_after (number + 1) lines
 ]
 
 -- What was read, without where it lies in memory.

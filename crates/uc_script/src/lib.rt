@@ -8,8 +8,9 @@
 //! In front of a log may stand a head: lines that keep and ask, as a script has them, and a line `log`. What is behind
 //! that is the log, and no lines.
 //!
-//! Read `reading.rt` first: it is the whole way from bytes to a [`Script`]. `head.rt` is the way from bytes to a
-//! [`Head`], and `query_reader.rt` lends its queries, some at a time. `lines.rt` cuts the text, `field.rt` reads a
+//! Read `reading.rt` first: it is the whole way from bytes to a [`Script`], or to its [`Preamble`], where
+//! `call_reader.rt` lends its calls, one at a time. `head.rt` is the way from bytes to a [`Head`], and
+//! `query_reader.rt` lends its queries, some at a time. `lines.rt` cuts the text, `field.rt` reads a
 //! field, `setup_line.rt` and `call_line.rt` a line of either part of a script, `head_line.rt` one of a head,
 //! `query_line.rt` what the last two share, and `digits.rt` is the way back for bytes and numbers. `laws.rt` says what
 //! the definitions in `specs/` mean.
@@ -17,6 +18,7 @@
 
 mod call;
 mod call_line;
+mod call_reader;
 mod digits;
 mod error;
 pub mod field;
@@ -33,6 +35,7 @@ mod seq;
 mod setup_line;
 
 pub use call::{Call, NAMES};
+pub use call_reader::CallReader;
 pub use digits::{push_hex, push_number};
 pub use error::ScriptError;
 pub use head::{Head, read_head};
@@ -43,6 +46,6 @@ pub use laws::{
 pub use lines::{is_skipped, next_field, next_line};
 pub use query::Query;
 pub use query_reader::QueryReader;
-pub use reading::read_script;
-pub use script::{Calls, Keeps, Ops, Script};
+pub use reading::{judge_script, read_script};
+pub use script::{Calls, Keeps, Ops, Preamble, Script};
 pub use seq::Seq;

@@ -1,6 +1,6 @@
 //! How a text falls into lines and a line into fields.
 
-ghost use Rattle.std.specs.Prelude.{◌≡◌, ◌+◌, ◌-◌, ◌<◌, [], ◌∷◌, ◌==◌, length, position, MatchOption};
+ghost use Rattle.std.specs.Prelude.{◌≡◌, ◌+◌, ◌-◌, ◌<◌, [], ◌∷◌, ◌==◌, length, drop, position, MatchOption};
 ghost use Rattle.uc_script.specs.Lines as lines;
 ghost use Rattle.uc_script.specs.Lines.{lines_of, fields_of};
 ghost use Rattle.uc_script.specs.Fields.{Holds};
@@ -17,6 +17,7 @@ pub fn next_line(text: &[u8]) -> (&[u8], &[u8])
     requires { 0 < length text.now }
     ensures cut { lines_of text.now ≡ result.0.now ∷ lines_of result.1.now }
     ensures left { length result.1.now ≡ length text.now - (length result.0.now + 1) }
+    ensures behind { result.1.now ≡ drop (length result.0.now + 1) text.now }
 {
     match find(text, b'\n') {
         Some(end) => (&text[..end], &text[end + 1..]),

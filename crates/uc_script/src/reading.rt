@@ -1,15 +1,16 @@
 //! From a script's bytes to what it asks.
 
-ghost use Rattle.std.specs.Prelude.{◌≡◌, [], ◌+◌, ◌≤◌, ◌^◌, ◌<◌, length, IfOk};
+ghost use Rattle.std.specs.Prelude.{◌≡◌, [], ◌+◌, ◌≤◌, ◌^◌, ◌<◌, length, drop, IfOk};
+ghost use Rattle.uc_script.specs.Calls.{script_with};
 ghost use Rattle.uc_script.specs.Lines.{lines_of};
 ghost use Rattle.uc_script.specs.Script.{script_of};
-ghost use Rattle.uc_script.specs.Reading.{Gives, seen, setup_after, calls_after};
+ghost use Rattle.uc_script.specs.Reading.{Gives, IsRest, seen, setup_after, calls_after, judged_after};
 
 use crate::call::Call;
 use crate::call_line::{CallLine, read_call_line};
 use crate::error::ScriptError;
 use crate::lines::next_line;
-use crate::script::Script;
+use crate::script::{Preamble, Script};
 use crate::setup_line::{SetupLine, read_setup_line};
 use std::alloc::Global;
 use uc_bytes::{Items, Op};
@@ -49,10 +50,31 @@ pub fn read_script(alloc: Global, text: &[u8]) -> Result<Script, ScriptError>
     })
 }
 
+/// What a script says up to its `open`, whose calls are judged and let go of. Which scripts are at fault, and in which line,
+/// is as [`read_script`] says.
+///
+/// A [`CallReader`](crate::CallReader) over the bytes behind `open` lends the calls. It takes memory for the changes and the
+/// keeps, and for one call at a time.
+pub fn judge_script(alloc: Global, text: &[u8]) -> Result<Preamble, ScriptError>
+    ensures read { Gives (λ preamble. script_with preamble (drop preamble.size text.now)) result (script_of text.now) }
+    ensures within { IfOk result (λ preamble. preamble.size ≤ length text.now) }
+{
+    let opened = read_setup(alloc, text)?;
+    judge_calls(alloc, opened.number, opened.rest)?;
+    Ok(Preamble {
+        ops: Items::from(opened.ops),
+        keeps: Items::from(opened.keeps),
+        size: text.len() - opened.rest.len(),
+    })
+}
+
 /// Reads the lines up to the first `open`.
+#[tactic(auto, using(crate::proofs::Rests::rest_of_rest, crate::proofs::Rests::rest_of_all))]
 fn read_setup(alloc: Global, text: &[u8]) -> Result<Opened<'_>, ScriptError>
     ensures read { Gives seen result (setup_after [] [] 1 (lines_of text.now)) }
     ensures counted { IfOk result (λ opened. opened.number + length opened.rest.now ≤ length text.now + 1) }
+    ensures rest { IfOk result (λ opened. IsRest text.now opened.rest.now) }
+    ensures within { IfOk result (λ opened. length opened.rest.now ≤ length text.now) }
 {
     let mut ops = Vec::new(alloc);
     let mut keeps = Vec::new(alloc);
@@ -99,4 +121,22 @@ fn read_calls(alloc: Global, first: u64, text: &[u8]) -> Result<Vec<Call>, Scrip
         number += 1;
     }
     Ok(calls)
+}
+
+/// Judges the lines after `open`, the first of which has this number.
+fn judge_calls(alloc: Global, first: u64, text: &[u8]) -> Result<(), ScriptError>
+    requires { first + length text.now < 2 ^ 64 }
+    ensures { Gives (λ done. done) result (judged_after first (lines_of text.now)) }
+{
+    let mut number = first;
+    let mut rest = text;
+    while !rest.is_empty() {
+        let (line, after) = next_line(rest);
+        rest = after;
+        if read_call_line(alloc, line)?.is_none() {
+            return Err(ScriptError::Fault(number));
+        }
+        number += 1;
+    }
+    Ok(())
 }
