@@ -3,27 +3,29 @@ use Rattle.std.proofs.Common.{◌≡◌, ◌≢◌, ℕ, ◌+◌, ◌<◌, Bool,
 use Rattle.std.specs.Prelude.{◌&&◌}
 use Rattle.std.specs.List.{AllByRecursion, flat_map}
 use Rattle.std.specs.List.Sorted.{IsStrictlySortedBy}
-use Rattle.std.specs.declared.cmp.Ordering.{Ordering}
-use Rattle.std.specs.declared.cmp.Ordering.TheVariants.{Less, Equal, Greater}
-use Rattle.std.specs.Ordering.{is_lt, is_le, match_ordering}
+use Rattle.std.specs.declared.cmp.Ordering.TheVariants.{Less}
+use Rattle.std.specs.Ordering.{is_lt, is_le}
 use Rattle.std.specs.BTreeSet.{insert_key}
 use Rattle.std.proofs.lemmas.Bool.{false≢true}
 use Rattle.std.proofs.lemmas.List.{take_more}
 use Rattle.std.proofs.lemmas.List.Sums.{fold-append}
 use Rattle.std.proofs.lemmas.Grind.{flat_map-append}
-use Rattle.std.proofs.lemmas.Cmp.{nat_list_cmp_total, tied_itself}
+use Rattle.std.proofs.lemmas.Cmp.{nat_list_cmp_total}
 use Rattle.std.proofs.lemmas.Map.Lookups.{exact_bytes}
 use Rattle.uc_bytes.specs.Bytes.{bytes_cmp}
 use Rattle.uc_run_entry.specs.declared.fragment.Fragment.{Fragment}
 use Rattle.uc_run_entry.specs.Order.{IsFalling, AreInOrder}
 use Rattle.uc_run_entry.specs.Run.{Contents, IsRun, IsWhole, covers}
 use Rattle.uc_run_fragment.specs.Cutting.{RangeOf, Piece, has_keys, spans, cut_points, pieces, falling, fragment_over, fragments_of}
+use Rattle.uc_run_fragment.proofs.Cuts.{insert, seen, insert_seen, seen_inserted}
 use Rattle.uc_run_fragment.proofs.Over.{lt_of, lt_le}
+use Rattle.uc_run_fragment.proofs.Seqs.{same_bool}
 use Rattle.uc_run_fragment.proofs.Sets.{sorted_set, all_back}
 use Rattle.uc_run_fragment.proofs.SameSets.{same_set}
 use Rattle.uc_compact_rules.specs.Inputs.{AreRuns, ranges_over, ranges_of}
 use Rattle.uc_compact.specs.Pieces.{lists_over, fragments_in, piece_over, pieces_over}
-use Rattle.uc_compact.proofs.Lists.{all-append}
+use Rattle.uc_compact.proofs.Keys.{le_itself, no_less_itself}
+use Rattle.uc_compact_rules.proofs.Lists.{all-append}
 use denote.Ref.{Bor}
 
 abbrev Cuts : Type 0
@@ -101,9 +103,6 @@ record IsBetween (cuts : Cuts) (p : Piece) : Type 0 where
   keys : bytes_cmp p.0 p.1 ≡ Less
   apart : AllByRecursion (Apart p) cuts
 
-le_itself : (x : List ℕ) → is_le (bytes_cmp x x) ≡ true
-le_itself x = ap is_le (tied_itself nat_list_cmp_total x)
-
 all_behind : (p : Piece) (cuts : Cuts) → AllByRecursion (λ x. bytes_cmp p.1 x ≡ Less) cuts → AllByRecursion (Apart p) cuts
 all_behind p [] h = tt
 all_behind p (x ∷ cuts) h = (inr (ap is_le h.0), all_behind p cuts h.1)
@@ -127,11 +126,6 @@ all_between (c ∷ d ∷ cuts) sorted = (
 
 -- ---- so a range deletion is over a piece where its fragment covers the first key
 
-same_bool : (a b : Bool) → (a ≡ true → b ≡ true) → (b ≡ true → a ≡ true) → a ≡ b
-same_bool true b to back = sym (to refl)
-same_bool false true to back = back refl
-same_bool false false to back = refl
-
 abbrev over_piece : Piece → Fragment → Bool
 over_piece p f = is_le (bytes_cmp f.begin p.0) && is_le (bytes_cmp p.1 f.end)
 
@@ -144,9 +138,6 @@ end_by p end keys (inl at) =
     same_bool (is_le (bytes_cmp p.1 end)) (is_lt (bytes_cmp p.0 end))
     (λ le. ap is_lt (lt_le p.0 p.0 p.1 end keys (bytes_cmp p.1 end) refl le))
     (λ lt. absurd (no_less_itself p.0 (lt_le p.0 p.0 end p.0 (lt_of p.0 p.0 end lt) (bytes_cmp end p.0) refl at)))
-  where
-    no_less_itself : (x : List ℕ) → bytes_cmp x x ≡ Less → ⊥
-    no_less_itself x e = let t = tied_itself nat_list_cmp_total x in cc
 
 same_over : (p : Piece) (f : Fragment) → bytes_cmp p.0 p.1 ≡ Less → Apart p f.end → over_piece p f ≡ covers f p.0
 same_over p f keys apart = ap (λ b. is_le (bytes_cmp f.begin p.0) && b) (end_by p f.end keys apart)
@@ -222,28 +213,6 @@ all_filled [] h = tt
 all_filled (r ∷ runs) h = all-append IsFilled r.fragments (fragments_in runs) (run_filled r h.0) (all_filled runs h.1)
 
 -- ---- both ends of one fragment more
-
-abbrev insert : Cuts → List ℕ → Cuts
-insert cuts cut = insert_key bytes_cmp cuts cut
-
-abbrev seen : List (Bor (List ℕ)) → Cuts
-seen cuts = map (λ c. c.now) cuts
-
-abbrev insert_seen : List (Bor (List ℕ)) → Bor (List ℕ) → List (Bor (List ℕ))
-insert_seen cuts cut = insert_key (λ x y. bytes_cmp x.now y.now) cuts cut
-
-seen_placed : (k x : Bor (List ℕ)) (xs put : List (Bor (List ℕ))) (o : Ordering) →
-    seen (match_ordering o (k ∷ x ∷ xs) (x ∷ xs) (x ∷ put)) ≡ match_ordering o (k.now ∷ x.now ∷ seen xs) (x.now ∷ seen xs) (x.now ∷ seen put)
-seen_placed k x xs put Less = refl
-seen_placed k x xs put Equal = refl
-seen_placed k x xs put Greater = refl
-
--- an insertion of a borrowed key
-seen_inserted : (cuts : List (Bor (List ℕ))) (cut : Bor (List ℕ)) → seen (insert_seen cuts cut) ≡ insert (seen cuts) cut.now
-seen_inserted [] k = refl
-seen_inserted (x ∷ xs) k =
-    seen_placed k x xs (insert_seen xs k) (bytes_cmp k.now x.now)
-    ∙ ap (λ (put : Cuts). match_ordering (bytes_cmp k.now x.now) (k.now ∷ x.now ∷ seen xs) (x.now ∷ seen xs) (x.now ∷ put)) (seen_inserted xs k)
 
 ends_more : (start : Cuts) (fs : List Fragment) (i : ℕ) (f : Fragment) → i < length fs → f ≡ get_or fs i f →
     insert (insert (fold insert start (flat_map ends_of (take i fs))) f.begin) f.end ≡ fold insert start (flat_map ends_of (take (i + 1) fs))

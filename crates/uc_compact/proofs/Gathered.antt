@@ -4,7 +4,7 @@ use Rattle.std.specs.List.{AllByRecursion, flat_map}
 use Rattle.std.specs.Ordering.{nat_cmp, flip_args}
 use Rattle.std.specs.declared.cmp.Ordering.TheVariants.{Equal}
 use Rattle.std.proofs.lemmas.Bool.Decides.{nat_tests}
-use Rattle.std.proofs.lemmas.List.{append-nil, append_assoc, take_more}
+use Rattle.std.proofs.lemmas.List.{append-nil, append_assoc, map-append, take_more}
 use Rattle.std.proofs.lemmas.List.Elements.{filter-append}
 use Rattle.std.proofs.lemmas.Grind.{flat_map-append}
 use Rattle.uc_run_entry.specs.declared.fragment.Fragment.{Fragment}
@@ -14,19 +14,7 @@ use Rattle.uc_run_fragment.proofs.Sets.{all_back}
 use Rattle.uc_compact_rules.specs.Together.{together}
 use Rattle.uc_compact.specs.Pieces.{lists_over, fragments_in, IsList, AreOver, piece_over, pieces_over}
 use Rattle.uc_compact.proofs.Cutting.{IsFilled}
-use Rattle.uc_compact.proofs.Lists.{all-append}
-
-map-append : {X Y : Type 0} (f : X → Y) (xs ys : List X) → map f (xs ++ ys) ≡ map f xs ++ map f ys
-map-append f [] ys = refl
-map-append f (x ∷ xs) ys = ap (λ (zs : List _). f x ∷ zs) (map-append f xs ys)
-
-kept : {X : Type 0} (P : X → Type 0) (x : X) (xs : List X) (b : Bool) → P x → AllByRecursion P xs → AllByRecursion P (cond b (x ∷ xs) xs)
-kept P x xs true p h = (p, h)
-kept P x xs false p h = h
-
-all-filter : {X : Type 0} (P : X → Type 0) (test : X → Bool) (xs : List X) → AllByRecursion P xs → AllByRecursion P (filter test xs)
-all-filter P test [] h = tt
-all-filter P test (x ∷ xs) h = kept P x (filter test xs) (test x) h.0 (all-filter P test xs h.1)
+use Rattle.uc_compact_rules.proofs.Lists.{all-append, all-filter}
 
 pub map_push : {X Y : Type 0} (f : X → Y) (xs : List X) (x : X) → map f (xs ++ x ∷ []) ≡ map f xs ++ f x ∷ []
 map_push f xs x = map-append f xs (x ∷ [])

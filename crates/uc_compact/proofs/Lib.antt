@@ -10,3 +10,4 @@ pub mod Merging
 pub mod Stepping
 mod Cutting
 mod Gathered
+mod Fronts

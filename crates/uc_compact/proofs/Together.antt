@@ -1,22 +1,18 @@
 -- Runs that stand newest first.
-use Rattle.std.proofs.Common.{◌≡◌, ℕ, zero, suc, ◌+◌, ◌-◌, ◌<◌, ◌≤◌, Bool, true, false, IsTrue, List, [], ◌∷◌, ◌++◌, length, get_or, map, take, refl, sym, ap, ◌∙◌, subst, arith}
+use Rattle.std.proofs.Common.{◌≡◌, ℕ, zero, suc, ◌+◌, ◌-◌, ◌<◌, ◌≤◌, Bool, true, false, IsTrue, List, [], ◌∷◌, length, get_or, map, take, refl, sym, ap, ◌∙◌, subst, arith}
 use Rattle.std.specs.Prelude.{◌↔◌, slice_index_or}
 use Rattle.std.specs.List.{AllByRecursion, IsAllAdjacentAnswer}
 use Rattle.std.proofs.lemmas.Bool.{false≢true}
-use Rattle.std.proofs.lemmas.List.{take_more}
+use Rattle.std.proofs.lemmas.List.{map-append, take_more}
 use Rattle.uc_run_entry.specs.Run.{Contents}
 use Rattle.uc_compact_rules.specs.Inputs.{AreRuns, AreNewestFirst, low_of}
 use Rattle.uc_compact_rules.proofs.Lists.{all-append}
 
 -- one element more of which all hold
-map-append_one : {X Y : Type 0} (f : X → Y) (xs : List X) (x : X) → map f (xs ++ x ∷ []) ≡ map f xs ++ f x ∷ []
-map-append_one f [] x = refl
-map-append_one {X} {Y} f (y ∷ ys) x = ap (λ (zs : List Y). f y ∷ zs) (map-append_one f ys x)
-
 pub one_more : {X Y : Type 0} (f : X → Y) (P : Y → Type 0) (xs : List X) (i : ℕ) (x : X) → i < length xs → x ≡ slice_index_or xs i x → P (f x) → AllByRecursion P (map f (take i xs)) → AllByRecursion P (map f (take (i + 1) xs))
 one_more f P xs i x lt e p h =
     subst (λ ys. AllByRecursion P (map f ys)) (sym (take_more xs i x lt))
-    (subst (AllByRecursion P) (sym (map-append_one f (take i xs) (get_or xs i x)))
+    (subst (AllByRecursion P) (sym (map-append f (take i xs) (get_or xs i x ∷ [])))
     (all-append P (map f (take i xs)) (f (get_or xs i x) ∷ []) h (subst (λ y. P (f y)) e p, tt)))
 
 module _ {X : Type 0} (value : X → Contents) where

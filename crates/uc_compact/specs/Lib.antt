@@ -4,3 +4,4 @@ pub mod Groups
 pub mod Heads
 pub mod Ahead
 pub mod Pieces
+pub mod Fronts

@@ -12,6 +12,7 @@ mod compacted;
 mod compacting;
 mod cursor;
 mod fragments;
+mod front;
 mod groups;
 mod inputs;
 mod piece;

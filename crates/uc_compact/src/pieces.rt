@@ -10,12 +10,13 @@ ghost use Rattle.uc_run_fragment.specs.Cutting as cutting;
 ghost use Rattle.uc_compact_rules.specs.Inputs.{ranges_of};
 ghost use Rattle.uc_compact.specs.Pieces.{AreOver, fragments_in, pieces_over};
 
+use crate::front::Front;
 use crate::inputs::are_runs;
 use crate::piece::Piece;
 use std::alloc::{AllocError, Global};
 use std::collections::BTreeSet;
 use std::sync::Arc;
-use uc_run_entry::{Fragment, Seqs, covering_fragment};
+use uc_run_entry::{Fragment, Seqs};
 use uc_run_table::Run;
 
 /// Puts both ends of each fragment among the cut points.
@@ -49,18 +50,29 @@ fn cut_points<'a>(alloc: Global, inputs: &'a [Arc<Run>]) -> Result<BTreeSet<&'a 
     Ok(cuts)
 }
 
+/// The runs, each before its first fragment.
+fn fronts_of<'a>(alloc: Global, inputs: &'a [Arc<Run>]) -> Result<Vec<Front<'a>>, AllocError>
+    ensures { IfOk result (λ fronts. fronts.items ≡ map arc_value inputs.now) }
+{
+    let mut fronts = Vec::new(alloc);
+    for run in inputs {
+        fronts.push(Front::new(run))?;
+    }
+    Ok(fronts)
+}
+
 /// The sequences of each run's fragment over a key, where it has one.
 fn lists_over<'a>(
     alloc: Global,
-    inputs: &'a [Arc<Run>],
+    fronts: &mut [Front<'a>],
     key: &[u8],
 ) -> Result<Vec<&'a Seqs>, AllocError>
-    ensures { IfOk result (λ lists. AreOver key.now (map arc_value inputs.now) (map (λ seqs. seqs.now) lists.items)) }
+    ensures same { OnOk result (fronts.new ≡ fronts.old) }
+    ensures lists { IfOk result (λ lists. AreOver key.now fronts.old (map (λ seqs. seqs.now) lists.items)) }
 {
     let mut lists = Vec::new(alloc);
-    for run in inputs {
-        run.is_one();
-        if let Some(fragment) = covering_fragment(run.fragments(), key) {
+    for front in fronts.iter_mut() {
+        if let Some(fragment) = front.covering(key) {
             lists.push(&fragment.seqs)?;
         }
     }
@@ -70,11 +82,10 @@ fn lists_over<'a>(
 /// The pieces between neighbouring cut points that a fragment covers.
 fn pieces_between<'a>(
     alloc: Global,
-    inputs: &'a [Arc<Run>],
+    fronts: &mut [Front<'a>],
     cuts: BTreeSet<&'a [u8]>,
 ) -> Result<Vec<Piece<'a>>, AllocError>
-    ensures { IfOk result (λ made.
-        made.items ≡ pieces_over (map arc_value inputs.now) (map (λ cut. cut.now) cuts.entry.keys)) }
+    ensures { IfOk result (λ made. made.items ≡ pieces_over fronts.old (map (λ cut. cut.now) cuts.entry.keys)) }
 {
     let mut made = Vec::new(alloc);
     let mut ends = cuts.into_iter();
@@ -83,7 +94,7 @@ fn pieces_between<'a>(
     };
     let mut begin = first;
     for end in ends {
-        let lists = lists_over(alloc, inputs, begin)?;
+        let lists = lists_over(alloc, fronts, begin)?;
         if !lists.is_empty() {
             made.push(Piece::new(begin, end, lists))?;
         }
@@ -95,8 +106,7 @@ fn pieces_between<'a>(
 /// The pieces of the key space between the ends of the runs' fragments, each with the fragments over it. They stand for the
 /// fragments of all range deletions of the runs. It fails only for want of memory.
 ///
-/// For n fragments of k runs it takes n log n steps, and for each piece k searches; however many sequences the fragments
-/// have.
+/// For n fragments of k runs it takes n log n steps, and k for each piece, however many sequences the fragments have.
 pub(crate) fn pieces_of<'a>(
     alloc: Global,
     inputs: &'a [Arc<Run>],
@@ -104,7 +114,8 @@ pub(crate) fn pieces_of<'a>(
     ensures { IfOk result (λ pieces. pieces.items ≡ cutting.fragments_of (ranges_of (map arc_value inputs.now))) }
 {
     are_runs(inputs);
-    pieces_between(alloc, inputs, cut_points(alloc, inputs)?)
+    let mut fronts = fronts_of(alloc, inputs)?;
+    pieces_between(alloc, &mut fronts, cut_points(alloc, inputs)?)
 }
 
 /// The first piece that ends above a key, if one does: no other can have the key.

@@ -1,7 +1,10 @@
-use Rattle.std.proofs.Common.{map, take}
-use Rattle.std.specs.Arc.{arc_value}
+use Rattle.std.proofs.Common.{◌≡◌, map, take}
 use Rattle.uc_compact.specs.Pieces.{AreOver}
 use Rattle.uc_compact.proofs.pieces.lists_over.Given as goal
 
-abbrev pub invariant-loop-run : goal.invariant-loop-run
-invariant-loop-run l = AreOver l.key (map arc_value (take l.run-index l.inputs)) (map (λ seqs. seqs.now) l.lists.items)
+pub record Gone (l : goal.Live-loop-front) : Type 0 where
+  pub same : l.fronts ≡ l.fn.fronts
+  pub over : AreOver l.key (take l.front-index l.fn.fronts) (map (λ seqs. seqs.now) l.lists.items)
+
+abbrev pub invariant-loop-front : goal.invariant-loop-front
+invariant-loop-front l = Gone l

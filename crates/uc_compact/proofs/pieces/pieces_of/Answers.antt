@@ -1,4 +1,4 @@
-use Rattle.std.proofs.Common.{◌≡◌, List, map, ap, ◌∙◌, subst}
+use Rattle.std.proofs.Common.{◌≡◌, List, map, ◌∙◌, subst}
 use Rattle.std.specs.Arc.{arc_value}
 use Rattle.std.specs.Result.{IfOk}
 use Rattle.uc_run_entry.specs.declared.fragment.Fragment.{Fragment}
@@ -10,4 +10,4 @@ pub returns : goal.returns
 returns c =
     let runs = map arc_value c.args.inputs.now in
     subst (λ (fs : List Fragment). IfOk c.pieces_between.result (λ made. made.items ≡ fs))
-    (ap (pieces_over runs) c.in_ok-cut_points.ensures ∙ pieces_are runs (all_filled runs c.are_runs.ensures)) c.pieces_between.ensures
+    ((λ j. pieces_over ((c.deref_mut.ensures.value ∙ c.in_ok-fronts.ensures) j) (c.in_ok-cut_points.ensures j)) ∙ pieces_are runs (all_filled runs c.are_runs.ensures)) c.pieces_between.ensures

@@ -1,0 +1,115 @@
+//! [`Front`]: how far a walk has come in a run's fragments.
+ghost use Rattle.std.specs.Prelude.{◌≡◌, ◌≤◌, [], ◌∷◌, length, filter, IfSome, IfNone};
+ghost use Rattle.std.specs.Ordering.{is_le};
+ghost use Rattle.uc_bytes.specs.Bytes.{bytes_cmp};
+ghost use Rattle.uc_run_entry.specs.Order.{AreInOrder};
+ghost use Rattle.uc_run_entry.specs.Run as run;
+ghost use Rattle.uc_run_entry.specs.Run.{IsRun};
+ghost use Rattle.uc_compact.specs.Fronts.{EndBy, EndAbove};
+
+use std::marker::Model;
+use uc_run_entry::Fragment;
+use uc_run_table::Run;
+
+/// A run, and the place among its fragments that a walk over rising keys has come to. A contract sees the run alone:
+/// wherever the place is, what is found is the same, and what it saves is time.
+#[derive(Debug, Drop)]
+pub(crate) struct Front<'a> {
+    run: &'a Run,
+    place: usize,
+}
+
+impl<'a> Model for Front<'a> {
+    ghost use Rattle.uc_run_entry.specs.Run.{Contents};
+
+    ghost Value = { Contents };
+
+    ghost view = { λ f. f.run.now };
+}
+
+/// Whether a fragment begins at or before a key.
+fn begins_by(fragment: &Fragment, key: &[u8]) -> bool
+    ensures { result ≡ is_le (bytes_cmp fragment.now.begin key.now) }
+{
+    fragment.begin.as_slice().cmp(&key).is_le()
+}
+
+/// Whether a fragment ends at or before a key.
+fn ends_by(fragment: &Fragment, key: &[u8]) -> bool
+    ensures { result ≡ is_le (bytes_cmp fragment.now.end key.now) }
+{
+    fragment.end.as_slice().cmp(&key).is_le()
+}
+
+/// A place before which each fragment ends at or before a key: `from` where it is one, which the fragment before it
+/// tells, and the first otherwise.
+fn start_at(fragments: &[Fragment], from: usize, key: &[u8]) -> usize
+    requires { AreInOrder fragments.now }
+    ensures bound { result ≤ length fragments.now }
+    ensures before { EndBy key.now fragments.now result }
+{
+    if 0 < from && from <= fragments.len() && ends_by(&fragments[from - 1], key) {
+        from
+    } else {
+        0
+    }
+}
+
+/// The place of the first fragment that ends above a key. From `from` on they are looked at one by one.
+fn first_above(fragments: &[Fragment], from: usize, key: &[u8]) -> usize
+    requires { AreInOrder fragments.now }
+    ensures bound { result ≤ length fragments.now }
+    ensures before { EndBy key.now fragments.now result }
+    ensures behind { EndAbove key.now fragments.now result }
+{
+    let mut place = start_at(fragments, from, key);
+    while place < fragments.len() && ends_by(&fragments[place], key) {
+        place += 1;
+    }
+    place
+}
+
+/// The fragment at the place of the first that ends above a key, if it covers the key: no other can.
+fn covering_at<'a>(fragments: &'a [Fragment], place: usize, key: &[u8]) -> Option<&'a Fragment>
+    requires order { AreInOrder fragments.now }
+    requires bound { place ≤ length fragments.now }
+    requires before { EndBy key.now fragments.now place }
+    requires behind { EndAbove key.now fragments.now place }
+    ensures some { IfSome result (λ f. filter (λ g. run.covers g key.now) fragments.now ≡ f.now ∷ []) }
+    ensures none { IfNone result (filter (λ g. run.covers g key.now) fragments.now ≡ []) }
+{
+    match fragments.get(place) {
+        None => None,
+        Some(fragment) => {
+            if begins_by(fragment, key) {
+                Some(fragment)
+            } else {
+                None
+            }
+        }
+    }
+}
+
+impl<'a> Front<'a> {
+    /// Before the first fragment of a run.
+    pub(crate) fn new(run: &'a Run) -> Front<'a>
+        ensures { result ≡ run.now }
+    {
+        Front { run, place: 0 }
+    }
+
+    /// The fragment that covers a key, if one does.
+    ///
+    /// Where no key is below the one before it, all calls together look at each fragment once, and at two more for each key.
+    pub(crate) fn covering(&mut self, key: &[u8]) -> Option<&'a Fragment>
+        ensures same { self.new ≡ self.old }
+        ensures is_one { IsRun self.old.low self.old.high self.old.points self.old.fragments }
+        ensures some { IfSome result (λ f. filter (λ g. run.covers g key.now) self.old.fragments ≡ f.now ∷ []) }
+        ensures none { IfNone result (filter (λ g. run.covers g key.now) self.old.fragments ≡ []) }
+    {
+        self.run.is_one();
+        let fragments = self.run.fragments();
+        self.place = first_above(fragments, self.place, key);
+        covering_at(fragments, self.place, key)
+    }
+}
