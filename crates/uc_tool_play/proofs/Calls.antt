@@ -1,5 +1,5 @@
 -- The replies to a script's calls, one after the other.
-use Rattle.std.proofs.Common.{◌≡◌, ℕ, suc, List, [], ◌∷◌, All, length, map, Result, refl, ap, sym, ◌∙◌, arith}
+use Rattle.std.proofs.Common.{◌≡◌, ℕ, suc, List, ◌∷◌, All, map, Result, ap, sym, ◌∙◌, arith}
 use Rattle.uc_oper.specs.Operation.{Operation}
 use Rattle.uc_script.specs.Names.{NameIsGood}
 use Rattle.uc_script.specs.declared.call.Call.{Call}
@@ -22,9 +22,3 @@ first_reply m s next last call calls lines t =
 
 pub names_later : (call : Call) (calls : List Call) → All NameIsGood (call ∷ calls) → All NameIsGood calls
 names_later call calls good k d within = good (suc k) d (omega (arith, within))
-
--- ---- no call is left
-
-pub none_left : (calls : List Call) → length calls ≡ 0 → calls ≡ []
-none_left [] e = refl
-none_left (call ∷ calls) e = absurd (omega (arith, e))

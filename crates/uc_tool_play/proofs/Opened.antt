@@ -19,12 +19,9 @@ use Rattle.uc_tool_io.proofs.Known.{appends_none}
 use Rattle.uc_tool_io.proofs.Printing.{front_of_first, stops_more, prints_more}
 
 -- the store opens as a script asks
-pub opens : (m : Operation) (o : Opening) (v : Stored) (calls given : List Call) → v ≡ opened o → opening_refusal o ≡ None → given ≡ calls
-    → output_of m v o.options given ≡ unless_refused m o calls (opening_refusal o)
-opens m o v calls given version none same =
-    ap (λ (w : Stored). output_of m w o.options given) version
-    ∙ ap (λ (cs : List Call). output_of m (opened o) o.options cs) same
-    ∙ sym (ap (unless_refused m o calls) none)
+pub opens : (m : Operation) (o : Opening) (v : Stored) (calls : List Call) → v ≡ opened o → opening_refusal o ≡ None
+    → output_of m v o.options calls ≡ unless_refused m o calls (opening_refusal o)
+opens m o v calls version none = ap (λ (w : Stored). output_of m w o.options calls) version ∙ sym (ap (unless_refused m o calls) none)
 
 module _ (m : Operation) (v : Stored) (options : Options) (calls : List Call) (last : ℕ) (owner : Owner) (line : List ℕ) (last_is : last ≡ v.last) (owner_is : owner ≡ unclaimed v options) (line_is : line ≡ numbered_line (codes "opened ") last) where
   replies_are : line ∷ replies_of m (unnamed owner) last calls ≡ (output_of m v options calls).replies

@@ -2,6 +2,7 @@
 
 ghost use Rattle.std.specs.Prelude.{◌≡◌, All, None, replicate, IfOk};
 ghost use Rattle.uc_version.specs.declared.held_stretch.TheConstants.{MOST_CLAIMS};
+ghost use Rattle.uc_script.specs.Calls.{calls_in};
 ghost use Rattle.uc_script.specs.Names.{NameIsGood};
 ghost use Rattle.uc_query.specs.Names.{AreHeld, named};
 ghost use Rattle.uc_query.specs.Running.{unnamed};
@@ -17,7 +18,7 @@ use std::thread::Threads;
 use uc_bytes::Items;
 use uc_oper::Operator;
 use uc_query::{AskError, NamedClaims, Query};
-use uc_script::Call;
+use uc_script::{Call, CallReader};
 use uc_tool_io::{RunError, write_bytes};
 use uc_tool_lines::reply_lines;
 use uc_tool_opening::query_of;
@@ -74,24 +75,25 @@ fn reply_to<O: Operator + Sync>(
     }
 }
 
-/// Prints the replies to a script's calls, each as soon as it is there.
+/// Prints the replies to the calls that lines name, each as soon as it is there. Each call is read when its turn comes.
 pub fn print_replies<O: Operator + Sync, W: Write>(
     rt: &(impl Threads + Sync),
     alloc: Global,
     owned: &mut Owned<O>,
     last: u64,
-    calls: Vec<Call>,
+    lines: &[u8],
     writer: &mut W,
 ) -> Result<(), RunError>
-    requires names { All NameIsGood calls.items }
+    requires names { All NameIsGood (calls_in lines.now) }
     requires held { AreHeld owned.old (replicate MOST_CLAIMS None) }
-    ensures { Prints (replies_of O.meaning (unnamed owned.old) last calls.items)
+    ensures { Prints (replies_of O.meaning (unnamed owned.old) last (calls_in lines.now))
         (W.contents writer.old) (W.contents writer.new) result }
 {
     let mut claims = NamedClaims::new();
-    for call in calls {
-        let lines = reply_to(rt, alloc, owned, &mut claims, last, call)?;
-        write_bytes(writer, &lines)?;
+    let mut ahead = CallReader::new(lines);
+    while let Some(call) = ahead.next_call(alloc)? {
+        let reply = reply_to(rt, alloc, owned, &mut claims, last, call)?;
+        write_bytes(writer, &reply)?;
     }
     Ok(())
 }

@@ -1,6 +1,7 @@
 //! `play`: a store over the writes of a script, and the replies to its calls.
 
-ghost use Rattle.std.specs.Prelude.{◌≡◌, ◌≤◌, All, Ok, None, true, vec_len, IfOk, IfErr, OnOk, IfSome};
+ghost use Rattle.std.specs.Prelude.{◌≡◌, ◌≤◌, All, Ok, None, true, length, drop, vec_len, IfOk, IfErr, OnOk, IfSome};
+ghost use Rattle.uc_script.specs.Calls.{calls_in, script_with};
 ghost use Rattle.uc_script.specs.Names.{NameIsGood};
 ghost use Rattle.uc_script.specs.Reading.{Gives};
 ghost use Rattle.uc_script.specs.Script.{script_of};
@@ -18,7 +19,7 @@ use std::marker::Sync;
 use std::thread::Threads;
 use uc_oper::Operator;
 use uc_script::{
-    Call, Script, ScriptError, a_script_names_no_more_than_it_has, names_are_in_range, read_script,
+    Preamble, ScriptError, a_script_names_no_more_than_it_has, judge_script, names_are_in_range,
 };
 use uc_tool_faults::Source;
 use uc_tool_io::{
@@ -31,43 +32,52 @@ use uc_version_open::OpenError;
 use uc_version_pick::Options;
 use uc_version_state::Version;
 
-/// Reads a script, and lets go of its text. Where that has a fault, it tells why.
-fn script_in(
-    alloc: Global,
-    input: Vec<u8>,
-    reason: &mut Option<Reason>,
-) -> Result<Script, ScriptError>
-    requires short { vec_len input ≤ INPUT_LIMIT }
+/// Judges a script, and reads what stands up to its `open`. Where it has a fault, it tells why.
+fn judged(alloc: Global, input: &[u8], reason: &mut Option<Reason>) -> Result<Preamble, ScriptError>
+    requires short { length input.now ≤ INPUT_LIMIT }
     requires none { reason.old ≡ None }
-    ensures read { Gives (λ script. script) result (script_of input.items) }
-    ensures fits { IfOk result (λ script. FitsLog script.ops) }
-    ensures names { IfOk result (λ script. All NameIsGood script.calls) }
+    ensures read { Gives (λ preamble. script_with preamble (drop preamble.size input.now)) result (script_of input.now) }
+    ensures within { IfOk result (λ preamble. preamble.size ≤ length input.now) }
+    ensures fits { IfOk result (λ preamble. FitsLog preamble.ops) }
+    ensures names { IfOk result (λ preamble. All NameIsGood (calls_in (drop preamble.size input.now))) }
     ensures none { OnOk result (reason.new ≡ None) }
-    ensures told { IfErr result (λ error. IsReason (fault_cause input.items error) reason.new) }
+    ensures told { IfErr result (λ error. IsReason (fault_cause input.now error) reason.new) }
 {
     // Laws of the layer below, which do nothing when they run: no write is longer than the script, and no name is
     // above what a store has.
     a_script_names_no_more_than_it_has();
     names_are_in_range();
-    let script = read_script(alloc, &input);
-    if let Err(ScriptError::Fault(number)) = &script {
-        *reason = reason_of_line(alloc, Source::Script, &input, *number);
+    let preamble = judge_script(alloc, input);
+    if let Err(ScriptError::Fault(number)) = &preamble {
+        *reason = reason_of_line(alloc, Source::Script, input, *number);
     }
-    script
+    preamble
 }
 
-/// Prints that a store opened with a version, and the replies to calls.
+/// What stands behind so many bytes of a text, in the memory that the text had.
+fn behind(mut text: Vec<u8>, size: usize) -> Vec<u8>
+    requires { size ≤ vec_len text }
+    ensures { result.items ≡ drop size text.items }
+{
+    let left = text.len() - size;
+    text.copy_within(size.., 0);
+    text.truncate(left);
+    text.shrink_to_fit();
+    text
+}
+
+/// Prints that a store opened with a version, and the replies to the calls that lines name.
 fn print_opened<O: Operator + Sync, W: Write>(
     rt: &(impl Threads + Sync),
     alloc: Global,
     version: Version,
     options: &Options,
-    calls: Vec<Call>,
+    lines: &[u8],
     writer: &mut W,
 ) -> Result<Done, RunError>
     requires good { are_good options.now ≡ true }
-    requires names { All NameIsGood calls.items }
-    ensures printed { Prints (output_of O.meaning version options.now calls.items).replies
+    requires names { All NameIsGood (calls_in lines.now) }
+    ensures printed { Prints (output_of O.meaning version options.now (calls_in lines.now)).replies
         (W.contents writer.old) (W.contents writer.new) result }
     ensures done { IfOk result (λ done. done ≡ Done.Fine) }
 {
@@ -75,33 +85,34 @@ fn print_opened<O: Operator + Sync, W: Write>(
     let mut owned = Owned::<O>::new(alloc, version, *options)?;
     let line = numbered_line(alloc, b"opened ", last)?;
     write_bytes(writer, &line)?;
-    print_replies::<O, W>(rt, alloc, &mut owned, last, calls, writer)?;
+    print_replies::<O, W>(rt, alloc, &mut owned, last, lines, writer)?;
     Ok(Done::Fine)
 }
 
-/// Opens the store that a script asks for, and prints why it is refused, or that it opened and the replies.
+/// Opens the store that a script asks for, and prints why it is refused, or that it opened and the replies to the calls that
+/// the lines behind `open` name.
 fn print_script<O: Operator + Sync, W: Write>(
     rt: &(impl Threads + Sync),
     alloc: Global,
-    script: Script,
+    preamble: Preamble,
+    lines: &[u8],
     options: &Options,
     writer: &mut W,
     reason: &mut Option<Reason>,
 ) -> Result<Done, RunError>
-    requires fits { FitsLog script.ops }
-    requires names { All NameIsGood script.calls }
+    requires fits { FitsLog preamble.ops }
+    requires names { All NameIsGood (calls_in lines.now) }
     requires none { reason.old ≡ None }
-    ensures printed { Prints (script_output O.meaning options.now script).replies
+    ensures printed { Prints (script_output O.meaning options.now (script_with preamble lines.now)).replies
         (W.contents writer.old) (W.contents writer.new) result }
-    ensures done { IfOk result (λ done. done ≡ (script_output O.meaning options.now script).done) }
-    ensures told { IsReason (opening_cause (opening_of options.now script)) reason.new }
-    ensures opening { OnOk result (TellsOpening (opening_cause (opening_of options.now script)) reason.new) }
+    ensures done { IfOk result (λ done. done ≡ (script_output O.meaning options.now (script_with preamble lines.now)).done) }
+    ensures told { IsReason (opening_cause (opening_of options.now (script_with preamble lines.now))) reason.new }
+    ensures opening { OnOk result
+        (TellsOpening (opening_cause (opening_of options.now (script_with preamble lines.now))) reason.new) }
 {
-    let Script { ops, keeps, calls } = script;
+    let Preamble { ops, keeps, .. } = preamble;
     match open_ops(alloc, ops, keeps, *options) {
-        Ok(version) => {
-            print_opened::<O, W>(rt, alloc, version, options, calls.into_vec(), writer)
-        }
+        Ok(version) => print_opened::<O, W>(rt, alloc, version, options, lines, writer),
         Err(OpenError::Memory) => Err(RunError::Memory),
         Err(error) => {
             *reason = reason_of_opening(error, options);
@@ -110,7 +121,7 @@ fn print_script<O: Operator + Sync, W: Write>(
     }
 }
 
-/// Runs a script: opens its store and answers its calls.
+/// Runs a script: opens its store and answers its calls. Of its text the lines behind `open` alone are kept meanwhile.
 fn run<O: Operator + Sync, W: Write>(
     rt: &(impl Threads + Sync),
     alloc: Global,
@@ -127,8 +138,11 @@ fn run<O: Operator + Sync, W: Write>(
     ensures told { IsReason (cause_of options.now input.items) reason.new }
     ensures opening { OnOk result (TellsOpening (cause_of options.now input.items) reason.new) }
 {
-    match script_in(alloc, input, reason) {
-        Ok(script) => print_script::<O, W>(rt, alloc, script, options, writer, reason),
+    match judged(alloc, &input, reason) {
+        Ok(preamble) => {
+            let lines = behind(input, preamble.size);
+            print_script::<O, W>(rt, alloc, preamble, &lines, options, writer, reason)
+        }
         Err(ScriptError::Fault(line)) => {
             let line = numbered_line(alloc, b"fault line ", line)?;
             print_refusal(&line, writer)
@@ -171,7 +185,8 @@ pub fn play_with_reason<O: Operator + Sync, R: Read, W: Write>(
 /// meaning and the options. After want of memory it is some whole first replies of that text, and then
 /// `out of memory`; where the reader or the writer fails, or the input is longer than 64 MiB, it is a
 /// front of a text that says so or of that one. It reads at most 64 MiB and a byte, in at most 2^27 reads.
-/// Of the script, its changes, their log and the store no two are held but while the one is made from the other.
+/// Of the script, its changes, their log and the store no two are held but while the one is made from the other, apart from
+/// the lines behind `open`: they are held to the end, and each call is read from them when its turn comes.
 pub fn play<O: Operator + Sync, R: Read, W: Write>(
     rt: &(impl Threads + Sync),
     alloc: Global,

@@ -1,4 +1,5 @@
 use Rattle.std.proofs.Common.{subst}
+use Rattle.uc_script.specs.Calls.{script_with}
 use Rattle.uc_tool_io.specs.Output.{Output, Prints}
 use Rattle.uc_tool_play.specs.Play.{opening_of}
 use Rattle.uc_tool_play.proofs.Opened.{opens}
@@ -7,6 +8,6 @@ use Rattle.uc_tool_play.proofs.playing.print_script.Goals as goal
 pub returns-in-Ok-clause-printed : goal.returns-in-Ok-clause-printed
 returns-in-Ok-clause-printed g c =
     let contents = g.W.Write.contents in
-    let script = c.args.script in
-    let is = opens g.O.Operator.meaning (opening_of c.args.options.now script) c.in-Ok.version script.calls c.into_vec.result.items c.in-Ok.ensures.ok.0 c.in-Ok.ensures.ok.1 c.into_vec.ensures in
+    let script = script_with c.args.preamble c.args.lines.now in
+    let is = opens g.O.Operator.meaning (opening_of c.args.options.now script) c.in-Ok.version script.calls c.in-Ok.ensures.ok.0 c.in-Ok.ensures.ok.1 in
     subst (λ (out : Output). Prints out.replies (contents c.args.writer.now) (contents c.print_opened.new.writer) c.print_opened.result) is c.print_opened.ensures.printed
