@@ -33,7 +33,7 @@ pub(crate) struct Cursors<'a> {
 
 impl<'a> Model for Cursors<'a> {
     ghost use Rattle.uc_query_read.specs.Walks.{Walk};
-    ghost use Rattle.uc_query_read.specs.Held.{walk, AreThere};
+    ghost use Rattle.uc_query_read.specs.HeldWalks.{walk, AreThere};
 
     ghost Value = { Walk };
 

@@ -40,7 +40,7 @@ impl Model for Run {
 
     ghost Value = { Contents };
 
-    ghost use Rattle.uc_run_table.specs.Held.{contents, IsHeld};
+    ghost use Rattle.uc_run_table.specs.HeldRuns.{contents, IsHeld};
 
     ghost view = { contents };
 
