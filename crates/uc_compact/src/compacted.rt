@@ -1,10 +1,9 @@
 //! [`Compacted`]: what a compaction made.
-ghost use Rattle.std.specs.Prelude.{◌≡◌, ◌≤◌, ◌⊎◌, ℕ, List, Contains, false, map};
+ghost use Rattle.std.specs.Prelude.{◌≡◌, map};
 ghost use Rattle.std.specs.Arc.{arc_value};
+ghost use Rattle.uc_compact_rules.specs.Inputs.{AreRuns, Stand};
 ghost use Rattle.uc_compact_rules.specs.Output.{output_of};
-ghost use Rattle.uc_run_entry.specs.PlainList.{plain_list};
-ghost use Rattle.uc_model.specs.Meaning.{effect_on, value_of};
-ghost use Rattle.uc_compact_rules.specs.Inputs.{AreRuns, Stand, high_of, writes_of};
+ghost use Rattle.uc_compact_rules.specs.Reading.{KeepsReads};
 
 use std::marker::{Model, PhantomData};
 use std::sync::Arc;
@@ -82,13 +81,7 @@ impl<O: Operator> Compacted<O> {
     /// writes do to every key what theirs do; with the oldest run among them they give the values that theirs give. It
     /// does nothing.
     pub fn stands_for_inputs(&self)
-        ensures effects { (key : List ℕ) (at : ℕ) → self.now.oldest ≡ false → Contains self.now.keeps at
-            ⊎ (high_of self.now.inputs ≤ at) →
-            effect_on O.meaning (plain_list (output_of O.meaning self.now)) key at ≡
-            effect_on O.meaning (writes_of self.now.inputs) key at }
-        ensures values { (key : List ℕ) (at : ℕ) → Contains self.now.keeps at ⊎ (high_of self.now.inputs ≤ at) →
-            value_of O.meaning (plain_list (output_of O.meaning self.now)) key at ≡
-            value_of O.meaning (writes_of self.now.inputs) key at }
+        ensures { KeepsReads O.meaning self.now (output_of O.meaning self.now) }
     {
         compaction_keeps_what_is_read::<O>();
         self.stands();

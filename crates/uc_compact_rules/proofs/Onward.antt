@@ -7,6 +7,7 @@ use Rattle.std.specs.declared.cmp.Ordering.TheVariants.{Less}
 use Rattle.std.specs.Ordering.{nat_cmp}
 use Rattle.std.proofs.lemmas.Bool.Decides.{nat_tests}
 use Rattle.std.proofs.lemmas.List.{append-nil, append_assoc, length-map, take_rest}
+use mathlib.Core.List.{IsPrefix}
 use Rattle.uc_oper.specs.Operation.{Operation}
 use Rattle.uc_run_entry.specs.declared.entry.Entry.{Entry}
 use Rattle.uc_run_entry.specs.declared.entry.What.{What}
@@ -46,6 +47,11 @@ pushed_some {X} kept rest more whole o x e some so_far = append_assoc kept (x �
 pub pushed : {X : Type 0} (kept rest more whole : List X) (o : Option X) → rest ≡ cons_option o more → kept ++ rest ≡ whole → (kept ++ cons_option o []) ++ more ≡ whole
 pushed {X} kept rest more whole None e so_far = ap (λ (xs : List X). xs ++ more) (append-nil kept) ∙ pushed_none kept rest more whole None e refl so_far
 pushed kept rest more whole (Some x) e so_far = pushed_some kept rest more whole (Some x) x e refl so_far
+
+-- what a list began with it begins with still
+pub begins_still : {X : Type 0} (start kept more grown : List X) → IsPrefix start kept → grown ≡ kept ++ more → IsPrefix start grown
+begins_still start kept more grown begins made =
+    (begins.0 ++ more, sym (append_assoc start begins.0 more) ∙ ap (λ xs. xs ++ more) begins.1 ∙ sym made)
 
 -- ---- sequences
 

@@ -1,5 +1,5 @@
 -- Reads at kept sequences, and above all, see no difference.
-use Rattle.std.proofs.Common.{◌≡◌, ℕ, zero, suc, ◌<◌, ◌≤◌, Bool, true, false, cond, leb, ltb, List, [], ◌∷◌, ◌++◌, Contains, map, filter, ◌⊎◌, inl, inr, refl, sym, ap, ◌∙◌, subst, arith}
+use Rattle.std.proofs.Common.{◌≡◌, ℕ, zero, suc, ◌<◌, ◌≤◌, Bool, true, false, cond, leb, ltb, List, [], ◌∷◌, ◌++◌, Contains, map, filter, inl, inr, refl, sym, ap, ◌∙◌, subst, arith}
 use Rattle.std.specs.Prelude.{◌&&◌, ◌-◌, ◌^◌, Option, Some, None, option_map}
 use Rattle.std.specs.List.{AllByRecursion, flat_map, cons_option}
 use Rattle.std.specs.List.Sorted.{IsNonDecreasingBy}
@@ -23,6 +23,7 @@ use Rattle.uc_run_entry.proofs.Lookup.{found_within, all_moved}
 use Rattle.uc_compact_rules.specs.Stripes.{Stripe, is_in, stripes_above, stripes, has_bottom, is_bottom}
 use Rattle.uc_compact_rules.specs.Inputs.{Compaction, AreRuns, AreNewestFirst, Stand, high_of, low_of, writes_of, points_of, keeping_of}
 use Rattle.uc_compact_rules.specs.Output.{greatest, newest_point, newest_range, effect_in, what_kept, point_kept, points_kept, seq_kept, fragments_kept, output_of}
+use Rattle.uc_compact_rules.specs.Reading.{IsReadAt, KeepsReads, KeepsStripes}
 use Rattle.uc_compact_rules.proofs.Lists.{all-append, all-map, all-mapped, all-filter, all-flat_map}
 use Rattle.uc_compact_rules.proofs.Effects.{seqs_of, HoldsWithin, run_points, run_fragments, all_points, all_seqs, effect_of_runs}
 use Rattle.uc_compact_rules.proofs.Choosing.{stands, stands_alone}
@@ -79,7 +80,7 @@ module _ {X : Type 0} (f g : ℕ → X) where
   all_zero (k ∷ ks) = (omega arith, all_zero ks)
 
   pub equal_at : (keeps : List ℕ) → Rise keeps → f 0 ≡ g 0 → AllByRecursion StaysOver (stripes keeps) → (high : ℕ) → high ≤ 2 ^ 56 - 1 → ((a b : ℕ) → high ≤ a → high ≤ b → f a ≡ f b) → ((a b : ℕ) → high ≤ a → high ≤ b → g a ≡ g b) →
-      (at : ℕ) → Contains keeps at ⊎ (high ≤ at) → f at ≡ g at
+      (at : ℕ) → IsReadAt keeps high at → f at ≡ g at
   unfolding EndsEqual
   equal_at keeps rise base steps high top levels levels' at (inl kept) = contained (λ k. f k ≡ g k) keeps at (at_keeps 0 keeps base (all_zero keeps) rise steps) kept
   equal_at keeps rise base steps high top levels levels' at (inr above) =
@@ -273,13 +274,13 @@ module _ (m : Operation) (laws : IsLawful m) (c : Compaction) (are : AreRuns c.i
   not_bottom : (s : Stripe) → c.oldest ≡ false → is_bottom (keeping_of c) s ≡ false
   not_bottom s e = ap (λ b. has_bottom (cond b (Some (low_of c.inputs)) None) s) e
 
-  pub effects_stay_in_stripes : AllByRecursion (λ s. is_bottom (keeping_of c) s ≡ false → found s ≡ wanted s) (stripes c.keeps)
+  effects_stay_in_stripes : AllByRecursion (λ s. is_bottom (keeping_of c) s ≡ false → found s ≡ wanted s) (stripes c.keeps)
   effects_stay_in_stripes = all-map FoundIn (λ s. is_bottom (keeping_of c) s ≡ false → found s ≡ wanted s) (λ s f e. f ∙ same_effect s e) (stripes c.keeps) all_found
 
-  pub values_stay_in_stripes : AllByRecursion (λ s. is_bottom (keeping_of c) s ≡ true → applied m (found s) None ≡ applied m (wanted s) None) (stripes c.keeps)
+  values_stay_in_stripes : AllByRecursion (λ s. is_bottom (keeping_of c) s ≡ true → applied m (found s) None ≡ applied m (wanted s) None) (stripes c.keeps)
   values_stay_in_stripes = all-map FoundIn (λ s. is_bottom (keeping_of c) s ≡ true → applied m (found s) None ≡ applied m (wanted s) None) (λ s f e. ap (λ (effect : Effect). applied m effect None) f ∙ same_value s e) (stripes c.keeps) all_found
 
-  pub effects_stay : c.oldest ≡ false → (at : ℕ) → Contains c.keeps at ⊎ (high_of c.inputs ≤ at) → effect_on m V key at ≡ effect_on m W key at
+  effects_stay : c.oldest ≡ false → (at : ℕ) → IsReadAt c.keeps (high_of c.inputs) at → effect_on m V key at ≡ effect_on m W key at
   effects_stay e at kept =
       equal_at (effect_on m V key) (effect_on m W key) c.keeps stand.keeps_rise (none_below 0 zero_below V V_within ∙ sym (none_below 0 zero_below W W_within))
       (all-map FoundIn (StaysOver (effect_on m V key) (effect_on m W key)) (λ s f le same. stays s f le same) (stripes c.keeps) all_found)
@@ -324,7 +325,7 @@ module _ (m : Operation) (laws : IsLawful m) (c : Compaction) (are : AreRuns c.i
       ∙ sym (ap (applied m (wanted s)) (no_value_below s.above (above_from s e) W W_within))
       ∙ sym (stripe_changes m laws W key W_order s.above s.upto le)
 
-  pub values_stay : (at : ℕ) → Contains c.keeps at ⊎ (high_of c.inputs ≤ at) → value_of m V key at ≡ value_of m W key at
+  values_stay : (at : ℕ) → IsReadAt c.keeps (high_of c.inputs) at → value_of m V key at ≡ value_of m W key at
   values_stay at kept =
       equal_at (value_of m V key) (value_of m W key) c.keeps stand.keeps_rise (no_value_below 0 zero_below V V_within ∙ sym (no_value_below 0 zero_below W W_within))
       (all-map FoundIn (StaysOver (value_of m V key) (value_of m W key)) (λ s f le same. value_stays s f le same (is_bottom (keeping_of c) s) refl) (stripes c.keeps) all_found)
@@ -332,3 +333,16 @@ module _ (m : Operation) (laws : IsLawful m) (c : Compaction) (are : AreRuns c.i
       (λ a b up over. sym (effect_gives m laws None V key a) ∙ ap (λ (ws : List Write). applied m (effect_in_turn m ws) None) (same_touching V key (high_of c.inputs) a b (up_to_high V V_within) up over) ∙ effect_gives m laws None V key b)
       (λ a b up over. sym (effect_gives m laws None W key a) ∙ ap (λ (ws : List Write). applied m (effect_in_turn m ws) None) (same_touching W key (high_of c.inputs) a b (up_to_high W W_within) up over) ∙ effect_gives m laws None W key b)
       at kept
+
+module _ (m : Operation) (laws : IsLawful m) (c : Compaction) (are : AreRuns c.inputs) (stand : Stand c.inputs c.keeps) where
+  pub keeps_stripes : KeepsStripes m c (output_of m c)
+  keeps_stripes = record {
+    effects = λ key. effects_stay_in_stripes m laws c are stand key;
+    bottom = λ key. values_stay_in_stripes m laws c are stand key;
+  }
+
+  pub keeps_reads : KeepsReads m c (output_of m c)
+  keeps_reads = record {
+    effects = λ newer key at kept. effects_stay m laws c are stand key newer at kept;
+    values = λ key at kept. values_stay m laws c are stand key at kept;
+  }

@@ -1,9 +1,10 @@
 //! [`push_kept_points`]: what is kept of one key's points.
-ghost use Rattle.std.specs.Prelude.{◌≡◌, ◌<◌, ◌↔◌, ◌++◌, [], map, nat_lt, IsTrue, IfOk, OnOk};
+ghost use Rattle.std.specs.Prelude.{◌≡◌, ◌<◌, ◌↔◌, ◌++◌, [], map, nat_lt, IsTrue, IfOk, OnOk, OnErr};
 ghost use Rattle.std.specs.List.{AllByRecursion, cons_option};
 ghost use Rattle.std.specs.Option.{option_to_list};
 ghost use Rattle.std.specs.List.Sorted.{IsStrictlySortedBy};
 ghost use Rattle.std.specs.Ordering.{nat_cmp};
+ghost use mathlib.Core.List.{IsPrefix};
 ghost use Rattle.uc_compact_rules.specs.Choice as choice;
 ghost use Rattle.uc_compact_rules.specs.Choice.{AreOfOneKey, PointsFall, points_for};
 ghost use Rattle.uc_compact_rules.specs.Output as output;
@@ -100,12 +101,45 @@ fn point_for<O: Operator + Sync>(
     }
 }
 
-/// Pushes a point where there is one.
+/// Pushes a point where there is one. It fails only for want of memory, and pushes nothing then.
 fn push_some(kept: &mut Vec<Point>, point: Option<Point>) -> Result<(), AllocError>
-    ensures { OnOk result (kept.new.items ≡ kept.old.items ++ cons_option point []) }
+    ensures pushed { OnOk result (kept.new.items ≡ kept.old.items ++ cons_option point []) }
+    ensures as_it_was { OnErr result (kept.new.items ≡ kept.old.items) }
 {
     if let Some(point) = point {
         kept.push(point)?;
+    }
+    Ok(())
+}
+
+/// Pushes the points that stand for a key's points, stripe by stripe. Where memory is wanting, some of them stand behind
+/// what there was.
+fn push_each_stripe<O: Operator + Sync>(
+    rt: &(impl Threads + Sync),
+    alloc: Global,
+    kept: &mut Vec<Point>,
+    key: &[u8],
+    points: &[&Point],
+    seqs: &Over<'_>,
+    keeping: &Keeping<'_>,
+) -> Result<(), AllocError>
+    requires of_one_key { AreOfOneKey (map (λ p. p.now) points.now) seqs.now }
+    requires keeps_rise { IsStrictlySortedBy nat_cmp keeping.now.keeps }
+    ensures pushed { OnOk result
+        (kept.new.items ≡
+        kept.old.items
+        ++ points_for O.meaning keeping.now key.now (map (λ p. p.now) points.now)
+        seqs.now) }
+    ensures begins { IsPrefix kept.old.items kept.new.items }
+{
+    let mut rest = points;
+    while let Some(newest) = rest.first() {
+        let stripe = keeping.stripe_of(newest.seq());
+        let (own, count) = stripe.own_points(rest);
+        let range = stripe.newest_of(seqs);
+        let bottom = keeping.is_bottom(&stripe);
+        push_some(kept, point_for::<O>(rt, alloc, bottom, key, own, range)?)?;
+        rest = &rest[count..];
     }
     Ok(())
 }
@@ -114,8 +148,8 @@ fn push_some(kept: &mut Vec<Point>, point: Option<Point>) -> Result<(), AllocErr
 /// point there. The key's points and the sequences of the range deletions over it come the newest first.
 ///
 /// It takes time for the stripes that have points, and not for the others. Of the points of a stripe it reads those
-/// that no newer put, delete or range deletion hides; many of them are folded by halves in two threads. Where memory is
-/// wanting, what `kept` then holds is of no use.
+/// that no newer put, delete or range deletion hides; many of them are folded by halves in two threads. It fails only
+/// for want of memory, and pushes nothing then.
 pub fn push_kept_points<O: Operator + Sync>(
     rt: &(impl Threads + Sync),
     alloc: Global,
@@ -127,20 +161,18 @@ pub fn push_kept_points<O: Operator + Sync>(
 ) -> Result<(), AllocError>
     requires of_one_key { AreOfOneKey (map (λ p. p.now) points.now) seqs.now }
     requires keeps_rise { IsStrictlySortedBy nat_cmp keeping.now.keeps }
-    ensures { OnOk result
+    ensures pushed { OnOk result
         (kept.new.items ≡
         kept.old.items
         ++ points_for O.meaning keeping.now key.now (map (λ p. p.now) points.now)
         seqs.now) }
+    ensures as_it_was { OnErr result (kept.new.items ≡ kept.old.items) }
 {
-    let mut rest = points;
-    while let Some(newest) = rest.first() {
-        let stripe = keeping.stripe_of(newest.seq());
-        let (own, count) = stripe.own_points(rest);
-        let range = stripe.newest_of(seqs);
-        let bottom = keeping.is_bottom(&stripe);
-        push_some(kept, point_for::<O>(rt, alloc, bottom, key, own, range)?)?;
-        rest = &rest[count..];
+    let before = kept.len();
+    if let Err(error) = push_each_stripe::<O>(rt, alloc, kept, key, points, seqs, keeping) {
+        // Points of some stripes alone stand for no key.
+        kept.truncate(before);
+        return Err(error);
     }
     Ok(())
 }

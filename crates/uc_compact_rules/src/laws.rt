@@ -1,22 +1,21 @@
 //! What holds of a compaction's output, under every operator.
-ghost use Rattle.std.specs.Prelude.{◌≡◌, ℕ, ◌<◌, ◌≤◌, ◌^◌, ◌&&◌, ◌⊎◌, [], ◌∷◌, List, Contains, None};
-ghost use Rattle.std.specs.Prelude.{false, true, filter, length};
-ghost use Rattle.std.specs.List.{AllByRecursion, flat_map};
+ghost use Rattle.std.specs.Prelude.{◌≡◌, ℕ, ◌<◌, ◌^◌, ◌∷◌, List, filter, length};
+ghost use Rattle.std.specs.List.{flat_map};
 ghost use Rattle.std.specs.List.Sorted.{IsStrictlySortedBy, IsNonDecreasingBy};
 ghost use Rattle.std.specs.Ordering.{nat_cmp};
-ghost use Rattle.uc_bytes.specs.Bytes.{same_bytes};
-ghost use Rattle.uc_oper.specs.Composition.{applied, composed};
+ghost use Rattle.uc_oper.specs.Composition.{composed};
 ghost use Rattle.uc_bytes.specs.declared.write.Write.{Write};
 ghost use Rattle.uc_run_entry.specs.Run.{Contents, IsRun};
 ghost use Rattle.uc_run_entry.specs.PlainList.{plain_list};
-ghost use Rattle.uc_model.specs.Meaning.{effect_on, effect_within, value_of};
-ghost use Rattle.uc_compact_rules.specs.Stripes.{is_in, stripes, is_bottom};
+ghost use Rattle.uc_model.specs.Meaning.{effect_on};
+ghost use Rattle.uc_compact_rules.specs.Stripes.{is_in, stripes};
 ghost use Rattle.uc_run_fragment.specs.Cutting.{fragments_of};
 ghost use Rattle.uc_compact_rules.specs.Choice.{points_for, points_named, seqs_over, AreOfOneKey};
-ghost use Rattle.uc_compact_rules.specs.Inputs.{Compaction, AreRuns, AreNewestFirst, Stand, high_of};
+ghost use Rattle.uc_compact_rules.specs.Inputs.{Compaction, AreRuns, AreNewestFirst, Stand};
 ghost use Rattle.uc_compact_rules.specs.Inputs.{writes_of, points_of, ranges_of, keeping_of};
 ghost use Rattle.uc_compact_rules.specs.Output.{keys_of, output_of};
-ghost use Rattle.uc_compact_rules.specs.Values.{IsPut};
+ghost use Rattle.uc_compact_rules.specs.Reading.{KeepsReads, KeepsStripes};
+ghost use Rattle.uc_compact_rules.specs.OneOfEach.{HasOneOfEach, HasValuesAlone};
 
 use uc_oper::Operator;
 
@@ -47,52 +46,28 @@ pub fn compaction_gives_a_run<O: Operator>()
 /// inputs' writes do. With the oldest run among the inputs, nothing stands below, and they give every key the value
 /// that the inputs' writes give it.
 pub fn compaction_keeps_what_is_read<O: Operator>()
-    ensures effects { (c : Compaction) (key : List ℕ) (at : ℕ) → AreRuns c.inputs → Stand c.inputs c.keeps →
-        c.oldest ≡ false →
-        Contains c.keeps at ⊎ (high_of c.inputs ≤ at) →
-        effect_on O.meaning (plain_list (output_of O.meaning c)) key at ≡ effect_on O.meaning (writes_of c.inputs) key at }
-    ensures values { (c : Compaction) (key : List ℕ) (at : ℕ) → AreRuns c.inputs → Stand c.inputs c.keeps →
-        Contains c.keeps at ⊎ (high_of c.inputs ≤ at) →
-        value_of O.meaning (plain_list (output_of O.meaning c)) key at ≡ value_of O.meaning (writes_of c.inputs) key at }
+    ensures { (c : Compaction) → AreRuns c.inputs → Stand c.inputs c.keeps →
+        KeepsReads O.meaning c (output_of O.meaning c) }
 {}
 
 /// What the output's writes of a stripe do to a key is what the inputs' writes of that stripe do, wherever something may
 /// stand below. In the bottom stripe of a compaction with the oldest run nothing does: there they give the same value.
 pub fn compaction_keeps_each_stripe<O: Operator>()
-    ensures effects { (c : Compaction) (key : List ℕ) → AreRuns c.inputs → Stand c.inputs c.keeps →
-        AllByRecursion (λ s. is_bottom (keeping_of c) s ≡ false →
-        effect_within O.meaning (plain_list (output_of O.meaning c)) key s.above s.upto ≡
-        effect_within O.meaning (writes_of c.inputs) key s.above s.upto) (stripes c.keeps) }
-    ensures bottom { (c : Compaction) (key : List ℕ) → AreRuns c.inputs → Stand c.inputs c.keeps →
-        AllByRecursion (λ s. is_bottom (keeping_of c) s ≡ true →
-        applied O.meaning (effect_within O.meaning (plain_list (output_of O.meaning c)) key s.above s.upto) None ≡
-        applied O.meaning (effect_within O.meaning (writes_of c.inputs) key s.above s.upto) None) (stripes c.keeps) }
+    ensures { (c : Compaction) → AreRuns c.inputs → Stand c.inputs c.keeps →
+        KeepsStripes O.meaning c (output_of O.meaning c) }
 {}
 
 /// The output has at most one point for each key and stripe, and each of its fragments has at most one sequence of each.
 pub fn compaction_keeps_one_of_each_stripe<O: Operator>()
-    ensures points { (c : Compaction) (key : List ℕ) → AreRuns c.inputs → Stand c.inputs c.keeps →
-        AllByRecursion (λ s.
-        length (filter (λ p. is_in s p.seq && same_bytes p.key key) (output_of O.meaning c).points) ≤ 1)
-        (stripes c.keeps) }
-    ensures fragments { (c : Compaction) → AreRuns c.inputs → Stand c.inputs c.keeps →
-        AllByRecursion (λ s.
-        AllByRecursion (λ f. length (filter (is_in s) f.seqs) ≤ 1) (output_of O.meaning c).fragments)
-        (stripes c.keeps) }
+    ensures { (c : Compaction) → AreRuns c.inputs → Stand c.inputs c.keeps →
+        HasOneOfEach c.keeps (output_of O.meaning c) }
 {}
 
 /// In the bottom stripe of a compaction with the oldest run only values are left: no delete, no merge and no range
 /// deletion.
 pub fn compaction_of_the_oldest_leaves_values<O: Operator>()
-    ensures points { (c : Compaction) (key : List ℕ) → AreRuns c.inputs → Stand c.inputs c.keeps →
-        AllByRecursion (λ s. is_bottom (keeping_of c) s ≡ true →
-        AllByRecursion (λ p. IsPut p.what)
-        (filter (λ p. is_in s p.seq && same_bytes p.key key) (output_of O.meaning c).points))
-        (stripes c.keeps) }
-    ensures fragments { (c : Compaction) → AreRuns c.inputs → Stand c.inputs c.keeps →
-        AllByRecursion (λ s. is_bottom (keeping_of c) s ≡ true →
-        AllByRecursion (λ f. filter (is_in s) f.seqs ≡ []) (output_of O.meaning c).fragments)
-        (stripes c.keeps) }
+    ensures { (c : Compaction) → AreRuns c.inputs → Stand c.inputs c.keeps →
+        HasValuesAlone (keeping_of c) (output_of O.meaning c) }
 {}
 
 /// What a compaction keeps of the points, key by key: it depends on no more than the key's points, the newest first, and

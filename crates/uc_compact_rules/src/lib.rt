@@ -2,7 +2,7 @@
 //!
 //! A compaction folds what happened to each key between two neighbouring kept sequences, a *stripe*. Read
 //! `specs/Stripes.antt` first, then `specs/Inputs.antt` and `specs/Output.antt`, which says what comes of each key and
-//! stripe, and `laws.rt`, which says that reads see no difference.
+//! stripe, and `specs/Reading.antt` with `laws.rt`, which say that reads see no difference.
 #![tactic(auto)]
 
 mod checking;

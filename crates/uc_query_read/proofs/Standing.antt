@@ -1,7 +1,6 @@
 -- Where the cursors of a walk stand: before the least key, and behind it once it was passed.
 use Rattle.std.proofs.Common.{◌≡◌, ℕ, suc, ◌<◌, ◌≤◌, max, Bool, true, false, cond, List, [], ◌∷◌, ◌++◌, map, take, drop, filter, length, get_or, Option, Some, None, refl, sym, ap, ◌∙◌, subst, arith}
-use Rattle.std.specs.Prelude.{option_map}
-use Rattle.std.specs.List.{AllByRecursion, slice_get}
+use Rattle.std.specs.List.{AllByRecursion}
 use Rattle.std.specs.declared.cmp.Ordering.{Ordering}
 use Rattle.std.specs.declared.cmp.Ordering.TheVariants.{Less, Equal, Greater}
 use Rattle.std.specs.Ordering.{is_lt, is_le, ordering_reverse}
@@ -124,16 +123,9 @@ runs_start low strict [] = refl
 runs_start low strict (r ∷ rs) = ap (λ (runs : List Contents). r ∷ runs) (runs_start low strict rs)
 
 -- the cursor at a place of the list
-at_place : (low : List ℕ) (strict : Bool) (cs : List Standing) (i : ℕ) (c : Standing) → i < length cs → c ≡ get_or cs i c → AllByRecursion (StandsAt low strict) cs → StandsAt low strict c
+pub at_place : (low : List ℕ) (strict : Bool) (cs : List Standing) (i : ℕ) (c : Standing) → i < length cs → c ≡ get_or cs i c → AllByRecursion (StandsAt low strict) cs → StandsAt low strict c
 at_place low strict cs i c lt is h =
     subst (StandsAt low strict) (sym is) (All-from_recursion (StandsAt low strict) cs h i c lt)
-
--- the key before which it stands is its run's next one
-pub own_next : (low : List ℕ) (strict : Bool) (cs : List Standing) (i : ℕ) (c : Standing) (key : Option (List ℕ)) → i < length cs → c ≡ get_or cs i c → AllByRecursion (StandsAt low strict) cs →
-    IsNextKey c.run.points low strict (option_map (λ p. p.key) (slice_get c.run.points (seek_place c.run.points low strict))) → key ≡ option_map (λ p. p.key) (slice_get c.run.points c.place) →
-    IsNextKey c.run.points low strict key
-own_next low strict cs i c key lt is h next found =
-    subst (IsNextKey c.run.points low strict) (sym (found ∙ ap (λ n. option_map (λ p. p.key) (slice_get c.run.points n)) (at_place low strict cs i c lt is h))) next
 
 -- ---- a step
 

@@ -1,4 +1,4 @@
 pub mod Ahead
 pub mod Walks
-pub mod Held
+pub mod HeldWalks
 pub mod Dead

@@ -16,7 +16,6 @@ use std::marker::Model;
 use uc_bytes::Bytes;
 use uc_model::{effect_gives_value, effects_of_parts_compose};
 use uc_oper::{Effect, Operator};
-use uc_run::next_key_is_the_least;
 use uc_run_table::Cursor;
 use uc_version_state::Placed;
 
@@ -34,7 +33,7 @@ pub(crate) struct Cursors<'a> {
 
 impl<'a> Model for Cursors<'a> {
     ghost use Rattle.uc_query_read.specs.Walks.{Walk};
-    ghost use Rattle.uc_query_read.specs.Held.{walk, AreThere};
+    ghost use Rattle.uc_query_read.specs.HeldWalks.{walk, AreThere};
 
     ghost Value = { Walk };
 
@@ -91,10 +90,8 @@ pub(crate) fn least_key<'a>(cursors: &[Cursor<'a>]) -> Option<&'a [u8]>
     ensures { (low : List ℕ) (strict : Bool) → AllByRecursion (StandsAt low strict) cursors.now →
         IsNextKey (points_of (runs_of cursors.now)) low strict (option_map (λ k. k.now) result) }
 {
-    next_key_is_the_least();
     let mut least = None;
     for cursor in cursors {
-        cursor.is_of_run();
         least = lesser(least, cursor.key());
     }
     least

@@ -1,5 +1,5 @@
 pub mod Size
 pub mod Slots
-pub mod Held
+pub mod HeldWrites
 pub mod Points
 pub mod Flush

@@ -29,4 +29,4 @@ pub use uc_run_entry::{
 pub use uc_run_fragment::{
     Fragments, Range, cut_ranges, fragments_are_in_order, fragments_cover_what_ranges_cover,
 };
-pub use uc_run_table::{Run, next_key_is_the_least};
+pub use uc_run_table::Run;

@@ -29,7 +29,7 @@ pub struct Memtable {
 impl Model for Memtable {
     ghost use Rattle.std.specs.Prelude.{List};
     ghost use Rattle.uc_bytes.specs.declared.write.Write.{Write};
-    ghost use Rattle.uc_run.specs.Held.{inserted, IsHeld};
+    ghost use Rattle.uc_run.specs.HeldWrites.{inserted, IsHeld};
 
     ghost Value = { List Write };
 

@@ -69,5 +69,9 @@ module _ (low : List ℕ) (strict : Bool) where
       by true e next = later p ps (key_at ps (length (filter test ps))) e next
       by false e next = subst (λ n. IsNextKey (p ∷ ps) low strict (key_at (p ∷ ps) n)) (sym (none_passed p ps e h.0)) (here p ps e h.0)
 
-  pub next_key : (ps : List Entry) → IsStrictlySortedBy entry_cmp ps → IsNextKey ps low strict (key_at ps (seek_place ps low strict))
+  next_key : (ps : List Entry) → IsStrictlySortedBy entry_cmp ps → IsNextKey ps low strict (key_at ps (seek_place ps low strict))
   next_key ps h = subst (λ n. IsNextKey ps low strict (key_at ps n)) (length-filter test ps) (by_filter ps h)
+
+  -- what was found at that place is the next key
+  pub found_is_next : (ps : List Entry) (place : ℕ) (found : Option (List ℕ)) → IsStrictlySortedBy entry_cmp ps → place ≡ seek_place ps low strict → found ≡ option_map (λ p. p.key) (slice_get ps place) → IsNextKey ps low strict found
+  found_is_next ps place found h at e = subst (IsNextKey ps low strict) (sym (e ∙ ap (key_at ps) at)) (next_key ps h)

@@ -1,4 +1,4 @@
-pub mod Held
+pub mod HeldRuns
 pub mod Blocks
 pub mod Fences
 pub mod Places

@@ -1,11 +1,12 @@
 //! [`Cursor`]: where a walk over a run's points in order of key stands.
-ghost use Rattle.std.specs.Prelude.{◌≡◌, ◌↔◌, true, false, max, option_map, IfOk, IsTrue};
+ghost use Rattle.std.specs.Prelude.{◌≡◌, ◌↔◌, ℕ, Bool, List, true, false, max, option_map, IfOk, IsTrue};
 ghost use Rattle.std.specs.List.{slice_get};
 ghost use Rattle.uc_run_entry.specs.Run.{IsRun};
 ghost use Rattle.uc_run_entry.specs.PlainList.{plain_list};
 ghost use Rattle.uc_run_entry.specs.Seek.{seek_place};
 ghost use Rattle.uc_model.specs.Meaning.{effect_on};
 ghost use Rattle.uc_run_table.specs.Hiding.{hidden_to};
+ghost use Rattle.uc_run_table.specs.NextKey.{IsNextKey};
 
 use crate::fences::passed_from;
 use crate::lookup::effect_found;
@@ -56,11 +57,15 @@ impl<'a> Cursor<'a> {
         self.run.is_one();
     }
 
-    /// The key of the first point that isn't passed, without a search.
+    /// The key of the first point that isn't passed, without a search. Where those points are passed that who looks for the
+    /// keys from a bound on passes over, it is the next key from there.
     pub fn key(&self) -> Option<&'a [u8]>
-        ensures { option_map (λ key. key.now) result ≡
+        ensures there { option_map (λ key. key.now) result ≡
             option_map (λ p. p.key) (slice_get self.now.run.points self.now.place) }
+        ensures next { (low : List ℕ) (strict : Bool) → self.now.place ≡ seek_place self.now.run.points low strict →
+            IsNextKey self.now.run.points low strict (option_map (λ key. key.now) result) }
     {
+        self.run.is_one();
         let point = self.run.entries().get(self.place)?;
         Some(point.key())
     }

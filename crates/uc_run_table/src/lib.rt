@@ -7,7 +7,6 @@
 
 mod cursor;
 mod fences;
-mod laws;
 mod lookup;
 mod near;
 mod places;
@@ -17,5 +16,4 @@ mod same;
 mod size;
 
 pub use cursor::Cursor;
-pub use laws::next_key_is_the_least;
 pub use run::Run;

@@ -9,6 +9,7 @@ ghost use Rattle.uc_model.specs.Meaning.{effect_on};
 ghost use Rattle.uc_run_entry.specs.Packed as packed;
 ghost use Rattle.uc_run_table.specs.Blocks.{blocks_of, fence_of};
 ghost use Rattle.uc_run_table.specs.Fences.{IsFenced};
+ghost use Rattle.uc_run_table.specs.NextKey.{IsNextKey};
 
 use crate::cursor::Cursor;
 use crate::fences::{Fences, fences_of, seek_by_fences};
@@ -39,7 +40,7 @@ impl Model for Run {
 
     ghost Value = { Contents };
 
-    ghost use Rattle.uc_run_table.specs.Held.{contents, IsHeld};
+    ghost use Rattle.uc_run_table.specs.HeldRuns.{contents, IsHeld};
 
     ghost view = { contents };
 
@@ -193,9 +194,7 @@ impl Run {
 
     /// The least key of a point that is at or above `low` or, where strict, above it.
     pub fn next_key(&self, low: &[u8], strict: bool) -> Option<&[u8]>
-        ensures { option_map (λ key. key.now) result ≡
-            option_map (λ p. p.key)
-            (slice_get self.now.points (seek.seek_place self.now.points low.now strict)) }
+        ensures { IsNextKey self.now.points low.now strict (option_map (λ key. key.now) result) }
     {
         let point = self
             .points

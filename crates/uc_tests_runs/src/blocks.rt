@@ -5,7 +5,7 @@ use std::test::Fail;
 use uc_bytes::Bytes;
 use uc_oper::{Append, Effect};
 use uc_run_entry::{Entry, Fragment, Seqs, What, WhatRef, is_run};
-use uc_run_table::{Run, next_key_is_the_least};
+use uc_run_table::Run;
 
 fn bytes(alloc: Global, text: &[u8]) -> Result<Bytes, Fail> {
     Ok(Bytes::from_slice(alloc, text)?)
@@ -293,9 +293,4 @@ fn effects_by_sequence(rt: HostRuntime) -> Result<(), Fail> {
     let same = merges(alloc)?;
     assert!(rt; is_of_merges(&run, &same, &puts(alloc, 4)?));
     Ok(())
-}
-
-#[test]
-fn laws_hold() {
-    next_key_is_the_least();
 }

@@ -4,4 +4,4 @@ pub mod Compacting
 pub mod Installing
 pub mod AtOnce
 pub mod Picking
-pub mod Held
+pub mod HeldOwners

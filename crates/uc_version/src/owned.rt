@@ -40,7 +40,7 @@ pub struct Owned<O: Operator> {
 
 impl<O: Operator> Model for Owned<O> {
     ghost use Rattle.uc_version.specs.Owners.{Owner};
-    ghost use Rattle.uc_version.specs.Held.{owner, IsOwned};
+    ghost use Rattle.uc_version.specs.HeldOwners.{owner, IsOwned};
 
     ghost Value = { Owner };
 

@@ -1,4 +1,4 @@
 pub mod Refusal
 pub mod Progress
 pub mod Steps
-pub mod Held
+pub mod HeldProgress

@@ -34,7 +34,7 @@ pub struct Opener {
 
 impl Model for Opener {
     ghost use Rattle.uc_version_open.specs.Progress.{Progress};
-    ghost use Rattle.uc_version_open.specs.Held.{progress, HasProgressed};
+    ghost use Rattle.uc_version_open.specs.HeldProgress.{progress, HasProgressed};
 
     ghost Value = { Progress };
 

@@ -8,7 +8,7 @@ use Rattle.uc_version_state.specs.Versions.{Stored, contents_of}
 use Rattle.uc_version_state.specs.declared.event.Event.TheVariants.{Installed}
 use Rattle.uc_version_state.specs.declared.refusal.Refusal.{Refusal}
 use Rattle.uc_version_state.specs.Installs.{Install, MayInstall, MayReplace, inputs_in, older_in}
-use Rattle.uc_version_state.specs.InstallView.{IsInstall}
+use Rattle.uc_version_state.specs.HeldInstalls.{IsInstall}
 use Rattle.uc_version_state.specs.Refusals.{AreReplaceable, IsMade, terms_in}
 
 -- an install whose runs may be replaced, and whose output is what they become

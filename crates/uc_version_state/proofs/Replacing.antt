@@ -1,5 +1,5 @@
 -- An install puts a run in place of others, and reads see no difference.
-use Rattle.std.proofs.Common.{◌≡◌, ◌≢◌, ℕ, ◌≤◌, Bool, true, false, leb, List, [], ◌∷◌, ◌++◌, Contains, ◌⊎◌, inl, inr, length, take, refl, sym, ap, ◌∙◌, subst, arith}
+use Rattle.std.proofs.Common.{◌≡◌, ◌≢◌, ℕ, ◌≤◌, Bool, true, false, leb, List, [], ◌∷◌, ◌++◌, inl, inr, length, take, refl, sym, ap, ◌∙◌, subst, arith}
 use Rattle.std.specs.Prelude.{None}
 use Rattle.std.specs.List.{AllByRecursion}
 use Rattle.std.proofs.lemmas.Bool.Decides.{nat_tests}
@@ -13,7 +13,8 @@ use Rattle.uc_run_entry.specs.Run.{Contents}
 use Rattle.uc_run_entry.specs.PlainList.{plain_list}
 use Rattle.uc_compact_rules.specs.Inputs.{AreRuns, AreNewestFirst, Stand, writes_of, high_of}
 use Rattle.uc_compact_rules.specs.Output.{output_of}
-use Rattle.uc_compact_rules.proofs.Staying.{effects_stay, values_stay}
+use Rattle.uc_compact_rules.specs.Reading.{IsReadAt, KeepsReads}
+use Rattle.uc_compact_rules.proofs.Staying.{keeps_reads}
 use Rattle.uc_version_state.specs.Versions.{PlacedRun, Stored, IsVersion, contents_of, ids_of, writes_in}
 use Rattle.uc_version_state.specs.Installs.{Install, MayInstall, place_in, inputs_in, older_in, compaction_in, slot_of, installed}
 use Rattle.uc_version_state.proofs.Parts.{in_parts, writes-append, all-front, all-behind, first-front, first-behind, of_newest}
@@ -68,13 +69,16 @@ module _ (m : Operation) (laws : IsLawful m) (v : Stored) (i : Install) (is_vers
   }
 
   -- a kept sequence is one that the compaction was made for, or isn't below its inputs
-  pub is_kept : (at : ℕ) → Contains v.keeps at ⊎ (v.last ≤ at) → Contains i.keeps at ⊎ (high_of (contents_of stretch) ≤ at)
+  pub is_kept : (at : ℕ) → IsReadAt v.keeps v.last at → IsReadAt i.keeps (high_of (contents_of stretch)) at
   is_kept at (inr above) = let le = of_newest (λ n. n ≤ v.last) (contents_of stretch) some_inputs (of_stretch (λ r. r.high ≤ v.last) is_version.below) in inr (omega (arith, le, above))
   is_kept at (inl there) = by_place (leb (high_of (contents_of stretch)) at) refl
     where
-      by_place : (b : Bool) → leb (high_of (contents_of stretch)) at ≡ b → Contains i.keeps at ⊎ (high_of (contents_of stretch) ≤ at)
+      by_place : (b : Bool) → leb (high_of (contents_of stretch)) at ≡ b → IsReadAt i.keeps (high_of (contents_of stretch)) at
       by_place true e = inr (grind (arith, nat_tests))
       by_place false e = inl (may.may.keeps_known at there (grind (arith, nat_tests)))
+
+  reads : KeepsReads m (compaction_in i v) (output_of m (compaction_in i v))
+  reads = keeps_reads m laws (compaction_in i v) are stand
 
   abbrev W : List Write
   W = writes_of (contents_of stretch)
@@ -94,9 +98,9 @@ module _ (m : Operation) (laws : IsLawful m) (v : Stored) (i : Install) (is_vers
       ∙ writes-append (contents_of newer) (i.output ∷ contents_of older)
 
   -- what is below, and then the inputs or the output, make one value
-  module _ (key : List ℕ) (at : ℕ) (kept : Contains v.keeps at ⊎ (v.last ≤ at)) where
+  module _ (key : List ℕ) (at : ℕ) (kept : IsReadAt v.keeps v.last at) where
     output_value : value_of m (plain_list (output_of m (compaction_in i v))) key at ≡ value_of m W key at
-    output_value = values_stay m laws (compaction_in i v) are stand key at (is_kept at kept)
+    output_value = reads.values key at (is_kept at kept)
 
     value_alone : (ps : List Write) → ps ≡ [] → value_of m (ps ++ V) key at ≡ value_of m (ps ++ W) key at
     value_alone ps none =
@@ -112,7 +116,7 @@ module _ (m : Operation) (laws : IsLawful m) (v : Stored) (i : Install) (is_vers
     value_here false newer_alone =
         effect_continues m laws None (writes_of (contents_of older)) V key at
         ∙ ap (λ e. applied m e (value_of m (writes_of (contents_of older)) key at))
-        (ap (λ (run : Contents). effect_on m (plain_list run) key at) may.output_made ∙ effects_stay m laws (compaction_in i v) are stand key newer_alone at (is_kept at kept))
+        (ap (λ (run : Contents). effect_on m (plain_list run) key at) may.output_made ∙ reads.effects newer_alone key at (is_kept at kept))
         ∙ sym (effect_continues m laws None (writes_of (contents_of older)) W key at)
 
     pub value_stays : value_of m (writes_in (installed i v)) key at ≡ value_of m (writes_in v) key at

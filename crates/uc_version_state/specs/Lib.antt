@@ -3,6 +3,6 @@ pub mod Openings
 pub mod Installs
 pub mod Histories
 pub mod Placing
-pub mod Held
-pub mod InstallView
+pub mod HeldVersions
+pub mod HeldInstalls
 pub mod Refusals

@@ -3,7 +3,7 @@ ghost use Rattle.std.specs.Prelude.{◌≡◌, ◌≤◌, IfOk, length};
 ghost use Rattle.std.specs.Arc.{arc_value};
 ghost use Rattle.std.specs.List.Sorted.{IsStrictlySortedBy};
 ghost use Rattle.std.specs.Ordering.{nat_cmp};
-ghost use Rattle.uc_version_state.specs.InstallView.{IsInstall};
+ghost use Rattle.uc_version_state.specs.HeldInstalls.{IsInstall};
 
 use std::alloc::AllocError;
 use std::marker::Model;
@@ -23,7 +23,7 @@ pub struct Install {
 
 impl Model for Install {
     ghost use Rattle.uc_version_state.specs.Installs as installs;
-    ghost use Rattle.uc_version_state.specs.InstallView.{install, HoldsInstall};
+    ghost use Rattle.uc_version_state.specs.HeldInstalls.{install, HoldsInstall};
 
     ghost Value = { installs.Install };
 

@@ -8,6 +8,7 @@ ghost use Rattle.uc_batch.specs.Rising.{last_of};
 ghost use Rattle.uc_claims.specs.Holding.{AreDistinct};
 ghost use Rattle.uc_model.specs.Meaning.{effect_on, value_of};
 ghost use Rattle.uc_run.specs.Size.{memtable_size};
+ghost use Rattle.uc_compact_rules.specs.Reading.{IsReadAt};
 ghost use Rattle.uc_version_state.specs.Versions.{PlacedRun, Stored, IsVersion, ids_of, writes_in};
 ghost use Rattle.uc_version_state.specs.Openings.{Opening, MayOpen, memtables, opened};
 ghost use Rattle.uc_version_state.specs.Installs.{Install, MayInstall, installed, part_of, standing};
@@ -58,7 +59,7 @@ pub fn opening_keeps_every_effect<O: Operator>()
 /// the value that it had.
 pub fn install_keeps_what_is_read<O: Operator>()
     ensures { (v : Stored) (i : Install) (key : List ℕ) (at : ℕ) → IsVersion v → MayInstall O.meaning v i →
-        Contains v.keeps at ⊎ (v.last ≤ at) →
+        IsReadAt v.keeps v.last at →
         value_of O.meaning (writes_in (installed i v)) key at ≡ value_of O.meaning (writes_in v) key at }
 {}
 

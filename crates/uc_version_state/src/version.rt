@@ -17,7 +17,7 @@ pub struct Version {
 
 impl Model for Version {
     ghost use Rattle.uc_version_state.specs.Versions.{Stored};
-    ghost use Rattle.uc_version_state.specs.Held.{stored, HoldsVersion};
+    ghost use Rattle.uc_version_state.specs.HeldVersions.{stored, HoldsVersion};
 
     ghost Value = { Stored };
 

@@ -18,7 +18,7 @@ loop-points-preserved g c =
     let points = map (λ p. p.now) c.next_into.new.points.items in
     next g.O.Operator.meaning c.args.keeping.now c.args.pieces.now c.args.kept.now.items c.args.groups.now c.loop-points.groups c.loop-points.kept.items c.loop-points.invariant _ c.next_into.new.self c.push_kept_points.new.kept.items
     (came c.loop-points.groups (option_map (λ k. k.now) c.in_ok-key.field-0) c.in-Some.key.now points c.next_into.new.self c.in_ok-key.ensures.comes (ap (option_map (λ k. k.now)) c.in-Some.is))
-    (made_by g.O.Operator.meaning c.args.keeping.now c.args.pieces.now c.in-Some.key.now points (map (λ p. p.now) c.deref.result.now) c.loop-points.kept.items c.push_kept_points.new.kept.items c.seqs_over-seqs.result (ap (map (λ p. p.now)) c.deref.ensures.value) c.seqs_over-seqs.ensures c.in_ok-push_kept_points.ensures)
+    (made_by g.O.Operator.meaning c.args.keeping.now c.args.pieces.now c.in-Some.key.now points (map (λ p. p.now) c.deref.result.now) c.loop-points.kept.items c.push_kept_points.new.kept.items c.seqs_over-seqs.result (ap (map (λ p. p.now)) c.deref.ensures.value) c.seqs_over-seqs.ensures c.in_ok-push_kept_points.ensures.pushed)
 
 pub returns : goal.returns
 returns g c =

@@ -2,7 +2,7 @@ use Rattle.uc_compact_rules.proofs.Leaving.{one_point, one_seq}
 use Rattle.uc_compact_rules.proofs.laws.compaction_keeps_one_of_each_stripe.Goals as goal
 
 pub returns : goal.returns
-returns g c = record {
-  points = λ compaction key are stand. one_point g.O.Operator.meaning compaction are stand key;
-  fragments = λ compaction are stand. one_seq g.O.Operator.meaning compaction are stand;
+returns g c compaction are stand = record {
+  points = one_point g.O.Operator.meaning compaction are stand;
+  fragments = one_seq g.O.Operator.meaning compaction are stand;
 }

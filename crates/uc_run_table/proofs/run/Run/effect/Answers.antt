@@ -4,7 +4,7 @@ use Rattle.uc_oper.specs.declared.effect.Effect.{Effect}
 use Rattle.uc_model.specs.Meaning.{effect_on}
 use Rattle.uc_run_entry.specs.Run.{Contents}
 use Rattle.uc_run_entry.specs.PlainList.{plain_list}
-use Rattle.uc_run_table.specs.Held.{contents}
+use Rattle.uc_run_table.specs.HeldRuns.{contents}
 use Rattle.uc_run_table.proofs.FoundThere.{does}
 use Rattle.uc_run_table.proofs.run.Run.effect.Goals as goal
 

@@ -1,6 +1,6 @@
 use Rattle.std.proofs.Common.{◌∙◌, ap}
 use Rattle.uc_version.specs.Owners.{Owner, is_busy, claimed_slots}
-use Rattle.uc_version.specs.Held.{owner}
+use Rattle.uc_version.specs.HeldOwners.{owner}
 use Rattle.uc_version.proofs.Flags.{flag_is, same_any}
 use Rattle.uc_version.proofs.owned.Owned.busy.Goals as goal
 

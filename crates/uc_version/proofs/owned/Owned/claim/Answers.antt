@@ -7,7 +7,7 @@ use Rattle.uc_version_state.specs.Versions.{PlacedRun, slots_of}
 use Rattle.uc_version_state.specs.Installs.{part_of}
 use Rattle.uc_version.specs.Owners.{Owner}
 use Rattle.uc_version.specs.Claiming.{claim_refusal, claim_of, with_claim}
-use Rattle.uc_version.specs.Held.{owner, IsOwned}
+use Rattle.uc_version.specs.HeldOwners.{owner, IsOwned}
 use Rattle.uc_version.proofs.Few.{few_part}
 use Rattle.uc_version.proofs.HeldClaims.{part_below, part_distinct}
 use Rattle.uc_version.proofs.ClaimMade.{refused, allowed, claim_is, number_below, owner_after, slots_after}

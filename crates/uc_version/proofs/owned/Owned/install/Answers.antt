@@ -12,7 +12,7 @@ use Rattle.uc_version.specs.Owners.{Owner, claimed_slots}
 use Rattle.uc_version.specs.Claiming.{Claim, held_by}
 use Rattle.uc_version.specs.Compacting.{IsInstallable, IsNotInstallable}
 use Rattle.uc_version.specs.Installing.{stretch_in, stretch_of, MayReplace, IsRefused, after_install, install_of}
-use Rattle.uc_version.specs.Held.{owner, IsOwned}
+use Rattle.uc_version.specs.HeldOwners.{owner, IsOwned}
 use Rattle.uc_version.proofs.Few.{few_part}
 use Rattle.uc_version.proofs.HeldClaims.{part_distinct}
 use Rattle.uc_version.proofs.Taking.{all_held, stands}

@@ -6,7 +6,7 @@ use Rattle.uc_version_pick.specs.Picks.{picked}
 use Rattle.uc_version_state.specs.Versions.{slots_of}
 use Rattle.uc_version.specs.Owners.{Owner, is_busy, claimed_slots}
 use Rattle.uc_version.specs.Picking.{candidates_of}
-use Rattle.uc_version.specs.Held.{owner}
+use Rattle.uc_version.specs.HeldOwners.{owner}
 use Rattle.uc_version.proofs.Flags.{same_any}
 use Rattle.uc_version.proofs.Standing.{same_candidates}
 use Rattle.uc_version.proofs.owned.Owned.pick.Goals as goal

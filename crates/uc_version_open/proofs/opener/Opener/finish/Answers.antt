@@ -4,7 +4,7 @@ use Rattle.uc_version_state.specs.Versions.{IsVersion}
 use Rattle.uc_version_state.specs.Openings.{Opening}
 use Rattle.uc_version_open.specs.Refusal.{first_ahead}
 use Rattle.uc_version_open.specs.Progress.{progress_of}
-use Rattle.uc_version_open.specs.Held.{progress}
+use Rattle.uc_version_open.specs.HeldProgress.{progress}
 use Rattle.uc_version_open.proofs.Ended.{ends_opened}
 use Rattle.uc_version_open.proofs.Refused.{none_refused}
 use Rattle.uc_version_open.proofs.opener.Opener.finish.Goals as goal

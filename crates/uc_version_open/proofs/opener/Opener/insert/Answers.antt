@@ -3,7 +3,7 @@ use Rattle.std.specs.Option.{IfSome}
 use Rattle.uc_batch.specs.Rising.{last_of}
 use Rattle.uc_run.proofs.Inserted.{rising_grown}
 use Rattle.uc_version_open.specs.Progress.{Flushing, Progress, progress_of}
-use Rattle.uc_version_open.specs.Held.{progress}
+use Rattle.uc_version_open.specs.HeldProgress.{progress}
 use Rattle.uc_version_open.specs.Steps.{held_with}
 use Rattle.uc_version_open.proofs.Grown.{state_grown}
 use Rattle.uc_version_open.proofs.Newest.{held_below}

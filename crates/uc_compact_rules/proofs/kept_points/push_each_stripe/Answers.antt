@@ -8,8 +8,8 @@ use Rattle.uc_compact_rules.specs.Choice.{PointsFall, point_for, points_for}
 use Rattle.uc_compact_rules.proofs.Lists.{all-filter}
 use Rattle.uc_compact_rules.proofs.Parting.{points_filter, falling_filter}
 use Rattle.uc_compact_rules.proofs.Newest.{newest_alone}
-use Rattle.uc_compact_rules.proofs.Onward.{first_seen, point_step, left_is, left_fewer, same_point, pushed, none_left, nothing_left, append-none}
-use Rattle.uc_compact_rules.proofs.kept_points.push_kept_points.Goals as goal
+use Rattle.uc_compact_rules.proofs.Onward.{first_seen, point_step, left_is, left_fewer, same_point, pushed, none_left, nothing_left, append-none, begins_still}
+use Rattle.uc_compact_rules.proofs.kept_points.push_each_stripe.Goals as goal
 
 pub point_for-requires-clause-fall : goal.point_for-requires-clause-fall
 point_for-requires-clause-fall g c κs within = subst PointsFall (sym c.own_points-count.ensures.own) (points_filter (λ p. is_in c.stripe_of-stripe.result p.seq) (map (λ p. p.now) c.loop-newest.rest.now) c.loop-newest.invariant.fall)
@@ -51,19 +51,20 @@ loop-newest-preserved g c =
     let made : c.in_ok-point_for.field-0 ≡ point = c.in_ok-point_for.ensures
     ∙ same_point m key c.is_bottom-bottom.ensures c.own_points-count.ensures.own (ap option_to_list c.newest_of-range.ensures)
     ∙ newest_alone m (is_bottom k s) key (filter (λ p. is_in s p.seq) ps) (filter (is_in s) seqs) (falling_filter (is_in s) seqs c.requires.of_one_key.seqs_fall) in
-    let grown : c.push_some.new.kept.items ≡ c.loop-newest.kept.items ++ cons_option point [] = c.in_ok-push_some.ensures ∙ ap (λ (o : Option Entry). c.loop-newest.kept.items ++ cons_option o []) made in
+    let grown : c.push_some.new.kept.items ≡ c.loop-newest.kept.items ++ cons_option point [] = c.in_ok-push_some.ensures.pushed ∙ ap (λ (o : Option Entry). c.loop-newest.kept.items ++ cons_option o []) made in
     record {
       fall = subst PointsFall (sym left) (points_filter (λ q. leb q.seq s.above) ps c.loop-newest.invariant.fall);
       from_one = subst (AllByRecursion (λ (p : Entry). 0 < p.seq)) (sym left) (all-filter (λ (p : Entry). 0 < p.seq) (λ q. leb q.seq s.above) ps c.loop-newest.invariant.from_one);
       within = omega (arith, fewer, within);
+      begins = begins_still c.args.kept.now.items c.loop-newest.kept.items (cons_option point []) c.push_some.new.kept.items c.loop-newest.invariant.begins grown;
       so_far =
           ap (λ (es : List Entry). es ++ points_for m k key (map (λ p. p.now) (take (length rest - count) (drop count rest))) seqs) grown
           ∙ ap (λ (qs : List Entry). (c.loop-newest.kept.items ++ cons_option point []) ++ points_for m k key qs seqs) left
           ∙ pushed c.loop-newest.kept.items (points_for m k key ps seqs) (points_for m k key more seqs) _ point step c.loop-newest.invariant.so_far;
     }
 
-pub returns : goal.returns
-returns g c =
+pub returns-clause-pushed : goal.returns-clause-pushed
+returns-clause-pushed g c =
     let m = g.O.Operator.meaning in
     let gone : slice_get c.loop-newest.rest.now 0 ≡ None = search rules in
     append-none c.loop-newest.kept.items (points_for m c.args.keeping.now c.args.key.now (map (λ p. p.now) c.loop-newest.rest.now) c.args.seqs.now) _ (ap (λ rest. points_for m c.args.keeping.now c.args.key.now (map (λ p. p.now) rest) c.args.seqs.now) (none_left c.loop-newest.rest.now gone) ∙ nothing_left m c.args.key.now c.args.keeping.now c.args.seqs.now) c.loop-newest.invariant.so_far
