@@ -226,7 +226,8 @@ the last one. HIGH is a key or - for none. Prints for each query, in order,
   rows ROWS, then KEY VALUE ...   what scan reads
   not protected SEQUENCE          where the sequence isn't kept
 
-whatever the numbers of workers, compactors and queries of a piece are.
+whatever the numbers of workers, compactors and queries of a piece are. A line with a fault prints
+`fault line N` and nothing else, a refused opening `refused` and why; standard error says what is wrong.
 
 Example: (printf 'get 6b last\\nlog\\n'; cat 000003.log) | ucstore ask --operator append
 
