@@ -148,10 +148,7 @@ fn is_one_case(alloc: Global, fragments: usize, given: &[Span]) -> Result<bool, 
     if !are_within(fragments, given) {
         return Ok(false);
     }
-    let spans = Arc::new(
-        alloc,
-        Spans::new(alloc, fragments, given.to_vec(alloc)?)?,
-    )?;
+    let spans = Arc::new(alloc, Spans::new(alloc, fragments, given.to_vec(alloc)?)?)?;
     Ok(spans.fragments() == fragments && all_answer(alloc, &spans, given)?)
 }
 
