@@ -2,7 +2,7 @@
 
 use std::alloc::Global;
 use std::test::Fail;
-use uc_script::{ScriptError, read_script};
+use uc_script::{ScriptError, judge_script, read_script};
 use uc_tool_faults::{Source, explain};
 
 /// A script, the number of its first line at fault, and what is said of it.
@@ -23,6 +23,14 @@ fn said_of(alloc: Global, script: &[u8], number: u64) -> Result<String, Fail> {
 /// The number of the first line at fault, or 0 where there is none.
 fn fault_of(alloc: Global, script: &[u8]) -> u64 {
     match read_script(alloc, script) {
+        Err(ScriptError::Fault(number)) => number,
+        _ => 0,
+    }
+}
+
+/// The same where the script is judged alone.
+fn judged_fault_of(alloc: Global, script: &[u8]) -> u64 {
+    match judge_script(alloc, script) {
         Err(ScriptError::Fault(number)) => number,
         _ => 0,
     }
@@ -175,7 +183,8 @@ static CALLS: [Row; 10] = [
 /// Whether a script has its fault in this line, and this is said of it.
 fn is_told(alloc: Global, row: &Row) -> Result<bool, Fail> {
     let said = said_of(alloc, row.script, row.number)?;
-    Ok(said.as_str() == row.said && fault_of(alloc, row.script) == row.number)
+    let number = judged_fault_of(alloc, row.script);
+    Ok(said.as_str() == row.said && number == row.number && fault_of(alloc, row.script) == number)
 }
 
 /// Each kind of fault is told, at the line that the reader of scripts names.
