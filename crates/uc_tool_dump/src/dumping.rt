@@ -1,21 +1,38 @@
 //! `dump`: what stands in a write-ahead log, as lines.
 
-ghost use Rattle.std.specs.Prelude.{◌≡◌, ◌≤◌, length, map, IfOk, IfSome};
+ghost use Rattle.std.specs.Prelude.{◌≡◌, ◌≤◌, [], length, map, IfOk, IfErr, IfSome, OnOk, OnErr};
+ghost use Rattle.std.specs.Io.KnownBytes.{Appends};
 ghost use Rattle.uc_batch.specs.Log.{log_writes};
 ghost use Rattle.uc_tool_dump.specs.Dump as dumps;
 ghost use Rattle.uc_tool_log_lines.specs.LogLines.{write_line};
 ghost use Rattle.uc_tool_dump.specs.Dump.{dump_of};
 ghost use Rattle.uc_tool_io.specs.Output.{Prints, HasWritten};
+ghost use Rattle.uc_tool_io.specs.Writing.{AppendsFront};
 
 use std::alloc::Global;
 use std::io;
 use std::io::Read;
 use uc_batch::{Advance, BatchReader, BatchWrites, Ended};
 use uc_tool_io::{Done, RunError, finish, finish_without_input, read_input, write_bytes};
-use uc_tool_log_lines::{ended_line, push_writes};
+use uc_tool_log_lines::{ended_line, push_write};
 
-/// Prints the writes of a batch, a line each. The lines are put together in a buffer first, whose bytes
-/// are of no use before or after.
+/// How many bytes of lines are put together before they are written out.
+const FULL: usize = 64 << 10;
+
+/// Writes out the lines that were put together, and empties the buffer.
+fn print_lines<W: io::Write>(lines: &mut Vec<u8>, writer: &mut W) -> Result<(), RunError>
+    ensures ok { OnOk result (Appends (W.contents writer.old) (W.contents writer.new) lines.old.items) }
+    ensures empty { OnOk result (lines.new.items ≡ []) }
+    ensures err { OnErr result (AppendsFront (W.contents writer.old) (W.contents writer.new) lines.old.items) }
+    ensures device { IfErr result (λ e. e ≡ RunError.Device) }
+{
+    write_bytes(writer, lines)?;
+    lines.clear();
+    Ok(())
+}
+
+/// Prints the writes of a batch, a line each. Lines are put together in a buffer, which is written out as soon as it is full,
+/// however many writes the batch has. Its bytes are of no use before or after.
 fn print_writes<W: io::Write>(
     lines: &mut Vec<u8>,
     writes: BatchWrites<'_>,
@@ -24,8 +41,13 @@ fn print_writes<W: io::Write>(
     ensures { Prints (map write_line writes.entry) (W.contents writer.old) (W.contents writer.new) result }
 {
     lines.clear();
-    push_writes(lines, writes)?;
-    write_bytes(writer, lines)
+    for write in writes {
+        push_write(lines, &write)?;
+        if lines.len() >= FULL {
+            print_lines(lines, writer)?;
+        }
+    }
+    print_lines(lines, writer)
 }
 
 /// Prints the writes of a log, up to its first fault, and gives how far it was read. A write is printed from

@@ -14,4 +14,4 @@ mod logs;
 pub use line::{
     fields_line, numbered_line, push_counted, push_fields_line, push_numbered_line, push_text_line,
 };
-pub use logs::{ended_line, push_writes};
+pub use logs::{ended_line, push_write};

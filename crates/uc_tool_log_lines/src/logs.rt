@@ -1,14 +1,13 @@
 //! The lines of a log: what is written, and how far the log was read.
 
 ghost use Rattle.std.specs.Prelude.{◌≡◌, ◌++◌, ◌∷◌, [], codes, IfOk, OnOk};
-ghost use Rattle.std.specs.List.{flat_map};
 ghost use Rattle.std.specs.Fmt.{decimal};
 ghost use Rattle.uc_tool_log_lines.specs.LogLines as lines;
 ghost use Rattle.uc_tool_log_lines.specs.LogLines.{op_text, write_line, batch_words};
 
 use crate::line::{numbered_line, push_counted};
 use std::alloc::{AllocError, Global};
-use uc_batch::{BatchError, BatchWrites, Ended};
+use uc_batch::{BatchError, Ended};
 use uc_bytes::{OpKind, OpRef, WriteRef};
 use uc_logrec::LogFault;
 use uc_script::{push_hex, push_number};
@@ -40,22 +39,12 @@ fn push_op(out: &mut Vec<u8>, op: &OpRef<'_>) -> Result<(), AllocError>
 }
 
 /// Appends the line of a write.
-fn push_write(out: &mut Vec<u8>, write: &WriteRef<'_>) -> Result<(), AllocError>
+pub fn push_write(out: &mut Vec<u8>, write: &WriteRef<'_>) -> Result<(), AllocError>
     ensures { OnOk result (out.new.items ≡ out.old.items ++ write_line write.now) }
 {
     push_number(out, write.seq())?;
     push_op(out, write.op())?;
     out.push(b'\n')?;
-    Ok(())
-}
-
-/// Appends a line for each write.
-pub fn push_writes(out: &mut Vec<u8>, writes: BatchWrites<'_>) -> Result<(), AllocError>
-    ensures { OnOk result (out.new.items ≡ out.old.items ++ flat_map write_line writes.entry) }
-{
-    for write in writes {
-        push_write(out, &write)?;
-    }
     Ok(())
 }
 
