@@ -6,7 +6,7 @@
 //!
 //! `zeros`, `ones`, `random`: bytes that are 0, FF, or drawn by lot. `firsts`: empty FIRST records. `middles`: a FIRST record, and
 //! behind it empty MIDDLE records. `joined`: one put, whose value stands in a FIRST, MIDDLEs and a LAST. `shorts`: batches that
-//! delete the empty key. `empties`: batches of nothing.
+//! delete the empty key. `empties`: batches of nothing. `deletes`: one batch that deletes the empty key again and again.
 //!
 //! Logs of so many writes: `operands` merges of one key, `prefix` puts of keys that begin with the same 60 bytes, `neighbours`
 //! range deletions, each of which overlaps the next, and `stairs` range deletions that all overlap. `long` puts keys of 1 MiB
@@ -110,6 +110,13 @@ fn joined(size: usize) -> Vec<u8> {
     log_of([record(PUT, &[b"k", &value])].into_iter(), 1)
 }
 
+/// A batch of deletions of the empty key, whose log has so many bytes or a few less.
+fn deletes(size: usize) -> Vec<u8> {
+    let deletion = record(DELETE, &[b""]);
+    let count = (size - size.div_ceil(BLOCK) * HEADER - 32) / deletion.len();
+    log_of((0..count).map(|_| deletion.clone()), count)
+}
+
 /// A key that begins like the others.
 fn prefixed(number: usize) -> Vec<u8> {
     let mut key = vec![b'p'; PREFIX];
@@ -186,6 +193,7 @@ fn input(name: &str, amount: usize) -> Option<Vec<u8>> {
         "joined" => joined(amount),
         "shorts" => log_of_payloads(amount, |seq| [head(seq, 1), record(DELETE, &[b""])].concat()),
         "empties" => log_of_payloads(amount, |seq| head(seq, 0)),
+        "deletes" => deletes(amount),
         "operands" => {
             let operand = 1_u64.to_le_bytes();
             log_of((0..amount).map(|_| record(MERGE, &[b"k", &operand])), 1)
