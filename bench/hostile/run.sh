@@ -26,7 +26,7 @@ fail() {
 # A line for each row: what is generated, how much of it, and the words of the program.
 rows() {
     local input operator
-    for input in zeros ones random firsts middles joined shorts empties; do
+    for input in zeros ones random firsts middles joined shorts empties deletes; do
         echo "$input 67108864 dump"
         echo "$input 67108864 report --operator append"
     done
