@@ -2,7 +2,7 @@
 # Tries the built program on refused memory and threads, damaged logs and failing devices. docs/RELIABILITY.md says what that
 # covers.
 #
-#     faults/run.sh [memory] [asks] [threads] [calls] [damage] [devices]
+#     faults/run.sh [planted] [memory] [asks] [threads] [calls] [damage] [devices]
 #
 # Without words it tries all of these. The last line says how many rows were wrong, and the status is 1 where one was. Needs cc,
 # rustc, glibc, crates/ucstore/out/ucstore, which ./build makes, or another program, named by OURS, and for `calls`
@@ -30,6 +30,23 @@ build_drive() {
     [ ! -e "$work/drive" ] || return 0
     cc -O2 -shared -fPIC -o "$work/refuse.so" "$here/refuse.c"
     build drive "$here/drive.rs"
+}
+
+# The driver itself: of a program that answers right it says so, and each planted wrong answer it finds.
+planted() {
+    local way
+    build_drive
+    cc -O0 -o "$work/planted" "$here/planted.c"
+    printf '%-34s %9s\n' 'planted answer' found
+    "$work/drive" program "$work/refuse.so" right /dev/null "$work/planted" right > /dev/null 2>&1 || wrong=$((wrong + 1))
+    for way in another-text half-a-line another-status nothing-said a-signal no-end; do
+        if "$work/drive" program "$work/refuse.so" "$way" /dev/null "$work/planted" "$way" > /dev/null 2>&1; then
+            printf '%-34s %9s\n' "$way" no
+            wrong=$((wrong + 1))
+        else
+            printf '%-34s %9s\n' "$way" yes
+        fi
+    done
 }
 
 memory() {
@@ -176,11 +193,11 @@ devices() {
 }
 
 if [ $# -eq 0 ]; then
-    set -- memory asks threads calls damage devices
+    set -- planted memory asks threads calls damage devices
 fi
 for part in "$@"; do
     case $part in
-        memory | asks | threads | calls | damage | devices) "$part" ;;
+        planted | memory | asks | threads | calls | damage | devices) "$part" ;;
         *)
             echo "run.sh: no part is named $part" >&2
             exit 2
