@@ -1,57 +1,49 @@
 //! Runs of some sizes, and lookups in them.
-use std::alloc::Global;
+use crate::given::{Given, built, entry_of, run_of};
+use crate::lookups::{keeps_at, puts_at, sets_at};
+use std::alloc::{AllocError, Global};
 use std::process::Abort;
 use std::test::Fail;
-use uc_bytes::Bytes;
-use uc_oper::{Append, Effect};
-use uc_run_entry::{Entry, Fragment, Seqs, What, WhatRef, is_run};
+use uc_oper::Append;
+use uc_run_entry::WhatRef;
 use uc_run_table::Run;
-
-fn bytes(alloc: Global, text: &[u8]) -> Result<Bytes, Fail> {
-    Ok(Bytes::from_slice(alloc, text)?)
-}
-
-/// The run of points and fragments that make one, with sequences from 1 to 40.
-fn built(alloc: Global, points: Vec<Entry>, fragments: Vec<Fragment>) -> Result<Run, Fail> {
-    if is_run(1, 40, &points, &fragments) {
-        Ok(Run::build(alloc, 1, 40, points, fragments)?)
-    } else {
-        Err(Fail::new("no run"))
-    }
-}
 
 /// A run with a put at 1 of each key of one byte below `count`.
 fn puts(alloc: Global, count: u8) -> Result<Run, Fail> {
     let mut points = Vec::new(alloc);
     for key in 0..count {
-        points.push(Entry {
-            key: bytes(alloc, &[key])?,
-            seq: 1,
-            what: What::Put(bytes(alloc, &[key])?),
-        })?;
+        points.push(entry_of(alloc, &[key], 1, WhatRef::Put(&[key]))?)?;
     }
-    built(alloc, points, Vec::new(alloc))
+    built(alloc, 1, 40, points, Vec::new(alloc))
 }
 
 /// Numbers of points, and how many blocks they fill.
 static BLOCKS: [(u8, u64); 7] = [(0, 0), (1, 1), (15, 1), (16, 1), (17, 2), (32, 2), (33, 3)];
 
-/// Looks at a run of so many puts, which fill so many blocks.
-fn wants_blocks(rt: &impl Abort, run: &Run, count: u64, blocks: u64) {
-    assert_eq!(rt; run.points(), count);
-    assert_eq!(rt; run.entries().len() as u64, count);
+/// Whether a run is one of puts of the keys below a byte, which fill so many blocks.
+fn fills_blocks(run: &Run, end: u8, blocks: u64) -> bool {
+    let count = u64::from(end);
     run.is_one();
-    assert_eq!(rt; run.blocks(), blocks);
-    assert_eq!(rt; run.size(), count.wrapping_mul(10));
-    assert_eq!(rt; run.seek(&[255], false), count);
+    run.points() == count
+        && run.entries().len() as u64 == count
+        && run.blocks() == blocks
+        && run.size() == count.wrapping_mul(10)
+        && run.seek(&[255], false) == count
+        && run.next_key(&[end], false).is_none()
+}
+
+/// Whether so many puts fill so many blocks.
+fn puts_fill_blocks(alloc: Global, count: u8, blocks: u64) -> Result<bool, Fail> {
+    Ok(fills_blocks(&puts(alloc, count)?, count, blocks))
 }
 
 #[test]
 fn points_fill_blocks(rt: HostRuntime) -> Result<(), Fail> {
     for (count, blocks) in &BLOCKS {
-        let run = puts(rt.alloc(), *count)?;
-        wants_blocks(&rt, &run, u64::from(*count), *blocks);
-        assert!(rt; run.next_key(&[*count], false).is_none());
+        assert!(rt;
+            puts_fill_blocks(rt.alloc(), *count, *blocks)?,
+            "{count} points"
+        );
     }
     Ok(())
 }
@@ -64,11 +56,6 @@ static FENCES: [(u64, Option<&[u8]>); 4] = [
     (3, None),
 ];
 
-/// Whether the point at a place puts a key at 1, with the key as its value.
-fn puts_at(run: &Run, place: u64, key: &[u8]) -> bool {
-    run.point(place) == Some((key, 1, WhatRef::Put(key)))
-}
-
 /// Keys, whether they are looked for strictly, their place, and the key there.
 static PLACES: [(&[u8], bool, u64, Option<&[u8]>); 6] = [
     (b"", false, 0, Some(b"\x00")),
@@ -80,8 +67,8 @@ static PLACES: [(&[u8], bool, u64, Option<&[u8]>); 6] = [
 ];
 
 /// Whether a run has these fences.
-fn has_fences(run: &Run) -> bool {
-    for (block, fence) in &FENCES {
+fn has_fences(run: &Run, fences: &[(u64, Option<&[u8]>)]) -> bool {
+    for (block, fence) in fences {
         if run.fence(*block) != *fence {
             return false;
         }
@@ -99,26 +86,27 @@ fn has_places(run: &Run) -> bool {
     true
 }
 
-#[test]
-fn keys_have_places(rt: HostRuntime) -> Result<(), Fail> {
-    let run = puts(rt.alloc(), 33)?;
-    assert!(rt; has_fences(&run));
-    assert!(rt; has_places(&run));
-    assert!(rt; puts_at(&run, 17, b"\x11"));
+/// Looks for places, keys and fences in a run of 33 puts.
+fn wants_places(rt: &impl Abort, run: &Run) {
+    assert!(rt; has_fences(run, &FENCES));
+    assert!(rt; has_places(run));
+    assert!(rt; puts_at(run, 17, b"\x11", 1, b"\x11"));
     assert!(rt; run.point(33).is_none());
     assert!(rt; run.low_seq() == 1 && run.high_seq() == 40);
+}
+
+#[test]
+fn keys_have_places(rt: HostRuntime) -> Result<(), Fail> {
+    wants_places(&rt, &puts(rt.alloc(), 33)?);
     Ok(())
 }
 
 /// A key behind a shared front. 64 in order have the same eight bytes there.
-fn long_key(alloc: Global, number: u8) -> Result<Bytes, Fail> {
+fn long_key(number: u8) -> [u8; 11] {
     let high = b'a' + number / 64;
-    bytes(
-        alloc,
-        &[
-            b'u', b'/', high, high, high, high, high, high, high, high, number,
-        ],
-    )
+    [
+        b'u', b'/', high, high, high, high, high, high, high, high, number,
+    ]
 }
 
 /// Keys that have no point, and their places among 200 of these.
@@ -135,105 +123,84 @@ static OUTSIDE: [(&[u8], u64); 7] = [
 /// A run of deletes of 200 of these.
 fn long_keys(alloc: Global) -> Result<Run, Fail> {
     let mut points = Vec::new(alloc);
-    for number in 0..200_u8 {
-        points.push(Entry {
-            key: long_key(alloc, number)?,
-            seq: 1,
-            what: What::Delete,
-        })?;
+    for number in 0..200 {
+        points.push(entry_of(alloc, &long_key(number), 1, WhatRef::Delete)?)?;
     }
-    built(alloc, points, Vec::new(alloc))
+    built(alloc, 1, 40, points, Vec::new(alloc))
 }
 
 /// Whether a key is found at a place, and the place behind it where it is looked for strictly.
-fn stands_at(run: &Run, key: &Bytes, place: u64) -> bool {
-    let key = key.as_slice();
+fn stands_at(run: &Run, key: &[u8], place: u64) -> bool {
     run.seek(key, false) == place && run.seek(key, true) == place.wrapping_add(1)
 }
 
-#[test]
-fn keys_with_equal_prefixes_have_places(rt: HostRuntime) -> Result<(), Fail> {
-    let alloc = rt.alloc();
-    let run = long_keys(alloc)?;
-    for number in 0..200_u8 {
-        let key = long_key(alloc, number)?;
-        assert!(rt; stands_at(&run, &key, u64::from(number)), "at {number}");
+/// Looks for the keys, and for those that have no point.
+fn wants_long_keys(rt: &impl Abort, run: &Run) {
+    for number in 0..200 {
+        assert!(rt;
+            stands_at(run, &long_key(number), u64::from(number)),
+            "at {number}"
+        );
     }
     for (low, place) in &OUTSIDE {
         assert!(rt; run.seek(low, false) == *place, "at {place}");
     }
+}
+
+#[test]
+fn keys_with_equal_prefixes_have_places(rt: HostRuntime) -> Result<(), Fail> {
+    wants_long_keys(&rt, &long_keys(rt.alloc())?);
     Ok(())
 }
 
 /// A run with 40 puts of one key, whose values are their sequences.
 fn one_key(alloc: Global) -> Result<Run, Fail> {
     let mut points = Vec::new(alloc);
-    for back in 0..40_u8 {
-        points.push(Entry {
-            key: bytes(alloc, b"k")?,
-            seq: u64::from(40 - back),
-            what: What::Put(bytes(alloc, &[40 - back])?),
-        })?;
+    for seq in (1..=40).rev() {
+        points.push(entry_of(alloc, b"k", u64::from(seq), WhatRef::Put(&[seq]))?)?;
     }
-    built(alloc, points, Vec::new(alloc))
+    built(alloc, 1, 40, points, Vec::new(alloc))
 }
+
+/// The fences of its three blocks.
+static SAME_FENCES: [(u64, Option<&[u8]>); 3] = [(0, Some(b"k")), (1, Some(b"k")), (2, Some(b"k"))];
 
 /// Whether each of three blocks begins with the key, and a search finds the first or none.
 fn goes_over_blocks(run: &Run) -> bool {
-    for block in 0..3_u64 {
-        if run.fence(block) != Some(b"k".as_slice()) {
-            return false;
-        }
-    }
-    run.blocks() == 3
+    has_fences(run, &SAME_FENCES)
+        && run.blocks() == 3
         && run.seek(b"k", false) == 0
         && run.seek(b"k", true) == 40
         && run.next_key(b"k", true).is_none()
 }
 
-/// Whether an effect sets this value, or no value.
-fn sets(effect: &Effect, value: Option<&[u8]>) -> bool {
-    match (effect, value) {
-        (Effect::Set(Some(text)), Some(value)) => text.as_slice() == value,
-        (Effect::Set(None), None) => true,
-        _ => false,
-    }
+/// Whether the key has its value at 17, and nothing at 0.
+fn has_values(alloc: Global, run: &Run) -> Result<bool, AllocError> {
+    Ok(
+        sets_at::<Append<44>>(alloc, run, b"k", 17, Some(&[17]))?
+            && keeps_at::<Append<44>>(alloc, run, b"k", 0)?,
+    )
 }
 
 #[test]
 fn a_key_goes_over_blocks(rt: HostRuntime) -> Result<(), Fail> {
-    let alloc = rt.alloc();
-    let run = one_key(alloc)?;
-    assert!(rt; goes_over_blocks(&run));
-    let effect = run.effect::<Append<44>>(alloc, b"k", 17)?;
-    assert!(rt; sets(&effect, Some(&[17])));
-    let nothing = run.effect::<Append<44>>(alloc, b"k", 0)?;
-    assert!(rt; nothing == Effect::Keep);
+    let run = one_key(rt.alloc())?;
+    assert!(rt; goes_over_blocks(&run) && has_values(rt.alloc(), &run)?);
     Ok(())
 }
 
 /// A run with merges of a key at 2, 5 and 6, its put at 1, and a range deletion over it at 4.
-fn merges(alloc: Global) -> Result<Run, Fail> {
-    let mut points = Vec::new(alloc);
-    for seq in [6, 5, 2_u8] {
-        points.push(Entry {
-            key: bytes(alloc, b"k")?,
-            seq: u64::from(seq),
-            what: What::Merge(bytes(alloc, &[b'a' + seq])?),
-        })?;
-    }
-    points.push(Entry {
-        key: bytes(alloc, b"k")?,
-        seq: 1,
-        what: What::Put(bytes(alloc, b"b")?),
-    })?;
-    let fragment = Fragment {
-        begin: bytes(alloc, b"j")?,
-        end: bytes(alloc, b"l")?,
-        seqs: Seqs::from(Vec::from_slice(alloc, &[4])?),
-    };
-    built(alloc, points, vec![in alloc; fragment]?)
-}
+static MERGES: Given = Given {
+    low: 1,
+    high: 40,
+    points: &[
+        (b"k", 6, WhatRef::Merge(b"g")),
+        (b"k", 5, WhatRef::Merge(b"f")),
+        (b"k", 2, WhatRef::Merge(b"c")),
+        (b"k", 1, WhatRef::Put(b"b")),
+    ],
+    ranges: &[(b"j", b"l", &[4])],
+};
 
 /// Sequences, and the value that there is then, if one is known.
 static EFFECTS: [(u64, Option<&[u8]>); 6] = [
@@ -245,52 +212,66 @@ static EFFECTS: [(u64, Option<&[u8]>); 6] = [
     (6, Some(b"f,g")),
 ];
 
+/// Whether a key of one byte has itself as its value at 1, and nothing at 0.
+fn has_itself(alloc: Global, run: &Run, key: u8) -> Result<bool, AllocError> {
+    Ok(
+        sets_at::<Append<44>>(alloc, run, &[key], 1, Some(&[key]))?
+            && keeps_at::<Append<44>>(alloc, run, &[key], 0)?,
+    )
+}
+
 /// Whether each key of such a run of so many puts has its value from 1 on and nothing at 0, and the next key has none.
-fn has_each_effect(alloc: Global, run: &Run, count: u8) -> Result<bool, Fail> {
+fn has_each_effect(alloc: Global, run: &Run, count: u8) -> Result<bool, AllocError> {
     for key in 0..count {
-        let effect = run.effect::<Append<44>>(alloc, &[key], 1)?;
-        if !sets(&effect, Some(&[key])) {
-            return Ok(false);
-        }
-        if run.effect::<Append<44>>(alloc, &[key], 0)? != Effect::Keep {
+        if !has_itself(alloc, run, key)? {
             return Ok(false);
         }
     }
-    Ok(run.effect::<Append<44>>(alloc, &[count], 1)? == Effect::Keep)
+    keeps_at::<Append<44>>(alloc, run, &[count], 1)
+}
+
+/// Whether a run of so many puts does.
+fn puts_have_effects(alloc: Global, count: u8) -> Result<bool, Fail> {
+    Ok(has_each_effect(alloc, &puts(alloc, count)?, count)?)
 }
 
 #[test]
 fn effects_in_blocks(rt: HostRuntime) -> Result<(), Fail> {
-    let alloc = rt.alloc();
     for (count, _) in &BLOCKS {
-        let run = puts(alloc, *count)?;
-        assert!(rt; has_each_effect(alloc, &run, *count)?);
+        assert!(rt; puts_have_effects(rt.alloc(), *count)?);
     }
     Ok(())
 }
 
 /// Whether each sequence has its effect.
-fn has_effects(alloc: Global, run: &Run) -> Result<bool, Fail> {
+fn has_effects(alloc: Global, run: &Run) -> Result<bool, AllocError> {
     for (at, value) in &EFFECTS {
-        let effect = run.effect::<Append<44>>(alloc, b"k", *at)?;
-        if !sets(&effect, *value) {
+        if !sets_at::<Append<44>>(alloc, run, b"k", *at, *value)? {
             return Ok(false);
         }
     }
-    Ok(run.effect::<Append<44>>(alloc, b"l", 9)? == Effect::Keep)
+    keeps_at::<Append<44>>(alloc, run, b"l", 9)
 }
 
-/// Whether a run is the one of these merges, and has one fragment and takes 50 bytes.
-fn is_of_merges(run: &Run, same: &Run, other: &Run) -> bool {
-    run.fragments().len() == 1 && run.size() == 50 && run.same(same) && !run.same(other)
+/// Whether a run is the one of these merges.
+fn is_of_merges(alloc: Global, run: &Run) -> Result<bool, Fail> {
+    Ok(run.same(&run_of(alloc, &MERGES)?))
+}
+
+/// Whether a run is one of four puts.
+fn is_of_puts(alloc: Global, run: &Run) -> Result<bool, Fail> {
+    Ok(run.same(&puts(alloc, 4)?))
+}
+
+/// Wants the effects of these merges, one fragment and 50 bytes.
+fn wants_merges(rt: &impl Abort, alloc: Global, run: &Run) -> Result<(), Fail> {
+    assert!(rt; has_effects(alloc, run)?);
+    assert!(rt; run.fragments().len() == 1 && run.size() == 50);
+    assert!(rt; is_of_merges(alloc, run)? && !is_of_puts(alloc, run)?);
+    Ok(())
 }
 
 #[test]
 fn effects_by_sequence(rt: HostRuntime) -> Result<(), Fail> {
-    let alloc = rt.alloc();
-    let run = merges(alloc)?;
-    assert!(rt; has_effects(alloc, &run)?);
-    let same = merges(alloc)?;
-    assert!(rt; is_of_merges(&run, &same, &puts(alloc, 4)?));
-    Ok(())
+    wants_merges(&rt, rt.alloc(), &run_of(rt.alloc(), &MERGES)?)
 }

@@ -1,16 +1,15 @@
 //! Runs of a few writes, compacted.
-use crate::given::{Given, Point, Says, built, points_of, run_of, runs_of};
+use crate::given::{Given, run_of, runs_of};
 use std::alloc::Global;
 use std::sync::Arc;
 use std::test::Fail;
 use std::thread::Threads;
-use uc_bytes::Bytes;
 use uc_compact::{Compacted, compact, inputs_stand};
 use uc_oper::{Append, Counter, Operator};
-use uc_run_entry::{Entry, What};
+use uc_run_entry::WhatRef;
 use uc_run_table::Run;
 
-const ONE: &[u8] = &[1, 0, 0, 0, 0, 0, 0, 0];
+pub(crate) const ONE: &[u8] = &[1, 0, 0, 0, 0, 0, 0, 0];
 
 const FOUR: &[u8] = &[4, 0, 0, 0, 0, 0, 0, 0];
 
@@ -23,8 +22,6 @@ const TEN: &[u8] = &[10, 0, 0, 0, 0, 0, 0, 0];
 const ELEVEN: &[u8] = &[11, 0, 0, 0, 0, 0, 0, 0];
 
 const TWELVE: &[u8] = &[12, 0, 0, 0, 0, 0, 0, 0];
-
-const TEN_THOUSAND: &[u8] = &[0x10, 0x27, 0, 0, 0, 0, 0, 0];
 
 /// The output of a compaction of runs that may be compacted together.
 pub(crate) fn output<O: Operator + Sync>(
@@ -50,39 +47,61 @@ struct Case {
     wanted: Given,
 }
 
+/// Whether a compaction was of so many runs with these keeps, and gave this run.
+fn is_wanted<O: Operator>(
+    made: &Compacted<O>,
+    runs: usize,
+    keeps: &[u64],
+    oldest: bool,
+    wanted: &Run,
+) -> bool {
+    made.stands();
+    made.stands_for_inputs();
+    made.output().same(wanted)
+        && made.inputs().len() == runs
+        && made.keeps() == keeps
+        && made.oldest() == oldest
+}
+
+/// Whether a compaction of these runs gives the run that is wanted.
+pub(crate) fn gives<O: Operator + Sync>(
+    rt: &(impl Threads + Sync),
+    alloc: Global,
+    runs: &[Arc<Run>],
+    keeps: &[u64],
+    oldest: bool,
+    wanted: &Given,
+) -> Result<bool, Fail> {
+    let wanted = run_of(alloc, wanted)?;
+    let made = output::<O>(rt, alloc, runs, keeps, oldest)?;
+    Ok(is_wanted(&made, runs.len(), keeps, oldest, &wanted))
+}
+
+/// Whether a compaction of a test gives the run that is wanted.
 fn passes<O: Operator + Sync>(
     rt: &(impl Threads + Sync),
     alloc: Global,
     case: &Case,
 ) -> Result<bool, Fail> {
     let runs = runs_of(alloc, case.runs)?;
-    let made = output::<O>(rt, alloc, &runs, case.keeps, case.oldest)?;
-    made.stands();
-    made.stands_for_inputs();
-    let wanted = run_of(alloc, &case.wanted)?;
-    Ok(
-        made.output().same(&wanted)
-            && made.inputs().len() == runs.len()
-            && made.keeps() == case.keeps
-            && made.oldest() == case.oldest,
-    )
+    gives::<O>(rt, alloc, &runs, case.keeps, case.oldest, &case.wanted)
 }
 
 /// Appends, which join with a comma.
-const APPENDS: [Case; 4] = [
+static APPENDS: [Case; 4] = [
     // Two operands are joined; the put stands in an older run.
     Case {
         runs: &[
             Given {
                 low: 3,
                 high: 3,
-                points: &[(b"k", 3, Says::Merge(b"c"))],
+                points: &[(b"k", 3, WhatRef::Merge(b"c"))],
                 ranges: &[],
             },
             Given {
                 low: 2,
                 high: 2,
-                points: &[(b"k", 2, Says::Merge(b"b"))],
+                points: &[(b"k", 2, WhatRef::Merge(b"b"))],
                 ranges: &[],
             },
         ],
@@ -91,7 +110,7 @@ const APPENDS: [Case; 4] = [
         wanted: Given {
             low: 2,
             high: 3,
-            points: &[(b"k", 3, Says::Merge(b"b,c"))],
+            points: &[(b"k", 3, WhatRef::Merge(b"b,c"))],
             ranges: &[],
         },
     },
@@ -101,13 +120,13 @@ const APPENDS: [Case; 4] = [
             Given {
                 low: 2,
                 high: 2,
-                points: &[(b"k", 2, Says::Delete)],
+                points: &[(b"k", 2, WhatRef::Delete)],
                 ranges: &[],
             },
             Given {
                 low: 1,
                 high: 1,
-                points: &[(b"k", 1, Says::Put(b"1"))],
+                points: &[(b"k", 1, WhatRef::Put(b"1"))],
                 ranges: &[],
             },
         ],
@@ -127,12 +146,12 @@ const APPENDS: [Case; 4] = [
                 low: 5,
                 high: 5,
                 points: &[],
-                ranges: &[(b"a", b"z", 5)],
+                ranges: &[(b"a", b"z", &[5])],
             },
             Given {
                 low: 4,
                 high: 4,
-                points: &[(b"k", 4, Says::Delete)],
+                points: &[(b"k", 4, WhatRef::Delete)],
                 ranges: &[],
             },
         ],
@@ -142,7 +161,7 @@ const APPENDS: [Case; 4] = [
             low: 4,
             high: 5,
             points: &[],
-            ranges: &[(b"a", b"z", 5)],
+            ranges: &[(b"a", b"z", &[5])],
         },
     },
     // ... and one above it stays.
@@ -151,14 +170,14 @@ const APPENDS: [Case; 4] = [
             Given {
                 low: 5,
                 high: 5,
-                points: &[(b"k", 5, Says::Delete)],
+                points: &[(b"k", 5, WhatRef::Delete)],
                 ranges: &[],
             },
             Given {
                 low: 4,
                 high: 4,
                 points: &[],
-                ranges: &[(b"a", b"z", 4)],
+                ranges: &[(b"a", b"z", &[4])],
             },
         ],
         keeps: &[],
@@ -166,27 +185,27 @@ const APPENDS: [Case; 4] = [
         wanted: Given {
             low: 4,
             high: 5,
-            points: &[(b"k", 5, Says::Delete)],
-            ranges: &[(b"a", b"z", 4)],
+            points: &[(b"k", 5, WhatRef::Delete)],
+            ranges: &[(b"a", b"z", &[4])],
         },
     },
 ];
 
 /// Counters, which add up.
-const COUNTERS: [Case; 5] = [
+static COUNTERS: [Case; 5] = [
     // A lone operand stays as it is.
     Case {
         runs: &[
             Given {
                 low: 3,
                 high: 3,
-                points: &[(b"l", 3, Says::Put(b"\x00"))],
+                points: &[(b"l", 3, WhatRef::Put(b"\x00"))],
                 ranges: &[],
             },
             Given {
                 low: 2,
                 high: 2,
-                points: &[(b"k", 2, Says::Merge(b"\x01\x02\x03"))],
+                points: &[(b"k", 2, WhatRef::Merge(b"\x01\x02\x03"))],
                 ranges: &[],
             },
         ],
@@ -196,8 +215,8 @@ const COUNTERS: [Case; 5] = [
             low: 2,
             high: 3,
             points: &[
-                (b"k", 2, Says::Merge(b"\x01\x02\x03")),
-                (b"l", 3, Says::Put(b"\x00")),
+                (b"k", 2, WhatRef::Merge(b"\x01\x02\x03")),
+                (b"l", 3, WhatRef::Put(b"\x00")),
             ],
             ranges: &[],
         },
@@ -208,13 +227,13 @@ const COUNTERS: [Case; 5] = [
             Given {
                 low: 3,
                 high: 3,
-                points: &[(b"k", 3, Says::Merge(SEVEN))],
+                points: &[(b"k", 3, WhatRef::Merge(SEVEN))],
                 ranges: &[],
             },
             Given {
                 low: 2,
                 high: 2,
-                points: &[(b"k", 2, Says::Merge(FIVE))],
+                points: &[(b"k", 2, WhatRef::Merge(FIVE))],
                 ranges: &[],
             },
         ],
@@ -223,7 +242,10 @@ const COUNTERS: [Case; 5] = [
         wanted: Given {
             low: 2,
             high: 3,
-            points: &[(b"k", 3, Says::Merge(SEVEN)), (b"k", 2, Says::Merge(FIVE))],
+            points: &[
+                (b"k", 3, WhatRef::Merge(SEVEN)),
+                (b"k", 2, WhatRef::Merge(FIVE)),
+            ],
             ranges: &[],
         },
     },
@@ -233,13 +255,13 @@ const COUNTERS: [Case; 5] = [
             Given {
                 low: 3,
                 high: 3,
-                points: &[(b"k", 3, Says::Merge(SEVEN))],
+                points: &[(b"k", 3, WhatRef::Merge(SEVEN))],
                 ranges: &[],
             },
             Given {
                 low: 2,
                 high: 2,
-                points: &[(b"k", 2, Says::Merge(FIVE))],
+                points: &[(b"k", 2, WhatRef::Merge(FIVE))],
                 ranges: &[],
             },
         ],
@@ -248,7 +270,7 @@ const COUNTERS: [Case; 5] = [
         wanted: Given {
             low: 2,
             high: 3,
-            points: &[(b"k", 3, Says::Merge(TWELVE))],
+            points: &[(b"k", 3, WhatRef::Merge(TWELVE))],
             ranges: &[],
         },
     },
@@ -259,12 +281,12 @@ const COUNTERS: [Case; 5] = [
                 low: 3,
                 high: 3,
                 points: &[],
-                ranges: &[(b"j", b"l", 3)],
+                ranges: &[(b"j", b"l", &[3])],
             },
             Given {
                 low: 2,
                 high: 2,
-                points: &[(b"k", 2, Says::Merge(ONE))],
+                points: &[(b"k", 2, WhatRef::Merge(ONE))],
                 ranges: &[],
             },
         ],
@@ -273,8 +295,8 @@ const COUNTERS: [Case; 5] = [
         wanted: Given {
             low: 2,
             high: 3,
-            points: &[(b"k", 2, Says::Merge(ONE))],
-            ranges: &[(b"j", b"l", 3)],
+            points: &[(b"k", 2, WhatRef::Merge(ONE))],
+            ranges: &[(b"j", b"l", &[3])],
         },
     },
     // ... and with the oldest run the merges become values.
@@ -283,19 +305,19 @@ const COUNTERS: [Case; 5] = [
             Given {
                 low: 4,
                 high: 4,
-                points: &[(b"k", 4, Says::Merge(FOUR))],
+                points: &[(b"k", 4, WhatRef::Merge(FOUR))],
                 ranges: &[],
             },
             Given {
                 low: 2,
                 high: 3,
-                points: &[(b"k", 2, Says::Merge(ONE))],
-                ranges: &[(b"j", b"l", 3)],
+                points: &[(b"k", 2, WhatRef::Merge(ONE))],
+                ranges: &[(b"j", b"l", &[3])],
             },
             Given {
                 low: 1,
                 high: 1,
-                points: &[(b"k", 1, Says::Put(TEN))],
+                points: &[(b"k", 1, WhatRef::Put(TEN))],
                 ranges: &[],
             },
         ],
@@ -304,8 +326,11 @@ const COUNTERS: [Case; 5] = [
         wanted: Given {
             low: 1,
             high: 4,
-            points: &[(b"k", 4, Says::Put(FOUR)), (b"k", 2, Says::Put(ELEVEN))],
-            ranges: &[(b"j", b"l", 3)],
+            points: &[
+                (b"k", 4, WhatRef::Put(FOUR)),
+                (b"k", 2, WhatRef::Put(ELEVEN)),
+            ],
+            ranges: &[(b"j", b"l", &[3])],
         },
     },
 ];
@@ -327,7 +352,7 @@ fn counters_add_up_within_stripes(rt: HostRuntime) -> Result<(), Fail> {
 }
 
 /// A delete of a key beside a range deletion over it, both in one stripe, and the size of what they become.
-const DELETES: [(Case, u64); 2] = [
+static DELETES: [(Case, u64); 2] = [
     // The range deletion is newer, and hides the delete.
     (
         Case {
@@ -336,12 +361,12 @@ const DELETES: [(Case, u64); 2] = [
                     low: 3,
                     high: 3,
                     points: &[],
-                    ranges: &[(b"k", b"l", 3)],
+                    ranges: &[(b"k", b"l", &[3])],
                 },
                 Given {
                     low: 2,
                     high: 2,
-                    points: &[(b"k", 2, Says::Delete)],
+                    points: &[(b"k", 2, WhatRef::Delete)],
                     ranges: &[],
                 },
             ],
@@ -351,7 +376,7 @@ const DELETES: [(Case, u64); 2] = [
                 low: 2,
                 high: 3,
                 points: &[],
-                ranges: &[(b"k", b"l", 3)],
+                ranges: &[(b"k", b"l", &[3])],
             },
         },
         10,
@@ -363,14 +388,14 @@ const DELETES: [(Case, u64); 2] = [
                 Given {
                     low: 3,
                     high: 3,
-                    points: &[(b"k", 3, Says::Delete)],
+                    points: &[(b"k", 3, WhatRef::Delete)],
                     ranges: &[],
                 },
                 Given {
                     low: 2,
                     high: 2,
                     points: &[],
-                    ranges: &[(b"k", b"l", 2)],
+                    ranges: &[(b"k", b"l", &[2])],
                 },
             ],
             keeps: &[3],
@@ -378,71 +403,45 @@ const DELETES: [(Case, u64); 2] = [
             wanted: Given {
                 low: 2,
                 high: 3,
-                points: &[(b"k", 3, Says::Delete)],
-                ranges: &[(b"k", b"l", 2)],
+                points: &[(b"k", 3, WhatRef::Delete)],
+                ranges: &[(b"k", b"l", &[2])],
             },
         },
         19,
     ),
 ];
 
+/// The size of a run of a test.
+fn size_of_run(alloc: Global, given: &Given) -> Result<u64, Fail> {
+    Ok(run_of(alloc, given)?.size())
+}
+
 #[test]
 fn deletes_beside_range_deletions(rt: HostRuntime) -> Result<(), Fail> {
     let alloc = rt.alloc();
     for (case, size) in &DELETES {
         assert!(rt; passes::<Append<0x2C>>(&rt, alloc, case)?);
-        assert_eq!(rt; run_of(alloc, &case.wanted)?.size(), *size);
+        assert_eq!(rt; size_of_run(alloc, &case.wanted)?, *size);
     }
     Ok(())
 }
 
-/// A run with a merge of one at each of 5,000 sequences from `low` on, all of one key.
-fn ones(alloc: Global, low: u64) -> Result<Arc<Run>, Fail> {
-    let mut points = Vec::new(alloc);
-    for place in (0..5_000).rev() {
-        points.push(Entry {
-            key: Bytes::from_slice(alloc, b"k")?,
-            seq: low.saturating_add(place),
-            what: What::Merge(Bytes::from_slice(alloc, ONE)?),
-        })?;
+/// Whether runs of a test may be compacted together, as they stand or turned.
+fn stand(alloc: Global, runs: &[Given], turned: bool, keeps: &[u64]) -> Result<bool, Fail> {
+    let mut runs = runs_of(alloc, runs)?;
+    if turned {
+        runs.reverse();
     }
-    built(
-        alloc,
-        low,
-        low.saturating_add(4_999),
-        points,
-        Vec::new(alloc),
-    )
-}
-
-#[test]
-fn a_hot_key_is_one_point(rt: HostRuntime) -> Result<(), Fail> {
-    let alloc = rt.alloc();
-    let mut runs = Vec::new(alloc);
-    runs.push(ones(alloc, 5_001)?)?;
-    runs.push(ones(alloc, 1)?)?;
-    let merged = output::<Counter>(&rt, alloc, &runs, &[], false)?;
-    let point: &[Point] = &[(b"k", 10_000, Says::Merge(TEN_THOUSAND))];
-    let wanted = built(alloc, 1, 10_000, points_of(alloc, point)?, Vec::new(alloc))?;
-    assert!(rt; merged.output().same(&wanted));
-    let counted = output::<Counter>(&rt, alloc, &runs, &[], true)?;
-    let point: &[Point] = &[(b"k", 10_000, Says::Put(TEN_THOUSAND))];
-    let wanted = built(alloc, 1, 10_000, points_of(alloc, point)?, Vec::new(alloc))?;
-    assert!(rt; counted.output().same(&wanted));
-    Ok(())
+    Ok(inputs_stand(&runs, keeps))
 }
 
 #[test]
 fn inputs_stand_newest_first(rt: HostRuntime) -> Result<(), Fail> {
     let alloc = rt.alloc();
-    let runs = runs_of(alloc, COUNTERS[1].runs)?;
-    assert!(rt; inputs_stand(&runs, &[1, 2]));
-    assert!(rt; !inputs_stand(&runs, &[2, 2]));
-    assert!(rt; !inputs_stand(&[], &[]));
-    let mut turned = Vec::new(alloc);
-    for run in runs.iter().rev() {
-        turned.push(run.clone()?)?;
-    }
-    assert!(rt; !inputs_stand(&turned, &[]));
+    let runs = COUNTERS[1].runs;
+    assert!(rt; stand(alloc, runs, false, &[1, 2])?);
+    assert!(rt; !stand(alloc, runs, false, &[2, 2])?);
+    assert!(rt; !stand(alloc, &[], false, &[])?);
+    assert!(rt; !stand(alloc, runs, true, &[])?);
     Ok(())
 }

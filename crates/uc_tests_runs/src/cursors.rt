@@ -1,81 +1,87 @@
 //! A walk over a run finds what searches of it find.
-use std::alloc::Global;
+use crate::given::{Piece, built, entry_of, fragments_of};
+use std::alloc::{AllocError, Global};
 use std::process::Abort;
 use std::test::Fail;
-use uc_bytes::Bytes;
 use uc_oper::Append;
-use uc_run_entry::{Entry, Fragment, Seqs, What, is_run};
+use uc_run_entry::{Entry, WhatRef};
 use uc_run_table::{Cursor, Run};
 
-fn bytes(alloc: Global, text: &[u8]) -> Result<Bytes, Fail> {
-    Ok(Bytes::from_slice(alloc, text)?)
+/// What a point of this number says: of four one put, two merges and a delete.
+fn says_of(number: u8, text: &[u8]) -> WhatRef<'_> {
+    match number & 3 {
+        0 => WhatRef::Put(text),
+        3 => WhatRef::Delete,
+        _ => WhatRef::Merge(text),
+    }
 }
 
-/// A point of a key, with a sequence that no fragment has: of four one put, two merges and a delete.
-fn point(alloc: Global, key: u8, number: u8) -> Result<Entry, Fail> {
-    let text = bytes(alloc, &[number])?;
-    Ok(Entry {
-        key: bytes(alloc, &[key])?,
-        seq: u64::from(number) * 3 + 1,
-        what: match number & 3 {
-            0 => What::Put(text),
-            3 => What::Delete,
-            _ => What::Merge(text),
-        },
-    })
+/// A point of a key, with a sequence that no fragment has.
+fn point(alloc: Global, key: u8, number: u8) -> Result<Entry, AllocError> {
+    let seq = u64::from(number) * 3 + 1;
+    entry_of(alloc, &[key], seq, says_of(number, &[number]))
 }
 
 /// How many points keys have, the others of five after each other.
-const COUNTS: [u8; 5] = [30, 1, 2, 9, 4];
+static COUNTS: [u8; 5] = [30, 1, 2, 9, 4];
 
-/// The points of 40 keys, of which each has another between it and the next.
-fn points(alloc: Global) -> Result<Vec<Entry>, Fail> {
-    let mut points = Vec::new(alloc);
-    for group in 0..8_u8 {
-        for (place, count) in COUNTS.iter().enumerate() {
-            let key = (group * 5).wrapping_add(place as u8).wrapping_mul(2);
-            for number in (0..*count).rev() {
-                points.push(point(alloc, key, number)?)?;
-            }
+/// Adds the points of the five keys of a group, of which each has another between it and the next.
+fn push_group(alloc: Global, points: &mut Vec<Entry>, group: u8) -> Result<(), AllocError> {
+    for (place, count) in COUNTS.iter().enumerate() {
+        let key = group
+            .wrapping_mul(5)
+            .wrapping_add(place as u8)
+            .wrapping_mul(2);
+        for number in (0..*count).rev() {
+            points.push(point(alloc, key, number)?)?;
         }
+    }
+    Ok(())
+}
+
+/// The points of 40 keys.
+fn points(alloc: Global) -> Result<Vec<Entry>, AllocError> {
+    let mut points = Vec::new(alloc);
+    for group in 0..8 {
+        push_group(alloc, &mut points, group)?;
     }
     Ok(points)
 }
 
 /// Fragments: between two keys, over one, over some, and behind all points.
-static FRAGMENTS: [(u8, u8, &[u64]); 6] = [
-    (1, 2, &[60]),
-    (2, 3, &[60, 30]),
-    (3, 18, &[45]),
-    (30, 41, &[84, 3]),
-    (41, 43, &[9]),
-    (90, 91, &[60]),
+static FRAGMENTS: [Piece; 6] = [
+    (&[1], &[2], &[60]),
+    (&[2], &[3], &[60, 30]),
+    (&[3], &[18], &[45]),
+    (&[30], &[41], &[84, 3]),
+    (&[41], &[43], &[9]),
+    (&[90], &[91], &[60]),
 ];
-
-fn fragments(alloc: Global) -> Result<Vec<Fragment>, Fail> {
-    let mut fragments = Vec::new(alloc);
-    for (begin, end, seqs) in &FRAGMENTS {
-        fragments.push(Fragment {
-            begin: bytes(alloc, &[*begin])?,
-            end: bytes(alloc, &[*end])?,
-            seqs: Seqs::from(Vec::from_slice(alloc, seqs)?),
-        })?;
-    }
-    Ok(fragments)
-}
 
 /// The run of these points and fragments.
 fn run_of_them(alloc: Global) -> Result<Run, Fail> {
     let points = points(alloc)?;
-    let fragments = fragments(alloc)?;
-    if !is_run(1, 100, &points, &fragments) {
-        return Err(Fail::new("no run"));
-    }
-    Ok(Run::build(alloc, 1, 100, points, fragments)?)
+    let fragments = fragments_of(alloc, &FRAGMENTS)?;
+    built(alloc, 1, 100, points, fragments)
 }
 
 /// Sequences at which keys are read.
-const ATS: [u64; 6] = [0, 3, 30, 44, 60, 100];
+static ATS: [u64; 6] = [0, 3, 30, 44, 60, 100];
+
+/// Whether a cursor that stands before a key finds there what a search does.
+fn finds_as_searched(
+    alloc: Global,
+    run: &Run,
+    cursor: &Cursor<'_>,
+    key: &[u8],
+    at: u64,
+) -> Result<bool, AllocError> {
+    if !cursor.is_before(key) {
+        return Ok(false);
+    }
+    let want = run.effect::<Append<44>>(alloc, key, at)?;
+    Ok(cursor.effect::<Append<44>>(alloc, key, at)? == want)
+}
 
 /// At each sequence the cursor wants the effect that a search finds.
 fn wants_effects(
@@ -85,14 +91,12 @@ fn wants_effects(
     cursor: &Cursor<'_>,
     key: &[u8],
 ) -> Result<(), Fail> {
-    if !cursor.is_before(key) {
-        return Err(Fail::new("the cursor doesn't stand before the key"));
-    }
-    for at in ATS {
-        let want = run.effect::<Append<44>>(alloc, key, at)?;
-        let effect = cursor.effect::<Append<44>>(alloc, key, at)?;
-        let same = effect == want;
-        assert!(rt; same, "{key:?} at {at}");
+    assert!(rt; cursor.is_before(key), "before {key:?}");
+    for at in &ATS {
+        assert!(rt;
+            finds_as_searched(alloc, run, cursor, key, *at)?,
+            "{key:?} at {at}"
+        );
     }
     Ok(())
 }
@@ -112,41 +116,45 @@ fn wants_walk(
         wants_effects(rt, alloc, run, cursor, &key)?;
         cursor.pass(&key);
     }
+    assert!(rt; cursor.key().is_none());
+    Ok(())
+}
+
+/// Walks from each key on.
+fn wants_walks(rt: &impl Abort, alloc: Global, run: &Run) -> Result<(), Fail> {
+    for low in 0..100 {
+        let mut cursor = run.cursor(&[low]);
+        cursor.is_of_run();
+        wants_walk(rt, alloc, run, &mut cursor, low)?;
+    }
     Ok(())
 }
 
 #[test]
 fn a_walk_finds_what_searches_find(rt: HostRuntime) -> Result<(), Fail> {
     let alloc = rt.alloc();
-    let run = run_of_them(alloc)?;
-    for low in 0..100_u8 {
-        let mut cursor = run.cursor(&[low]);
-        cursor.is_of_run();
-        wants_walk(&rt, alloc, &run, &mut cursor, low)?;
-        assert_eq!(rt; cursor.key(), None);
-    }
-    Ok(())
+    wants_walks(&rt, alloc, &run_of_them(alloc)?)
+}
+
+/// Whether a fragment is over a key and has a range deletion at or below a sequence.
+fn hides(fragment: &Piece, key: &[u8], at: u64) -> bool {
+    fragment.0 <= key && key < fragment.1 && fragment.2.iter().any(|seq| *seq <= at)
 }
 
 /// Where the fragment over a key ends, if it has a range deletion at or below a sequence.
-fn told_end(key: u8, at: u64) -> Option<u8> {
-    for (begin, end, seqs) in &FRAGMENTS {
-        if *begin <= key && key < *end && seqs.iter().any(|seq| *seq <= at) {
-            return Some(*end);
+fn told_end(key: &[u8], at: u64) -> Option<&'static [u8]> {
+    for fragment in &FRAGMENTS {
+        if hides(fragment, key, at) {
+            return Some(fragment.1);
         }
     }
     None
 }
 
 /// Whether at each sequence the key is hidden up to where the fragment over it ends.
-fn is_hidden_as_told(cursor: &Cursor<'_>, key: u8) -> bool {
-    for at in ATS {
-        let same = match (cursor.hidden_to(&[key], at), told_end(key, at)) {
-            (Some(end), Some(told)) => end == [told].as_slice(),
-            (None, None) => true,
-            _ => false,
-        };
-        if !same {
+fn is_hidden_as_told(cursor: &Cursor<'_>, key: &[u8]) -> bool {
+    for at in &ATS {
+        if cursor.hidden_to(key, *at) != told_end(key, *at) {
             return false;
         }
     }
@@ -158,31 +166,40 @@ fn seeks_as_searched(run: &Run, low: u8) -> bool {
     for key in low..100 {
         let mut cursor = run.cursor(&[low]);
         cursor.seek(&[key]);
-        if !(cursor.is_before(&[key]) && is_hidden_as_told(&cursor, key)) {
+        if !(cursor.is_before(&[key]) && is_hidden_as_told(&cursor, &[key])) {
             return false;
         }
     }
     true
 }
 
+/// Seeks from each key on.
+fn wants_seeks(rt: &impl Abort, run: &Run) {
+    for low in 0..100 {
+        assert!(rt; seeks_as_searched(run, low), "from {low}");
+    }
+}
+
 #[test]
 fn a_cursor_seeks_and_tells_what_is_hidden(rt: HostRuntime) -> Result<(), Fail> {
-    let run = run_of_them(rt.alloc())?;
-    for low in 0..100_u8 {
-        assert!(rt; seeks_as_searched(&run, low), "from {low}");
-    }
+    wants_seeks(&rt, &run_of_them(rt.alloc())?);
     Ok(())
+}
+
+/// Whether a cursor that seeks a key, and then one before it, stays where it is.
+fn stays(cursor: &mut Cursor<'_>) -> bool {
+    cursor.seek(&[31]);
+    let stands = cursor.key() == Some([32].as_slice());
+    cursor.seek(&[20]);
+    stands
+        && cursor.key() == Some([32].as_slice())
+        && cursor.hidden_to(&[32], 2).is_none()
+        && cursor.hidden_to(&[32], 3) == Some([41].as_slice())
 }
 
 #[test]
 fn a_cursor_does_not_go_back(rt: HostRuntime) -> Result<(), Fail> {
     let run = run_of_them(rt.alloc())?;
-    let mut cursor = run.cursor(&[20]);
-    cursor.seek(&[31]);
-    assert_eq!(rt; cursor.key(), Some([32].as_slice()));
-    cursor.seek(&[20]);
-    assert_eq!(rt; cursor.key(), Some([32].as_slice()));
-    assert_eq!(rt; cursor.hidden_to(&[32], 2), None);
-    assert_eq!(rt; cursor.hidden_to(&[32], 3), Some([41].as_slice()));
+    assert!(rt; stays(&mut run.cursor(&[20])));
     Ok(())
 }

@@ -2,8 +2,9 @@
 //!
 //! Everything here runs the calls of other crates as their users do, over points that were worked out by hand. `blocks.rt` has
 //! runs of some sizes and lookups in them, `cursors.rt` walks over their points, `memtables.rt` memtables and the runs that they are
-//! flushed to, `compactions.rt` whole compactions of the runs that `given.rt` makes, and `overlaps.rt` both, over random range
-//! deletions that overlap.
+//! flushed to, `compactions.rt` whole compactions, `hot.rt` one of thousands of merges of a key, and `overlaps.rt` flushes and
+//! compactions of random range deletions that overlap. `given.rt` makes runs that are written down, `drawn.rt` runs of writes that
+//! are drawn, and `lookups.rt` has what is asked of a run.
 #![tactic(auto)]
 
 #[cfg(test)]
@@ -13,7 +14,13 @@ mod compactions;
 #[cfg(test)]
 mod cursors;
 #[cfg(test)]
+mod drawn;
+#[cfg(test)]
 mod given;
+#[cfg(test)]
+mod hot;
+#[cfg(test)]
+mod lookups;
 #[cfg(test)]
 mod memtables;
 #[cfg(test)]
