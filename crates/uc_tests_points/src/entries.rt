@@ -1,10 +1,12 @@
 //! Points and fragments that make a run, and some that don't.
-use std::alloc::Global;
+use crate::given::entry_of;
+use std::alloc::{AllocError, Global};
+use std::process::Abort;
 use std::test::Fail;
 use uc_bytes::Bytes;
 use uc_oper::Counter;
 use uc_run_entry::{
-    Entry, Fragment, Seqs, What, covering_fragment, is_run, plain_list_does_what_is_found,
+    Entry, Fragment, Seqs, WhatRef, covering_fragment, is_run, plain_list_does_what_is_found,
     plain_list_is_in_order, stripes_of_plain_list_do_what_is_found,
 };
 
@@ -17,7 +19,7 @@ type FragmentOf = (&'static [u8], &'static [u8], &'static [u64]);
 /// A range of sequences, points, fragments, and whether they make a run.
 type Case = (u64, u64, &'static [PointAt], &'static [FragmentOf], bool);
 
-const CASES: [Case; 22] = [
+static CASES: [Case; 22] = [
     (1, 1, &[], &[], true),
     (1, (1 << 56) - 1, &[], &[], true),
     (0, 1, &[], &[], false),
@@ -48,47 +50,49 @@ const CASES: [Case; 22] = [
     (1, 9, &[(b"b", 6)], &[(b"a", b"c", &[8, 5])], true),
 ];
 
-fn points(alloc: Global, points: &[PointAt]) -> Result<Vec<Entry>, Fail> {
+/// Deletes of these keys.
+fn points(alloc: Global, points: &[PointAt]) -> Result<Vec<Entry>, AllocError> {
     let mut list = Vec::new(alloc);
     for (key, seq) in points {
-        list.push(Entry {
-            key: Bytes::from_slice(alloc, key)?,
-            seq: *seq,
-            what: What::Delete,
-        })?;
+        list.push(entry_of(alloc, key, *seq, WhatRef::Delete)?)?;
     }
     Ok(list)
 }
 
-fn fragments(alloc: Global, fragments: &[FragmentOf]) -> Result<Vec<Fragment>, Fail> {
+/// A fragment that owns its ends.
+fn fragment(alloc: Global, fragment: &FragmentOf) -> Result<Fragment, AllocError> {
+    let begin = Bytes::from_slice(alloc, fragment.0)?;
+    let end = Bytes::from_slice(alloc, fragment.1)?;
+    let seqs = Seqs::from(fragment.2.to_vec(alloc)?);
+    Ok(Fragment { begin, end, seqs })
+}
+
+/// Fragments of these ends and sequences.
+fn fragments(alloc: Global, fragments: &[FragmentOf]) -> Result<Vec<Fragment>, AllocError> {
     let mut list = Vec::new(alloc);
-    for (begin, end, seqs) in fragments {
-        list.push(Fragment {
-            begin: Bytes::from_slice(alloc, begin)?,
-            end: Bytes::from_slice(alloc, end)?,
-            seqs: Seqs::from(Vec::from_slice(alloc, seqs)?),
-        })?;
+    for one in fragments {
+        list.push(fragment(alloc, one)?)?;
     }
     Ok(list)
+}
+
+/// Whether the points and fragments of a case make a run.
+fn make_run(alloc: Global, case: &Case) -> Result<bool, AllocError> {
+    let points = points(alloc, case.2)?;
+    let fragments = fragments(alloc, case.3)?;
+    Ok(is_run(case.0, case.1, &points, &fragments))
 }
 
 #[test]
 fn runs_and_others(rt: HostRuntime) -> Result<(), Fail> {
-    let alloc = rt.alloc();
-    for (number, (low, high, of_points, of_fragments, want)) in CASES.iter().enumerate() {
-        let points = points(alloc, of_points)?;
-        let fragments = fragments(alloc, of_fragments)?;
-        assert_eq!(rt;
-            is_run(*low, *high, &points, &fragments),
-            *want,
-            "case {number}"
-        );
+    for (number, case) in CASES.iter().enumerate() {
+        assert_eq!(rt; make_run(rt.alloc(), case)?, case.4, "case {number}");
     }
     Ok(())
 }
 
 /// Keys, and the begin of the fragment over each.
-const COVERED: [(&[u8], Option<&[u8]>); 8] = [
+static COVERED: [(&[u8], Option<&[u8]>); 8] = [
     (b"", None),
     (b"a", Some(b"a")),
     (b"bz", Some(b"a")),
@@ -99,42 +103,66 @@ const COVERED: [(&[u8], Option<&[u8]>); 8] = [
     (b"g", None),
 ];
 
-#[test]
-fn the_fragment_over_a_key(rt: HostRuntime) -> Result<(), Fail> {
-    let alloc = rt.alloc();
-    let list = fragments(
-        alloc,
-        &[(b"a", b"c", &[5]), (b"c", b"d", &[8]), (b"f", b"g", &[2])],
-    )?;
-    assert!(rt; is_run(1, 9, &[], &list));
-    for (key, want) in COVERED {
-        let found = covering_fragment(&list, key);
+/// Fragments with a gap between the second and the third.
+static WITH_A_GAP: [FragmentOf; 3] = [(b"a", b"c", &[5]), (b"c", b"d", &[8]), (b"f", b"g", &[2])];
+
+/// Wants for each key the fragment over it.
+fn wants_covered(rt: &impl Abort, list: &[Fragment]) {
+    assert!(rt; is_run(1, 9, &[], list));
+    for (key, want) in &COVERED {
+        let found = covering_fragment(list, key);
         assert_eq!(rt;
             found.map(|fragment| fragment.begin.as_slice()),
-            want,
+            *want,
             "{key:?}"
         );
     }
+}
+
+#[test]
+fn the_fragment_over_a_key(rt: HostRuntime) -> Result<(), Fail> {
+    wants_covered(&rt, &fragments(rt.alloc(), &WITH_A_GAP)?);
+    Ok(())
+}
+
+/// What points say of a key.
+static SAYS: [WhatRef<'static>; 3] = [WhatRef::Put(b"v"), WhatRef::Delete, WhatRef::Merge(b"v")];
+
+/// Whether a copy of a point that says this is equal to it.
+fn is_copied(alloc: Global, says: WhatRef<'_>) -> Result<bool, AllocError> {
+    let point = entry_of(alloc, b"k", 3, says)?;
+    Ok(point.clone()? == point)
+}
+
+/// Two fragments that differ by a sequence.
+static TWO: [FragmentOf; 2] = [(b"a", b"c", &[8, 5]), (b"a", b"c", &[8])];
+
+/// Whether a copy of a list of fragments is equal to it.
+fn are_copied(list: &Vec<Fragment>) -> Result<bool, AllocError> {
+    Ok(list.clone()? == *list)
+}
+
+/// Whether a list has two fragments, which differ.
+fn are_two(list: &[Fragment]) -> bool {
+    match list {
+        [first, second] => first != second,
+        _ => false,
+    }
+}
+
+/// Wants two fragments, and an equal copy of them.
+fn wants_two(rt: &impl Abort, list: &Vec<Fragment>) -> Result<(), Fail> {
+    assert!(rt; are_copied(list)?);
+    assert!(rt; are_two(list));
     Ok(())
 }
 
 #[test]
 fn copies_are_equal(rt: HostRuntime) -> Result<(), Fail> {
-    let alloc = rt.alloc();
-    for what in [
-        What::Put(Bytes::from_slice(alloc, b"v")?),
-        What::Delete,
-        What::Merge(Bytes::from_slice(alloc, b"v")?),
-    ] {
-        let key = Bytes::from_slice(alloc, b"k")?;
-        let point = Entry { key, seq: 3, what };
-        assert_eq!(rt; point.clone()?, point);
+    for says in &SAYS {
+        assert!(rt; is_copied(rt.alloc(), *says)?);
     }
-    let list = fragments(alloc, &[(b"a", b"c", &[8, 5]), (b"a", b"c", &[8])])?;
-    assert_eq!(rt; list.clone()?, list);
-    assert_eq!(rt; list.len(), 2);
-    assert_ne!(rt; list[0], list[1]);
-    Ok(())
+    wants_two(&rt, &fragments(rt.alloc(), &TWO)?)
 }
 
 #[test]

@@ -1,5 +1,7 @@
 //! The fragments of some ranges, and the laws.
+use crate::given::next_random;
 use std::alloc::{AllocError, Global};
+use std::process::Abort;
 use std::test::Fail;
 use uc_run_entry::Fragment;
 use uc_run_fragment::{
@@ -9,11 +11,14 @@ use uc_run_fragment::{
 /// Ranges and the fragments of them: a begin and an end, with a sequence or with some.
 struct Cut {
     ranges: &'static [(&'static [u8], &'static [u8], u64)],
-    fragments: &'static [(&'static [u8], &'static [u8], &'static [u64])],
+    fragments: &'static [Piece],
 }
 
+/// The ends and the sequences of a fragment.
+type Piece = (&'static [u8], &'static [u8], &'static [u64]);
+
 /// Worked by hand.
-const CUTS: [Cut; 9] = [
+static CUTS: [Cut; 9] = [
     // None.
     Cut {
         ranges: &[],
@@ -85,55 +90,57 @@ const CUTS: [Cut; 9] = [
 ];
 
 /// Whether a fragment has these ends and sequences.
-fn is(
-    alloc: Global,
-    fragment: &Fragment,
-    begin: &[u8],
-    end: &[u8],
-    seqs: &[u64],
-) -> Result<bool, AllocError> {
+fn is(alloc: Global, fragment: &Fragment, piece: &Piece) -> Result<bool, AllocError> {
     Ok(
-        fragment.begin.as_slice() == begin
-            && fragment.end.as_slice() == end
-            && fragment.seqs.to_vec(alloc)?.as_slice() == seqs,
+        fragment.begin.as_slice() == piece.0
+            && fragment.end.as_slice() == piece.1
+            && fragment.seqs.to_vec(alloc)?.as_slice() == piece.2,
     )
+}
+
+/// Whether fragments are these.
+fn are(alloc: Global, fragments: &[Fragment], pieces: &[Piece]) -> Result<bool, AllocError> {
+    for (fragment, piece) in fragments.iter().zip(pieces) {
+        if !is(alloc, fragment, piece)? {
+            return Ok(false);
+        }
+    }
+    Ok(fragments.len() == pieces.len())
+}
+
+/// The ranges of a case.
+fn ranges_of(alloc: Global, cut: &Cut) -> Result<Vec<Range<'static>>, AllocError> {
+    let mut ranges = Vec::new(alloc);
+    for (begin, end, seq) in cut.ranges {
+        ranges.push(Range::new(begin, end, *seq))?;
+    }
+    Ok(ranges)
+}
+
+/// Whether the ranges of a case are cut into its fragments.
+fn is_cut(alloc: Global, cut: &Cut) -> Result<bool, AllocError> {
+    let fragments = cut_ranges(alloc, &ranges_of(alloc, cut)?)?;
+    are(alloc, fragments.as_slice(), cut.fragments)
 }
 
 #[test]
 fn ranges_are_cut_into_fragments(rt: HostRuntime) -> Result<(), Fail> {
-    let alloc = rt.alloc();
-    for cut in &CUTS {
-        let mut ranges = Vec::new(alloc);
-        for (begin, end, seq) in cut.ranges {
-            ranges.push(Range::new(begin, end, *seq))?;
-        }
-        let fragments = cut_ranges(alloc, &ranges)?;
-        assert_eq!(rt; fragments.as_slice().len(), cut.fragments.len());
-        for (fragment, (begin, end, seqs)) in fragments.as_slice().iter().zip(cut.fragments) {
-            assert!(rt; is(alloc, fragment, begin, end, seqs)?);
-        }
+    for (place, cut) in CUTS.iter().enumerate() {
+        assert!(rt; is_cut(rt.alloc(), cut)?, "cut {place}");
     }
     Ok(())
 }
 
 /// Ends of random ranges, and keys that are looked for.
-const KEYS: [&[u8]; 8] = [b"", b"a", b"aa", b"ab", b"b", b"b\x00", b"c", b"\xff"];
+static KEYS: [&[u8]; 8] = [b"", b"a", b"aa", b"ab", b"b", b"b\x00", b"c", b"\xff"];
 
 /// Ends of many random ranges.
-const MANY_KEYS: [&[u8]; 12] = [
+static MANY_KEYS: [&[u8]; 12] = [
     b"", b"a", b"aa", b"ab", b"b", b"b\x00", b"c", b"ca", b"d", b"da", b"e", b"\xff",
 ];
 
 /// Sequences of random ranges are below this.
 const MOST_SEQS: u64 = 5;
-
-/// The next number of a row of random ones.
-fn next_random(state: &mut u64) -> u64 {
-    *state = state
-        .wrapping_mul(6_364_136_223_846_793_005)
-        .wrapping_add(1_442_695_040_888_963_407);
-    *state >> 33
-}
 
 /// A key that is chosen at random.
 fn random_key(state: &mut u64) -> &'static [u8] {
@@ -169,25 +176,57 @@ fn seqs_of_fragments(
     Ok(seqs)
 }
 
+/// Random ranges, some with equal sequences.
+fn few_ranges(
+    alloc: Global,
+    state: &mut u64,
+    count: u64,
+) -> Result<Vec<Range<'static>>, AllocError> {
+    let mut ranges = Vec::new(alloc);
+    for _ in 0..count {
+        let begin = random_key(state);
+        let end = random_key(state);
+        ranges.push(Range::new(begin, end, next_random(state) % MOST_SEQS))?;
+    }
+    Ok(ranges)
+}
+
+/// Whether fragments have over a key the sequences that ranges have.
+fn cover_same(
+    alloc: Global,
+    ranges: &[Range<'_>],
+    fragments: &[Fragment],
+    key: &[u8],
+) -> Result<bool, AllocError> {
+    let expected = seqs_of_ranges(alloc, ranges, key)?;
+    Ok(seqs_of_fragments(alloc, fragments, key)? == expected)
+}
+
+/// Whether the fragments of ranges cover each key as they do.
+fn are_covered(alloc: Global, ranges: &[Range<'_>]) -> Result<bool, AllocError> {
+    let fragments = cut_ranges(alloc, ranges)?;
+    for key in &KEYS {
+        if !cover_same(alloc, ranges, fragments.as_slice(), key)? {
+            return Ok(false);
+        }
+    }
+    Ok(true)
+}
+
+/// Whether the fragments of random ranges do.
+fn few_are_covered(alloc: Global, state: &mut u64, count: u64) -> Result<bool, AllocError> {
+    are_covered(alloc, &few_ranges(alloc, state, count)?)
+}
+
 #[test]
 fn random_ranges_cover_what_their_fragments_cover(rt: HostRuntime) -> Result<(), Fail> {
     let alloc = rt.alloc();
     let mut state = 1;
     for round in 0..200 {
-        let mut ranges = Vec::new(alloc);
-        for _ in 0..round % 9 {
-            let begin = random_key(&mut state);
-            let end = random_key(&mut state);
-            ranges.push(Range::new(begin, end, next_random(&mut state) % MOST_SEQS))?;
-        }
-        let fragments = cut_ranges(alloc, &ranges)?;
-        for key in KEYS {
-            let expected = seqs_of_ranges(alloc, &ranges, key)?;
-            assert_eq!(rt;
-                seqs_of_fragments(alloc, fragments.as_slice(), key)?,
-                expected
-            );
-        }
+        assert!(rt;
+            few_are_covered(alloc, &mut state, round % 9)?,
+            "in round {round}"
+        );
     }
     Ok(())
 }
@@ -243,41 +282,69 @@ fn are_over(
     )
 }
 
+/// Whether fragments have over a key the sequences of ranges that rise, and how long the longest of such were.
+fn is_over(
+    alloc: Global,
+    ranges: &[Range<'_>],
+    fragments: &[Fragment],
+    key: &[u8],
+    longest: &mut usize,
+) -> Result<bool, AllocError> {
+    let seqs = rising_over(alloc, ranges, key)?;
+    *longest = (*longest).max(seqs.len());
+    are_over(alloc, fragments, key, &seqs)
+}
+
+/// Whether ranges are cut into the same fragments as these.
+fn is_cut_to(
+    alloc: Global,
+    ranges: &[Range<'_>],
+    fragments: &Fragments,
+) -> Result<bool, AllocError> {
+    Ok(fragments.same(&cut_ranges(alloc, ranges)?))
+}
+
+/// Whether ranges that rise are cut into the same fragments twice, which have their sequences over each key.
+fn share_spans(
+    alloc: Global,
+    ranges: &[Range<'_>],
+    longest: &mut usize,
+) -> Result<bool, AllocError> {
+    let fragments = cut_ranges(alloc, ranges)?;
+    for key in &MANY_KEYS {
+        if !is_over(alloc, ranges, fragments.as_slice(), key, longest)? {
+            return Ok(false);
+        }
+    }
+    is_cut_to(alloc, ranges, &fragments)
+}
+
+/// Whether random ranges are.
+fn many_share_spans(
+    alloc: Global,
+    state: &mut u64,
+    count: u64,
+    longest: &mut usize,
+) -> Result<bool, AllocError> {
+    share_spans(alloc, &random_ranges(alloc, state, count)?, longest)
+}
+
 #[test]
 fn many_ranges_that_overlap_share_spans(rt: HostRuntime) -> Result<(), Fail> {
     let alloc = rt.alloc();
     let mut state = 30;
     let mut longest = 0;
     for round in 0..20_000 {
-        let ranges = random_ranges(alloc, &mut state, round % 41)?;
-        let fragments = cut_ranges(alloc, &ranges)?;
-        assert!(rt; fragments.same(&cut_ranges(alloc, &ranges)?));
-        for key in MANY_KEYS {
-            let seqs = rising_over(alloc, &ranges, key)?;
-            longest = longest.max(seqs.len());
-            assert!(rt; are_over(alloc, fragments.as_slice(), key, &seqs)?);
-        }
+        assert!(rt; many_share_spans(alloc, &mut state, round % 41, &mut longest)?);
     }
     assert!(rt; longest > 20);
     Ok(())
 }
 
-#[test]
-fn fragments_differ_by_an_end_or_a_sequence(rt: HostRuntime) -> Result<(), Fail> {
-    let alloc = rt.alloc();
-    let mut state = 31;
-    let ranges = random_ranges(alloc, &mut state, 40)?;
-    let fragments = cut_ranges(alloc, &ranges)?;
-    assert!(rt; fragments.same(&cut_ranges(alloc, &ranges)?));
-    let (_, others) = ranges.split_first().ok_or("no ranges")?;
-    assert!(rt; !fragments.same(&cut_ranges(alloc, others)?));
+/// Whether fragments are the same as a copy whose sequences are their own.
+fn are_same_as_own(alloc: Global, fragments: &Fragments) -> Result<bool, AllocError> {
     let own = Fragments::from(fragments.as_slice().to_vec(alloc)?);
-    assert!(rt; fragments.same(&own) && own.same(&fragments));
-    // The same spans over pieces with other ends.
-    let lower = cut_ranges(alloc, &nested(alloc, b"a", b"y")?)?;
-    let higher = cut_ranges(alloc, &nested(alloc, b"b", b"y")?)?;
-    assert!(rt; !lower.same(&higher));
-    Ok(())
+    Ok(fragments.same(&own) && own.same(fragments))
 }
 
 /// Twenty ranges over the same keys.
@@ -289,14 +356,44 @@ fn nested<'a>(alloc: Global, begin: &'a [u8], end: &'a [u8]) -> Result<Vec<Range
     Ok(ranges)
 }
 
+/// Whether the same spans over pieces with other ends are other fragments.
+fn do_ends_differ(alloc: Global) -> Result<bool, AllocError> {
+    let lower = cut_ranges(alloc, &nested(alloc, b"a", b"y")?)?;
+    Ok(!is_cut_to(alloc, &nested(alloc, b"b", b"y")?, &lower)?)
+}
+
+/// Wants fragments of ranges that differ from those of fewer ranges alone.
+fn wants_same(
+    rt: &impl Abort,
+    alloc: Global,
+    ranges: &[Range<'_>],
+    fragments: &Fragments,
+) -> Result<(), Fail> {
+    let (_, others) = ranges.split_first().ok_or("no ranges")?;
+    assert!(rt; is_cut_to(alloc, ranges, fragments)?);
+    assert!(rt; !is_cut_to(alloc, others, fragments)?);
+    assert!(rt; are_same_as_own(alloc, fragments)?);
+    Ok(())
+}
+
+#[test]
+fn fragments_differ_by_an_end_or_a_sequence(rt: HostRuntime) -> Result<(), Fail> {
+    let alloc = rt.alloc();
+    let mut state = 31;
+    assert!(rt; do_ends_differ(alloc)?);
+    let ranges = random_ranges(alloc, &mut state, 40)?;
+    wants_same(&rt, alloc, &ranges, &cut_ranges(alloc, &ranges)?)
+}
+
+/// Whether a range shows its sequence.
+fn shows_five(alloc: Global, range: &Range<'_>) -> Result<bool, AllocError> {
+    Ok(format!(in alloc; "{range:?}")?.as_str().contains("seq: 5"))
+}
+
 #[test]
 fn a_range_and_the_laws(rt: HostRuntime) -> Result<(), Fail> {
     let range = Range::new(b"a", b"c", 5);
-    assert!(rt;
-        format!(in rt.alloc(); "{range:?}")?
-            .as_str()
-            .contains("seq: 5")
-    );
+    assert!(rt; shows_five(rt.alloc(), &range)?);
     assert!(rt; range.has_keys());
     assert_eq!(rt; range.begin(), b"a".as_slice());
     assert_eq!(rt; range.end(), b"c".as_slice());

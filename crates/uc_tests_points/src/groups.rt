@@ -3,24 +3,26 @@ ghost use Rattle.std.specs.Prelude.{IfOk};
 ghost use Rattle.std.specs.List.Sorted.{IsStrictlySortedBy};
 ghost use Rattle.uc_run_entry.specs.Order.{entry_cmp};
 
-use std::alloc::Global;
+use crate::given::{entry_of, next_random};
+use std::alloc::{AllocError, Global};
 use std::test::Fail;
-use uc_bytes::Bytes;
 use uc_compact::Groups;
-use uc_run_entry::{Entry, Point, What, is_run};
+use uc_run_entry::{Entry, Point, WhatRef, is_run};
+
+/// Deletes of keys of one byte.
+fn entries_of(alloc: Global, points: &[(u8, u64)]) -> Result<Vec<Entry>, AllocError> {
+    let mut entries = Vec::new(alloc);
+    for &(key, seq) in points {
+        entries.push(entry_of(alloc, &[key], seq, WhatRef::Delete)?)?;
+    }
+    Ok(entries)
+}
 
 /// Points of keys of one byte, with sequences from 1 to 40, in order.
 fn points_of(alloc: Global, points: &[(u8, u64)]) -> Result<Vec<Point>, Fail>
     ensures { IfOk result (λ made. IsStrictlySortedBy entry_cmp made.items) }
 {
-    let mut entries = Vec::new(alloc);
-    for &(key, seq) in points {
-        entries.push(Entry {
-            key: Bytes::from_slice(alloc, &[key])?,
-            seq,
-            what: What::Delete,
-        })?;
-    }
+    let entries = entries_of(alloc, points)?;
     if is_run(1, 40, &entries, &[]) {
         Ok(uc_run_entry::points_of(alloc, &entries)?)
     } else {
@@ -34,7 +36,7 @@ fn is_next<'a>(
     points: &mut Vec<&'a Point>,
     key: u8,
     seqs: &[u64],
-) -> Result<bool, Fail> {
+) -> Result<bool, AllocError> {
     match groups.next_into(points)? {
         None => Ok(false),
         Some(next) => Ok(
@@ -45,6 +47,21 @@ fn is_next<'a>(
                     .eq(seqs.iter().copied()),
         ),
     }
+}
+
+/// Whether these groups come and no others.
+fn come(
+    alloc: Global,
+    groups: &mut Groups<'_>,
+    expected: &[(u8, &[u64])],
+) -> Result<bool, AllocError> {
+    let mut points = Vec::new(alloc);
+    for (key, seqs) in expected {
+        if !is_next(groups, &mut points, *key, seqs)? {
+            return Ok(false);
+        }
+    }
+    Ok(groups.next_into(&mut points)?.is_none() && points.is_empty())
 }
 
 /// Whether the runs, the newest first, have these groups and no others.
@@ -60,13 +77,7 @@ fn have_groups(
         alloc,
         &[newer.as_slice(), middle.as_slice(), older.as_slice()],
     )?;
-    let mut points = Vec::new(alloc);
-    for (key, seqs) in expected {
-        if !is_next(&mut groups, &mut points, *key, seqs)? {
-            return Ok(false);
-        }
-    }
-    Ok(groups.next_into(&mut points)?.is_none() && points.is_empty())
+    Ok(come(alloc, &mut groups, expected)?)
 }
 
 /// Two runs, the newer one first, and the keys of both, each with the sequences of its points.
@@ -77,7 +88,7 @@ struct Merge {
 }
 
 /// Worked by hand.
-const MERGES: [Merge; 5] = [
+static MERGES: [Merge; 5] = [
     // No points.
     Merge {
         newer: &[],
@@ -128,24 +139,15 @@ fn points_come_by_key(rt: HostRuntime) -> Result<(), Fail> {
 fn no_runs_have_no_groups(rt: HostRuntime) -> Result<(), Fail> {
     let alloc = rt.alloc();
     let mut groups = Groups::over(alloc, &[])?;
-    let mut points = Vec::new(alloc);
-    assert!(rt; groups.next_into(&mut points)?.is_none());
+    assert!(rt; come(alloc, &mut groups, &[])?);
     Ok(())
 }
 
 /// Keys of random points are below this.
 const MOST_KEYS: u8 = 4;
 
-/// The next number of a row of random ones.
-fn next_random(state: &mut u64) -> u64 {
-    *state = state
-        .wrapping_mul(6_364_136_223_846_793_005)
-        .wrapping_add(1_442_695_040_888_963_407);
-    *state >> 33
-}
-
 /// The points of a random run, in order: for each key from 0 on as many as come, their sequences falling from `top`.
-fn random_points(state: &mut u64, alloc: Global, top: u64) -> Result<Vec<(u8, u64)>, Fail> {
+fn random_points(state: &mut u64, alloc: Global, top: u64) -> Result<Vec<(u8, u64)>, AllocError> {
     let mut points = Vec::new(alloc);
     for key in 0..MOST_KEYS {
         for place in 0..next_random(state) % 4 {
@@ -156,7 +158,7 @@ fn random_points(state: &mut u64, alloc: Global, top: u64) -> Result<Vec<(u8, u6
 }
 
 /// The sequences of a key's points, found by a look at all points of all runs.
-fn seqs_of_key(alloc: Global, runs: &[&[(u8, u64)]], key: u8) -> Result<Vec<u64>, Fail> {
+fn seqs_of_key(alloc: Global, runs: &[&[(u8, u64)]], key: u8) -> Result<Vec<u64>, AllocError> {
     let mut seqs = Vec::new(alloc);
     for run in runs {
         for &(other, seq) in *run {
@@ -169,7 +171,7 @@ fn seqs_of_key(alloc: Global, runs: &[&[(u8, u64)]], key: u8) -> Result<Vec<u64>
 }
 
 /// The keys of all runs, each with the sequences of its points.
-fn groups_of_all(alloc: Global, runs: &[&[(u8, u64)]]) -> Result<Vec<(u8, Vec<u64>)>, Fail> {
+fn groups_of_all(alloc: Global, runs: &[&[(u8, u64)]]) -> Result<Vec<(u8, Vec<u64>)>, AllocError> {
     let mut groups = Vec::new(alloc);
     for key in 0..MOST_KEYS {
         let seqs = seqs_of_key(alloc, runs, key)?;
@@ -180,20 +182,34 @@ fn groups_of_all(alloc: Global, runs: &[&[(u8, u64)]]) -> Result<Vec<(u8, Vec<u6
     Ok(groups)
 }
 
+/// Groups with their sequences lent.
+fn lent(alloc: Global, groups: &[(u8, Vec<u64>)]) -> Result<Vec<(u8, &[u64])>, AllocError> {
+    let mut lent = Vec::new(alloc);
+    for (key, seqs) in groups {
+        lent.push((*key, seqs.as_slice()))?;
+    }
+    Ok(lent)
+}
+
+/// Whether runs, the newest first, have the groups that a look at all points finds.
+fn come_by_key(alloc: Global, runs: [&[(u8, u64)]; 3]) -> Result<bool, Fail> {
+    let groups = groups_of_all(alloc, &runs)?;
+    have_groups(alloc, runs, &lent(alloc, &groups)?)
+}
+
+/// Whether three random runs do.
+fn drawn_come_by_key(alloc: Global, state: &mut u64) -> Result<bool, Fail> {
+    let newer = random_points(state, alloc, 30)?;
+    let middle = random_points(state, alloc, 20)?;
+    let older = random_points(state, alloc, 10)?;
+    come_by_key(alloc, [&newer, &middle, &older])
+}
+
 #[test]
 fn random_runs_come_by_key(rt: HostRuntime) -> Result<(), Fail> {
-    let alloc = rt.alloc();
     let mut state = 1;
     for _ in 0..30 {
-        let newer = random_points(&mut state, alloc, 30)?;
-        let middle = random_points(&mut state, alloc, 20)?;
-        let older = random_points(&mut state, alloc, 10)?;
-        let groups = groups_of_all(alloc, &[&newer, &middle, &older])?;
-        let mut expected = Vec::new(alloc);
-        for (key, seqs) in &groups {
-            expected.push((*key, seqs.as_slice()))?;
-        }
-        assert!(rt; have_groups(alloc, [&newer, &middle, &older], &expected)?);
+        assert!(rt; drawn_come_by_key(rt.alloc(), &mut state)?);
     }
     Ok(())
 }

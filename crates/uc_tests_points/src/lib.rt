@@ -1,13 +1,16 @@
 //! The parts of runs and of compactions, worked by hand.
 //!
 //! `entries.rt` has points and fragments that make a run, `fragments.rt` range deletions cut into fragments, `points.rt` packed
-//! points, `groups.rt` runs merged by key, and `stripes.rt` what is kept of one key and of one fragment.
+//! points, `groups.rt` runs merged by key, and `stripes.rt` what is kept of one key and of one fragment. `given.rt` has what several
+//! of them make.
 #![tactic(auto)]
 
 #[cfg(test)]
 mod entries;
 #[cfg(test)]
 mod fragments;
+#[cfg(test)]
+mod given;
 #[cfg(test)]
 mod groups;
 #[cfg(test)]

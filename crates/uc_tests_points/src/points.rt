@@ -1,14 +1,16 @@
 //! Points of each kind, with texts that fit and texts that don't.
 ghost use Rattle.std.specs.Prelude.{◌<◌, ◌^◌};
 
+use crate::given::entry_of;
 use std::alloc::{AllocError, Global};
+use std::process::Abort;
 use std::test::Fail;
 use uc_bytes::Bytes;
 use uc_oper::{Append, Effect};
 use uc_run_entry::{Entry, Point, What, WhatRef, points_of};
 
 /// Keys and texts: empty, as long as fit together, and longer.
-const TEXTS: [(&[u8], &[u8]); 6] = [
+static TEXTS: [(&[u8], &[u8]); 6] = [
     (b"", b""),
     (b"k", b""),
     (b"", b"value"),
@@ -23,35 +25,41 @@ const TEXTS: [(&[u8], &[u8]); 6] = [
 /// Sequences, up to the greatest.
 const SEQS: [u64; 3] = [1, 255, (1 << 56) - 1];
 
-fn says(alloc: Global, entry: Entry) -> Result<bool, Fail> {
+/// Whether a packed point says what an entry says.
+fn says_the_same(point: &Point, entry: &Entry) -> bool {
+    point.key() == entry.key.as_slice()
+        && point.seq() == entry.seq
+        && point.what() == WhatRef::of(&entry.what)
+}
+
+/// Whether an entry is packed, says the same then, and is unpacked again.
+fn is_packed(alloc: Global, entry: &Entry) -> Result<bool, AllocError> {
     if entry.seq > SEQS[2] {
         return Ok(false);
     }
-    let point = Point::of(alloc, &entry)?;
-    Ok(
-        point.key() == entry.key.as_slice()
-            && point.seq() == entry.seq
-            && point.what() == WhatRef::of(&entry.what)
-            && point.to_entry(alloc)? == entry,
-    )
+    let point = Point::of(alloc, entry)?;
+    Ok(says_the_same(&point, entry) && point.to_entry(alloc)? == *entry)
 }
 
-fn said_each_way(alloc: Global, key: &[u8], seq: u64, text: &[u8]) -> Result<bool, Fail> {
-    let put = What::Put(Bytes::from_slice(alloc, text)?);
-    let merge = What::Merge(Bytes::from_slice(alloc, text)?);
-    let mut all = true;
-    for what in [put, What::Delete, merge] {
-        let key = Bytes::from_slice(alloc, key)?;
-        all &= says(alloc, Entry { key, seq, what })?;
-    }
-    Ok(all)
+/// Whether a point of this key that says this is packed and unpacked.
+fn is_said(alloc: Global, key: &[u8], seq: u64, says: WhatRef<'_>) -> Result<bool, AllocError> {
+    is_packed(alloc, &entry_of(alloc, key, seq, says)?)
+}
+
+/// Whether points of each kind are.
+fn is_said_each_way(alloc: Global, key: &[u8], seq: u64, text: &[u8]) -> Result<bool, AllocError> {
+    Ok(
+        is_said(alloc, key, seq, WhatRef::Put(text))?
+            && is_said(alloc, key, seq, WhatRef::Delete)?
+            && is_said(alloc, key, seq, WhatRef::Merge(text))?,
+    )
 }
 
 #[test]
 fn points_say_what_entries_say(rt: HostRuntime) -> Result<(), Fail> {
     for (key, text) in &TEXTS {
-        for seq in SEQS {
-            assert!(rt; said_each_way(rt.alloc(), key, seq, text)?);
+        for seq in &SEQS {
+            assert!(rt; is_said_each_way(rt.alloc(), key, *seq, text)?);
         }
     }
     Ok(())
@@ -76,24 +84,43 @@ fn points_are_the_same_by_all_they_say(rt: HostRuntime) -> Result<(), Fail> {
     Ok(())
 }
 
+/// Whether a point that says this overwrites what is older.
+fn overwrites(alloc: Global, says: WhatRef<'_>) -> Result<bool, AllocError> {
+    Ok(Point::new(alloc, b"k", 7, says)?.overwrites())
+}
+
 #[test]
 fn a_merge_overwrites_nothing(rt: HostRuntime) -> Result<(), Fail> {
     let alloc = rt.alloc();
-    assert!(rt; Point::new(alloc, b"k", 7, WhatRef::Put(b"v"))?.overwrites());
-    assert!(rt; Point::new(alloc, b"k", 7, WhatRef::Delete)?.overwrites());
-    assert!(rt; !Point::new(alloc, b"k", 7, WhatRef::Merge(b"v"))?.overwrites());
+    assert!(rt; overwrites(alloc, WhatRef::Put(b"v"))?);
+    assert!(rt; overwrites(alloc, WhatRef::Delete)?);
+    assert!(rt; !overwrites(alloc, WhatRef::Merge(b"v"))?);
     Ok(())
+}
+
+/// Whether an effect sets this value, or no value.
+fn sets(effect: &Effect, value: Option<&[u8]>) -> bool {
+    match effect {
+        Effect::Set(Some(text)) => value == Some(text.as_slice()),
+        Effect::Set(None) => value.is_none(),
+        _ => false,
+    }
+}
+
+/// Wants an effect that sets this value, or no value.
+fn wants_set(rt: &impl Abort, effect: &Effect, value: Option<&[u8]>) {
+    assert!(rt; sets(effect, value), "{effect:?}");
 }
 
 #[test]
 fn what_is_said_goes_onto_an_effect(rt: HostRuntime) -> Result<(), Fail> {
     let alloc = rt.alloc();
     let put = WhatRef::Put(b"a").after::<Append<0x2C>>(alloc, Effect::Keep)?;
-    assert_eq!(rt; put, Effect::Set(Some(Bytes::from_slice(alloc, b"a")?)));
+    wants_set(&rt, &put, Some(b"a"));
     let both = WhatRef::Merge(b"b").after::<Append<0x2C>>(alloc, put)?;
-    assert_eq!(rt; both, Effect::Set(Some(Bytes::from_slice(alloc, b"a,b")?)));
+    wants_set(&rt, &both, Some(b"a,b"));
     let none = WhatRef::Delete.after::<Append<0x2C>>(alloc, both)?;
-    assert_eq!(rt; none, Effect::Set(None));
+    wants_set(&rt, &none, None);
     Ok(())
 }
 
@@ -103,9 +130,21 @@ fn points_are_small(rt: HostRuntime) -> Result<(), Fail> {
     Ok(())
 }
 
-#[test]
-fn entries_are_packed_in_order(rt: HostRuntime) -> Result<(), Fail> {
-    let alloc = rt.alloc();
+/// Keys and sequences of deletes, which don't rise.
+static FALLING: [(&[u8], u64); 2] = [(b"b", 7), (b"a", 9)];
+
+/// Whether packed points have these keys and sequences.
+fn are_falling(points: &[Point]) -> bool {
+    for (point, (key, seq)) in points.iter().zip(&FALLING) {
+        if point.key() != *key || point.seq() != *seq {
+            return false;
+        }
+    }
+    points.len() == 2
+}
+
+/// Whether the points of deletes of these have them.
+fn are_packed_in_order(alloc: Global) -> Result<bool, AllocError> {
     let entries = [
         Entry {
             key: Bytes::from_slice(alloc, b"b")?,
@@ -118,11 +157,11 @@ fn entries_are_packed_in_order(rt: HostRuntime) -> Result<(), Fail> {
             what: What::Delete,
         },
     ];
-    let points = points_of(alloc, &entries)?;
-    assert_eq!(rt; points.len(), 2);
-    for (point, entry) in points.iter().zip(&entries) {
-        assert_eq!(rt; point.key(), entry.key.as_slice());
-        assert_eq!(rt; point.seq(), entry.seq);
-    }
+    Ok(are_falling(&points_of(alloc, &entries)?))
+}
+
+#[test]
+fn entries_are_packed_in_order(rt: HostRuntime) -> Result<(), Fail> {
+    assert!(rt; are_packed_in_order(rt.alloc())?);
     Ok(())
 }

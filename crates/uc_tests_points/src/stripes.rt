@@ -25,7 +25,7 @@ struct OfKey {
 }
 
 /// Appends, which join with a comma; worked by hand.
-const POINTS: [OfKey; 13] = [
+static POINTS: [OfKey; 13] = [
     // Nothing comes of nothing, also under a range deletion.
     OfKey {
         points: &[],
@@ -137,7 +137,7 @@ const POINTS: [OfKey; 13] = [
 ];
 
 /// The points of the key `k`.
-fn points_of(alloc: Global, given: &[Given]) -> Result<Vec<Point>, Fail> {
+fn points_of(alloc: Global, given: &[Given]) -> Result<Vec<Point>, AllocError> {
     let mut points = Vec::new(alloc);
     for &(seq, what) in given {
         points.push(Point::new(alloc, b"k", u64::from(seq), what)?)?;
@@ -157,44 +157,64 @@ fn every_other(alloc: Global, seqs: &[u64], first: usize) -> Result<Seqs, AllocE
 }
 
 /// What is pushed behind one point that stands there, where the sequences come from two lists.
+fn kept_by(
+    rt: &(impl Threads + Sync),
+    alloc: Global,
+    case: &OfKey,
+    points: &[&Point],
+    first: &Seqs,
+    second: &Seqs,
+) -> Result<Vec<Point>, Fail> {
+    if !first.are_falling() || !second.are_falling() || !keeps_rise(case.keeps) {
+        return Err(Fail::new("no sequences or keeps"));
+    }
+    let lists = [first, second];
+    let over = Over::new(&lists);
+    if !are_of_one_key(points, &over) {
+        return Err(Fail::new("no points of one key"));
+    }
+    let keeping = Keeping::new(case.keeps, case.bottom);
+    let mut kept = points_of(alloc, &[(1, WhatRef::Delete)])?;
+    push_kept_points::<Append<0x2C>>(rt, alloc, &mut kept, b"k", points, &over, &keeping)?;
+    Ok(kept)
+}
+
+/// What is kept of the points of a case.
 fn kept_of(rt: &(impl Threads + Sync), alloc: Global, case: &OfKey) -> Result<Vec<Point>, Fail> {
     let points = points_of(alloc, case.points)?;
     let points: Vec<&Point> = points.iter().collect(alloc)?;
     let first = every_other(alloc, case.seqs, 0)?;
     let second = every_other(alloc, case.seqs, 1)?;
-    if !first.are_falling() || !second.are_falling() || !keeps_rise(case.keeps) {
-        return Err(Fail::new("no sequences or keeps"));
-    }
-    let lists = [&first, &second];
-    let over = Over::new(&lists);
-    if !are_of_one_key(&points, &over) {
-        return Err(Fail::new("no points of one key"));
-    }
-    let keeping = Keeping::new(case.keeps, case.bottom);
-    let mut kept = points_of(alloc, &[(1, WhatRef::Delete)])?;
-    push_kept_points::<Append<0x2C>>(rt, alloc, &mut kept, b"k", &points, &over, &keeping)?;
-    Ok(kept)
+    kept_by(rt, alloc, case, &points, &first, &second)
 }
 
-/// Whether both have the same points.
-fn are_same(points: &[Point], others: &[Point]) -> bool {
-    points.len() == others.len()
-        && points
-            .iter()
-            .zip(others)
-            .all(|(point, other)| point.same(other))
+/// Whether a point is this one of the key `k`.
+fn is(point: &Point, given: &Given) -> bool {
+    point.key() == b"k".as_slice() && point.seq() == u64::from(given.0) && point.what() == given.1
+}
+
+/// Whether points are these, behind the one that stood there.
+fn are_wanted(points: &[Point], wanted: &[Given]) -> bool {
+    let Some((first, kept)) = points.split_first() else {
+        return false;
+    };
+    for (point, given) in kept.iter().zip(wanted) {
+        if !is(point, given) {
+            return false;
+        }
+    }
+    is(first, &(1, WhatRef::Delete)) && kept.len() == wanted.len()
+}
+
+/// Whether what is wanted is kept of the points of a case.
+fn points_are_kept(rt: &(impl Threads + Sync), alloc: Global, case: &OfKey) -> Result<bool, Fail> {
+    Ok(are_wanted(&kept_of(rt, alloc, case)?, case.wanted))
 }
 
 #[test]
 fn points_that_are_kept(rt: HostRuntime) -> Result<(), Fail> {
-    let alloc = rt.alloc();
     for (place, case) in POINTS.iter().enumerate() {
-        let kept = kept_of(&rt, alloc, case)?;
-        let mut wanted = points_of(alloc, &[(1, WhatRef::Delete)])?;
-        for point in points_of(alloc, case.wanted)? {
-            wanted.push(point)?;
-        }
-        assert!(rt; are_same(&kept, &wanted), "case {place}");
+        assert!(rt; points_are_kept(&rt, rt.alloc(), case)?, "case {place}");
     }
     Ok(())
 }
@@ -209,7 +229,7 @@ struct OfFragment {
 }
 
 /// Worked by hand.
-const SEQS: [OfFragment; 6] = [
+static SEQS: [OfFragment; 6] = [
     OfFragment {
         seqs: &[],
         keeps: &[3],
@@ -254,13 +274,16 @@ const SEQS: [OfFragment; 6] = [
 ];
 
 /// What is kept of sequences that come from two lists.
-fn kept_of_seqs(alloc: Global, case: &OfFragment) -> Result<Vec<u64>, Fail> {
-    let first = every_other(alloc, case.seqs, 0)?;
-    let second = every_other(alloc, case.seqs, 1)?;
+fn kept_of_lists(
+    alloc: Global,
+    case: &OfFragment,
+    first: &Seqs,
+    second: &Seqs,
+) -> Result<Vec<u64>, Fail> {
     if !first.are_falling() || !second.are_falling() || !keeps_rise(case.keeps) {
         return Err(Fail::new("no sequences or keeps"));
     }
-    let lists = [&first, &second];
+    let lists = [first, second];
     let over = Over::new(&lists);
     if !seqs_are_from_one(&over) {
         return Err(Fail::new("no sequences of a fragment"));
@@ -268,12 +291,17 @@ fn kept_of_seqs(alloc: Global, case: &OfFragment) -> Result<Vec<u64>, Fail> {
     Ok(kept_seqs(alloc, &over, &Keeping::new(case.keeps, case.bottom))?)
 }
 
+/// Whether what is wanted is kept of the sequences of a case.
+fn are_kept(alloc: Global, case: &OfFragment) -> Result<bool, Fail> {
+    let first = every_other(alloc, case.seqs, 0)?;
+    let second = every_other(alloc, case.seqs, 1)?;
+    Ok(kept_of_lists(alloc, case, &first, &second)?.as_slice() == case.wanted)
+}
+
 #[test]
 fn seqs_that_are_kept(rt: HostRuntime) -> Result<(), Fail> {
-    let alloc = rt.alloc();
     for (place, case) in SEQS.iter().enumerate() {
-        let kept = kept_of_seqs(alloc, case)?;
-        assert!(rt; kept.as_slice() == case.wanted, "case {place}");
+        assert!(rt; are_kept(rt.alloc(), case)?, "case {place}");
     }
     Ok(())
 }
@@ -312,27 +340,31 @@ static LISTS: [OfLists; 4] = [
 ];
 
 /// Whether two lists together find what a plain list does.
-fn find_as(alloc: Global, case: &OfLists) -> Result<bool, Fail> {
-    let first = Seqs::from(case.first.to_vec(alloc)?);
-    let second = Seqs::from(case.second.to_vec(alloc)?);
+fn find_as(first: &Seqs, second: &Seqs, wanted: &[u64]) -> bool {
     if !first.are_falling() || !second.are_falling() {
-        return Ok(false);
+        return false;
     }
-    let lists = [&first, &second];
+    let lists = [first, second];
     let over = Over::new(&lists);
     for at in 0..12 {
-        let wanted = case.wanted.iter().copied().find(|seq| *seq <= at);
-        if over.newest_at_or_below(at) != wanted {
-            return Ok(false);
+        if over.newest_at_or_below(at) != wanted.iter().copied().find(|seq| *seq <= at) {
+            return false;
         }
     }
-    Ok(over.newest() == case.wanted.first().copied())
+    over.newest() == wanted.first().copied()
+}
+
+/// Whether the lists of a case do.
+fn find_as_wanted(alloc: Global, case: &OfLists) -> Result<bool, AllocError> {
+    let first = Seqs::from(case.first.to_vec(alloc)?);
+    let second = Seqs::from(case.second.to_vec(alloc)?);
+    Ok(find_as(&first, &second, case.wanted))
 }
 
 #[test]
 fn lists_together(rt: HostRuntime) -> Result<(), Fail> {
     for case in &LISTS {
-        assert!(rt; find_as(rt.alloc(), case)?);
+        assert!(rt; find_as_wanted(rt.alloc(), case)?);
     }
     Ok(())
 }
