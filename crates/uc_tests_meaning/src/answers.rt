@@ -1,56 +1,24 @@
 //! Lookups and scans of a few writes.
-use std::alloc::Global;
+use crate::given::{Change, MERGES, written};
+use std::alloc::{AllocError, Global};
+use std::process::Abort;
 use std::test::Fail;
 use uc_batch::Writes;
-use uc_bytes::{Bytes, Op, Write};
-use uc_oper::{Append, Counter};
+use uc_bytes::Bytes;
+use uc_oper::{Append, Counter, Operator};
 use uc_query_answer::{
     Answer, Query, Rows, answer_writes, equal_values_give_equal_answers,
     scan_is_answered_by_first_rows, scan_keys_are_named, scan_keys_rise, scan_rows_are_determined,
     scan_rows_are_first, unprotected_is_refused,
 };
 
-fn bytes(alloc: Global, text: &[u8]) -> Result<Bytes, Fail> {
-    Ok(Bytes::from_slice(alloc, text)?)
+/// These changes, each at its sequence, as the writes of a store.
+fn store_of(alloc: Global, changes: &[(u64, Change)]) -> Result<Writes, Fail> {
+    Ok(Writes::of(written(alloc, changes)?).ok_or("the sequences don't rise")?)
 }
-
-/// One change to the store.
-enum Change {
-    Put(&'static [u8], &'static [u8]),
-    Delete(&'static [u8]),
-    Merge(&'static [u8], &'static [u8]),
-    Range(&'static [u8], &'static [u8]),
-}
-
-fn op(alloc: Global, change: &Change) -> Result<Op, Fail> {
-    Ok(match change {
-        Change::Put(key, value) => Op::Put(bytes(alloc, key)?, bytes(alloc, value)?),
-        Change::Delete(key) => Op::Delete(bytes(alloc, key)?),
-        Change::Merge(key, operand) => Op::Merge(bytes(alloc, key)?, bytes(alloc, operand)?),
-        Change::Range(begin, end) => Op::DeleteRange(bytes(alloc, begin)?, bytes(alloc, end)?),
-    })
-}
-
-fn written(alloc: Global, changes: &[(u64, Change)]) -> Result<Writes, Fail> {
-    let mut list = Vec::new(alloc);
-    for (seq, change) in changes {
-        let op = op(alloc, change)?;
-        list.push(Write { seq: *seq, op })?;
-    }
-    Ok(Writes::of(list).ok_or("the sequences don't rise")?)
-}
-
-/// A key that a range deletion clears between merges, and another that it leaves.
-const MERGES: [(u64, Change); 5] = [
-    (1, Change::Put(b"k", b"a")),
-    (2, Change::Merge(b"k", b"b")),
-    (3, Change::Put(b"l", b"x")),
-    (4, Change::Range(b"k", b"l")),
-    (5, Change::Merge(b"k", b"c")),
-];
 
 /// Keys out of order; of them `b` is deleted again, and `d` is named by deletions alone.
-const DELETIONS: [(u64, Change); 8] = [
+static DELETIONS: [(u64, Change); 8] = [
     (1, Change::Put(b"c", b"3")),
     (2, Change::Put(b"b", b"2")),
     (3, Change::Delete(b"b")),
@@ -61,31 +29,6 @@ const DELETIONS: [(u64, Change); 8] = [
     (8, Change::Put(b"ca", b"5")),
 ];
 
-fn get(alloc: Global, key: &[u8], at: u64) -> Result<Query, Fail> {
-    let key = bytes(alloc, key)?;
-    Ok(Query::Get { key, at })
-}
-
-fn scan(
-    alloc: Global,
-    low: &[u8],
-    high: Option<&[u8]>,
-    at: u64,
-    limit: u64,
-) -> Result<Query, Fail> {
-    let low = bytes(alloc, low)?;
-    let high = match high {
-        None => None,
-        Some(high) => Some(bytes(alloc, high)?),
-    };
-    Ok(Query::Scan {
-        low,
-        high,
-        at,
-        limit,
-    })
-}
-
 /// An answer that is wanted.
 enum Want {
     Value(Option<&'static [u8]>),
@@ -93,30 +36,48 @@ enum Want {
     NotProtected(u64),
 }
 
-fn pairs(alloc: Global, pairs: &[(&[u8], &[u8])]) -> Result<Vec<(Bytes, Bytes)>, Fail> {
-    let mut list = Vec::new(alloc);
-    for (key, value) in pairs {
-        list.push((bytes(alloc, key)?, bytes(alloc, value)?))?;
+/// Whether rows are these pairs.
+fn are_pairs(rows: &[(Bytes, Bytes)], want: &[(&[u8], &[u8])]) -> bool {
+    for ((key, value), (want_key, want_value)) in rows.iter().zip(want) {
+        if key.as_slice() != *want_key || value.as_slice() != *want_value {
+            return false;
+        }
     }
-    Ok(list)
+    rows.len() == want.len()
 }
 
-fn wanted(alloc: Global, want: &Want) -> Result<Answer, Fail> {
-    Ok(match want {
-        Want::Value(None) => Answer::Value(None),
-        Want::Value(Some(value)) => Answer::Value(Some(bytes(alloc, value)?)),
-        Want::Rows(rows) => {
-            Answer::Rows(Rows::of(pairs(alloc, rows)?).ok_or("the keys don't rise")?)
-        }
-        Want::NotProtected(seq) => Answer::NotProtected(*seq),
-    })
+/// Whether an answer is the one that is wanted.
+fn is_wanted(answer: &Answer, want: &Want) -> bool {
+    match (answer, want) {
+        (Answer::Value(None), Want::Value(None)) => true,
+        (Answer::Value(Some(value)), Want::Value(Some(want))) => value.as_slice() == *want,
+        (Answer::Rows(rows), Want::Rows(want)) => are_pairs(rows.as_slice(), want),
+        (Answer::NotProtected(at), Want::NotProtected(want)) => at == want,
+        _ => false,
+    }
+}
+
+/// Whether a query at a sequence is answered as is wanted.
+fn is_answered<O: Operator>(
+    alloc: Global,
+    writes: &Writes,
+    keeps: &[u64],
+    query: &Query,
+    at: u64,
+    want: &Want,
+) -> Result<bool, AllocError> {
+    let answer = answer_writes::<O>(alloc, writes, keeps, query)?;
+    Ok(query.at() == at && is_wanted(&answer, want))
 }
 
 /// The sequences 2 and 5, in any order and repeated.
-const KEEPS: [&[u64]; 4] = [&[2, 5], &[5, 2], &[2, 5, 2], &[5, 5, 2]];
+static KEEPS: [&[u64]; 4] = [&[2, 5], &[5, 2], &[2, 5, 2], &[5, 5, 2]];
 
 /// A key, the sequence at which it is read, and the answer.
-const GETS: [(&[u8], u64, Want); 5] = [
+type Lookup = (&'static [u8], u64, Want);
+
+/// Lookups of a key that a range deletion clears and of another that it leaves.
+static GETS: [Lookup; 5] = [
     (b"k", 5, Want::Value(Some(b"c"))),
     (b"k", 2, Want::Value(Some(b"a,b"))),
     (b"l", 5, Want::Value(Some(b"x"))),
@@ -124,54 +85,105 @@ const GETS: [(&[u8], u64, Want); 5] = [
     (b"k", 3, Want::NotProtected(3)),
 ];
 
+/// The lookup of a key.
+fn lookup_of(alloc: Global, key: &[u8], at: u64) -> Result<Query, AllocError> {
+    let key = Bytes::from_slice(alloc, key)?;
+    Ok(Query::Get { key, at })
+}
+
+/// Looks at the answer to a lookup under some keeps.
+fn wants_lookup(
+    rt: &impl Abort,
+    alloc: Global,
+    writes: &Writes,
+    keeps: &[u64],
+    (key, at, want): &Lookup,
+) -> Result<(), Fail> {
+    let query = lookup_of(alloc, key, *at)?;
+    let is_right = is_answered::<Append<44>>(alloc, writes, keeps, &query, *at, want)?;
+    assert!(rt; is_right, "{key:?} at {at} under {keeps:?}");
+    Ok(())
+}
+
 #[test]
 fn lookups_are_answered(rt: HostRuntime) -> Result<(), Fail> {
     let alloc = rt.alloc();
-    let writes = written(alloc, &MERGES)?;
-    for keeps in KEEPS {
-        for (key, at, want) in &GETS {
-            let query = get(alloc, key, *at)?;
-            assert_eq!(rt; query.at(), *at);
-            let answer = answer_writes::<Append<44>>(alloc, &writes, keeps, &query)?;
-            assert_eq!(rt;
-                answer,
-                wanted(alloc, want)?,
-                "{key:?} at {at} under {keeps:?}"
-            );
+    let writes = store_of(alloc, &MERGES)?;
+    for &keeps in &KEEPS {
+        for lookup in &GETS {
+            wants_lookup(&rt, alloc, &writes, keeps, lookup)?;
         }
     }
     Ok(())
 }
 
 /// The range of a scan, its sequence and limit, and the rows.
-const SCANS: [(&[u8], Option<&[u8]>, u64, u64, Want); 4] = [
+type Scan = (&'static [u8], Option<&'static [u8]>, u64, u64, Want);
+
+/// The query of a scan.
+fn query_of(alloc: Global, (low, high, at, limit, _): &Scan) -> Result<Query, AllocError> {
+    let high = match high {
+        None => None,
+        Some(high) => Some(Bytes::from_slice(alloc, high)?),
+    };
+    Ok(Query::Scan {
+        low: Bytes::from_slice(alloc, low)?,
+        high,
+        at: *at,
+        limit: *limit,
+    })
+}
+
+/// Scans of a key that a range deletion clears and another that it leaves.
+static SCANS: [Scan; 4] = [
     (b"", None, 5, 10, Want::Rows(&[(b"k", b"c"), (b"l", b"x")])),
     (b"", None, 5, 0, Want::Rows(&[])),
     (b"k", Some(b"l"), 2, 10, Want::Rows(&[(b"k", b"a,b")])),
     (b"", None, 4, 10, Want::NotProtected(4)),
 ];
 
+/// Whether a scan is answered as is wanted.
+fn scan_is_answered<O: Operator>(
+    alloc: Global,
+    writes: &Writes,
+    keeps: &[u64],
+    scan: &Scan,
+) -> Result<bool, AllocError> {
+    let (_, _, at, _, want) = scan;
+    is_answered::<O>(alloc, writes, keeps, &query_of(alloc, scan)?, *at, want)
+}
+
+/// Looks at the answer to a scan under some keeps.
+fn wants_scan<O: Operator>(
+    rt: &impl Abort,
+    alloc: Global,
+    writes: &Writes,
+    keeps: &[u64],
+    scan: &Scan,
+) -> Result<(), Fail> {
+    let is_right = scan_is_answered::<O>(alloc, writes, keeps, scan)?;
+    let (low, high, at, limit, _) = scan;
+    assert!(rt;
+        is_right,
+        "{low:?} to {high:?}, {limit} at {at} under {keeps:?}"
+    );
+    Ok(())
+}
+
 #[test]
 fn scans_are_answered(rt: HostRuntime) -> Result<(), Fail> {
     let alloc = rt.alloc();
-    let writes = written(alloc, &MERGES)?;
-    for keeps in KEEPS {
-        for (low, high, at, limit, want) in &SCANS {
-            let query = scan(alloc, low, *high, *at, *limit)?;
-            assert_eq!(rt; query.at(), *at);
-            let answer = answer_writes::<Append<44>>(alloc, &writes, keeps, &query)?;
-            assert_eq!(rt;
-                answer,
-                wanted(alloc, want)?,
-                "{low:?} to {high:?}, {limit} at {at} under {keeps:?}"
-            );
+    let writes = store_of(alloc, &MERGES)?;
+    for &keeps in &KEEPS {
+        for scan in &SCANS {
+            wants_scan::<Append<44>>(&rt, alloc, &writes, keeps, scan)?;
         }
     }
     Ok(())
 }
 
 /// As `SCANS`, of the writes with deletions.
-const AFTER_DELETIONS: [(&[u8], Option<&[u8]>, u64, u64, Want); 8] = [
+static AFTER_DELETIONS: [Scan; 8] = [
     (
         b"",
         None,
@@ -191,21 +203,15 @@ const AFTER_DELETIONS: [(&[u8], Option<&[u8]>, u64, u64, Want); 8] = [
 #[test]
 fn keys_without_value_have_no_row(rt: HostRuntime) -> Result<(), Fail> {
     let alloc = rt.alloc();
-    let writes = written(alloc, &DELETIONS)?;
-    for (low, high, at, limit, want) in &AFTER_DELETIONS {
-        let query = scan(alloc, low, *high, *at, *limit)?;
-        let answer = answer_writes::<Counter>(alloc, &writes, &[2, 8], &query)?;
-        assert_eq!(rt;
-            answer,
-            wanted(alloc, want)?,
-            "{low:?} to {high:?}, {limit} at {at}"
-        );
+    let writes = store_of(alloc, &DELETIONS)?;
+    for scan in &AFTER_DELETIONS {
+        wants_scan::<Counter>(&rt, alloc, &writes, &[2, 8], scan)?;
     }
     Ok(())
 }
 
 /// Pairs, and whether their keys rise.
-const ORDERS: [(&[(&[u8], &[u8])], bool); 5] = [
+static ORDERS: [(&[(&[u8], &[u8])], bool); 5] = [
     (&[], true),
     (&[(b"k", b"v")], true),
     (&[(b"", b"v"), (b"k", b"v"), (b"ka", b"")], true),
@@ -213,23 +219,37 @@ const ORDERS: [(&[(&[u8], &[u8])], bool); 5] = [
     (&[(b"a", b"v"), (b"c", b"v"), (b"b", b"v")], false),
 ];
 
+/// These keys and values.
+fn pairs(alloc: Global, pairs: &[(&[u8], &[u8])]) -> Result<Vec<(Bytes, Bytes)>, AllocError> {
+    let mut list = Vec::new(alloc);
+    for (key, value) in pairs {
+        let key = Bytes::from_slice(alloc, key)?;
+        list.push((key, Bytes::from_slice(alloc, value)?))?;
+    }
+    Ok(list)
+}
+
 #[test]
 fn rows_rise(rt: HostRuntime) -> Result<(), Fail> {
     let alloc = rt.alloc();
-    for (list, rise) in ORDERS {
-        assert_eq!(rt; Rows::of(pairs(alloc, list)?).is_some(), rise, "{list:?}");
+    for &(list, rise) in &ORDERS {
+        assert!(rt; Rows::of(pairs(alloc, list)?).is_some() == rise, "{list:?}");
     }
     Ok(())
+}
+
+/// One row: the key `k` with this value.
+fn row(alloc: Global, value: &'static [u8]) -> Result<Rows, Fail> {
+    Ok(Rows::of(pairs(alloc, &[(b"k", value)])?).ok_or("one key rises")?)
 }
 
 #[test]
 fn rows_keep_their_pairs(rt: HostRuntime) -> Result<(), Fail> {
     let alloc = rt.alloc();
-    let rows = Rows::of(pairs(alloc, &[(b"k", b"v")])?).ok_or("one key rises")?;
-    assert_eq!(rt; rows.as_slice(), pairs(alloc, &[(b"k", b"v")])?.as_slice());
-    let others = Rows::of(pairs(alloc, &[(b"k", b"w")])?).ok_or("one key rises")?;
-    assert!(rt; rows != others);
-    assert_eq!(rt; rows.into_vec(), pairs(alloc, &[(b"k", b"v")])?);
+    let rows = row(alloc, b"v")?;
+    assert!(rt; are_pairs(rows.as_slice(), &[(b"k", b"v")]));
+    assert!(rt; rows != row(alloc, b"w")?);
+    assert!(rt; are_pairs(&rows.into_vec(), &[(b"k", b"v")]));
     Ok(())
 }
 

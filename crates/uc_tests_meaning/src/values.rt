@@ -1,64 +1,51 @@
 //! Values by sequence, and which keys are touched.
-use std::alloc::Global;
+use crate::given::{Change, MERGES, written};
+use std::alloc::{AllocError, Global};
+use std::process::Abort;
 use std::test::Fail;
-use uc_bytes::{Bytes, Op, Write};
+use uc_bytes::{Bytes, OpRef, Write};
 use uc_model::{
     each_write_changes_what_it_touches, effect_at, effect_continues_value, effect_gives_value,
     effects_of_parts_compose, effects_of_stripes_compose, keys_are_touched_by_name_or_range,
     later_writes_change_nothing, touches_key, untouched_key_keeps_its_value, value_at,
     value_is_given,
 };
-use uc_oper::{Append, Counter, Effect, Maximum};
+use uc_oper::{Append, Counter, Effect, Maximum, Operator};
 
-fn bytes(alloc: Global, text: &[u8]) -> Result<Bytes, Fail> {
-    Ok(Bytes::from_slice(alloc, text)?)
-}
-
-/// One change to the store.
-enum Change {
-    Put(&'static [u8], &'static [u8]),
-    Delete(&'static [u8]),
-    Merge(&'static [u8], &'static [u8]),
-    Range(&'static [u8], &'static [u8]),
-}
-
-fn op(alloc: Global, change: &Change) -> Result<Op, Fail> {
-    Ok(match change {
-        Change::Put(key, value) => Op::Put(bytes(alloc, key)?, bytes(alloc, value)?),
-        Change::Delete(key) => Op::Delete(bytes(alloc, key)?),
-        Change::Merge(key, operand) => Op::Merge(bytes(alloc, key)?, bytes(alloc, operand)?),
-        Change::Range(begin, end) => Op::DeleteRange(bytes(alloc, begin)?, bytes(alloc, end)?),
-    })
-}
-
-fn written(alloc: Global, changes: &[(u64, Change)]) -> Result<Vec<Write>, Fail> {
-    let mut list = Vec::new(alloc);
-    for (seq, change) in changes {
-        let op = op(alloc, change)?;
-        list.push(Write { seq: *seq, op })?;
-    }
-    Ok(list)
-}
-
-/// The value that is wanted, where there is one.
-fn wanted(alloc: Global, value: Option<&[u8]>) -> Result<Option<Bytes>, Fail> {
-    match value {
-        None => Ok(None),
-        Some(value) => Ok(Some(bytes(alloc, value)?)),
+/// Whether a value is this one, or there is none where none is wanted.
+fn is_value(value: &Option<Bytes>, want: Option<&[u8]>) -> bool {
+    match (value, want) {
+        (None, None) => true,
+        (Some(value), Some(want)) => value.as_slice() == want,
+        _ => false,
     }
 }
 
-/// A key that a range deletion clears between merges, and another that it leaves.
-const MERGES: [(u64, Change); 5] = [
-    (1, Change::Put(b"k", b"a")),
-    (2, Change::Merge(b"k", b"b")),
-    (3, Change::Put(b"l", b"x")),
-    (4, Change::Range(b"k", b"l")),
-    (5, Change::Merge(b"k", b"c")),
-];
+/// Whether a key has this value at a sequence.
+fn has_value<O: Operator>(
+    alloc: Global,
+    writes: &[Write],
+    key: &[u8],
+    at: u64,
+    want: Option<&[u8]>,
+) -> Result<bool, AllocError> {
+    Ok(is_value(&value_at::<O>(alloc, writes, key, at)?, want))
+}
+
+/// Whether the writes up to a sequence give a key this value where it had none.
+fn gives_value<O: Operator>(
+    alloc: Global,
+    writes: &[Write],
+    key: &[u8],
+    at: u64,
+    want: Option<&[u8]>,
+) -> Result<bool, AllocError> {
+    let effect = effect_at::<O>(alloc, writes, key, at)?;
+    Ok(is_value(&effect.apply::<O>(alloc, None)?, want))
+}
 
 /// A sequence, and the value of `k` there.
-const VALUES: [(u64, Option<&[u8]>); 7] = [
+static VALUES: [(u64, Option<&[u8]>); 7] = [
     (0, None),
     (1, Some(b"a")),
     (2, Some(b"a,b")),
@@ -68,37 +55,68 @@ const VALUES: [(u64, Option<&[u8]>); 7] = [
     (9, Some(b"c")),
 ];
 
+/// Looks at the value of `k` at a sequence, as it is read and by the effect.
+fn wants_value(
+    rt: &impl Abort,
+    alloc: Global,
+    writes: &[Write],
+    (at, want): (u64, Option<&[u8]>),
+) -> Result<(), Fail> {
+    let is_read = has_value::<Append<44>>(alloc, writes, b"k", at, want)?;
+    assert!(rt; is_read, "at {at}");
+    let is_given = gives_value::<Append<44>>(alloc, writes, b"k", at, want)?;
+    assert!(rt; is_given, "by the effect at {at}");
+    Ok(())
+}
+
 #[test]
 fn values_by_sequence(rt: HostRuntime) -> Result<(), Fail> {
     let alloc = rt.alloc();
     let writes = written(alloc, &MERGES)?;
-    for (at, want) in VALUES {
-        let want = wanted(alloc, want)?;
-        let value = value_at::<Append<44>>(alloc, &writes, b"k", at)?;
-        assert_eq!(rt; value, want, "at {at}");
-        let effect = effect_at::<Append<44>>(alloc, &writes, b"k", at)?;
-        let applied = effect.apply::<Append<44>>(alloc, None)?;
-        assert_eq!(rt; applied, want, "by the effect at {at}");
+    for &row in &VALUES {
+        wants_value(&rt, alloc, &writes, row)?;
     }
-    let other = value_at::<Append<44>>(alloc, &writes, b"l", 5)?;
-    assert_eq!(rt; other, Some(bytes(alloc, b"x")?));
+    assert!(rt; has_value::<Append<44>>(alloc, &writes, b"l", 5, Some(b"x"))?);
     Ok(())
 }
 
+/// What is wanted of an effect.
+enum Want {
+    Keep,
+    Fold(&'static [u8]),
+    Set(&'static [u8]),
+}
+
+/// Whether the writes up to a sequence do this to a key, where merges join texts by a comma.
+fn has_effect(
+    alloc: Global,
+    writes: &[Write],
+    key: &[u8],
+    at: u64,
+    want: &Want,
+) -> Result<bool, AllocError> {
+    Ok(
+        match (&effect_at::<Append<44>>(alloc, writes, key, at)?, want) {
+            (Effect::Keep, Want::Keep) => true,
+            (Effect::Fold(operand), Want::Fold(want)) => operand.as_slice() == *want,
+            (Effect::Set(Some(value)), Want::Set(want)) => value.as_slice() == *want,
+            _ => false,
+        },
+    )
+}
+
 /// The empty key, set to the empty text and merged into.
-const EMPTY: [(u64, Change); 2] = [(1, Change::Put(b"", b"")), (2, Change::Merge(b"", b"b"))];
+static EMPTY: [(u64, Change); 2] = [(1, Change::Put(b"", b"")), (2, Change::Merge(b"", b"b"))];
 
 /// A merge into a key without value.
-const ALONE: [(u64, Change); 1] = [(1, Change::Merge(b"", b"b"))];
+static ALONE: [(u64, Change); 1] = [(1, Change::Merge(b"", b"b"))];
 
 #[test]
 fn the_empty_key_and_value(rt: HostRuntime) -> Result<(), Fail> {
     let alloc = rt.alloc();
     let writes = written(alloc, &EMPTY)?;
-    let value = value_at::<Append<44>>(alloc, &writes, b"", 2)?;
-    assert_eq!(rt; value, wanted(alloc, Some(b",b"))?);
-    let effect = effect_at::<Append<44>>(alloc, &writes, b"", 2)?;
-    assert_eq!(rt; effect, Effect::Set(value));
+    assert!(rt; has_value::<Append<44>>(alloc, &writes, b"", 2, Some(b",b"))?);
+    assert!(rt; has_effect(alloc, &writes, b"", 2, &Want::Set(b",b"))?);
     Ok(())
 }
 
@@ -106,17 +124,14 @@ fn the_empty_key_and_value(rt: HostRuntime) -> Result<(), Fail> {
 fn a_merge_alone(rt: HostRuntime) -> Result<(), Fail> {
     let alloc = rt.alloc();
     let writes = written(alloc, &ALONE)?;
-    let value = value_at::<Append<44>>(alloc, &writes, b"", 1)?;
-    assert_eq!(rt; value, wanted(alloc, Some(b"b"))?);
-    let effect = effect_at::<Append<44>>(alloc, &writes, b"", 1)?;
-    assert_eq!(rt; effect, Effect::Fold(bytes(alloc, b"b")?));
-    let untouched = effect_at::<Append<44>>(alloc, &writes, b"k", 1)?;
-    assert_eq!(rt; untouched, Effect::Keep);
+    assert!(rt; has_value::<Append<44>>(alloc, &writes, b"", 1, Some(b"b"))?);
+    assert!(rt; has_effect(alloc, &writes, b"", 1, &Want::Fold(b"b"))?);
+    assert!(rt; has_effect(alloc, &writes, b"k", 1, &Want::Keep)?);
     Ok(())
 }
 
 /// A value, a greater one, and one that is less.
-const GREATEST: [(u64, Change); 3] = [
+static GREATEST: [(u64, Change); 3] = [
     (1, Change::Put(b"k", b"a")),
     (2, Change::Merge(b"k", b"ab")),
     (3, Change::Merge(b"k", b"`")),
@@ -126,25 +141,23 @@ const GREATEST: [(u64, Change); 3] = [
 fn the_greatest_operand(rt: HostRuntime) -> Result<(), Fail> {
     let alloc = rt.alloc();
     let writes = written(alloc, &GREATEST)?;
-    let value = value_at::<Maximum>(alloc, &writes, b"k", 3)?;
-    assert_eq!(rt; value, wanted(alloc, Some(b"ab"))?);
+    assert!(rt; has_value::<Maximum>(alloc, &writes, b"k", 3, Some(b"ab"))?);
     Ok(())
 }
 
 /// A number of other than eight bytes, which counts as zero.
-const NO_NUMBER: [(u64, Change); 1] = [(1, Change::Merge(b"k", b"\x01\x02\x03"))];
+static NO_NUMBER: [(u64, Change); 1] = [(1, Change::Merge(b"k", b"\x01\x02\x03"))];
 
 #[test]
 fn a_lone_operand_is_counted(rt: HostRuntime) -> Result<(), Fail> {
     let alloc = rt.alloc();
     let writes = written(alloc, &NO_NUMBER)?;
-    let value = value_at::<Counter>(alloc, &writes, b"k", 1)?;
-    assert_eq!(rt; value, wanted(alloc, Some(&[0; 8]))?);
+    assert!(rt; has_value::<Counter>(alloc, &writes, b"k", 1, Some(&[0; 8]))?);
     Ok(())
 }
 
 /// The ends of a range deletion, a key, and whether the range touches the key.
-const RANGES: [(&[u8], &[u8], &[u8], bool); 9] = [
+static RANGES: [(&[u8], &[u8], &[u8], bool); 9] = [
     (b"b", b"d", b"b", true),
     (b"b", b"d", b"c", true),
     (b"b", b"d", b"cz", true),
@@ -156,20 +169,21 @@ const RANGES: [(&[u8], &[u8], &[u8], bool); 9] = [
     (b"", b"b", b"", true),
 ];
 
+/// Whether a change touches a key.
+fn touches(alloc: Global, op: &OpRef<'_>, key: &[u8]) -> Result<bool, AllocError> {
+    Ok(touches_key(&op.to_op(alloc)?, key))
+}
+
 #[test]
 fn ranges_leave_out_their_end(rt: HostRuntime) -> Result<(), Fail> {
     let alloc = rt.alloc();
-    for (begin, end, key, want) in RANGES {
-        let op = Op::DeleteRange(bytes(alloc, begin)?, bytes(alloc, end)?);
-        assert_eq!(rt;
-            touches_key(&op, key),
-            want,
-            "{key:?} in {begin:?} to {end:?}"
-        );
+    for &(begin, end, key, want) in &RANGES {
+        let touched = touches(alloc, &OpRef::delete_range(begin, end), key)?;
+        assert!(rt; touched == want, "{key:?} in {begin:?} to {end:?}");
     }
-    let named = Op::Delete(bytes(alloc, b"k")?);
-    assert!(rt; touches_key(&named, b"k"));
-    assert!(rt; !touches_key(&named, b"kk"));
+    let named = OpRef::delete(b"k");
+    assert!(rt; touches(alloc, &named, b"k")?);
+    assert!(rt; !touches(alloc, &named, b"kk")?);
     Ok(())
 }
 

@@ -3,19 +3,15 @@ ghost use Rattle.std.specs.Prelude.{◌↔◌, IsTrue};
 ghost use Rattle.std.specs.List.{AllByRecursion};
 ghost use Rattle.uc_query.specs.Turns.{HasName};
 
-use std::alloc::Global;
+use crate::stores::{Store, opened};
+use std::alloc::{AllocError, Global};
 use std::marker::Sync;
 use std::process::Abort;
 use std::test::Fail;
 use std::thread::Threads;
-use uc_batch::Writes;
-use uc_bytes::{Bytes, Items, Op, Write};
-use uc_oper::Append;
-use uc_query::{Answer, AskError, Call, Query, Reply, Report, run_calls};
-use uc_version::{ClaimError, InstallError, MOST_CLAIMS, Options, Owned, Stretch, open_plain};
-
-/// The operator of the tests: texts joined by a comma.
-type Commas = Append<0x2C>;
+use uc_bytes::{Bytes, Items, OpRef, Write, WriteRef};
+use uc_query::{Answer, AskError, Call, Query, Reply, run_calls};
+use uc_version::{ClaimError, InstallError, MOST_CLAIMS, Stretch};
 
 /// A call.
 #[derive(Clone, Copy)]
@@ -71,7 +67,7 @@ struct Row {
 }
 
 /// Lists of calls without queries that are answered.
-const ROWS: [Row; 4] = [
+static ROWS: [Row; 4] = [
     // Two claims beside each other, installed in either order, and a third across both.
     Row {
         writes: 4,
@@ -155,7 +151,7 @@ const ROWS: [Row; 4] = [
 ];
 
 /// Asked between claims and installs, the value is the same. These wait for the workers.
-const ASKED: [Row; 1] = [Row {
+static ASKED: [Row; 1] = [Row {
     writes: 4,
     first_id: 1,
     batches: &[Whole(&[
@@ -170,49 +166,44 @@ const ASKED: [Row; 1] = [Row {
     ])],
 }];
 
-/// A store of a put of one letter and merges of the next ones, each a run.
-fn opened(alloc: Global, count: u8, first_id: u64) -> Result<Owned<Commas>, Fail> {
+/// A put of the first letter, or a merge of another.
+fn letter(alloc: Global, number: u8) -> Result<Write, AllocError> {
+    let text = [b'a'.wrapping_add(number)];
+    let seq = u64::from(number).wrapping_add(1);
+    let op = match number {
+        0 => OpRef::put(b"k", &text),
+        _ => OpRef::merge(b"k", &text),
+    };
+    WriteRef::new(seq, op).to_write(alloc)
+}
+
+/// A put of one letter and merges of the next ones, numbered from 1.
+fn letters(alloc: Global, count: u8) -> Result<Vec<Write>, AllocError> {
     let mut writes = Vec::new(alloc);
     for number in 0..count {
-        let key = Bytes::from_slice(alloc, b"\x6b")?;
-        let value = Bytes::from_slice(alloc, &[0x61_u8.wrapping_add(number)])?;
-        let op = if number == 0 {
-            Op::Put(key, value)
-        } else {
-            Op::Merge(key, value)
-        };
-        let seq = u64::from(number).wrapping_add(1);
-        writes.push(Write { seq, op })?;
+        writes.push(letter(alloc, number)?)?;
     }
-    let options = Options {
-        memtable: 1,
-        trigger: 2,
-        percent: 25,
-        first_id,
-        ..Options::usual()
-    };
-    let writes = Writes::of(writes).ok_or("sequences don't rise")?;
-    match open_plain::<Commas>(alloc, &writes, &[], options) {
-        Ok(store) => Ok(store),
-        Err(_) => Err("the store doesn't open")?,
-    }
+    Ok(writes)
+}
+
+/// Asks for the key's value at sequence 4.
+fn asked(alloc: Global, workers: usize, piece: usize) -> Result<Call, AllocError> {
+    let key = Bytes::from_slice(alloc, b"k")?;
+    let queries = vec![in alloc; Query::Get { key, at: 4 }]?;
+    Ok(Call::Ask(Items::from(queries), workers, piece))
 }
 
 /// The call of a step.
-fn call_of(alloc: Global, step: Step) -> Result<Call, Fail> {
-    Ok(match step {
-        Claim(name, first, count) => Call::Claim(name, Stretch { first, count }),
-        Install(name) => Call::Install(name),
-        Abandon(name) => Call::Abandon(name),
-        Compact(first, count) => Call::Compact(Stretch { first, count }),
-        Pick => Call::Pick,
-        Step::Report => Call::Report,
-        Ask(workers, piece) => {
-            let key = Bytes::from_slice(alloc, b"\x6b")?;
-            let queries = vec![in alloc; Query::Get { key, at: 4 }]?;
-            Call::Ask(Items::from(queries), workers, piece)
-        }
-    })
+fn call_of(alloc: Global, step: Step) -> Result<Call, AllocError> {
+    match step {
+        Claim(name, first, count) => Ok(Call::Claim(name, Stretch { first, count })),
+        Install(name) => Ok(Call::Install(name)),
+        Abandon(name) => Ok(Call::Abandon(name)),
+        Compact(first, count) => Ok(Call::Compact(Stretch { first, count })),
+        Pick => Ok(Call::Pick),
+        Step::Report => Ok(Call::Report),
+        Ask(workers, piece) => asked(alloc, workers, piece),
+    }
 }
 
 /// The calls of steps.
@@ -220,10 +211,10 @@ fn calls_of(
     alloc: Global,
     replied: &[(Step, Wanted)],
     stopped: &[Step],
-) -> Result<Vec<Call>, Fail> {
+) -> Result<Vec<Call>, AllocError> {
     let mut calls = Vec::new(alloc);
-    for step in replied {
-        calls.push(call_of(alloc, step.0)?)?;
+    for &(step, _) in replied {
+        calls.push(call_of(alloc, step)?)?;
     }
     for &step in stopped {
         calls.push(call_of(alloc, step)?)?;
@@ -276,60 +267,79 @@ fn is_value(answers: &[Answer], value: &[u8]) -> bool {
     }
 }
 
+/// Looks at what comes of calls: their replies, or the error that one is refused with.
+fn wants(
+    rt: &impl Abort,
+    outcome: &Result<Vec<Reply>, AskError>,
+    replied: &[(Step, Wanted)],
+    error: Option<AskError>,
+) {
+    match outcome {
+        Err(found) => assert_eq!(rt; Some(*found), error),
+        Ok(replies) => {
+            assert_eq!(rt; error, None);
+            assert_eq!(rt; replies.len(), replied.len());
+            for (reply, &(_, wanted)) in replies.iter().zip(replied) {
+                assert!(rt; is_wanted(reply, wanted));
+            }
+        }
+    }
+}
+
 /// Makes the calls of steps, and looks at what comes of them.
 fn played(
     rt: &(impl Threads + Abort + Sync),
     alloc: Global,
-    store: &mut Owned<Commas>,
+    store: &mut Store,
     replied: &[(Step, Wanted)],
     stopped: &[Step],
-    wanted: Option<AskError>,
+    error: Option<AskError>,
 ) -> Result<(), Fail> {
     let calls = calls_of(alloc, replied, stopped)?;
     if !have_names(calls.as_slice()) {
         return Err("no such name")?;
     }
-    match run_calls(rt, alloc, store, calls.as_slice()) {
-        Err(error) => assert_eq!(rt; Some(error), wanted),
-        Ok(replies) => {
-            assert_eq!(rt; wanted, None);
-            assert_eq!(rt; replies.len(), replied.len());
-            for (reply, step) in replies.iter().zip(replied) {
-                assert!(rt; is_wanted(reply, step.1));
+    let outcome = run_calls(rt, alloc, store, calls.as_slice());
+    wants(rt, &outcome, replied, error);
+    Ok(())
+}
+
+/// Makes the calls of lists, one list after the other.
+fn all_played(
+    rt: &(impl Threads + Abort + Sync),
+    alloc: Global,
+    store: &mut Store,
+    batches: &[Batch],
+) -> Result<(), Fail> {
+    for batch in batches {
+        match batch {
+            Whole(replied) => played(rt, alloc, store, replied, &[], None)?,
+            Stopped(replied, stopped, error) => {
+                played(rt, alloc, store, replied, stopped, Some(*error))?;
             }
         }
     }
     Ok(())
 }
 
-/// Makes the calls of a row.
+/// Makes the calls of a row, in a store of its own.
 fn played_row(rt: &(impl Threads + Abort + Sync), alloc: Global, row: &Row) -> Result<(), Fail> {
-    let mut store = opened(alloc, row.writes, row.first_id)?;
-    for batch in row.batches {
-        match batch {
-            Whole(replied) => played(rt, alloc, &mut store, replied, &[], None)?,
-            Stopped(replied, stopped, error) => {
-                played(rt, alloc, &mut store, replied, stopped, Some(*error))?;
-            }
-        }
-    }
-    Ok(())
+    let mut store = opened(alloc, letters(alloc, row.writes)?, row.first_id)?;
+    all_played(rt, alloc, &mut store, row.batches)
 }
 
 #[test]
 fn lists_of_calls(rt: HostRuntime) -> Result<(), Fail> {
-    let alloc = rt.alloc();
     for row in &ROWS {
-        played_row(&rt, alloc, row)?;
+        played_row(&rt, rt.alloc(), row)?;
     }
     Ok(())
 }
 
 #[test]
 fn queries_between_calls(rt: HostRuntime) -> Result<(), Fail> {
-    let alloc = rt.alloc();
     for row in &ASKED {
-        played_row(&rt, alloc, row)?;
+        played_row(&rt, rt.alloc(), row)?;
     }
     Ok(())
 }

@@ -5,7 +5,7 @@
 //! plain program of `uc_model` makes of the stretch's writes (`compactions.rt`).
 //! `owned_stores.rt` has stores whose stretches are claimed and installed in any order, and `workers.rt` batches of queries.
 //! Worked by hand are claims, installs and picks (`owners.rt`), lists of calls (`calls.rt`) and a batch of queries
-//! (`worked_batches.rt`).
+//! (`worked_batches.rt`); `stores.rt` opens the stores of the first two.
 #![tactic(auto)]
 
 #[cfg(test)]
@@ -16,6 +16,8 @@ mod compactions;
 mod owned_stores;
 #[cfg(test)]
 mod owners;
+#[cfg(test)]
+mod stores;
 #[cfg(test)]
 mod worked_batches;
 #[cfg(test)]

@@ -50,6 +50,32 @@ fn answers_alike<O: Operator>(
     Ok(answer == answer_writes::<O>(alloc, writes, version.keeps(), query)?)
 }
 
+/// Whether the store answers a lookup of a key as the plain writes do.
+fn looks_up_alike<O: Operator>(
+    alloc: Global,
+    store: &Owned<O>,
+    writes: &Writes,
+    key: &[u8],
+    at: u64,
+) -> Result<bool, Fail> {
+    let key = Bytes::from_slice(alloc, key)?;
+    answers_alike(alloc, store, writes, &Query::Get { key, at })
+}
+
+/// A scan from the first key on, to a drawn end.
+fn drawn_scan(alloc: Global, dice: &mut Dice, at: u64) -> Result<Query, Fail> {
+    let high = match KEYS.get(usize::try_from(dice.roll(5))?) {
+        None => None,
+        Some(high) => Some(Bytes::from_slice(alloc, high)?),
+    };
+    Ok(Query::Scan {
+        low: Bytes::from_slice(alloc, b"")?,
+        high,
+        at,
+        limit: dice.roll(6),
+    })
+}
+
 /// Whether the store reads every key, and scans, as the plain writes do, at a sequence that may be kept or not.
 fn reads_alike<O: Operator>(
     alloc: Global,
@@ -59,22 +85,31 @@ fn reads_alike<O: Operator>(
     at: u64,
 ) -> Result<bool, Fail> {
     for key in KEYS {
-        let key = Bytes::from_slice(alloc, key)?;
-        if !answers_alike(alloc, store, writes, &Query::Get { key, at })? {
+        if !looks_up_alike(alloc, store, writes, key, at)? {
             return Ok(false);
         }
     }
-    let high = match KEYS.get(usize::try_from(dice.roll(5))?) {
-        None => None,
-        Some(high) => Some(Bytes::from_slice(alloc, high)?),
-    };
-    let scan = Query::Scan {
-        low: Bytes::from_slice(alloc, b"")?,
-        high,
-        at,
-        limit: dice.roll(6),
-    };
-    answers_alike(alloc, store, writes, &scan)
+    answers_alike(alloc, store, writes, &drawn_scan(alloc, dice, at)?)
+}
+
+/// Whether the store reads as the plain writes do at each of its keeps, at a drawn sequence and at the last one.
+fn reads_alike_throughout<O: Operator>(
+    alloc: Global,
+    dice: &mut Dice,
+    store: &Owned<O>,
+    writes: &Writes,
+    keeps: &[u64],
+) -> Result<bool, Fail> {
+    for &at in keeps {
+        if !reads_alike(alloc, dice, store, writes, at)? {
+            return Ok(false);
+        }
+    }
+    let drawn = dice.roll(writes.last().saturating_add(3));
+    Ok(
+        reads_alike(alloc, dice, store, writes, drawn)?
+            && reads_alike(alloc, dice, store, writes, writes.last())?,
+    )
 }
 
 /// Compacts what a claim has and installs it, or gives the claim back where it is refused.
@@ -104,6 +139,51 @@ fn drawn_claim(dice: &mut Dice, claims: &mut Vec<OwnedClaim>) -> Option<OwnedCla
     }
 }
 
+/// Claims a stretch, and keeps the claim: whether it is claimed.
+fn claim<O: Operator>(
+    store: &mut Owned<O>,
+    claims: &mut Vec<OwnedClaim>,
+    stretch: Stretch,
+) -> Result<bool, Fail> {
+    match store.claim(stretch) {
+        Ok(claim) => {
+            claims.push(claim)?;
+            Ok(true)
+        }
+        Err(_) => Ok(false),
+    }
+}
+
+/// Claims what is picked, if anything is.
+fn claim_picked<O: Operator>(
+    store: &mut Owned<O>,
+    claims: &mut Vec<OwnedClaim>,
+) -> Result<(), Fail> {
+    if let Some(stretch) = store.pick() {
+        if !claim(store, claims, stretch)? {
+            return Err("what is picked can't be claimed")?;
+        }
+    }
+    Ok(())
+}
+
+/// Gives a claim back.
+fn abandon<O: Operator>(store: &mut Owned<O>, claim: OwnedClaim) -> Result<(), Fail> {
+    if !store.holds(&claim) {
+        return Err("the claim isn't held")?;
+    }
+    store.abandon(claim);
+    Ok(())
+}
+
+/// A drawn stretch, that the store may have or not.
+fn drawn_stretch(dice: &mut Dice) -> Result<Stretch, Fail> {
+    Ok(Stretch {
+        first: usize::try_from(dice.roll(8))?,
+        count: usize::try_from(dice.roll(6))?,
+    })
+}
+
 /// A claim of a drawn stretch, or of what is picked; one of the claims installed, or given back.
 fn step<O: Operator + Sync>(
     rt: &(impl Threads + Sync),
@@ -112,43 +192,54 @@ fn step<O: Operator + Sync>(
     store: &mut Owned<O>,
     claims: &mut Vec<OwnedClaim>,
 ) -> Result<(), Fail> {
-    match dice.roll(8) {
-        0..3 => {
-            let stretch = Stretch {
-                first: usize::try_from(dice.roll(8))?,
-                count: usize::try_from(dice.roll(6))?,
-            };
-            if let Ok(claim) = store.claim(stretch) {
-                claims.push(claim)?;
-            }
-        }
-        3 => {
-            if let Some(stretch) = store.pick() {
-                match store.claim(stretch) {
-                    Ok(claim) => claims.push(claim)?,
-                    Err(_) => return Err("what is picked can't be claimed")?,
-                }
-            }
-        }
-        4 => {
-            if let Some(claim) = drawn_claim(dice, claims) {
-                if !store.holds(&claim) {
-                    return Err("the claim isn't held")?;
-                }
-                store.abandon(claim);
-            }
-        }
-        _ => {
-            if let Some(claim) = drawn_claim(dice, claims) {
-                install(rt, alloc, store, claim)?;
-            }
+    let kind = dice.roll(8);
+    if kind < 3 {
+        claim(store, claims, drawn_stretch(dice)?)?;
+    } else if kind == 3 {
+        claim_picked(store, claims)?;
+    } else if let Some(claim) = drawn_claim(dice, claims) {
+        if kind == 4 {
+            abandon(store, claim)?;
+        } else {
+            install(rt, alloc, store, claim)?;
         }
     }
     Ok(())
 }
 
-/// A drawn store, with which 30 drawn things are done; after each it reads as the plain writes do, at each of its keeps and
-/// at a drawn sequence.
+/// Does 30 drawn things with a store: whether after each it reads as the plain writes do.
+fn stays_alike<O: Operator + Sync>(
+    rt: &(impl Threads + Sync),
+    alloc: Global,
+    dice: &mut Dice,
+    store: &mut Owned<O>,
+    writes: &Writes,
+    keeps: &[u64],
+) -> Result<bool, Fail> {
+    let mut claims = Vec::new(alloc);
+    for _ in 0..30 {
+        step(rt, alloc, dice, store, &mut claims)?;
+        if !reads_alike_throughout(alloc, dice, store, writes, keeps)? {
+            return Ok(false);
+        }
+    }
+    Ok(true)
+}
+
+/// A store of these writes, with drawn options.
+fn opened<O: Operator>(
+    alloc: Global,
+    dice: &mut Dice,
+    writes: &Writes,
+    keeps: &[u64],
+) -> Result<Owned<O>, Fail> {
+    match open_plain::<O>(alloc, writes, keeps, drawn_options(dice)?) {
+        Ok(store) => Ok(store),
+        Err(_) => Err("the store doesn't open")?,
+    }
+}
+
+/// Whether a drawn store reads as its plain writes do, whatever is done with it.
 fn drawn_store_reads_alike<O: Operator + Sync>(
     rt: &(impl Threads + Sync),
     alloc: Global,
@@ -156,26 +247,8 @@ fn drawn_store_reads_alike<O: Operator + Sync>(
 ) -> Result<bool, Fail> {
     let writes = drawn_writes(alloc, dice)?;
     let keeps = drawn_keeps(alloc, dice, writes.last())?;
-    let options = drawn_options(dice)?;
-    let Ok(mut store) = open_plain::<O>(alloc, &writes, &keeps, options) else {
-        return Ok(false);
-    };
-    let mut claims = Vec::new(alloc);
-    for _ in 0..30 {
-        step(rt, alloc, dice, &mut store, &mut claims)?;
-        for &at in &keeps {
-            if !reads_alike(alloc, dice, &store, &writes, at)? {
-                return Ok(false);
-            }
-        }
-        let drawn = dice.roll(writes.last().saturating_add(3));
-        if !reads_alike(alloc, dice, &store, &writes, drawn)?
-            || !reads_alike(alloc, dice, &store, &writes, writes.last())?
-        {
-            return Ok(false);
-        }
-    }
-    Ok(true)
+    let mut store = opened::<O>(alloc, dice, &writes, &keeps)?;
+    stays_alike(rt, alloc, dice, &mut store, &writes, &keeps)
 }
 
 #[test]

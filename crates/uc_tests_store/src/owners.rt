@@ -1,19 +1,13 @@
 //! Claims, installs and picks worked by hand.
+use crate::stores::{Store, opened};
 use Step::{Abandon, Busy, Claim, Install, Pick, Runs};
-use std::alloc::Global;
+use std::alloc::{AllocError, Global};
 use std::marker::Sync;
 use std::process::Abort;
 use std::test::Fail;
 use std::thread::Threads;
-use uc_batch::Writes;
-use uc_bytes::{Bytes, Op, Write};
-use uc_oper::Append;
-use uc_version::{
-    ClaimError, InstallError, MOST_SLOTS, Options, Owned, OwnedClaim, Stretch, open_plain, pick,
-};
-
-/// The operator of the tests: texts joined by a comma.
-type Commas = Append<0x2C>;
+use uc_bytes::{OpRef, Write, WriteRef};
+use uc_version::{ClaimError, InstallError, MOST_SLOTS, OwnedClaim, Stretch};
 
 /// A step of a row: a call, and what it comes to.
 #[derive(Clone, Copy)]
@@ -34,7 +28,7 @@ struct Row {
     steps: &'static [Step],
 }
 
-const ROWS: [Row; 6] = [
+static ROWS: [Row; 6] = [
     // Two claims beside each other, installed in either order.
     Row {
         merges: 4,
@@ -133,50 +127,43 @@ const ROWS: [Row; 6] = [
     },
 ];
 
-/// A store in which each of so many merges is a run.
-fn opened(alloc: Global, merges: u64, first_id: u64) -> Result<Owned<Commas>, Fail> {
+/// These rows.
+fn rows() -> &'static [Row] {
+    &ROWS
+}
+
+/// So many merges, numbered from 1.
+fn merges(alloc: Global, count: u64) -> Result<Vec<Write>, AllocError> {
     let mut writes = Vec::new(alloc);
-    for number in 0..merges {
-        writes.push(Write {
-            seq: number.wrapping_add(1),
-            op: Op::Merge(
-                Bytes::from_slice(alloc, b"k")?,
-                Bytes::from_slice(alloc, b"v")?,
-            ),
-        })?;
+    for number in 0..count {
+        let merge = WriteRef::new(number.wrapping_add(1), OpRef::merge(b"k", b"v"));
+        writes.push(merge.to_write(alloc)?)?;
     }
-    let options = Options {
-        memtable: 1,
-        trigger: 2,
-        percent: 25,
-        first_id,
-        ..Options::usual()
-    };
-    let writes = Writes::of(writes).ok_or("sequences don't rise")?;
-    match open_plain::<Commas>(alloc, &writes, &[], options) {
-        Ok(store) => Ok(store),
-        Err(_) => Err("the store doesn't open")?,
+    Ok(writes)
+}
+
+/// Looks at a store's runs, given by their ids and slots, the newest first.
+fn wants_runs(rt: &impl Abort, store: &Store, wanted: &[(u64, usize)]) {
+    let runs = store.version().runs();
+    assert_eq!(rt; runs.len(), wanted.len());
+    for (placed, &(id, slot)) in runs.iter().zip(wanted) {
+        assert_eq!(rt; (placed.id(), placed.slot()), (id, slot));
     }
 }
 
-/// Installs what the claim's runs become. A refused claim goes back to those that are kept.
-fn installed(
-    rt: &(impl Threads + Sync),
-    alloc: Global,
-    store: &mut Owned<Commas>,
+/// Claims a stretch, and keeps the claim: its number.
+fn claimed(
+    store: &mut Store,
     claims: &mut Vec<OwnedClaim>,
-    claim: OwnedClaim,
-) -> Result<Result<u64, InstallError>, Fail> {
-    if !store.holds(&claim) {
-        return Err("the claim isn't held")?;
-    }
-    let made = store.compact(rt, alloc, &claim)?;
-    match store.install(claim, made) {
-        Ok(id) => Ok(Ok(id)),
-        Err(refused) => {
-            claims.push(refused.0)?;
-            Ok(Err(refused.2))
+    stretch: Stretch,
+) -> Result<Result<usize, ClaimError>, AllocError> {
+    match store.claim(stretch) {
+        Ok(claim) => {
+            let number = claim.number();
+            claims.push(claim)?;
+            Ok(Ok(number))
         }
+        Err(error) => Ok(Err(error)),
     }
 }
 
@@ -188,61 +175,95 @@ fn taken(claims: &mut Vec<OwnedClaim>, number: usize) -> Result<OwnedClaim, Fail
     }
 }
 
+/// Gives the claim of a number back.
+fn abandoned(store: &mut Store, claims: &mut Vec<OwnedClaim>, number: usize) -> Result<(), Fail> {
+    let claim = taken(claims, number)?;
+    if !store.holds(&claim) {
+        return Err("the claim isn't held")?;
+    }
+    store.abandon(claim);
+    Ok(())
+}
+
+/// Installs what the runs of a number's claim become. A refused claim goes back to those that are kept.
+fn installed(
+    rt: &(impl Threads + Sync),
+    alloc: Global,
+    store: &mut Store,
+    claims: &mut Vec<OwnedClaim>,
+    number: usize,
+) -> Result<Result<u64, InstallError>, Fail> {
+    let claim = taken(claims, number)?;
+    if !store.holds(&claim) {
+        return Err("the claim isn't held")?;
+    }
+    let made = store.compact(rt, alloc, &claim)?;
+    match store.install(claim, made) {
+        Ok(id) => Ok(Ok(id)),
+        Err((claim, _made, error)) => {
+            claims.push(claim)?;
+            Ok(Err(error))
+        }
+    }
+}
+
+/// Whether a slot's run is claimed.
+fn is_busy(store: &Store, slot: usize) -> Result<bool, Fail> {
+    if slot >= MOST_SLOTS {
+        return Err("no such slot")?;
+    }
+    Ok(store.busy(slot))
+}
+
 /// Does a step, and looks at what it comes to.
 fn stepped(
     rt: &(impl Threads + Abort + Sync),
     alloc: Global,
-    store: &mut Owned<Commas>,
+    store: &mut Store,
     claims: &mut Vec<OwnedClaim>,
     step: Step,
 ) -> Result<(), Fail> {
     match step {
-        Runs(wanted) => {
-            let runs = store.version().runs();
-            assert_eq!(rt; runs.len(), wanted.len());
-            for (placed, &(id, slot)) in runs.iter().zip(wanted) {
-                assert_eq!(rt; placed.id(), id);
-                assert_eq!(rt; placed.slot(), slot);
-            }
+        Runs(wanted) => wants_runs(rt, store, wanted),
+        Claim(first, count, wanted) => {
+            let number = claimed(store, claims, Stretch { first, count })?;
+            assert_eq!(rt; number, wanted);
         }
-        Claim(first, count, wanted) => match store.claim(Stretch { first, count }) {
-            Ok(claim) => {
-                assert_eq!(rt; Ok(claim.number()), wanted);
-                claims.push(claim)?;
-            }
-            Err(error) => assert_eq!(rt; Err(error), wanted),
-        },
-        Abandon(number) => {
-            let claim = taken(claims, number)?;
-            if !store.holds(&claim) {
-                return Err("the claim isn't held")?;
-            }
-            store.abandon(claim);
-        }
+        Abandon(number) => abandoned(store, claims, number)?,
         Install(number, wanted) => {
-            let claim = taken(claims, number)?;
-            assert_eq!(rt; installed(rt, alloc, store, claims, claim)?, wanted);
+            let id = installed(rt, alloc, store, claims, number)?;
+            assert_eq!(rt; id, wanted);
         }
-        Busy(slot, wanted) => {
-            if slot >= MOST_SLOTS {
-                return Err("no such slot")?;
-            }
-            assert_eq!(rt; store.busy(slot), wanted);
-        }
+        Busy(slot, wanted) => assert_eq!(rt; is_busy(store, slot)?, wanted),
         Pick(wanted) => assert_eq!(rt; store.pick(), wanted),
     }
     Ok(())
 }
 
+/// Does the steps of a row.
+fn stepped_through(
+    rt: &(impl Threads + Abort + Sync),
+    alloc: Global,
+    store: &mut Store,
+    steps: &[Step],
+) -> Result<(), Fail> {
+    let mut claims = Vec::new(alloc);
+    for &step in steps {
+        stepped(rt, alloc, store, &mut claims, step)?;
+    }
+    Ok(())
+}
+
+/// Does what a row says, with a store of its own.
+fn row_stepped(rt: &(impl Threads + Abort + Sync), alloc: Global, row: &Row) -> Result<(), Fail> {
+    let mut store = opened(alloc, merges(alloc, row.merges)?, row.first_id)?;
+    stepped_through(rt, alloc, &mut store, row.steps)
+}
+
 #[test]
 fn claims_and_installs(rt: HostRuntime) -> Result<(), Fail> {
-    let alloc = rt.alloc();
-    for row in &ROWS {
-        let mut store = opened(alloc, row.merges, row.first_id)?;
-        let mut claims = Vec::new(alloc);
-        for &step in row.steps {
-            stepped(&rt, alloc, &mut store, &mut claims, step)?;
-        }
+    for row in rows() {
+        row_stepped(&rt, rt.alloc(), row)?;
     }
     Ok(())
 }

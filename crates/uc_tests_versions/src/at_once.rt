@@ -1,5 +1,5 @@
 //! Stretches that are compacted at once.
-use crate::stores::{Commas, MERGED, claimed, given_back, has_runs, merges, opened};
+use crate::stores::{Commas, MERGED, Store, claimed, given_back, has_runs, merges, opened};
 use std::alloc::Global;
 use std::marker::Sync;
 use std::process::Abort;
@@ -8,6 +8,7 @@ use std::thread::Threads;
 use uc_bytes::Bytes;
 use uc_query::{Answer, Query, answer_one};
 use uc_version::{ClaimError, CompactError, MOST_SLOTS, Stretch};
+use uc_version_state::Version;
 
 /// What is claimed before, a stretch that is compacted at once, what that comes to, and the runs then, by their ids and slots.
 #[derive(Clone, Copy)]
@@ -79,86 +80,140 @@ fn rows() -> &'static [Row] {
     &ROWS
 }
 
-/// Compacts a row's stretch at once. What was claimed before is held still, and nothing else.
-fn compacts(rt: &(impl Threads + Abort + Sync), alloc: Global, row: &Row) -> Result<(), Fail> {
-    let mut owned = opened(alloc, &merges(alloc, 4)?, &[], 1)?;
-    let claim = match row.held {
-        None => None,
-        Some(stretch) => Some(claimed(&mut owned, stretch)?),
-    };
-    assert_eq!(rt; owned.compact_now(rt, alloc, row.stretch), row.outcome);
-    assert!(rt; has_runs(&owned, row.runs));
-    if let Some(held) = claim {
-        given_back(&mut owned, held)?;
-    }
+/// Compacts a row's stretch at once, and looks at what that comes to.
+fn compacts(rt: &(impl Threads + Abort + Sync), alloc: Global, store: &mut Store, row: &Row) {
+    let outcome = store.compact_now(rt, alloc, row.stretch);
+    assert_eq!(rt; outcome, row.outcome);
+    assert!(rt; has_runs(store, row.runs));
+}
+
+/// Compacts a row's stretch while this one is claimed, which is held still then.
+fn compacts_beside(
+    rt: &(impl Threads + Abort + Sync),
+    alloc: Global,
+    store: &mut Store,
+    held: Stretch,
+    row: &Row,
+) -> Result<(), Fail> {
+    let claim = claimed(store, held)?;
+    compacts(rt, alloc, store, row);
+    given_back(store, claim)
+}
+
+/// Whether no run is claimed.
+fn is_free(store: &Store) -> bool {
     for slot in 0..MOST_SLOTS {
-        assert!(rt; !owned.busy(slot));
+        if store.busy(slot) {
+            return false;
+        }
     }
+    true
+}
+
+/// Compacts a row's stretch beside what it holds. No run is claimed then.
+fn compacts_row(
+    rt: &(impl Threads + Abort + Sync),
+    alloc: Global,
+    store: &mut Store,
+    row: &Row,
+) -> Result<(), Fail> {
+    match row.held {
+        None => compacts(rt, alloc, store, row),
+        Some(held) => compacts_beside(rt, alloc, store, held, row)?,
+    }
+    assert!(rt; is_free(store));
     Ok(())
 }
 
 #[test]
 fn stretches_are_compacted_at_once(rt: HostRuntime) -> Result<(), Fail> {
+    let alloc = rt.alloc();
+    let changes = merges(alloc, 4)?;
     for row in rows() {
-        compacts(&rt, rt.alloc(), row)?;
+        compacts_row(&rt, alloc, &mut opened(alloc, &changes, &[], 1)?, row)?;
     }
     Ok(())
+}
+
+/// The two newest runs, which become run 4.
+static NEWEST: Row = Row {
+    held: None,
+    stretch: Stretch { first: 0, count: 2 },
+    outcome: Ok(4),
+    runs: &[(4, 2), (1, 0)],
+};
+
+/// Whether the newest run is of two merges that became one.
+fn newest_is_merged(version: &Version) -> bool {
+    match version.runs().first() {
+        None => false,
+        Some(placed) => {
+            let run = placed.run();
+            [run.low_seq(), run.high_seq(), run.points(), run.size()] == [2, 3, 1, 12]
+        }
+    }
+}
+
+/// Whether an answer is this value.
+fn is_value(answer: &Answer, wanted: &[u8]) -> bool {
+    match answer {
+        Answer::Value(Some(value)) => value.as_slice() == wanted,
+        _ => false,
+    }
+}
+
+/// Whether the key has this value at 3.
+fn has_value(alloc: Global, version: &Version, wanted: &[u8]) -> Result<bool, Fail> {
+    let key = Bytes::from_slice(alloc, b"k")?;
+    let answer = answer_one::<Commas>(alloc, version, &Query::Get { key, at: 3 })?;
+    Ok(is_value(&answer, wanted))
 }
 
 #[test]
 fn what_was_merged_is_read(rt: HostRuntime) -> Result<(), Fail> {
     let alloc = rt.alloc();
-    let mut owned = opened(alloc, &MERGED, &[], 1)?;
-    assert_eq!(rt;
-        owned.compact_now(&rt, alloc, Stretch { first: 0, count: 2 }),
-        Ok(4)
-    );
-    assert!(rt; has_runs(&owned, &[(4, 2), (1, 0)]));
-    let run = owned.version().runs().first().ok_or("no run")?.run();
-    assert_eq!(rt;
-        [run.low_seq(), run.high_seq(), run.points(), run.size()],
-        [2, 3, 1, 12]
-    );
-    let query = Query::Get {
-        key: Bytes::from_slice(alloc, b"k")?,
-        at: 3,
-    };
-    let wanted = Answer::Value(Some(Bytes::from_slice(alloc, b"a,b,c")?));
-    assert!(rt; answer_one::<Commas>(alloc, owned.version(), &query)? == wanted);
+    let mut store = opened(alloc, &MERGED, &[], 1)?;
+    compacts(&rt, alloc, &mut store, &NEWEST);
+    assert!(rt; newest_is_merged(store.version()));
+    assert!(rt; has_value(alloc, store.version(), b"a,b,c")?);
     Ok(())
+}
+
+/// Compacts at once in a store that has no id left. A stretch that can't be claimed is told first.
+fn wants_ids_spent(rt: &(impl Threads + Abort + Sync), alloc: Global, store: &mut Store) {
+    let newest = Stretch { first: 0, count: 2 };
+    let spent = store.compact_now(rt, alloc, newest);
+    assert_eq!(rt; spent, Err(CompactError::IdsSpent));
+    let lone = Stretch { first: 0, count: 1 };
+    let error = CompactError::NotClaimed(ClaimError::TooNarrow);
+    assert_eq!(rt; store.compact_now(rt, alloc, lone), Err(error));
+    assert!(rt; is_free(store));
+    assert_eq!(rt; store.version().runs().len(), 64);
 }
 
 #[test]
 fn nothing_is_compacted_without_an_id(rt: HostRuntime) -> Result<(), Fail> {
     let alloc = rt.alloc();
-    let mut owned = opened(alloc, &merges(alloc, 64)?, &[], u64::MAX - 64)?;
-    let newest = Stretch { first: 0, count: 2 };
-    assert_eq!(rt;
-        owned.compact_now(&rt, alloc, newest),
-        Err(CompactError::IdsSpent)
-    );
-    // A stretch that can't be claimed is told first.
-    let lone = Stretch { first: 0, count: 1 };
-    let error = CompactError::NotClaimed(ClaimError::TooNarrow);
-    assert_eq!(rt; owned.compact_now(&rt, alloc, lone), Err(error));
-    assert!(rt; !owned.busy(63) && !owned.busy(62));
-    assert_eq!(rt; owned.version().runs().len(), 64);
+    let mut store = opened(alloc, &merges(alloc, 64)?, &[], u64::MAX - 64)?;
+    wants_ids_spent(&rt, alloc, &mut store);
     Ok(())
 }
 
+/// Errors and their texts.
+static TEXTS: [(CompactError, &str); 3] = [
+    (
+        CompactError::NotClaimed(ClaimError::Busy(3)),
+        "the runs can't be claimed: slot 3 is claimed",
+    ),
+    (CompactError::IdsSpent, "no run numbers are left"),
+    (CompactError::Memory, "out of memory"),
+];
+
 #[test]
 fn errors_are_printed(rt: HostRuntime) -> Result<(), Fail> {
-    let alloc = rt.alloc();
-    let texts = [
-        (
-            CompactError::NotClaimed(ClaimError::Busy(3)),
-            "the runs can't be claimed: slot 3 is claimed",
-        ),
-        (CompactError::IdsSpent, "no run numbers are left"),
-        (CompactError::Memory, "out of memory"),
-    ];
-    for (error, text) in texts {
-        assert_eq!(rt; format!(in alloc; "{error}")?.as_str(), text);
+    for (error, text) in &TEXTS {
+        let printed = format!(in rt.alloc(); "{error}")?;
+        assert!(rt; printed.as_str() == *text, "{text}");
     }
     Ok(())
 }

@@ -1,5 +1,5 @@
 //! Installs of what was made otherwise than the store makes it, and claims of another store.
-use crate::stores::{Change, Commas, MERGED, claimed, given_back, has_runs, opened};
+use crate::stores::{Change, Commas, MERGED, Store, claimed, given_back, has_runs, opened};
 use std::alloc::Global;
 use std::marker::Sync;
 use std::process::Abort;
@@ -7,7 +7,11 @@ use std::test::Fail;
 use std::thread::Threads;
 use uc_compact::{Compacted, compact, inputs_stand};
 use uc_run::WhatRef;
-use uc_version::{InstallError, Owned, OwnedClaim, Stretch};
+use uc_version::{InstallError, OwnedClaim, Stretch};
+use uc_version_state::Version;
+
+/// What a compaction makes.
+type Made = Compacted<Commas>;
 
 /// The two newest runs.
 const NEWEST: Stretch = Stretch { first: 0, count: 2 };
@@ -16,12 +20,12 @@ const NEWEST: Stretch = Stretch { first: 0, count: 2 };
 fn compacted(
     rt: &(impl Threads + Sync),
     alloc: Global,
-    owned: &Owned<Commas>,
+    store: &Store,
     keeps: &[u64],
     oldest: bool,
-) -> Result<Compacted<Commas>, Fail> {
+) -> Result<Made, Fail> {
     let mut inputs = Vec::new(alloc);
-    for placed in owned.version().runs().iter().take(2) {
+    for placed in store.version().runs().iter().take(2) {
         inputs.push(placed.run().clone()?)?;
     }
     if !inputs_stand(&inputs, keeps) {
@@ -30,18 +34,29 @@ fn compacted(
     Ok(compact::<Commas>(rt, alloc, &inputs, keeps, oldest)?)
 }
 
-/// Installs what was made for a claim that is held. A claim that is refused comes back with the error.
-fn installed(
-    owned: &mut Owned<Commas>,
-    claim: OwnedClaim,
-    made: Compacted<Commas>,
-) -> Result<Result<u64, (OwnedClaim, InstallError)>, Fail> {
-    if !owned.holds(&claim) {
+/// Installs what was made for a claim that is held, and gives the id of its run.
+fn installed(store: &mut Store, claim: OwnedClaim, made: Made) -> Result<u64, Fail> {
+    if !store.holds(&claim) {
         return Err("the claim isn't held")?;
     }
-    match owned.install(claim, made) {
-        Ok(id) => Ok(Ok(id)),
-        Err((claim, _made, error)) => Ok(Err((claim, error))),
+    match store.install(claim, made) {
+        Ok(id) => Ok(id),
+        Err(_) => Err("the install is refused")?,
+    }
+}
+
+/// Installs for a claim that is held what is refused, and gives the claim that comes back, with the error.
+fn refused(
+    store: &mut Store,
+    claim: OwnedClaim,
+    made: Made,
+) -> Result<(OwnedClaim, InstallError), Fail> {
+    if !store.holds(&claim) {
+        return Err("the claim isn't held")?;
+    }
+    match store.install(claim, made) {
+        Ok(_) => Err("the install isn't refused")?,
+        Err((claim, _made, error)) => Ok((claim, error)),
     }
 }
 
@@ -76,44 +91,106 @@ fn foreign() -> &'static [MadeElsewhere] {
     &FOREIGN
 }
 
+/// Looks at the refusal of a row, and gives the claim that comes back.
+fn comes_back(
+    rt: &(impl Threads + Abort + Sync),
+    alloc: Global,
+    store: &mut Store,
+    row: &MadeElsewhere,
+) -> Result<OwnedClaim, Fail> {
+    let claim = claimed(store, NEWEST)?;
+    let made = compacted(rt, alloc, store, row.made_for, row.oldest)?;
+    let (claim, error) = refused(store, claim, made)?;
+    assert!(rt; error == row.error);
+    Ok(claim)
+}
+
+/// Installs for a claim what the two newest runs become under the store's own keeps, and gives the id of its run.
+fn own_installed(
+    rt: &(impl Threads + Sync),
+    alloc: Global,
+    store: &mut Store,
+    claim: OwnedClaim,
+) -> Result<u64, Fail> {
+    let own = compacted(rt, alloc, store, store.version().keeps(), false)?;
+    installed(store, claim, own)
+}
+
+/// Looks at the refusal of a row. What the store itself makes is installed then.
+fn refuses(
+    rt: &(impl Threads + Abort + Sync),
+    alloc: Global,
+    store: &mut Store,
+    row: &MadeElsewhere,
+) -> Result<(), Fail> {
+    let claim = comes_back(rt, alloc, store, row)?;
+    let is_kept = has_runs(store, &[(3, 2), (2, 1), (1, 0)]);
+    let id = own_installed(rt, alloc, store, claim)?;
+    assert!(rt; is_kept);
+    assert_eq!(rt; id, 4);
+    assert!(rt; has_runs(store, &[(4, 2), (1, 0)]));
+    Ok(())
+}
+
 #[test]
 fn what_is_refused_comes_back(rt: HostRuntime) -> Result<(), Fail> {
     let alloc = rt.alloc();
     for row in foreign() {
-        let mut owned = opened(alloc, &MERGED, row.keeps, 1)?;
-        let claim = claimed(&mut owned, NEWEST)?;
-        let made = compacted(&rt, alloc, &owned, row.made_for, row.oldest)?;
-        let Err((claim, error)) = installed(&mut owned, claim, made)? else {
-            return Err("the install isn't refused")?;
-        };
-        assert_eq!(rt; error, row.error);
-        assert!(rt; has_runs(&owned, &[(3, 2), (2, 1), (1, 0)]));
-        // Its own output is installed then.
-        let own = compacted(&rt, alloc, &owned, owned.version().keeps(), false)?;
-        assert!(rt; installed(&mut owned, claim, own)?.ok() == Some(4));
-        assert!(rt; has_runs(&owned, &[(4, 2), (1, 0)]));
+        refuses(&rt, alloc, &mut opened(alloc, &MERGED, row.keeps, 1)?, row)?;
     }
     Ok(())
 }
 
 /// A put, and the delete of its key.
-const DELETED: [Change; 2] = [Change::Put(b"\x01"), Change::Delete];
+static DELETED: [Change; 2] = [Change::Put(b"\x01"), Change::Delete];
+
+/// Whether a version keeps 2, and its newest run is the delete of `k` there alone.
+fn newest_is_a_delete(version: &Version) -> bool {
+    match version.runs().first() {
+        None => false,
+        Some(placed) => {
+            let run = placed.run();
+            version.keeps() == [2].as_slice()
+                && [run.points(), run.size()] == [1, 9]
+                && run.point(0) == Some((b"k", 2, WhatRef::Delete))
+        }
+    }
+}
+
+/// Compacts a put and the delete of its key, and looks at what is left of them.
+fn leaves_a_delete(
+    rt: &(impl Threads + Abort + Sync),
+    alloc: Global,
+    store: &mut Store,
+) -> Result<(), Fail> {
+    let claim = claimed(store, NEWEST)?;
+    let id = own_installed(rt, alloc, store, claim)?;
+    assert_eq!(rt; id, 3);
+    assert!(rt; has_runs(store, &[(3, 1)]));
+    assert!(rt; newest_is_a_delete(store.version()));
+    Ok(())
+}
 
 #[test]
 fn a_delete_stays_where_the_oldest_run_is_left_out(rt: HostRuntime) -> Result<(), Fail> {
     let alloc = rt.alloc();
-    let mut owned = opened(alloc, &DELETED, &[], 1)?;
-    let claim = claimed(&mut owned, NEWEST)?;
-    let made = compacted(&rt, alloc, &owned, &[2], false)?;
-    assert!(rt; installed(&mut owned, claim, made)?.ok() == Some(3));
-    assert!(rt; has_runs(&owned, &[(3, 1)]));
-    let run = owned.version().runs().first().ok_or("no run")?.run();
-    assert_eq!(rt; [run.points(), run.size()], [1, 9]);
-    let (key, seq, what) = run.point(0).ok_or("no point")?;
-    assert_eq!(rt; key, b"k".as_slice());
-    assert_eq!(rt; seq, 2);
-    assert_eq!(rt; what, WhatRef::Delete);
-    Ok(())
+    leaves_a_delete(&rt, alloc, &mut opened(alloc, &DELETED, &[], 1)?)
+}
+
+/// Whether two claims have one number, and each store holds its own alone.
+fn are_told_apart(one: &Store, claim: &OwnedClaim, other: &Store, foreign: &OwnedClaim) -> bool {
+    claim.number() == foreign.number()
+        && one.holds(claim)
+        && !one.holds(foreign)
+        && other.holds(foreign)
+        && !other.holds(claim)
+}
+
+/// Whether the first claims of two stores are told apart.
+fn tell_claims_apart(one: &mut Store, other: &mut Store) -> Result<bool, Fail> {
+    let claim = claimed(one, NEWEST)?;
+    let foreign = claimed(other, NEWEST)?;
+    Ok(are_told_apart(one, &claim, other, &foreign))
 }
 
 #[test]
@@ -121,22 +198,31 @@ fn claims_of_another_store_are_not_held(rt: HostRuntime) -> Result<(), Fail> {
     let alloc = rt.alloc();
     let mut one = opened(alloc, &MERGED, &[], 1)?;
     let mut other = opened(alloc, &MERGED, &[], 100)?;
-    let claim = claimed(&mut one, NEWEST)?;
-    let foreign = claimed(&mut other, NEWEST)?;
-    assert_eq!(rt; claim.number(), foreign.number());
-    assert!(rt; one.holds(&claim) && !one.holds(&foreign));
-    assert!(rt; other.holds(&foreign) && !other.holds(&claim));
+    assert!(rt; tell_claims_apart(&mut one, &mut other)?);
     Ok(())
+}
+
+/// Claims the two newest runs and gives them back. The number of the claim.
+fn number_of_a_claim(store: &mut Store) -> Result<usize, Fail> {
+    let claim = claimed(store, NEWEST)?;
+    let number = claim.number();
+    given_back(store, claim)?;
+    Ok(number)
+}
+
+/// Whether each of three claims that are given back has the first number.
+fn can_be_claimed_again(store: &mut Store) -> Result<bool, Fail> {
+    for _ in 0..3 {
+        if number_of_a_claim(store)? != 0 {
+            return Ok(false);
+        }
+    }
+    Ok(true)
 }
 
 #[test]
 fn what_is_given_back_can_be_claimed_again(rt: HostRuntime) -> Result<(), Fail> {
-    let alloc = rt.alloc();
-    let mut owned = opened(alloc, &MERGED, &[], 1)?;
-    for _ in 0..3 {
-        let claim = claimed(&mut owned, NEWEST)?;
-        assert_eq!(rt; claim.number(), 0);
-        given_back(&mut owned, claim)?;
-    }
+    let mut store = opened(rt.alloc(), &MERGED, &[], 1)?;
+    assert!(rt; can_be_claimed_again(&mut store)?);
     Ok(())
 }

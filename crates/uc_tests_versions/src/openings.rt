@@ -259,6 +259,14 @@ fn has_counts(run: &Run, seqs: [u64; 2], points: u64, fragments: usize) -> bool 
         && run.fragments().len() == fragments
 }
 
+/// Whether the newest run has counts as `has_counts` says.
+fn newest_has_counts(version: &Version, seqs: [u64; 2], points: u64, fragments: usize) -> bool {
+    match version.runs().first() {
+        Some(placed) => has_counts(placed.run(), seqs, points, fragments),
+        None => false,
+    }
+}
+
 /// One run, whose id is 1.
 const ONE_RUN: Opened = Opened {
     runs: 1,
@@ -266,17 +274,20 @@ const ONE_RUN: Opened = Opened {
     keeps: &[],
 };
 
+/// Looks at the version of a range deletion at 5 that has no keys.
+fn wants_one_empty_run(rt: &impl Abort, version: &Version) {
+    assert!(rt; has_runs(version, &ONE_RUN));
+    assert_eq!(rt; version.last(), 5);
+    assert!(rt; newest_has_counts(version, [5, 5], 0, 0));
+}
+
 #[test]
 fn a_range_without_keys_becomes_a_run(rt: HostRuntime) -> Result<(), Fail> {
     let alloc = rt.alloc();
     let mut opener = Opener::new(alloc, Options::usual());
     assert!(rt; opener.last() < 5);
     opener.insert(alloc, &WriteRef::new(5, OpRef::delete_range(b"b", b"a")))?;
-    let version = opener.finish(alloc, &[])?;
-    assert!(rt; has_runs(&version, &ONE_RUN));
-    assert_eq!(rt; version.last(), 5);
-    let run = version.runs().first().ok_or("no run")?.run();
-    assert!(rt; has_counts(run, [5, 5], 0, 0));
+    wants_one_empty_run(&rt, &opener.finish(alloc, &[])?);
     Ok(())
 }
 
@@ -300,8 +311,7 @@ fn a_list_of_every_change_opens(rt: HostRuntime) -> Result<(), Fail> {
     let alloc = rt.alloc();
     let writes = every_change(alloc)?;
     let version = open_version(alloc, &writes, &[], &Options::usual())?;
-    let run = version.runs().first().ok_or("no run")?.run();
-    assert!(rt; has_counts(run, [1, 4], 3, 1));
+    assert!(rt; newest_has_counts(&version, [1, 4], 3, 1));
     Ok(())
 }
 
@@ -310,27 +320,29 @@ fn laws_hold() {
     no_refusal_is_leave_to_open();
 }
 
+/// Errors and their texts.
+static TEXTS: [(OpenError, &str); 5] = [
+    (
+        OpenError::BadCount,
+        "a store is opened for at least one thread",
+    ),
+    (OpenError::BadOption, "an option is out of range"),
+    (
+        OpenError::SnapshotAhead(4),
+        "snapshot 4 is above the last write",
+    ),
+    (
+        OpenError::TooManyRuns,
+        "the writes make more runs than a store has slots",
+    ),
+    (OpenError::Memory, "out of memory"),
+];
+
 #[test]
 fn errors_are_printed(rt: HostRuntime) -> Result<(), Fail> {
-    let alloc = rt.alloc();
-    let texts = [
-        (
-            OpenError::BadCount,
-            "a store is opened for at least one thread",
-        ),
-        (OpenError::BadOption, "an option is out of range"),
-        (
-            OpenError::SnapshotAhead(4),
-            "snapshot 4 is above the last write",
-        ),
-        (
-            OpenError::TooManyRuns,
-            "the writes make more runs than a store has slots",
-        ),
-        (OpenError::Memory, "out of memory"),
-    ];
-    for (error, text) in texts {
-        assert_eq!(rt; format!(in alloc; "{error}")?.as_str(), text);
+    for (error, text) in &TEXTS {
+        let printed = format!(in rt.alloc(); "{error}")?;
+        assert!(rt; printed.as_str() == *text, "{text}");
     }
     Ok(())
 }

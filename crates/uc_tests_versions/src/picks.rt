@@ -1,5 +1,6 @@
 //! Picks worked by hand, and random ones beside a plain slow program.
 use std::alloc::{AllocError, Global};
+use std::process::Abort;
 use std::test::Fail;
 use uc_version_pick::{
     Candidate, Options, Stretch, amplified_runs_are_all_picked, collected_is_the_greatest_number,
@@ -35,7 +36,7 @@ const ROW: Pick = Pick {
 };
 
 /// Worked by hand.
-const PICKS: [Pick; 41] = [
+static PICKS: [Pick; 41] = [
     // Space amplification: a tie isn't above.
     Pick {
         percent: 25,
@@ -325,35 +326,51 @@ const PICKS: [Pick; 41] = [
     },
 ];
 
+/// These rows.
+fn picks() -> &'static [Pick] {
+    &PICKS
+}
+
+/// The options of a row.
+fn options_of(pick: &Pick) -> Options {
+    Options {
+        trigger: pick.trigger,
+        ratio: pick.ratio,
+        percent: pick.percent,
+        least: pick.least,
+        greatest: pick.greatest,
+        ..Options::usual()
+    }
+}
+
 /// Candidates of these sizes, claimed or not.
 fn candidates_of(alloc: Global, runs: &[(u64, bool)]) -> Result<Vec<Candidate>, AllocError> {
     let mut candidates = Vec::new(alloc);
-    for (size, claimed) in runs {
-        candidates.push(Candidate {
-            size: *size,
-            claimed: *claimed,
-        })?;
+    for &(size, claimed) in runs {
+        candidates.push(Candidate { size, claimed })?;
     }
     Ok(candidates)
 }
 
+/// Looks at what is picked of candidates under good options.
+fn wants_pick(
+    rt: &impl Abort,
+    options: &Options,
+    candidates: &[Candidate],
+    wanted: Option<Stretch>,
+) {
+    assert!(rt; options.are_good());
+    assert!(rt; candidates.len() <= 65_536);
+    let picked = pick_among(options, candidates);
+    assert_eq!(rt; picked, wanted, "{options:?} {candidates:?}");
+}
+
 #[test]
 fn runs_are_picked(rt: HostRuntime) -> Result<(), Fail> {
-    let alloc = rt.alloc();
-    for pick in &PICKS {
-        let options = Options {
-            trigger: pick.trigger,
-            ratio: pick.ratio,
-            percent: pick.percent,
-            least: pick.least,
-            greatest: pick.greatest,
-            ..Options::usual()
-        };
-        assert!(rt; options.are_good());
-        let candidates = candidates_of(alloc, pick.runs)?;
-        assert!(rt; candidates.len() <= 65_536);
+    for pick in picks() {
+        let candidates = candidates_of(rt.alloc(), pick.runs)?;
         let wanted = pick.picked.map(|(first, count)| Stretch { first, count });
-        assert_eq!(rt; pick_among(&options, &candidates), wanted, "{candidates:?}");
+        wants_pick(&rt, &options_of(pick), &candidates, wanted);
     }
     Ok(())
 }
@@ -457,26 +474,29 @@ fn drawn_options(state: &mut u64) -> Options {
     }
 }
 
+/// So many candidates that are drawn.
+fn drawn_candidates(
+    alloc: Global,
+    state: &mut u64,
+    count: u64,
+) -> Result<Vec<Candidate>, AllocError> {
+    let mut candidates = Vec::new(alloc);
+    for _ in 0..count {
+        candidates.push(Candidate {
+            size: next_random(state, 60),
+            claimed: next_random(state, 6) == 0,
+        })?;
+    }
+    Ok(candidates)
+}
+
 #[test]
 fn random_picks_are_those_of_a_slow_program(rt: HostRuntime) -> Result<(), Fail> {
-    let alloc = rt.alloc();
     let mut state = 1;
     for round in 0..300 {
         let options = drawn_options(&mut state);
-        let mut candidates = Vec::new(alloc);
-        for _ in 0..round % 9 {
-            candidates.push(Candidate {
-                size: next_random(&mut state, 60),
-                claimed: next_random(&mut state, 6) == 0,
-            })?;
-        }
-        assert!(rt; candidates.len() <= 65_536);
-        let wanted = slow_pick(&options, &candidates);
-        assert_eq!(rt;
-            pick_among(&options, &candidates),
-            wanted,
-            "{options:?} {candidates:?}"
-        );
+        let candidates = drawn_candidates(rt.alloc(), &mut state, round % 9)?;
+        wants_pick(&rt, &options, &candidates, slow_pick(&options, &candidates));
     }
     Ok(())
 }

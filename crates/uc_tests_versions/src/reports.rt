@@ -1,14 +1,13 @@
 //! Reports worked by hand.
 use std::alloc::Global;
-use std::marker::Sync;
 use std::process::Abort;
 use std::test::Fail;
-use std::thread::Threads;
 use uc_batch::Writes;
-use uc_bytes::{Bytes, Op, Write};
+use uc_bytes::{OpRef, WriteRef};
 use uc_query::{Report, RunLine, Totals, report};
 use uc_version_open::open_version;
 use uc_version_pick::Options;
+use uc_version_state::Version;
 
 /// A change of a test: a put of a key, or a range deletion.
 #[derive(Clone, Copy)]
@@ -30,7 +29,7 @@ struct Row {
     last: u64,
 }
 
-const ROWS: [Row; 3] = [
+static ROWS: [Row; 3] = [
     Row {
         changes: &[],
         memtable: 1,
@@ -113,51 +112,56 @@ const ROWS: [Row; 3] = [
     },
 ];
 
-/// The change itself.
-fn op_of(alloc: Global, change: Change) -> Result<Op, Fail> {
-    Ok(match change {
-        Put(key, value) => Op::Put(
-            Bytes::from_slice(alloc, key)?,
-            Bytes::from_slice(alloc, value)?,
-        ),
-        DeleteRange(begin, end) => Op::DeleteRange(
-            Bytes::from_slice(alloc, begin)?,
-            Bytes::from_slice(alloc, end)?,
-        ),
-    })
+/// These rows.
+fn rows() -> &'static [Row] {
+    &ROWS
 }
 
-/// The report of a row's version.
-fn reported(rt: &(impl Threads + Sync), alloc: Global, row: &Row) -> Result<Report, Fail> {
+/// The change itself.
+fn op_of(change: Change) -> OpRef<'static> {
+    match change {
+        Put(key, value) => OpRef::put(key, value),
+        DeleteRange(begin, end) => OpRef::delete_range(begin, end),
+    }
+}
+
+/// These changes, numbered from 1.
+fn writes_of(alloc: Global, changes: &[Change]) -> Result<Writes, Fail> {
     let mut writes = Vec::new(alloc);
     let mut seq = 0_u64;
-    for &change in row.changes {
+    for &change in changes {
         seq = seq.wrapping_add(1);
-        writes.push(Write {
-            seq,
-            op: op_of(alloc, change)?,
-        })?;
+        writes.push(WriteRef::new(seq, op_of(change)).to_write(alloc)?)?;
     }
-    let writes = Writes::of(writes).ok_or("sequences don't rise")?;
+    Ok(Writes::of(writes).ok_or("sequences don't rise")?)
+}
+
+/// The version that a row opens.
+fn opened(alloc: Global, row: &Row) -> Result<Version, Fail> {
     let options = Options {
         memtable: row.memtable,
         ..Options::usual()
     };
-    match open_version(alloc, &writes, row.keeps, &options) {
-        Ok(version) => Ok(report(rt, alloc, &version)?),
+    match open_version(alloc, &writes_of(alloc, row.changes)?, row.keeps, &options) {
+        Ok(version) => Ok(version),
         Err(_) => Err("the store doesn't open")?,
     }
+}
+
+/// Looks at the report of a row's version.
+fn wants(rt: &impl Abort, report: &Report, row: &Row) {
+    assert_eq!(rt; report.lines.as_slice(), row.lines);
+    assert_eq!(rt; report.total, row.total);
+    assert_eq!(rt; report.keeps.as_slice(), row.kept);
+    assert_eq!(rt; report.last, row.last);
 }
 
 #[test]
 fn versions_in_numbers(rt: HostRuntime) -> Result<(), Fail> {
     let alloc = rt.alloc();
-    for row in &ROWS {
-        let report = reported(&rt, alloc, row)?;
-        assert_eq!(rt; report.lines.as_slice(), row.lines);
-        assert_eq!(rt; report.total, row.total);
-        assert_eq!(rt; report.keeps.as_slice(), row.kept);
-        assert_eq!(rt; report.last, row.last);
+    for row in rows() {
+        let version = opened(alloc, row)?;
+        wants(&rt, &report(&rt, alloc, &version)?, row);
     }
     Ok(())
 }

@@ -9,6 +9,9 @@ use uc_version::{Options, Owned, OwnedClaim, Stretch, open_plain};
 /// The operator of the tests: texts joined by a comma.
 pub(crate) type Commas = Append<0x2C>;
 
+/// A store of the tests.
+pub(crate) type Store = Owned<Commas>;
+
 /// A change of the key `k`.
 #[derive(Clone, Copy)]
 pub(crate) enum Change {
@@ -18,7 +21,7 @@ pub(crate) enum Change {
 }
 
 /// A put and two merges.
-pub(crate) const MERGED: [Change; 3] = [
+pub(crate) static MERGED: [Change; 3] = [
     Change::Put(b"a"),
     Change::Merge(b"b"),
     Change::Merge(b"c"),
@@ -42,34 +45,38 @@ fn op_of(change: Change) -> OpRef<'static> {
     }
 }
 
-/// A store of these changes, numbered from 1, under these keeps, whose first run has this id.
-pub(crate) fn opened(
-    alloc: Global,
-    changes: &[Change],
-    keeps: &[u64],
-    first_id: u64,
-) -> Result<Owned<Commas>, Fail> {
+/// These changes, numbered from 1.
+fn writes_of(alloc: Global, changes: &[Change]) -> Result<Writes, Fail> {
     let mut writes = Vec::new(alloc);
     let mut seq = 0_u64;
     for &change in changes {
         seq = seq.wrapping_add(1);
         writes.push(WriteRef::new(seq, op_of(change)).to_write(alloc)?)?;
     }
-    let writes = Writes::of(writes).ok_or("the sequences don't rise")?;
+    Ok(Writes::of(writes).ok_or("the sequences don't rise")?)
+}
+
+/// A store of these changes, numbered from 1, under these keeps, whose first run has this id.
+pub(crate) fn opened(
+    alloc: Global,
+    changes: &[Change],
+    keeps: &[u64],
+    first_id: u64,
+) -> Result<Store, Fail> {
     let options = Options {
         memtable: 1,
         first_id,
         ..Options::usual()
     };
-    match open_plain::<Commas>(alloc, &writes, keeps, options) {
-        Ok(owned) => Ok(owned),
+    match open_plain::<Commas>(alloc, &writes_of(alloc, changes)?, keeps, options) {
+        Ok(store) => Ok(store),
         Err(_) => Err("the store doesn't open")?,
     }
 }
 
 /// Whether a store has runs with these ids and slots, the newest first.
-pub(crate) fn has_runs(owned: &Owned<Commas>, wanted: &[(u64, usize)]) -> bool {
-    let runs = owned.version().runs();
+pub(crate) fn has_runs(store: &Store, wanted: &[(u64, usize)]) -> bool {
+    let runs = store.version().runs();
     for (placed, &(id, slot)) in runs.iter().zip(wanted) {
         if placed.id() != id || placed.slot() != slot {
             return false;
@@ -79,18 +86,18 @@ pub(crate) fn has_runs(owned: &Owned<Commas>, wanted: &[(u64, usize)]) -> bool {
 }
 
 /// The claim of a stretch.
-pub(crate) fn claimed(owned: &mut Owned<Commas>, stretch: Stretch) -> Result<OwnedClaim, Fail> {
-    match owned.claim(stretch) {
+pub(crate) fn claimed(store: &mut Store, stretch: Stretch) -> Result<OwnedClaim, Fail> {
+    match store.claim(stretch) {
         Ok(claim) => Ok(claim),
         Err(_) => Err("the claim is refused")?,
     }
 }
 
 /// Gives a claim back that is held.
-pub(crate) fn given_back(owned: &mut Owned<Commas>, claim: OwnedClaim) -> Result<(), Fail> {
-    if !owned.holds(&claim) {
+pub(crate) fn given_back(store: &mut Store, claim: OwnedClaim) -> Result<(), Fail> {
+    if !store.holds(&claim) {
         return Err("the claim isn't held")?;
     }
-    owned.abandon(claim);
+    store.abandon(claim);
     Ok(())
 }
