@@ -3,8 +3,8 @@ use std::alloc::{AllocError, Global};
 use std::process::Abort;
 use std::test::Fail;
 use uc_logrec::{
-    Ending, LogFault, LogReader, LogWriter, Next, crc32c, log_is_read_by_grammar, mask, read_log,
-    unmask, written_log_is_read, written_records_fill_blocks,
+    Ending, LogFault, LogRead, LogReader, LogWriter, Next, crc32c, log_is_read_by_grammar, mask,
+    read_log, unmask, written_log_is_read, written_records_fill_blocks,
 };
 
 /// Records without data.
@@ -92,24 +92,31 @@ fn records_without_data(rt: HostRuntime) -> Result<(), Fail> {
     Ok(())
 }
 
-/// Whether a log has that batch alone.
-fn has_one_batch(alloc: Global, log: &[u8]) -> Result<bool, AllocError> {
-    let read = read_log(alloc, log)?;
-    let [payload] = read.payloads.as_slice() else {
-        return Ok(false);
-    };
-    Ok(payload.as_slice() == BATCH.as_slice() && read.ending == Ending::Clean)
+/// Whether that batch alone was read.
+fn is_one_batch(read: &LogRead) -> bool {
+    let payloads = read.payloads.as_slice();
+    for payload in payloads {
+        if payload.as_slice() != BATCH.as_slice() {
+            return false;
+        }
+    }
+    payloads.len() == 1 && read.ending == Ending::Clean
+}
+
+/// The log of that batch, as a writer makes it.
+fn written(alloc: Global) -> Result<Vec<u8>, AllocError> {
+    let mut writer = LogWriter::new(alloc);
+    writer.add(&BATCH)?;
+    Ok(writer.finish())
 }
 
 #[test]
 fn one_batch(rt: HostRuntime) -> Result<(), Fail> {
     written_log_is_read();
     log_is_read_by_grammar();
-    let mut writer = LogWriter::new(rt.alloc());
-    writer.add(&BATCH)?;
-    let log = writer.finish();
+    let log = written(rt.alloc())?;
     assert!(rt; log.as_slice() == LOG.as_slice());
-    assert!(rt; has_one_batch(rt.alloc(), &log)?);
+    assert!(rt; is_one_batch(&read_log(rt.alloc(), &log)?));
     Ok(())
 }
 
@@ -148,11 +155,13 @@ fn cut_or_followed(rt: HostRuntime) -> Result<(), Fail> {
     Ok(())
 }
 
-/// Whether that log has no payload and ends so, with a byte of it turned by a mask.
-fn is_turned(alloc: Global, place: usize, mask: u8, ending: Ending) -> Result<bool, AllocError> {
+/// Whether that log has no payload and ends so, with these bytes at these places.
+fn is_changed(alloc: Global, changes: &[(usize, u8)], ending: Ending) -> Result<bool, AllocError> {
     let mut log = LOG;
-    if let Some(byte) = log.get_mut(place) {
-        *byte ^= mask;
+    for (place, byte) in changes {
+        if let Some(found) = log.get_mut(*place) {
+            *found = *byte;
+        }
     }
     reads(alloc, &log, (0, ending))
 }
@@ -167,30 +176,30 @@ fn turned_ends(place: usize) -> (Ending, Ending) {
     }
 }
 
-/// Lengths of its record, by their two bytes, and how that log ends then.
-static LENGTHS: [(u8, u8, Ending); 3] = [
-    (0x12, 0x00, Ending::Torn(0)),
-    (0x11, 0x80, Ending::Fault(LogFault::BadLength, 0)),
-    (0x10, 0x00, Ending::Fault(LogFault::BadChecksum, 0)),
+/// Other lengths of its record and another last byte, and how that log ends then.
+static CHANGED: [(&[(usize, u8)], Ending); 4] = [
+    (&[(4, 0x12), (5, 0x00)], Ending::Torn(0)),
+    (
+        &[(4, 0x11), (5, 0x80)],
+        Ending::Fault(LogFault::BadLength, 0),
+    ),
+    (
+        &[(4, 0x10), (5, 0x00)],
+        Ending::Fault(LogFault::BadChecksum, 0),
+    ),
+    (&[(23, 0x32)], Ending::Fault(LogFault::BadChecksum, 0)),
 ];
 
 #[test]
 fn changed_bytes(rt: HostRuntime) -> Result<(), Fail> {
-    for place in 0..24 {
+    for (place, byte) in LOG.iter().enumerate() {
         let (lowest, highest) = turned_ends(place);
-        assert!(rt; is_turned(rt.alloc(), place, 0x01, lowest)?);
-        assert!(rt; is_turned(rt.alloc(), place, 0x80, highest)?);
+        assert!(rt; is_changed(rt.alloc(), &[(place, byte ^ 0x01)], lowest)?);
+        assert!(rt; is_changed(rt.alloc(), &[(place, byte ^ 0x80)], highest)?);
     }
-    for (low, high, ending) in &LENGTHS {
-        let mut log = LOG;
-        log[4] = *low;
-        log[5] = *high;
-        assert!(rt; reads(rt.alloc(), &log, (0, *ending))?);
+    for (changes, ending) in &CHANGED {
+        assert!(rt; is_changed(rt.alloc(), changes, *ending)?);
     }
-    let mut log = LOG;
-    log[23] = 0x32;
-    let checksum = Ending::Fault(LogFault::BadChecksum, 0);
-    assert!(rt; reads(rt.alloc(), &log, (0, checksum))?);
     Ok(())
 }
 
@@ -288,17 +297,13 @@ fn checksums(rt: HostRuntime) {
 /// A payload that lies whole in a log, or how the log ends.
 type Step = Result<&'static [u8], Ending>;
 
-/// Whether this comes next.
-fn is_next(
-    reader: &mut LogReader<'_>,
-    joined: &mut Vec<u8>,
-    wanted: Step,
-) -> Result<bool, AllocError> {
-    Ok(match (reader.next(joined)?, wanted) {
-        (Next::Whole(found), Ok(payload)) => found == payload,
-        (Next::Ended(found), Err(ending)) => found == ending,
-        _ => false,
-    })
+/// Whether what comes next is this step.
+fn is_step(next: Next<'_>, wanted: Step) -> bool {
+    match next {
+        Next::Whole(payload) => wanted == Ok(payload),
+        Next::Ended(ending) => wanted == Err(ending),
+        Next::Joined => false,
+    }
 }
 
 /// How many payloads are read of the log of that batch, FULL and LAST, and what comes next.
@@ -314,7 +319,7 @@ fn takes_steps(alloc: Global, log: &[u8]) -> Result<bool, AllocError> {
     let mut reader = LogReader::new(log);
     let mut joined = Vec::new(alloc);
     for (count, wanted) in &STEPS {
-        if reader.payloads_read() != *count || !is_next(&mut reader, &mut joined, *wanted)? {
+        if reader.payloads_read() != *count || !is_step(reader.next(&mut joined)?, *wanted) {
             return Ok(false);
         }
     }
@@ -336,20 +341,30 @@ fn log_before_batch(alloc: Global, payload: &[u8]) -> Result<Vec<u8>, AllocError
     Ok(writer.finish())
 }
 
-/// Whether a payload is joined, and that batch read whole behind it.
-fn is_joined(alloc: Global, log: &[u8], payload: &[u8]) -> Result<bool, AllocError> {
+/// Whether this payload comes next, joined.
+fn is_joined(
+    reader: &mut LogReader<'_>,
+    joined: &mut Vec<u8>,
+    payload: &[u8],
+) -> Result<bool, AllocError> {
+    match reader.next(joined)? {
+        Next::Joined => Ok(joined.as_slice() == payload),
+        _ => Ok(false),
+    }
+}
+
+/// Whether a log has this payload in pieces, and that batch behind it.
+fn has_pieces(alloc: Global, log: &[u8], payload: &[u8]) -> Result<bool, AllocError> {
     let mut reader = LogReader::new(log);
     let mut joined = Vec::from_slice(alloc, b"of an earlier log")?;
-    let Next::Joined = reader.next(&mut joined)? else {
-        return Ok(false);
-    };
-    Ok(joined.as_slice() == payload && is_next(&mut reader, &mut joined, Ok(&BATCH))?)
+    let is_joined = is_joined(&mut reader, &mut joined, payload)?;
+    Ok(is_joined && is_step(reader.next(&mut joined)?, Ok(&BATCH)))
 }
 
 #[test]
 fn pieces_are_joined(rt: HostRuntime) -> Result<(), Fail> {
     let payload = vec![in rt.alloc(); 7; 40_000]?;
     let log = log_before_batch(rt.alloc(), &payload)?;
-    assert!(rt; is_joined(rt.alloc(), &log, &payload)?);
+    assert!(rt; has_pieces(rt.alloc(), &log, &payload)?);
     Ok(())
 }

@@ -343,11 +343,16 @@ fn asks_alone(script: &Script, wanted: &Call) -> bool {
     calls.len() == 1 && calls.first() == Some(wanted)
 }
 
+/// Whether a line asks this call alone.
+fn asks(alloc: Global, line: &[u8], wanted: &Call) -> Result<bool, Fail> {
+    let text = text_of(alloc, b"open\n", line, b"")?;
+    Ok(asks_alone(&read_script(alloc, &text)?, wanted))
+}
+
 #[test]
 fn lines_on_compactions(rt: HostRuntime) -> Result<(), Fail> {
     for (line, wanted) in &ON_COMPACTIONS {
-        let text = text_of(rt.alloc(), b"open\n", line, b"")?;
-        assert!(rt; asks_alone(&read_script(rt.alloc(), &text)?, wanted));
+        assert!(rt; asks(rt.alloc(), line, wanted)?);
     }
     Ok(())
 }
