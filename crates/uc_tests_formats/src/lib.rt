@@ -4,10 +4,12 @@
 //! the formats' own vectors. It stands on the formats alone, so that it is proved and run before there is a store.
 //!
 //! Read `log_records.rt` first: it has records, and what a log ends with. `scripts.rt` has scripts that are read or
-//! at fault, and `heads.rt` what stands in front of a log. Logs of batches, what they hold and how they are dumped, stand in
-//! `uc_tests_logs`.
+//! at fault, and `heads.rt` what stands in front of a log; `given.rt` puts texts together for both. Logs of batches, what
+//! they hold and how they are dumped, stand in `uc_tests_logs`.
 #![tactic(auto)]
 
+#[cfg(test)]
+mod given;
 #[cfg(test)]
 mod heads;
 #[cfg(test)]

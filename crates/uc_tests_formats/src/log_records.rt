@@ -3,24 +3,24 @@ use std::alloc::{AllocError, Global};
 use std::process::Abort;
 use std::test::Fail;
 use uc_logrec::{
-    Ending, LogFault, LogReader, LogWriter, Next, crc32c, log_is_read_by_grammar, mask, read_log,
-    unmask, written_log_is_read, written_records_fill_blocks,
+    Ending, LogFault, LogRead, LogReader, LogWriter, Next, crc32c, log_is_read_by_grammar, mask,
+    read_log, unmask, written_log_is_read, written_records_fill_blocks,
 };
 
 /// Records without data.
-const FULL: [u8; 7] = [0x05, 0x2b, 0x28, 0x43, 0, 0, 1];
+static FULL: [u8; 7] = [0x05, 0x2b, 0x28, 0x43, 0, 0, 1];
 
-const FIRST: [u8; 7] = [0x64, 0x51, 0xd0, 0xe9, 0, 0, 2];
+static FIRST: [u8; 7] = [0x64, 0x51, 0xd0, 0xe9, 0, 0, 2];
 
-const MIDDLE: [u8; 7] = [0x33, 0x6d, 0xcd, 0xe3, 0, 0, 3];
+static MIDDLE: [u8; 7] = [0x33, 0x6d, 0xcd, 0xe3, 0, 0, 3];
 
-const LAST: [u8; 7] = [0xa7, 0x16, 0x20, 0x2b, 0, 0, 4];
+static LAST: [u8; 7] = [0xa7, 0x16, 0x20, 0x2b, 0, 0, 4];
 
 /// A batch that puts `1` at the key `a`.
 const BATCH: [u8; 17] = [1, 0, 0, 0, 0, 0, 0, 0, 1, 0, 0, 0, 1, 1, 0x61, 1, 0x31];
 
 /// The log of that batch.
-const LOG: [u8; 24] = [
+static LOG: [u8; 24] = [
     0xe9, 0x9f, 0x78, 0x19, 0x11, 0, 1, 1, 0, 0, 0, 0, 0, 0, 0, 1, 0, 0, 0, 1, 1, 0x61, 1, 0x31,
 ];
 
@@ -29,132 +29,177 @@ const OTHER: [u8; 15] = [
     0xe5, 0xb0, 0x8a, 0xc7, 8, 0, 0x31, 0x32, 0x33, 0x34, 0x35, 0x36, 0x37, 0x38, 0x39,
 ];
 
-/// A log of records without data, a letter for each: `u` FULL, `f` FIRST, `m` MIDDLE, `l` LAST, `0` zero bytes.
+/// A log, a letter for each part: `b` the log of the batch, `u` FULL, `f` FIRST, `m` MIDDLE and `l` LAST without data,
+/// `0` zero bytes.
 fn log_of(alloc: Global, letters: &[u8]) -> Result<Vec<u8>, AllocError> {
     let mut log = Vec::new(alloc);
     for letter in letters {
-        let record = match *letter {
-            b'u' => FULL,
-            b'f' => FIRST,
-            b'm' => MIDDLE,
-            b'l' => LAST,
-            _ => [0; 7],
-        };
-        log.extend_from_slice(&record)?;
+        log.extend_from_slice(part(*letter))?;
     }
     Ok(log)
 }
 
-/// Asserts how many payloads a log has, and how it ends.
-fn reads(
-    rt: &impl Abort,
-    alloc: Global,
-    log: &[u8],
-    payloads: usize,
-    ending: Ending,
-) -> Result<(), AllocError> {
+/// The part of a letter.
+fn part(letter: u8) -> &'static [u8] {
+    match letter {
+        b'b' => &LOG,
+        b'u' => &FULL,
+        b'f' => &FIRST,
+        b'm' => &MIDDLE,
+        b'l' => &LAST,
+        _ => &[0; 7],
+    }
+}
+
+/// How many payloads a log has, and how it ends.
+type Wanted = (usize, Ending);
+
+/// Whether a log has so many payloads, and ends so.
+fn reads(alloc: Global, log: &[u8], wanted: Wanted) -> Result<bool, AllocError> {
     let read = read_log(alloc, log)?;
-    assert_eq!(rt; read.payloads.as_slice().len(), payloads);
-    assert_eq!(rt; read.ending, ending);
-    Ok(())
+    Ok((read.payloads.as_slice().len(), read.ending) == wanted)
+}
+
+/// Logs of records without data, by their letters.
+static WITHOUT_DATA: [(&str, Wanted); 11] = [
+    ("", (0, Ending::Clean)),
+    ("u", (1, Ending::Clean)),
+    ("f", (0, Ending::Torn(0))),
+    ("fu", (1, Ending::Clean)),
+    ("ffl", (1, Ending::Clean)),
+    ("fml", (1, Ending::Clean)),
+    ("um", (1, Ending::Fault(LogFault::MiddleAlone, 7))),
+    ("l", (0, Ending::Fault(LogFault::LastAlone, 0))),
+    ("fmu", (0, Ending::Fault(LogFault::FullInside, 14))),
+    ("fmf", (0, Ending::Fault(LogFault::FirstInside, 14))),
+    ("uf0", (1, Ending::Torn(7))),
+];
+
+/// Whether each of these logs is read so.
+fn are_read(alloc: Global) -> Result<bool, AllocError> {
+    for (letters, wanted) in &WITHOUT_DATA {
+        let log = log_of(alloc, letters.as_bytes())?;
+        if !reads(alloc, &log, *wanted)? {
+            return Ok(false);
+        }
+    }
+    Ok(true)
 }
 
 #[test]
 fn records_without_data(rt: HostRuntime) -> Result<(), Fail> {
-    let logs = [
-        ("", 0, Ending::Clean),
-        ("u", 1, Ending::Clean),
-        ("f", 0, Ending::Torn(0)),
-        ("fu", 1, Ending::Clean),
-        ("ffl", 1, Ending::Clean),
-        ("fml", 1, Ending::Clean),
-        ("um", 1, Ending::Fault(LogFault::MiddleAlone, 7)),
-        ("l", 0, Ending::Fault(LogFault::LastAlone, 0)),
-        ("fmu", 0, Ending::Fault(LogFault::FullInside, 14)),
-        ("fmf", 0, Ending::Fault(LogFault::FirstInside, 14)),
-        ("uf0", 1, Ending::Torn(7)),
-    ];
-    for (letters, payloads, ending) in logs {
-        let log = log_of(rt.alloc(), letters.as_bytes())?;
-        reads(&rt, rt.alloc(), &log, payloads, ending)?;
-    }
+    assert!(rt; are_read(rt.alloc())?);
     Ok(())
+}
+
+/// Whether that batch alone was read.
+fn is_one_batch(read: &LogRead) -> bool {
+    let payloads = read.payloads.as_slice();
+    for payload in payloads {
+        if payload.as_slice() != BATCH.as_slice() {
+            return false;
+        }
+    }
+    payloads.len() == 1 && read.ending == Ending::Clean
+}
+
+/// The log of that batch, as a writer makes it.
+fn written(alloc: Global) -> Result<Vec<u8>, AllocError> {
+    let mut writer = LogWriter::new(alloc);
+    writer.add(&BATCH)?;
+    Ok(writer.finish())
 }
 
 #[test]
 fn one_batch(rt: HostRuntime) -> Result<(), Fail> {
     written_log_is_read();
     log_is_read_by_grammar();
-    let mut writer = LogWriter::new(rt.alloc());
-    writer.add(&BATCH)?;
-    let log = writer.finish();
-    assert_eq!(rt; log.as_slice(), LOG.as_slice());
-    let read = read_log(rt.alloc(), &log)?;
-    assert_eq!(rt; read.ending, Ending::Clean);
-    for payload in read.payloads.iter() {
-        assert_eq!(rt; payload.as_slice(), BATCH.as_slice());
-    }
-    assert_eq!(rt; read.payloads.into_vec().len(), 1);
+    let log = written(rt.alloc())?;
+    assert!(rt; log.as_slice() == LOG.as_slice());
+    assert!(rt; is_one_batch(&read_log(rt.alloc(), &log)?));
     Ok(())
+}
+
+/// What is put behind the log of that batch, and what it has and how it ends then.
+static FOLLOWED: [(&[u8], Wanted); 7] = [
+    (b"\x00", (1, Ending::Clean)),
+    (b"\x00\x00", (1, Ending::Clean)),
+    (b"\x00\x00\x00", (1, Ending::Clean)),
+    (b"\x00\x00\x00\x00", (1, Ending::Clean)),
+    (b"\x00\x00\x00\x00\x00", (1, Ending::Clean)),
+    (b"\x01", (1, Ending::Torn(24))),
+    (&OTHER, (1, Ending::Fault(LogFault::UnsupportedType, 24))),
+];
+
+/// Whether the log of that batch is read so with each of these behind it.
+fn followed_is_read(alloc: Global) -> Result<bool, AllocError> {
+    for (back, wanted) in &FOLLOWED {
+        let mut log = Vec::from_slice(alloc, &LOG)?;
+        log.extend_from_slice(back)?;
+        if !reads(alloc, &log, *wanted)? {
+            return Ok(false);
+        }
+    }
+    Ok(true)
 }
 
 #[test]
 fn cut_or_followed(rt: HostRuntime) -> Result<(), Fail> {
-    reads(&rt, rt.alloc(), &[], 0, Ending::Clean)?;
+    assert!(rt; reads(rt.alloc(), &[], (0, Ending::Clean))?);
     for len in 1..24 {
-        reads(&rt, rt.alloc(), &LOG[..len], 0, Ending::Torn(0))?;
+        assert!(rt; reads(rt.alloc(), &LOG[..len], (0, Ending::Torn(0)))?);
     }
-    let mut log = Vec::from_slice(rt.alloc(), &LOG)?;
-    for _ in 0..5 {
-        log.push(0)?;
-        reads(&rt, rt.alloc(), &log, 1, Ending::Clean)?;
-    }
-    log.truncate(24);
-    log.push(1)?;
-    reads(&rt, rt.alloc(), &log, 1, Ending::Torn(24))?;
-    log.truncate(24);
-    log.extend_from_slice(&OTHER)?;
-    let unsupported = Ending::Fault(LogFault::UnsupportedType, 24);
-    reads(&rt, rt.alloc(), &log, 1, unsupported)?;
+    assert!(rt; followed_is_read(rt.alloc())?);
     let unsupported = Ending::Fault(LogFault::UnsupportedType, 0);
-    reads(&rt, rt.alloc(), &OTHER, 0, unsupported)?;
+    assert!(rt; reads(rt.alloc(), &OTHER, (0, unsupported))?);
     Ok(())
 }
 
+/// Whether that log has no payload and ends so, with these bytes at these places.
+fn is_changed(alloc: Global, changes: &[(usize, u8)], ending: Ending) -> Result<bool, AllocError> {
+    let mut log = LOG;
+    for (place, byte) in changes {
+        if let Some(found) = log.get_mut(*place) {
+            *found = *byte;
+        }
+    }
+    reads(alloc, &log, (0, ending))
+}
+
+/// How that log ends with the lowest bit of a byte turned, and with the highest.
+fn turned_ends(place: usize) -> (Ending, Ending) {
+    let checksum = Ending::Fault(LogFault::BadChecksum, 0);
+    match place {
+        4 => (checksum, Ending::Torn(0)),
+        5 => (Ending::Torn(0), Ending::Fault(LogFault::BadLength, 0)),
+        _ => (checksum, checksum),
+    }
+}
+
+/// Other lengths of its record and another last byte, and how that log ends then.
+static CHANGED: [(&[(usize, u8)], Ending); 4] = [
+    (&[(4, 0x12), (5, 0x00)], Ending::Torn(0)),
+    (
+        &[(4, 0x11), (5, 0x80)],
+        Ending::Fault(LogFault::BadLength, 0),
+    ),
+    (
+        &[(4, 0x10), (5, 0x00)],
+        Ending::Fault(LogFault::BadChecksum, 0),
+    ),
+    (&[(23, 0x32)], Ending::Fault(LogFault::BadChecksum, 0)),
+];
+
 #[test]
 fn changed_bytes(rt: HostRuntime) -> Result<(), Fail> {
-    let length = Ending::Fault(LogFault::BadLength, 0);
-    let checksum = Ending::Fault(LogFault::BadChecksum, 0);
-    for place in 0..24 {
-        let mut log = LOG;
-        log[place] = LOG[place] ^ 0x01;
-        let ending = if place == 5 {
-            Ending::Torn(0)
-        } else {
-            checksum
-        };
-        reads(&rt, rt.alloc(), &log, 0, ending)?;
-        log[place] = LOG[place] ^ 0x80;
-        let ending = match place {
-            4 => Ending::Torn(0),
-            5 => length,
-            _ => checksum,
-        };
-        reads(&rt, rt.alloc(), &log, 0, ending)?;
+    for (place, byte) in LOG.iter().enumerate() {
+        let (lowest, highest) = turned_ends(place);
+        assert!(rt; is_changed(rt.alloc(), &[(place, byte ^ 0x01)], lowest)?);
+        assert!(rt; is_changed(rt.alloc(), &[(place, byte ^ 0x80)], highest)?);
     }
-    for (low, high, ending) in [
-        (0x12, 0x00, Ending::Torn(0)),
-        (0x11, 0x80, length),
-        (0x10, 0x00, checksum),
-    ] {
-        let mut log = LOG;
-        log[4] = low;
-        log[5] = high;
-        reads(&rt, rt.alloc(), &log, 0, ending)?;
+    for (changes, ending) in &CHANGED {
+        assert!(rt; is_changed(rt.alloc(), changes, *ending)?);
     }
-    let mut log = LOG;
-    log[23] = 0x32;
-    reads(&rt, rt.alloc(), &log, 0, checksum)?;
     Ok(())
 }
 
@@ -168,110 +213,158 @@ fn log_with(alloc: Global, sizes: &[usize]) -> Result<Vec<u8>, AllocError> {
     Ok(writer.finish())
 }
 
-/// Asserts the length and the type of the record at a place.
-fn record_stands(rt: &impl Abort, log: &[u8], place: usize, len: [u8; 2], kind: u8) {
-    let header = log.get(place..).unwrap_or(&[]).get(4..7).unwrap_or(&[]);
-    assert_eq!(rt; header, [len[0], len[1], kind].as_slice());
+/// A record of a log, by its place, its length and its type.
+type Record = (usize, u16, u8);
+
+/// Whether these records stand in a log.
+fn stand(log: &[u8], records: &[Record]) -> bool {
+    for (place, len, kind) in records {
+        let header = log.get(*place..).unwrap_or(&[]).get(4..7);
+        let [low, high] = len.to_le_bytes();
+        if header != Some([low, high, *kind].as_slice()) {
+            return false;
+        }
+    }
+    true
+}
+
+/// The records of payloads of 1,000, 97,270 and 8,000 bytes.
+static OVER_BLOCKS: [Record; 5] = [
+    (0, 1000, 1),
+    (1007, 31_754, 2),
+    (32_768, 32_761, 3),
+    (65_536, 32_755, 4),
+    (98_304, 8000, 1),
+];
+
+/// Lengths to which their log is cut, and what it has and how it ends then.
+static CUTS: [(usize, Wanted); 13] = [
+    (1007, (1, Ending::Clean)),
+    (1013, (1, Ending::Torn(1007))),
+    (20_000, (1, Ending::Torn(1007))),
+    (32_768, (1, Ending::Torn(1007))),
+    (32_772, (1, Ending::Torn(1007))),
+    (65_536, (1, Ending::Torn(1007))),
+    (70_000, (1, Ending::Torn(1007))),
+    (98_298, (2, Ending::Clean)),
+    (98_300, (2, Ending::Clean)),
+    (98_304, (2, Ending::Clean)),
+    (98_310, (2, Ending::Torn(98_304))),
+    (106_310, (2, Ending::Torn(98_304))),
+    (106_311, (3, Ending::Clean)),
+];
+
+/// Whether their log is read so where it is cut.
+fn cuts_are_read(alloc: Global, log: &[u8]) -> Result<bool, AllocError> {
+    for (len, wanted) in &CUTS {
+        if !reads(alloc, log.get(..*len).unwrap_or(&[]), *wanted)? {
+            return Ok(false);
+        }
+    }
+    Ok(true)
 }
 
 #[test]
 fn payloads_over_blocks(rt: HostRuntime) -> Result<(), Fail> {
     written_records_fill_blocks();
     let log = log_with(rt.alloc(), &[1000, 97270, 8000])?;
-    assert_eq!(rt; log.len(), 106_311);
-    for (place, len, kind) in [
-        (0, 1000u16, 1),
-        (1007, 31_754, 2),
-        (32_768, 32_761, 3),
-        (65_536, 32_755, 4),
-        (98_304, 8000, 1),
-    ] {
-        record_stands(&rt, &log, place, len.to_le_bytes(), kind);
-    }
-    assert_eq!(rt; log.get(98_298..98_304).unwrap_or(&[]), [0; 6].as_slice());
-    for (len, payloads, ending) in [
-        (1007, 1, Ending::Clean),
-        (1013, 1, Ending::Torn(1007)),
-        (20_000, 1, Ending::Torn(1007)),
-        (32_768, 1, Ending::Torn(1007)),
-        (32_772, 1, Ending::Torn(1007)),
-        (65_536, 1, Ending::Torn(1007)),
-        (70_000, 1, Ending::Torn(1007)),
-        (98_298, 2, Ending::Clean),
-        (98_300, 2, Ending::Clean),
-        (98_304, 2, Ending::Clean),
-        (98_310, 2, Ending::Torn(98_304)),
-        (106_310, 2, Ending::Torn(98_304)),
-        (106_311, 3, Ending::Clean),
-    ] {
-        let cut = log.get(..len).unwrap_or(&[]);
-        reads(&rt, rt.alloc(), cut, payloads, ending)?;
-    }
+    assert!(rt; log.len() == 106_311 && stand(&log, &OVER_BLOCKS));
+    assert!(rt; log.get(98_298..98_304) == Some([0; 6].as_slice()));
+    assert!(rt; cuts_are_read(rt.alloc(), &log)?);
     Ok(())
 }
+
+/// The records of payloads of 32,754 bytes and of one: the first of the other has no data.
+static WITHOUT_FIRST_DATA: [Record; 3] = [(0, 32_754, 1), (32_761, 0, 2), (32_768, 1, 4)];
 
 #[test]
 fn first_without_data(rt: HostRuntime) -> Result<(), Fail> {
     let log = log_with(rt.alloc(), &[32_754, 1])?;
-    assert_eq!(rt; log.len(), 32_776);
-    record_stands(&rt, &log, 0, 32_754u16.to_le_bytes(), 1);
-    record_stands(&rt, &log, 32_761, [0, 0], 2);
-    record_stands(&rt, &log, 32_768, [1, 0], 4);
-    reads(&rt, rt.alloc(), &log, 2, Ending::Clean)?;
+    assert!(rt; log.len() == 32_776 && stand(&log, &WITHOUT_FIRST_DATA));
+    assert!(rt; reads(rt.alloc(), &log, (2, Ending::Clean))?);
     Ok(())
 }
 
 #[test]
 fn checksums(rt: HostRuntime) {
-    assert_eq!(rt; crc32c(b"123456789"), 0xe306_9283);
-    assert_eq!(rt; crc32c(&[0; 32]), 0x8a91_36aa);
-    assert_eq!(rt; crc32c(&[0xff; 32]), 0x62a8_ab43);
-    assert_eq!(rt; mask(0xe306_9283), 0xc78a_b0e5);
-    assert_eq!(rt; unmask(0xc78a_b0e5), 0xe306_9283);
+    assert!(rt; crc32c(b"123456789") == 0xe306_9283);
+    assert!(rt; crc32c(&[0; 32]) == 0x8a91_36aa);
+    assert!(rt; crc32c(&[0xff; 32]) == 0x62a8_ab43);
+    assert!(rt; mask(0xe306_9283) == 0xc78a_b0e5);
+    assert!(rt; unmask(0xc78a_b0e5) == 0xe306_9283);
+}
+
+/// A payload that lies whole in a log, or how the log ends.
+type Step = Result<&'static [u8], Ending>;
+
+/// Whether what comes next is this step.
+fn is_step(next: Next<'_>, wanted: Step) -> bool {
+    match next {
+        Next::Whole(payload) => wanted == Ok(payload),
+        Next::Ended(ending) => wanted == Err(ending),
+        Next::Joined => false,
+    }
+}
+
+/// How many payloads are read of the log of that batch, FULL and LAST, and what comes next.
+static STEPS: [(u64, Step); 4] = [
+    (0, Ok(&BATCH)),
+    (1, Ok(&[])),
+    (2, Err(Ending::Fault(LogFault::LastAlone, 31))),
+    (2, Err(Ending::Fault(LogFault::LastAlone, 31))),
+];
+
+/// Whether a log is read by these steps.
+fn takes_steps(alloc: Global, log: &[u8]) -> Result<bool, AllocError> {
+    let mut reader = LogReader::new(log);
+    let mut joined = Vec::new(alloc);
+    for (count, wanted) in &STEPS {
+        if reader.payloads_read() != *count || !is_step(reader.next(&mut joined)?, *wanted) {
+            return Ok(false);
+        }
+    }
+    Ok(reader.payloads_read() == 2)
 }
 
 #[test]
 fn payloads_come_one_at_a_time(rt: HostRuntime) -> Result<(), Fail> {
-    let alloc = rt.alloc();
-    let mut log = Vec::from_slice(alloc, &LOG)?;
-    log.extend_from_slice(&FULL)?;
-    log.extend_from_slice(&LAST)?;
-    let mut reader = LogReader::new(&log);
-    let mut joined = Vec::new(alloc);
-    for (place, payload) in [BATCH.as_slice(), &[]].into_iter().enumerate() {
-        assert_eq!(rt; reader.payloads_read(), place as u64);
-        match reader.next(&mut joined)? {
-            Next::Whole(found) => assert_eq!(rt; found, payload),
-            other => panic!(rt; "{other:?} in place of a whole payload"),
-        }
-    }
-    for _ in 0..2 {
-        match reader.next(&mut joined)? {
-            Next::Ended(ending) => assert_eq!(rt; ending, Ending::Fault(LogFault::LastAlone, 31)),
-            other => panic!(rt; "{other:?} behind the fault"),
-        }
-    }
-    assert_eq!(rt; reader.payloads_read(), 2);
+    let log = log_of(rt.alloc(), b"bul")?;
+    assert!(rt; takes_steps(rt.alloc(), &log)?);
     Ok(())
+}
+
+/// The log of a payload and of that batch.
+fn log_before_batch(alloc: Global, payload: &[u8]) -> Result<Vec<u8>, AllocError> {
+    let mut writer = LogWriter::new(alloc);
+    writer.add(payload)?;
+    writer.add(&BATCH)?;
+    Ok(writer.finish())
+}
+
+/// Whether this payload comes next, joined.
+fn is_joined(
+    reader: &mut LogReader<'_>,
+    joined: &mut Vec<u8>,
+    payload: &[u8],
+) -> Result<bool, AllocError> {
+    match reader.next(joined)? {
+        Next::Joined => Ok(joined.as_slice() == payload),
+        _ => Ok(false),
+    }
+}
+
+/// Whether a log has this payload in pieces, and that batch behind it.
+fn has_pieces(alloc: Global, log: &[u8], payload: &[u8]) -> Result<bool, AllocError> {
+    let mut reader = LogReader::new(log);
+    let mut joined = Vec::from_slice(alloc, b"of an earlier log")?;
+    let is_joined = is_joined(&mut reader, &mut joined, payload)?;
+    Ok(is_joined && is_step(reader.next(&mut joined)?, Ok(&BATCH)))
 }
 
 #[test]
 fn pieces_are_joined(rt: HostRuntime) -> Result<(), Fail> {
-    let alloc = rt.alloc();
-    let mut writer = LogWriter::new(alloc);
-    let payload = vec![in alloc; 7; 40_000]?;
-    writer.add(&payload)?;
-    writer.add(&BATCH)?;
-    let log = writer.finish();
-    let mut reader = LogReader::new(&log);
-    let mut joined = Vec::from_slice(alloc, b"of an earlier log")?;
-    match reader.next(&mut joined)? {
-        Next::Joined => assert!(rt; joined == payload),
-        other => panic!(rt; "{other:?} in place of a joined payload"),
-    }
-    match reader.next(&mut joined)? {
-        Next::Whole(found) => assert_eq!(rt; found, BATCH.as_slice()),
-        other => panic!(rt; "{other:?} in place of a whole payload"),
-    }
+    let payload = vec![in rt.alloc(); 7; 40_000]?;
+    let log = log_before_batch(rt.alloc(), &payload)?;
+    assert!(rt; has_pieces(rt.alloc(), &log, &payload)?);
     Ok(())
 }
