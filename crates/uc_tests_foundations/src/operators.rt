@@ -1,6 +1,7 @@
 //! Operators on a few texts, and effects that compose.
 ghost use Rattle.std.specs.Prelude.{refl};
 
+use crate::effects::{fold_of, is_fold, is_set};
 use std::alloc::{AllocError, Global};
 use std::process::Abort;
 use std::test::Fail;
@@ -25,21 +26,24 @@ const ONE: [u8; 8] = [1, 0, 0, 0, 0, 0, 0, 0];
 /// An older text, a newer one, and what an operator makes of both.
 type Row = (&'static [u8], &'static [u8], &'static [u8]);
 
+/// Wants this text.
+fn wants(rt: &impl Abort, found: &[u8], wanted: &[u8]) {
+    assert_eq!(rt; found, wanted);
+}
+
 /// Joins and pairs the texts of a row.
 fn wants_both<O: Operator>(rt: &impl Abort, alloc: Global, row: &Row) -> Result<(), Fail> {
-    let joined = O::join(alloc, row.0, row.1)?;
-    assert_eq!(rt; joined.as_slice(), row.2);
-    let paired = O::pair(alloc, row.0, row.1)?;
-    assert_eq!(rt; paired.as_slice(), row.2);
+    wants(rt, &O::join(alloc, row.0, row.1)?, row.2);
+    wants(rt, &O::pair(alloc, row.0, row.1)?, row.2);
     Ok(())
 }
 
 /// Joins and pairs the texts of a row in place.
 fn wants_both_in_place<O: Operator>(rt: &impl Abort, alloc: Global, row: &Row) -> Result<(), Fail> {
     let joined = O::join_onto(alloc, Vec::from_slice(alloc, row.0)?, row.1)?;
-    assert_eq!(rt; joined.as_slice(), row.2);
+    wants(rt, &joined, row.2);
     let paired = O::pair_onto(alloc, Vec::from_slice(alloc, row.0)?, row.1)?;
-    assert_eq!(rt; paired.as_slice(), row.2);
+    wants(rt, &paired, row.2);
     Ok(())
 }
 
@@ -50,8 +54,7 @@ fn wants_first<O: Operator>(
     operand: &[u8],
     want: &[u8],
 ) -> Result<(), Fail> {
-    let first = O::first(alloc, operand)?;
-    assert_eq!(rt; first.as_slice(), want);
+    wants(rt, &O::first(alloc, operand)?, want);
     Ok(())
 }
 
@@ -151,15 +154,6 @@ impl Operator for Newest {
     }
 }
 
-fn bytes(alloc: Global, text: &[u8]) -> Result<Bytes, Fail> {
-    Ok(Bytes::from_slice(alloc, text)?)
-}
-
-/// The effect of an operand.
-fn fold(alloc: Global, operand: &[u8]) -> Result<Effect, Fail> {
-    Ok(Effect::Fold(bytes(alloc, operand)?))
-}
-
 /// Applies an effect to a value, and wants another one.
 fn wants_applied<O: Operator>(
     rt: &impl Abort,
@@ -168,9 +162,9 @@ fn wants_applied<O: Operator>(
     value: &[u8],
     want: &[u8],
 ) -> Result<(), Fail> {
-    let value = bytes(alloc, value)?;
+    let value = Bytes::from_slice(alloc, value)?;
     let value = effect.apply::<O>(alloc, Some(value))?.ok_or("no value")?;
-    assert_eq!(rt; value.as_slice(), want);
+    wants(rt, value.as_slice(), want);
     Ok(())
 }
 
@@ -179,7 +173,7 @@ fn owned_forms_are_provided(rt: HostRuntime) -> Result<(), Fail> {
     let alloc = rt.alloc();
     wants_both_in_place::<Newest>(&rt, alloc, &(b"a", b"b", b"b"))?;
     wants_both_in_place::<Newest>(&rt, alloc, &(b"b", b"c", b"c"))?;
-    let effect = fold(alloc, b"c")?.folded::<Newest>(alloc, b"d")?;
+    let effect = fold_of(alloc, b"c")?.folded::<Newest>(alloc, b"d")?;
     wants_applied::<Newest>(&rt, alloc, effect, b"e", b"d")
 }
 
@@ -187,41 +181,30 @@ fn owned_forms_are_provided(rt: HostRuntime) -> Result<(), Fail> {
 fn operands_merge_into_values(rt: HostRuntime) -> Result<(), Fail> {
     let alloc = rt.alloc();
     let first = merged::<Append<44>>(alloc, None, b"a")?;
-    assert_eq!(rt; first.as_slice(), b"a".as_slice());
+    wants(&rt, first.as_slice(), b"a");
     let second = merged::<Append<44>>(alloc, Some(first), b"b")?;
-    assert_eq!(rt; second.as_slice(), b"a,b".as_slice());
+    wants(&rt, second.as_slice(), b"a,b");
     Ok(())
 }
 
-/// Whether an effect is that of an operand.
-fn is_fold(effect: &Effect, operand: &[u8]) -> bool {
-    match effect {
-        Effect::Fold(text) => text.as_slice() == operand,
-        _ => false,
-    }
-}
-
-/// Whether an effect sets a value.
-fn is_set(effect: &Effect, value: &[u8]) -> bool {
-    match effect {
-        Effect::Set(Some(text)) => text.as_slice() == value,
-        _ => false,
-    }
+/// Wants the effect of this operand.
+fn wants_fold(rt: &impl Abort, effect: &Effect, operand: &[u8]) {
+    assert!(rt; is_fold(effect, operand), "{effect:?}");
 }
 
 #[test]
 fn effects_compose_and_apply(rt: HostRuntime) -> Result<(), Fail> {
     let alloc = rt.alloc();
-    let newer = fold(alloc, b"c")?;
-    let both = fold(alloc, b"b")?.then::<Append<44>>(alloc, newer)?;
-    assert!(rt; is_fold(&both, b"b,c"));
+    let newer = fold_of(alloc, b"c")?;
+    let both = fold_of(alloc, b"b")?.then::<Append<44>>(alloc, newer)?;
+    wants_fold(&rt, &both, b"b,c");
     wants_applied::<Append<44>>(&rt, alloc, both, b"a", b"a,b,c")
 }
 
 #[test]
 fn an_operand_is_added_to_no_value(rt: HostRuntime) -> Result<(), Fail> {
     let alloc = rt.alloc();
-    let newer = fold(alloc, b"d")?;
+    let newer = fold_of(alloc, b"d")?;
     let cleared = Effect::Set(None).then::<Append<44>>(alloc, newer)?;
     assert!(rt; is_set(&cleared, b"d"));
     Ok(())
@@ -233,9 +216,9 @@ fn operands_are_added_to_nothing(rt: HostRuntime) -> Result<(), Fail> {
     let kept = Effect::Keep.then::<Append<44>>(alloc, Effect::Keep)?;
     assert!(rt; kept == Effect::Keep);
     let folded = kept.folded::<Append<44>>(alloc, b"e")?;
-    assert!(rt; is_fold(&folded, b"e"));
+    wants_fold(&rt, &folded, b"e");
     let folded = folded.folded::<Append<44>>(alloc, b"f")?;
-    assert!(rt; is_fold(&folded, b"e,f"));
+    wants_fold(&rt, &folded, b"e,f");
     Ok(())
 }
 

@@ -3,7 +3,7 @@ use std::alloc::{AllocError, Global};
 use std::test::Fail;
 use uc_bytes::{Bytes, Op, OpKind, OpRef, Write, WriteRef};
 
-const KINDS: [OpKind; 4] = [
+static KINDS: [OpKind; 4] = [
     OpKind::Put,
     OpKind::Delete,
     OpKind::Merge,
@@ -32,6 +32,7 @@ fn lent(kind: OpKind) -> OpRef<'static> {
     }
 }
 
+/// Whether a copy of a write of a kind is equal to it.
 fn is_cloned(alloc: Global, kind: OpKind) -> Result<bool, AllocError> {
     let op = changed(alloc, kind)?;
     let write = Write { seq: 7, op };
@@ -40,12 +41,13 @@ fn is_cloned(alloc: Global, kind: OpKind) -> Result<bool, AllocError> {
 
 #[test]
 fn copies_are_equal(rt: HostRuntime) -> Result<(), Fail> {
-    for kind in KINDS {
-        assert!(rt; is_cloned(rt.alloc(), kind)?);
+    for kind in &KINDS {
+        assert!(rt; is_cloned(rt.alloc(), *kind)?);
     }
     Ok(())
 }
 
+/// Whether a borrowed change of a kind is copied.
 fn is_copied(alloc: Global, kind: OpKind) -> Result<bool, AllocError> {
     let op = changed(alloc, kind)?;
     Ok(lent(kind).to_op(alloc)? == op)
@@ -53,12 +55,13 @@ fn is_copied(alloc: Global, kind: OpKind) -> Result<bool, AllocError> {
 
 #[test]
 fn borrowed_changes_are_copied(rt: HostRuntime) -> Result<(), Fail> {
-    for kind in KINDS {
-        assert!(rt; is_copied(rt.alloc(), kind)?);
+    for kind in &KINDS {
+        assert!(rt; is_copied(rt.alloc(), *kind)?);
     }
     Ok(())
 }
 
+/// Whether a write of a kind is borrowed and copied.
 fn is_lent(alloc: Global, kind: OpKind) -> Result<bool, AllocError> {
     let op = changed(alloc, kind)?;
     let write = Write { seq: 7, op };
@@ -68,8 +71,8 @@ fn is_lent(alloc: Global, kind: OpKind) -> Result<bool, AllocError> {
 
 #[test]
 fn writes_are_borrowed_and_copied(rt: HostRuntime) -> Result<(), Fail> {
-    for kind in KINDS {
-        assert!(rt; is_lent(rt.alloc(), kind)?);
+    for kind in &KINDS {
+        assert!(rt; is_lent(rt.alloc(), *kind)?);
     }
     Ok(())
 }
