@@ -25,7 +25,7 @@ fn first_put(alloc: Global) -> Result<Write, AllocError> {
 }
 
 /// Each of these says that the key `a` is set to `1`.
-const PUTS: [&[u8]; 5] = [
+static PUTS: [&[u8]; 5] = [
     b"\x01\x01a\x011",
     b"\x03\x02ab\x01\x01a\x011",
     b"\x0d\x01\x01a\x011",
@@ -65,7 +65,7 @@ fn refusal_of(
 }
 
 /// Records of one batch, and why it is refused where its count is 1.
-const REFUSED: [(&[u8], BatchError); 12] = [
+static REFUSED: [(&[u8], BatchError); 12] = [
     (b"\x05\x01\x01a\x011", BatchError::OtherFamily(1)),
     (b"\x01\xff\xff\xff\xff\x1f", BatchError::BadVarint(13)),
     (b"\x01\xff\xff\xff\xff\x80", BatchError::BadVarint(13)),
@@ -108,13 +108,20 @@ const fn last_header(count: u8) -> [u8; 12] {
     [255, 255, 255, 255, 255, 255, 255, 0, count, 0, 0, 0]
 }
 
+/// Whether all writes of a batch have the greatest sequence.
+fn are_last(alloc: Global, bytes: &[u8]) -> Result<bool, Fail> {
+    for write in &read_batch(alloc, bytes, 7)? {
+        if write.seq != MAX_SEQUENCE {
+            return Ok(false);
+        }
+    }
+    Ok(true)
+}
+
 #[test]
 fn the_greatest_sequence_is_read(rt: HostRuntime) -> Result<(), Fail> {
     let alloc = rt.alloc();
-    let bytes = batch(alloc, last_header(1), PUTS[0])?;
-    for write in &read_batch(alloc, &bytes, 7)? {
-        assert!(rt; write.seq == MAX_SEQUENCE);
-    }
+    assert!(rt; are_last(alloc, &batch(alloc, last_header(1), PUTS[0])?)?);
     let too_large = refusal_of(alloc, last_header(2), PUTS[0], 7)?;
     assert!(rt; too_large == Some(BatchError::SequenceTooLarge));
     Ok(())
@@ -228,21 +235,35 @@ fn large_batch(alloc: Global) -> Result<Vec<u8>, Fail> {
     Ok(large)
 }
 
-#[test]
-fn batches_are_lent(rt: HostRuntime) -> Result<(), Fail> {
-    let alloc = rt.alloc();
+/// The log of four writes, of a text for the log alone, and of a batch that begins with the last sequence again.
+fn log_of_batches(alloc: Global) -> Result<Vec<u8>, Fail> {
     let mut writer = LogWriter::new(alloc);
     writer.add(&batch(alloc, header(4), PLAIN_FORMS)?)?;
     writer.add(&large_batch(alloc)?)?;
     let mut again = header(1);
     again[0] = 4;
     writer.add(&batch(alloc, again, PUTS[0])?)?;
-    let log = writer.finish();
-    let (sequences, ended) = sequences(alloc, &log)?;
-    assert_eq!(rt; sequences.as_slice(), [1, 2, 3, 4].as_slice());
-    assert_eq!(rt; ended, Ended::BatchFault(3, BatchError::SequenceBack(4)));
-    let mut batches = BatchReader::new(alloc, &log);
-    assert_eq!(rt; batches.last(), 0);
-    assert!(rt; batches.writes().next().is_none());
+    Ok(writer.finish())
+}
+
+/// Whether a log's writes have these sequences, and it is read so far.
+fn is_read(alloc: Global, log: &[u8], want: &[u64], end: &Ended) -> Result<bool, Fail> {
+    let (sequences, ended) = sequences(alloc, log)?;
+    Ok(sequences.as_slice() == want && ended == *end)
+}
+
+/// Whether a reader of batches lends nothing before its first one.
+fn lends_nothing_yet(alloc: Global, log: &[u8]) -> bool {
+    let mut batches = BatchReader::new(alloc, log);
+    batches.last() == 0 && batches.writes().next().is_none()
+}
+
+#[test]
+fn batches_are_lent(rt: HostRuntime) -> Result<(), Fail> {
+    let alloc = rt.alloc();
+    let log = log_of_batches(alloc)?;
+    let end = Ended::BatchFault(3, BatchError::SequenceBack(4));
+    assert!(rt; is_read(alloc, &log, &[1, 2, 3, 4], &end)?);
+    assert!(rt; lends_nothing_yet(alloc, &log));
     Ok(())
 }

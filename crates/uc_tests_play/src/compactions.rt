@@ -1,8 +1,9 @@
 //! Scripts that claim, compact and install stretches of runs, ask for the next pick and for reports, each write in a run of
 //! its own.
 use crate::plays::{Row, all_show, plays, shows};
-use std::alloc::Global;
+use std::alloc::{AllocError, Global};
 use std::marker::Sync;
+use std::process::Abort;
 use std::test::Fail;
 use std::thread::Threads;
 use uc_oper::{Append, Counter};
@@ -11,7 +12,7 @@ use uc_tool_io::Done;
 use uc_version_pick::Options;
 
 /// Texts that merges join by a comma.
-const JOINED: [Row; 7] = [
+static JOINED: [Row; 7] = [
     // Nothing is held.
     (
         "open\nget 6b 0\nscan . - 5 0\ncompact 0 0\ncompact 0 1\npick\nreport\n",
@@ -64,7 +65,7 @@ const JOINED: [Row; 7] = [
 ];
 
 /// Numbers that merges add to.
-const COUNTED: [Row; 5] = [
+static COUNTED: [Row; 5] = [
     // An operand that isn't a number counts as none, and stays as it was where it is alone.
     (
         "put 6a 00\nmerge 6b 010203\nput 6c 00\nopen\nget 6b 3\ncompact 0 2\nget 6b 3\ncompact 0 2\n\
@@ -141,27 +142,34 @@ fn picks_of_a_script(rt: HostRuntime) -> Result<(), Fail> {
     Ok(())
 }
 
-/// Plays so many puts, each a run, and gives what is printed and how the run ends.
-fn puts_opened(
-    rt: &(impl Threads + Sync),
-    alloc: Global,
-    puts: usize,
-) -> Result<(Vec<u8>, Done), Fail> {
+/// So many puts, and an opening.
+fn puts(alloc: Global, count: usize) -> Result<Vec<u8>, AllocError> {
     let mut script = Vec::new(alloc);
-    for _ in 0..puts {
+    for _ in 0..count {
         script.extend_from_slice(b"put 6b 61\n")?;
     }
     script.extend_from_slice(b"open\n")?;
-    Ok(plays::<Counter>(rt, alloc, &small(), &script))
+    Ok(script)
+}
+
+/// Asserts what a script prints of stores whose puts are each a run, and how its run ends.
+fn prints(
+    rt: &(impl Abort + Threads + Sync),
+    alloc: Global,
+    script: &[u8],
+    want: &[u8],
+    ended: Done,
+) {
+    let (printed, done) = plays::<Counter>(rt, alloc, &small(), script);
+    assert!(rt; printed.as_slice() == want);
+    assert_eq!(rt; done, ended);
 }
 
 #[test]
 fn runs_without_a_slot(rt: HostRuntime) -> Result<(), Fail> {
-    let (printed, done) = puts_opened(&rt, rt.alloc(), 65)?;
-    assert!(&rt; printed.as_slice() == b"refused too many runs\n".as_slice());
-    assert_eq!(&rt; done, Done::Refused);
-    let (printed, done) = puts_opened(&rt, rt.alloc(), 64)?;
-    assert!(&rt; printed.as_slice() == b"opened 64\n".as_slice());
-    assert_eq!(&rt; done, Done::Fine);
+    let alloc = rt.alloc();
+    let too_many = b"refused too many runs\n";
+    prints(&rt, alloc, &puts(alloc, 65)?, too_many, Done::Refused);
+    prints(&rt, alloc, &puts(alloc, 64)?, b"opened 64\n", Done::Fine);
     Ok(())
 }

@@ -26,18 +26,23 @@ pub fn plays<O: Operator + Sync>(
     (text, done)
 }
 
+/// Asserts that a script printed what is wanted, and that its run ended so.
+fn wants(rt: &impl Abort, (script, want): Row, printed: &[u8], done: Done, ended: Done) {
+    let printed = str::from_utf8(printed).unwrap_or("other bytes than text");
+    assert_eq!(rt; printed, want, "after {script}");
+    assert_eq!(rt; done, ended, "after {script}");
+}
+
 /// Asserts what a script prints, and how its run ends.
 pub fn shows<O: Operator + Sync>(
     rt: &(impl Abort + Threads + Sync),
     alloc: Global,
     options: &Options,
-    (script, want): Row,
+    row: Row,
     ended: Done,
 ) {
-    let (text, done) = plays::<O>(rt, alloc, options, script.as_bytes());
-    let printed = str::from_utf8(&text).unwrap_or("other bytes than text");
-    assert_eq!(rt; printed, want, "after {script}");
-    assert_eq!(rt; done, ended, "after {script}");
+    let (text, done) = plays::<O>(rt, alloc, options, row.0.as_bytes());
+    wants(rt, row, &text, done, ended);
 }
 
 /// Asserts that each script is answered, and what it prints.

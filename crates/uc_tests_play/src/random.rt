@@ -1,12 +1,12 @@
 //! Scripts that are drawn by lot, run by `play` and answered from their plain writes beside it.
 use crate::plays::plays;
-use std::alloc::Global;
+use std::alloc::{AllocError, Global};
 use std::marker::Sync;
 use std::process::Abort;
 use std::test::Fail;
 use std::thread::Threads;
 use uc_batch::Writes;
-use uc_bytes::{Bytes, Op, Write};
+use uc_bytes::{Bytes, Op, OpRef, Write};
 use uc_oper::{Append, Counter, Maximum, Operator};
 use uc_query_answer::{Answer, Query, answer_writes};
 use uc_tests_shared::lines::{field, op_line};
@@ -28,17 +28,16 @@ impl Dice {
     }
 
     /// One of three keys.
-    fn key(&mut self, alloc: Global) -> Result<Bytes, Fail> {
-        let key: &[u8] = match self.roll(3) {
+    fn key(&mut self) -> &'static [u8] {
+        match self.roll(3) {
             0 => b"k",
             1 => b"kk",
             _ => b"l",
-        };
-        Ok(Bytes::from_slice(alloc, key)?)
+        }
     }
 
     /// No byte, one or eight.
-    fn operand(&mut self, alloc: Global) -> Result<Bytes, Fail> {
+    fn operand(&mut self, alloc: Global) -> Result<Bytes, AllocError> {
         let bytes = self
             .roll(1 << 31)
             .wrapping_mul(0x0100_0000_01ff)
@@ -48,43 +47,64 @@ impl Dice {
             1 => 1,
             _ => 8,
         };
-        Ok(Bytes::from_slice(alloc, &bytes[..len])?)
+        Bytes::from_slice(alloc, &bytes[..len])
     }
 
     /// A change.
-    fn op(&mut self, alloc: Global) -> Result<Op, Fail> {
+    fn op(&mut self, alloc: Global) -> Result<Op, AllocError> {
         let kind = self.roll(6);
-        let key = self.key(alloc)?;
-        Ok(match kind {
-            0 => Op::Put(key, self.operand(alloc)?),
-            1 => Op::Delete(key),
-            2 => Op::DeleteRange(key, self.key(alloc)?),
-            _ => Op::Merge(key, self.operand(alloc)?),
-        })
+        let key = self.key();
+        match kind {
+            0 => OpRef::put(key, self.operand(alloc)?.as_slice()).to_op(alloc),
+            1 => OpRef::delete(key).to_op(alloc),
+            2 => OpRef::delete_range(key, self.key()).to_op(alloc),
+            _ => OpRef::merge(key, self.operand(alloc)?.as_slice()).to_op(alloc),
+        }
     }
 
     /// A lookup or a scan, mostly at the last sequence.
-    fn query(&mut self, alloc: Global, last: u64) -> Result<Query, Fail> {
+    fn query(&mut self, alloc: Global, last: u64) -> Result<Query, AllocError> {
         let at = match self.roll(3) {
             0 => self.roll(7),
             _ => last,
         };
-        let key = self.key(alloc)?;
-        Ok(match self.roll(3) {
-            0 => Query::Get { key, at },
-            1 => Query::Scan {
-                low: key,
-                high: Some(self.key(alloc)?),
+        let key = self.key();
+        match self.roll(3) {
+            0 => Ok(Query::Get {
+                key: Bytes::from_slice(alloc, key)?,
                 at,
-                limit: self.roll(4),
-            },
-            _ => Query::Scan {
-                low: Bytes::from_slice(alloc, b"")?,
-                high: None,
-                at,
-                limit: self.roll(4),
-            },
-        })
+            }),
+            1 => scan(alloc, key, Some(self.key()), at, self.roll(4)),
+            _ => scan(alloc, b"", None, at, self.roll(4)),
+        }
+    }
+}
+
+/// A scan from `low` on to `high`, where there is one.
+fn scan(
+    alloc: Global,
+    low: &[u8],
+    high: Option<&[u8]>,
+    at: u64,
+    limit: u64,
+) -> Result<Query, AllocError> {
+    let high = match high {
+        None => None,
+        Some(high) => Some(Bytes::from_slice(alloc, high)?),
+    };
+    Ok(Query::Scan {
+        low: Bytes::from_slice(alloc, low)?,
+        high,
+        at,
+        limit,
+    })
+}
+
+/// The field of a scan's end, which may be none.
+fn end_field(alloc: Global, high: &Option<Bytes>) -> Result<String, AllocError> {
+    match high {
+        Some(high) => field(alloc, high),
+        None => String::from_str(alloc, "-"),
     }
 }
 
@@ -102,10 +122,7 @@ fn query_line(alloc: Global, query: &Query) -> Result<String, Fail> {
             limit,
         } => {
             let low = field(alloc, low)?;
-            let high = match high {
-                Some(high) => field(alloc, high)?,
-                None => String::from_str(alloc, "-")?,
-            };
+            let high = end_field(alloc, high)?;
             format!(in alloc; "scan {low} {high} {limit} {at}\n")?
         }
     })
@@ -131,20 +148,29 @@ impl Draft {
         }
     }
 
+    /// Adds a snapshot.
+    fn add_keep(&mut self, alloc: Global, keep: u64) -> Result<(), Fail> {
+        self.keeps.push(keep)?;
+        let line = format!(in alloc; "keep {keep}\n")?;
+        self.script.push_str(line.as_str())?;
+        Ok(())
+    }
+
+    /// Adds a change.
+    fn add_op(&mut self, alloc: Global, op: Op) -> Result<(), Fail> {
+        self.script.push_str(op_line(alloc, &op)?.as_str())?;
+        let seq = (self.writes.len() as u64).saturating_add(1);
+        self.writes.push(Write { seq, op })?;
+        Ok(())
+    }
+
     /// Adds a snapshot or a change.
     fn add_setup(&mut self, alloc: Global, dice: &mut Dice) -> Result<(), Fail> {
         if dice.roll(5) == 0 {
-            let keep = dice.roll(5);
-            self.keeps.push(keep)?;
-            let line = format!(in alloc; "keep {keep}\n")?;
-            self.script.push_str(line.as_str())?;
+            self.add_keep(alloc, dice.roll(5))
         } else {
-            let op = dice.op(alloc)?;
-            self.script.push_str(op_line(alloc, &op)?.as_str())?;
-            let seq = (self.writes.len() as u64).saturating_add(1);
-            self.writes.push(Write { seq, op })?;
+            self.add_op(alloc, dice.op(alloc)?)
         }
-        Ok(())
     }
 
     /// Adds a query.
@@ -195,22 +221,67 @@ fn rows_lines(alloc: Global, rows: &[(Bytes, Bytes)]) -> Result<String, Fail> {
     Ok(lines)
 }
 
+/// What the plain writes answer, behind the line of the opening.
+fn answered<O: Operator>(
+    alloc: Global,
+    writes: &Writes,
+    keeps: &[u64],
+    queries: &[Query],
+) -> Result<String, Fail> {
+    let last = writes.last();
+    let mut text = format!(in alloc; "opened {last}\n")?;
+    for query in queries {
+        let answer = answer_writes::<O>(alloc, writes, keeps, query)?;
+        text.push_str(answer_lines(alloc, &answer)?.as_str())?;
+    }
+    Ok(text)
+}
+
 /// What a script prints, by the plain writes, and how it ends.
-fn told<O: Operator>(alloc: Global, draft: Draft) -> Result<(String, Done), Fail> {
-    let last = draft.writes.len() as u64;
-    if let Some(keep) = draft.keeps.iter().copied().find(|keep| *keep > last) {
+fn told<O: Operator>(
+    alloc: Global,
+    writes: Vec<Write>,
+    keeps: &mut Vec<u64>,
+    queries: &[Query],
+) -> Result<(String, Done), Fail> {
+    let last = writes.len() as u64;
+    if let Some(keep) = keeps.iter().copied().find(|keep| *keep > last) {
         let line = format!(in alloc; "refused snapshot ahead {keep}\n")?;
         return Ok((line, Done::Refused));
     }
-    let mut keeps = draft.keeps;
     keeps.push(last)?;
-    let writes = Writes::of(draft.writes).ok_or("sequences rise")?;
-    let mut text = format!(in alloc; "opened {last}\n")?;
-    for query in &draft.queries {
-        let answer = answer_writes::<O>(alloc, &writes, &keeps, query)?;
-        text.push_str(answer_lines(alloc, &answer)?.as_str())?;
-    }
-    Ok((text, Done::Fine))
+    let writes = Writes::of(writes).ok_or("sequences rise")?;
+    Ok((answered::<O>(alloc, &writes, keeps, queries)?, Done::Fine))
+}
+
+/// Asserts that both ways print the same and end alike.
+fn wants_same(
+    rt: &impl Abort,
+    (text, done): (&[u8], Done),
+    (want, ended): (&[u8], Done),
+    (number, seed): (u64, u64),
+) {
+    assert_eq!(rt; text, want, "script {number} of seed {seed}");
+    assert_eq!(rt; done, ended, "script {number} of seed {seed}");
+}
+
+/// Compares the two ways on a script.
+fn agrees<O: Operator + Sync>(
+    rt: &(impl Abort + Threads + Sync),
+    alloc: Global,
+    draft: Draft,
+    place: (u64, u64),
+) -> Result<(), Fail> {
+    let Draft {
+        script,
+        writes,
+        mut keeps,
+        queries,
+    } = draft;
+    let (text, done) = plays::<O>(rt, alloc, &small(), script.as_bytes());
+    let (want, ended) = told::<O>(alloc, writes, &mut keeps, &queries)?;
+    wants_same(rt, (&text, done), (want.as_bytes(), ended), place);
+    Ok(())
 }
 
 /// Compares the two ways on 200 scripts.
@@ -221,15 +292,7 @@ fn agree<O: Operator + Sync>(
 ) -> Result<(), Fail> {
     let mut dice = Dice(seed);
     for number in 0..200 {
-        let draft = draw(alloc, &mut dice)?;
-        let (text, done) = plays::<O>(rt, alloc, &small(), draft.script.as_bytes());
-        let (want, ended) = told::<O>(alloc, draft)?;
-        assert_eq!(rt;
-            text.as_slice(),
-            want.as_bytes(),
-            "script {number} of seed {seed}"
-        );
-        assert_eq!(rt; done, ended, "script {number} of seed {seed}");
+        agrees::<O>(rt, alloc, draw(alloc, &mut dice)?, (number, seed))?;
     }
     Ok(())
 }

@@ -13,7 +13,7 @@ use uc_version_pick::Options;
 type Fault = (&'static str, &'static str);
 
 /// Scripts without an `open`: the fault is one past the last line.
-const UNOPENED: [Fault; 9] = [
+static UNOPENED: [Fault; 9] = [
     ("", "fault line 1\n"),
     ("\n", "fault line 2\n"),
     ("\n\n\n", "fault line 4\n"),
@@ -26,7 +26,7 @@ const UNOPENED: [Fault; 9] = [
 ];
 
 /// The first faulty line is named, with empty lines and comments counted.
-const FIRST: [Fault; 12] = [
+static FIRST: [Fault; 12] = [
     ("get 6b 0", "fault line 1\n"),
     ("get 6b 0\nopen\n", "fault line 1\n"),
     ("put 6b 0", "fault line 1\n"),
@@ -45,7 +45,7 @@ const FIRST: [Fault; 12] = [
 ];
 
 /// Lines that are at fault before an `open`.
-const BEFORE: [Fault; 30] = [
+static BEFORE: [Fault; 30] = [
     ("put  6b 61\nopen\n", "fault line 1\n"),
     ("put 6b  61\nopen\n", "fault line 1\n"),
     ("put 6b 61 \nopen\n", "fault line 1\n"),
@@ -79,7 +79,7 @@ const BEFORE: [Fault; 30] = [
 ];
 
 /// Lines that are at fault behind an `open`.
-const BEHIND: [Fault; 20] = [
+static BEHIND: [Fault; 20] = [
     ("open\nget 6b\n", "fault line 2\n"),
     ("open\nget 6b 00\n", "fault line 2\n"),
     ("open\nget 6b 01\n", "fault line 2\n"),
@@ -119,7 +119,7 @@ fn faults_of_scripts(rt: HostRuntime) {
 }
 
 /// The first `keep` line above the last sequence is named, and nothing is answered.
-const AHEAD: [Row; 6] = [
+static AHEAD: [Row; 6] = [
     (
         "put 6b 61\nmerge 6b 62\nmerge 6b 63\nkeep 4\nopen\nget 6b 3\n",
         "refused snapshot ahead 4\n",

@@ -3,7 +3,7 @@ use crate::plays::{Row, all_show};
 use uc_oper::{Append, Counter, Maximum};
 
 /// Numbers of eight bytes are added, any other operand counts as 0, and sums wrap.
-const COUNTED: [Row; 7] = [
+static COUNTED: [Row; 7] = [
     (
         "put 6b 0500000000000000\nmerge 6b 0700000000000000\nkeep 1\nopen\nget 6b 1\nget 6b 2\n",
         "opened 2\nvalue 0500000000000000\nvalue 0c00000000000000\n",
@@ -36,7 +36,7 @@ const COUNTED: [Row; 7] = [
 ];
 
 /// Texts are joined by a comma.
-const APPENDED: [Row; 9] = [
+static APPENDED: [Row; 9] = [
     (
         "put . .\nmerge . 62\nopen\nget . 2\n",
         "opened 2\nvalue 2c62\n",
@@ -70,7 +70,7 @@ const APPENDED: [Row; 9] = [
 ];
 
 /// The greater text in byte order stays.
-const GREATEST: [Row; 2] = [
+static GREATEST: [Row; 2] = [
     (
         "put 6b 61\nmerge 6b 6162\nmerge 6b 60\nopen\nget 6b 3\n",
         "opened 3\nvalue 6162\n",
@@ -89,7 +89,7 @@ fn operators_in_scripts(rt: HostRuntime) {
 }
 
 /// Scans over five keys, with and without an upper end, and with limits.
-const SCANNED: [Row; 10] = [
+static SCANNED: [Row; 10] = [
     (
         "put 61 31\nput 6161 32\nput 62 33\nput . 30\nput 63 34\nopen\nscan . - 10 last\n",
         "opened 5\nrows 5\n. 30\n61 31\n6161 32\n62 33\n63 34\n",
@@ -133,7 +133,7 @@ const SCANNED: [Row; 10] = [
 ];
 
 /// Range deletions clear the keys from their begin to below their end, and the writes behind them stay.
-const CLEARED: [Row; 4] = [
+static CLEARED: [Row; 4] = [
     (
         "put 61 31\nput 62 32\nput 63 33\nrange 61 63\nmerge 62 34\nrange 65 61\nopen\nget 61 6\nget 62 6\nget 63 6\nscan . - 9 6\n",
         "opened 6\nnone\nvalue 34\nvalue 33\nrows 2\n62 34\n63 33\n",
@@ -153,7 +153,7 @@ const CLEARED: [Row; 4] = [
 ];
 
 /// Snapshots that are named twice and out of order, and what none of them protects.
-const KEPT: [Row; 3] = [
+static KEPT: [Row; 3] = [
     (
         "put 6b 61\nkeep 2\nmerge 6b 62\nkeep 1\nkeep 2\nmerge 6b 63\nopen\nget 6b 1\nget 6b 2\nget 6b 3\nget 6b last\nget 6b 0\n",
         "opened 3\nvalue 61\nvalue 612c62\nvalue 612c622c63\nvalue 612c622c63\nnot protected 0\n",
