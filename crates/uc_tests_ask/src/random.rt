@@ -57,6 +57,34 @@ fn query_line(alloc: Global, dice: &mut Dice) -> Result<String, Fail> {
     Ok(format!(in alloc; "scan {low} {high} {limit} {at}\n")?)
 }
 
+/// Draws a change of a draft.
+fn draw_change(alloc: Global, dice: &mut Dice, draft: &mut Draft) -> Result<(), Fail> {
+    let op = dice.op(alloc)?;
+    draft.script.push_str(op_line(alloc, &op)?.as_str())?;
+    draft.ops.push(op)?;
+    Ok(())
+}
+
+/// Draws a line of a draft's head: a snapshot, which the script has too, or a query.
+fn draw_line(
+    alloc: Global,
+    dice: &mut Dice,
+    draft: &mut Draft,
+    queries: &mut String,
+) -> Result<(), Fail> {
+    if dice.roll(5) == 0 {
+        let keep = dice.roll(4);
+        let line = format!(in alloc; "keep {keep}\n")?;
+        draft.script.push_str(line.as_str())?;
+        draft.head.push_str(line.as_str())?;
+    } else {
+        let line = query_line(alloc, dice)?;
+        queries.push_str(line.as_str())?;
+        draft.head.push_str(line.as_str())?;
+    }
+    Ok(())
+}
+
 /// So many changes and snapshots, and a few queries, of which some stand in front of snapshots.
 fn draw(alloc: Global, dice: &mut Dice) -> Result<Draft, Fail> {
     let mut draft = Draft {
@@ -65,23 +93,11 @@ fn draw(alloc: Global, dice: &mut Dice) -> Result<Draft, Fail> {
         script: String::new(alloc),
     };
     for _ in 0..dice.roll(12) {
-        let op = dice.op(alloc)?;
-        draft.script.push_str(op_line(alloc, &op)?.as_str())?;
-        draft.ops.push(op)?;
+        draw_change(alloc, dice, &mut draft)?;
     }
     let mut queries = String::new(alloc);
     for _ in 0..dice.roll(20) {
-        let line = if dice.roll(5) == 0 {
-            let keep = dice.roll(4);
-            let line = format!(in alloc; "keep {keep}\n")?;
-            draft.script.push_str(line.as_str())?;
-            line
-        } else {
-            let line = query_line(alloc, dice)?;
-            queries.push_str(line.as_str())?;
-            line
-        };
-        draft.head.push_str(line.as_str())?;
+        draw_line(alloc, dice, &mut draft, &mut queries)?;
     }
     draft.head.push_str("log\n")?;
     draft.script.push_str("open\n")?;
@@ -117,6 +133,25 @@ fn plan(dice: &mut Dice) -> Plan {
     (workers, piece, dice.roll(4) as usize)
 }
 
+/// The input of a draft: its head, and the log of its changes.
+fn input_of_draft(alloc: Global, draft: &Draft) -> Result<Vec<u8>, Fail> {
+    let log = log_of(alloc, &draft.ops)?;
+    input_of(alloc, draft.head.as_bytes(), &log)
+}
+
+/// Whether the two ways print the same of a draft.
+fn is_alike<O: Operator + Send + Sync>(
+    rt: &(impl Threads + Wait + Sync),
+    alloc: Global,
+    draft: &Draft,
+    plan: Plan,
+) -> Result<bool, Fail> {
+    let (want, done) = played::<O>(rt, alloc, draft)?;
+    let input = input_of_draft(alloc, draft)?;
+    let wanted = (want.as_slice(), done);
+    Ok(prints::<O>(rt, alloc, &small_runs(), &input, plan, wanted))
+}
+
 /// Compares the two ways on drawn inputs.
 fn agree<O: Operator + Send + Sync>(
     rt: &(impl Abort + Threads + Wait + Sync),
@@ -126,19 +161,9 @@ fn agree<O: Operator + Send + Sync>(
     let mut dice = Dice::new(seed);
     for number in 0..INPUTS {
         let draft = draw(alloc, &mut dice)?;
-        let (want, done) = played::<O>(rt, alloc, &draft)?;
-        let log = log_of(alloc, &draft.ops)?;
-        let input = input_of(alloc, draft.head.as_bytes(), &log)?;
         let plan = plan(&mut dice);
         assert!(rt;
-            prints::<O>(
-                rt,
-                alloc,
-                &small_runs(),
-                &input,
-                plan,
-                (want.as_slice(), done)
-            ),
+            is_alike::<O>(rt, alloc, &draft, plan)?,
             "input {number} of seed {seed}"
         );
     }
