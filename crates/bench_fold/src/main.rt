@@ -9,7 +9,7 @@
 use anyhow::{Result, bail};
 use std::alloc::{AllocError, Global};
 use std::env;
-use std::time::Instant;
+use std::time::{Clock, Instant};
 use uc_bytes::Bytes;
 use uc_oper::{Append, Counter, Effect, Operator};
 
@@ -67,36 +67,47 @@ fn summary(effect: &Effect) -> (usize, u64) {
     (operand.len(), checksum)
 }
 
-fn few<R: Print>(rt: &R, alloc: Global) -> Result<()> {
-    let (length, checksum) = summary(&folded::<Append<COMMA>>(alloc, texts(alloc, FEW)?)?);
-    println!(rt; "{length} {checksum:016x}")?;
-    let (length, checksum) = summary(&folded::<Counter>(alloc, numbers(alloc, FEW)?)?);
+/// Folds a few of each kind, and prints what comes out.
+fn few(rt: &impl Print, alloc: Global) -> Result<()> {
+    print_folded::<Append<COMMA>>(rt, alloc, texts(alloc, FEW)?)?;
+    print_folded::<Counter>(rt, alloc, numbers(alloc, FEW)?)
+}
+
+/// Prints the length and the checksum of what the operands do in turn.
+fn print_folded<O: Operator>(rt: &impl Print, alloc: Global, operands: Vec<Effect>) -> Result<()> {
+    let (length, checksum) = summary(&folded::<O>(alloc, operands)?);
     println!(rt; "{length} {checksum:016x}")?;
     Ok(())
+}
+
+/// Prints how long it takes to put the operands together, and what comes out.
+fn measure<O: Operator>(
+    rt: &(impl Clock + Print),
+    alloc: Global,
+    operands: Vec<Effect>,
+) -> Result<()> {
+    let start = Instant::now(rt)?;
+    let effect = folded::<O>(alloc, operands)?;
+    let nanoseconds = start.elapsed(rt)?.as_nanos();
+    let (length, checksum) = summary(&effect);
+    println!(rt; "{nanoseconds} {length} {checksum:016x}")?;
+    Ok(())
+}
+
+/// Measures so many operands of the kind that the word names.
+fn measure_named(rt: &(impl Clock + Print), alloc: Global, kind: &str, count: u64) -> Result<()> {
+    match kind {
+        "append" => measure::<Append<COMMA>>(rt, alloc, texts(alloc, count)?),
+        "counter" => measure::<Counter>(rt, alloc, numbers(alloc, count)?),
+        other => bail!("{other} is neither append nor counter"),
+    }
 }
 
 fn main(rt: HostRuntime) -> Result<()> {
     let alloc = rt.alloc();
     let words: Vec<String> = env::args(&rt)?.collect(alloc)?;
-    if words.len() < 3 {
-        return few(&rt, alloc);
+    match words.as_slice() {
+        [_, kind, count, ..] => measure_named(&rt, alloc, kind.as_str(), count.parse::<u64>()?),
+        _ => few(&rt, alloc),
     }
-    let count = words[2].parse::<u64>()?;
-    let (start, effect) = match words[1].as_str() {
-        "append" => {
-            let operands = texts(alloc, count)?;
-            let start = Instant::now(&rt)?;
-            (start, folded::<Append<COMMA>>(alloc, operands)?)
-        }
-        "counter" => {
-            let operands = numbers(alloc, count)?;
-            let start = Instant::now(&rt)?;
-            (start, folded::<Counter>(alloc, operands)?)
-        }
-        other => bail!("{other} is neither append nor counter"),
-    };
-    let nanoseconds = start.elapsed(&rt)?.as_nanos();
-    let (length, checksum) = summary(&effect);
-    println!(rt; "{nanoseconds} {length} {checksum:016x}")?;
-    Ok(())
 }

@@ -9,7 +9,7 @@ use anyhow::Result;
 use std::alloc::{AllocError, Global};
 use std::env;
 use std::io::Read;
-use std::time::Instant;
+use std::time::{Clock, Instant};
 use uc_batch::{Mode, Writes, read_writes};
 use uc_bytes::Op;
 use uc_logrec::LogWriter;
@@ -66,21 +66,31 @@ fn checksum(writes: &Writes) -> u64 {
     checksum
 }
 
+/// Reads the writes of a log of a few batches, and prints how many there are and their checksum.
+fn few(rt: &impl Print, alloc: Global) -> Result<()> {
+    let writes = read_writes(alloc, &few_batches(alloc)?, Mode::TornTail)?;
+    let (count, checksum) = (writes.list().len(), checksum(&writes));
+    println!(rt; "{count} {checksum:016x}")?;
+    Ok(())
+}
+
+/// Reads the writes of a log, and prints how long that takes, how many there are and their checksum.
+fn measure(rt: &(impl Clock + Print), alloc: Global, log: &[u8]) -> Result<()> {
+    let start = Instant::now(rt)?;
+    let writes = read_writes(alloc, log, Mode::TornTail)?;
+    let nanoseconds = start.elapsed(rt)?.as_nanos();
+    let (count, checksum) = (writes.list().len(), checksum(&writes));
+    println!(rt; "{nanoseconds} {count} {checksum:016x}")?;
+    Ok(())
+}
+
 fn main(rt: HostRuntime) -> Result<()> {
     let alloc = rt.alloc();
     let words: Vec<String> = env::args(&rt)?.collect(alloc)?;
     if words.len() < 2 {
-        let writes = read_writes(alloc, &few_batches(alloc)?, Mode::TornTail)?;
-        let (count, checksum) = (writes.list().len(), checksum(&writes));
-        println!(rt; "{count} {checksum:016x}")?;
-        return Ok(());
+        return few(&rt, alloc);
     }
     let mut log = Vec::new(alloc);
     rt.stdin().read_to_end(&mut log)?;
-    let start = Instant::now(&rt)?;
-    let writes = read_writes(alloc, &log, Mode::TornTail)?;
-    let nanoseconds = start.elapsed(&rt)?.as_nanos();
-    let (count, checksum) = (writes.list().len(), checksum(&writes));
-    println!(rt; "{nanoseconds} {count} {checksum:016x}")?;
-    Ok(())
+    measure(&rt, alloc, &log)
 }
