@@ -9,7 +9,7 @@ use std::sync::Wait;
 use std::thread::Threads;
 use std::time::{Clock, Instant};
 use uc_oper::Operator;
-use uc_share::{Name, Reader, Seat, Store, Stretch};
+use uc_share::{Held, Name, Reader, Seat, Store, Stretch};
 
 /// How many installs a store of 64 runs has.
 const INSTALLS: usize = 63;
@@ -32,11 +32,65 @@ impl Work {
             installs: Times::new(alloc)?,
         })
     }
+
+    /// Counts a compaction and its install by when they began, came between and ended. Whether the clock said all three.
+    fn count(
+        &mut self,
+        start: Option<Instant>,
+        made_at: Option<Instant>,
+        end: Option<Instant>,
+    ) -> bool {
+        let (Some(start), Some(made_at), Some(end)) = (start, made_at, end) else {
+            return false;
+        };
+        self.compactions.add(nanoseconds(start, made_at));
+        self.installs.add(nanoseconds(made_at, end));
+        true
+    }
 }
 
 /// How many nanoseconds passed.
 fn nanoseconds(start: Instant, end: Instant) -> u64 {
     u64::try_from(end.duration_since(start).as_nanos()).unwrap_or(u64::MAX)
+}
+
+/// The two newest runs, claimed.
+fn newest_claimed<O: Operator, N: Name, W: Wait + Drop>(
+    store: &Store<O, N, W>,
+    seat: Seat,
+    reader: &mut Reader<O, N>,
+) -> Option<Held<O, N>>
+    requires { seat.table ≡ store.now.table }
+    ensures { IfSome result (λ held. held.seat.table ≡ store.now.table) }
+{
+    let pin = store.pin(reader).ok()?;
+    match store.claim(seat, pin, reader, NEWEST) {
+        Ok(held) => Some(held),
+        Err(_) => None,
+    }
+}
+
+/// Compacts what is claimed and installs it, and counts how long both took.
+fn install_timed<O: Operator + Sync, N: Name, W: Wait + Drop>(
+    rt: &(impl Threads + Wait + Clock + Sync),
+    alloc: Global,
+    store: &Store<O, N, W>,
+    held: Held<O, N>,
+    reader: &mut Reader<O, N>,
+    work: &mut Work,
+) -> Option<Seat>
+    requires { held.seat.table ≡ store.now.table }
+    ensures { IfSome result (λ seat. seat.table ≡ store.now.table) }
+{
+    let start = Instant::now(rt).ok();
+    let made = held.compact(rt, alloc).ok()?;
+    let made_at = Instant::now(rt).ok();
+    let installed = store.install(rt, alloc, held, made, reader);
+    let end = Instant::now(rt).ok();
+    match installed {
+        Ok(seat) if work.count(start, made_at, end) => Some(seat),
+        _ => None,
+    }
 }
 
 /// The two newest runs are compacted and installed.
@@ -51,22 +105,8 @@ fn install_one<O: Operator + Sync, N: Name, W: Wait + Drop>(
     requires { seat.table ≡ store.now.table }
     ensures { IfSome result (λ seat. seat.table ≡ store.now.table) }
 {
-    let pin = store.pin(reader).ok()?;
-    let held = match store.claim(seat, pin, reader, NEWEST) {
-        Ok(held) => held,
-        Err(_) => return None,
-    };
-    let start = Instant::now(rt).ok()?;
-    let made = held.compact(rt, alloc).ok()?;
-    let made_at = Instant::now(rt).ok()?;
-    let seat = match store.install(rt, alloc, held, made, reader) {
-        Ok(seat) => seat,
-        Err(_) => return None,
-    };
-    let end = Instant::now(rt).ok()?;
-    work.compactions.add(nanoseconds(start, made_at));
-    work.installs.add(nanoseconds(made_at, end));
-    Some(seat)
+    let held = newest_claimed(store, seat, reader)?;
+    install_timed(rt, alloc, store, held, reader, work)
 }
 
 /// All runs are made into one, two by two. Whether they were.

@@ -125,8 +125,49 @@ where
     Some((length?, times?))
 }
 
-/// What a plan comes to in a store that is opened here.
+/// An installer installs with nobody beside it.
+fn install_alone<O: Operator + Sync, N: Name, W: Wait + Drop>(
+    rt: &(impl Threads + Wait + Clock + Sync),
+    alloc: Global,
+    store: &Store<O, N, W>,
+    worker: (Reader<O, N>, Seat),
+    work: &mut Work,
+) -> Outcome
+    requires { worker.1.table ≡ store.now.table }
+{
+    let length = install_beside(rt, alloc, store, worker, &Window::new(), 0, work)?;
+    Some((length, Times::new(alloc).ok()?))
+}
+
+/// What a plan comes to in a store, one of whose readers is an installer's.
 fn outcome<O, N, W, R>(
+    rt: &R,
+    alloc: Global,
+    store: &Store<O, N, W>,
+    mut readers: Vec<Reader<O, N>>,
+    seat: Seat,
+    plan: Plan,
+    work: &mut Work,
+) -> Outcome
+where
+    O: Operator + Send + Sync,
+    N: Name + Send + Sync,
+    W: Wait + Drop + Send,
+    R: Threads + Wait + Clock + Sync,
+    requires { seat.table ≡ store.now.table }
+{
+    let worker = (readers.pop()?, seat);
+    if !plan.installer {
+        pin_alone(rt, alloc, store, readers, plan.way)
+    } else if plan.readers > 0 {
+        pin_and_install(rt, alloc, store, readers, worker, plan.way, work)
+    } else {
+        install_alone(rt, alloc, store, worker, work)
+    }
+}
+
+/// The same in a store that is opened here.
+fn outcome_opened<O, N, W, R>(
     rt: &R,
     handle: W,
     alloc: Global,
@@ -143,16 +184,8 @@ where
     requires base { opened_with.1 ≡ N.base }
 {
     let count = plan.readers.saturating_add(1);
-    let (store, mut readers, seat) = opened::<O, N, W>(handle, alloc, opened_with, count)?;
-    let reader = readers.pop()?;
-    if !plan.installer {
-        return pin_alone(rt, alloc, &store, readers, plan.way);
-    }
-    if plan.readers > 0 {
-        return pin_and_install(rt, alloc, &store, readers, (reader, seat), plan.way, work);
-    }
-    let length = install_beside(rt, alloc, &store, (reader, seat), &Window::new(), 0, work)?;
-    Some((length, Times::new(alloc).ok()?))
+    let (store, readers, seat) = opened::<O, N, W>(handle, alloc, opened_with, count)?;
+    outcome(rt, alloc, &store, readers, seat, plan, work)
 }
 
 /// What a plan comes to in so many stores whose runs have so many points, one after the other.
@@ -169,7 +202,7 @@ fn outcomes(
     for _ in 0..stores {
         let version = version_of(alloc, points)?;
         let opened_with = (Opening::new(), version);
-        let Some((one, more)) = outcome::<Counter, Brand, _, _>(
+        let Some((one, more)) = outcome_opened::<Counter, Brand, _, _>(
             rt,
             rt,
             alloc,
@@ -204,66 +237,84 @@ fn small(rt: &(impl Threads + Wait + Clock + Sync + Print), alloc: Global) -> Re
     Ok(())
 }
 
+/// What is measured.
+#[derive(Clone, Copy)]
+enum Mode {
+    Pins,
+    Beside,
+    Times,
+    Installs,
+}
+
+/// What a word asks for.
+fn mode_of(word: &str) -> Result<Mode> {
+    match word {
+        "pins" => Ok(Mode::Pins),
+        "beside" => Ok(Mode::Beside),
+        "times" => Ok(Mode::Times),
+        "installs" => Ok(Mode::Installs),
+        _ => bail!("it is pins, beside, times or installs"),
+    }
+}
+
+impl Mode {
+    /// The plan of a mode with its two numbers, the points of each run, and how many stores there are.
+    fn plan(self, first: u64, second: u64) -> (Plan, u64, u64) {
+        let readers = (first % 8) as usize;
+        let (readers, way, points, stores) = match self {
+            Mode::Pins => (readers, Way::Often(second), 1, 1),
+            Mode::Beside => (readers, Way::Beside, 1, second),
+            Mode::Times => (readers, Way::Timed, 1, second),
+            Mode::Installs => (0, Way::Beside, first, second),
+        };
+        let installer = !matches!(self, Mode::Pins);
+        let plan = Plan {
+            readers,
+            way,
+            installer,
+        };
+        (plan, points, stores)
+    }
+}
+
+/// Prints what came of a mode.
+fn print_outcome(
+    rt: &impl Print,
+    mode: Mode,
+    length: u64,
+    times: &Times,
+    work: &Work,
+) -> Result<()> {
+    match mode {
+        Mode::Pins | Mode::Beside => println!(rt; "{length} {}", times.calls())?,
+        Mode::Times => println!(rt;
+            "{} {} {} {}",
+            times.below(5000),
+            times.below(9900),
+            times.below(9999),
+            times.longest()
+        )?,
+        Mode::Installs => println!(rt;
+            "{} {}",
+            work.compactions.below(5000),
+            work.installs.below(5000)
+        )?,
+    }
+    Ok(())
+}
+
 /// Prints what was asked for.
 fn run(
     rt: &(impl Threads + Wait + Clock + Sync + Print),
     alloc: Global,
-    mode: &str,
+    mode: Mode,
     first: u64,
     second: u64,
 ) -> Result<()> {
     let mut work = Work::new(alloc)?;
-    let readers = (first % 8) as usize;
-    match mode {
-        "pins" => {
-            let plan = Plan {
-                readers,
-                way: Way::Often(second),
-                installer: false,
-            };
-            let (length, times) = outcomes(rt, alloc, plan, 1, 1, &mut work)?;
-            println!(rt; "{length} {}", times.calls())?;
-        }
-        "beside" => {
-            let plan = Plan {
-                readers,
-                way: Way::Beside,
-                installer: true,
-            };
-            let (length, times) = outcomes(rt, alloc, plan, 1, second, &mut work)?;
-            println!(rt; "{length} {}", times.calls())?;
-        }
-        "times" => {
-            let plan = Plan {
-                readers,
-                way: Way::Timed,
-                installer: true,
-            };
-            let (_, times) = outcomes(rt, alloc, plan, 1, second, &mut work)?;
-            println!(rt;
-                "{} {} {} {}",
-                times.below(5000),
-                times.below(9900),
-                times.below(9999),
-                times.longest()
-            )?;
-        }
-        "installs" => {
-            let plan = Plan {
-                readers: 0,
-                way: Way::Beside,
-                installer: true,
-            };
-            outcomes(rt, alloc, plan, first, second, &mut work)?;
-            println!(rt;
-                "{} {}",
-                work.compactions.below(5000),
-                work.installs.below(5000)
-            )?;
-        }
-        _ => bail!("it is pins, beside, times or installs"),
-    }
-    Ok(())
+    let (plan, points, stores) = mode.plan(first, second);
+    let (length, times) = outcomes(rt, alloc, plan, points, stores, &mut work)?;
+    print_outcome(rt, mode, length, &times, &work)
 }
 
 fn main(rt: HostRuntime) -> Result<()> {
@@ -271,6 +322,7 @@ fn main(rt: HostRuntime) -> Result<()> {
     if words.len() < 4 {
         return small(&rt, rt.alloc());
     }
+    let mode = mode_of(words[1].as_str())?;
     let (first, second) = (words[2].parse::<u64>()?, words[3].parse::<u64>()?);
-    run(&rt, rt.alloc(), words[1].as_str(), first, second)
+    run(&rt, rt.alloc(), mode, first, second)
 }

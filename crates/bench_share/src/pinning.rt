@@ -23,8 +23,6 @@ pub(crate) struct Window {
     pub(crate) phase: AtomicU64,
     /// How many readers pin already.
     pub(crate) ready: AtomicU64,
-    /// How many nanoseconds the installer took.
-    pub(crate) length: AtomicU64,
 }
 
 impl Window {
@@ -33,7 +31,6 @@ impl Window {
         Window {
             phase: AtomicU64::new(WAITING),
             ready: AtomicU64::new(0),
-            length: AtomicU64::new(0),
         }
     }
 }

@@ -1,9 +1,9 @@
 //! [`Beside`]: a batch beside compactors, and once more behind them.
-ghost use Rattle.std.specs.Prelude.{◌≡◌, IfSome};
+ghost use Rattle.std.specs.Prelude.{◌≡◌, IfSome, All};
 
 use crate::asked::Crew;
 use crate::asking::{Answered, answered_shared, nanoseconds_since};
-use crate::compacting::{Compactor, all_compact, next_compactor};
+use crate::compacting::{Compactor, Compactors, all_compact, two_compactors};
 use std::alloc::Global;
 use std::fmt;
 use std::marker::{Send, Sync};
@@ -12,7 +12,7 @@ use std::thread::{Threads, join};
 use std::time::{Clock, Instant};
 use uc_oper::Counter;
 use uc_query_answer::Query;
-use uc_share::{Name, Opening, Options, Reader, Store, Version};
+use uc_share::{Name, Opening, Options, Reader, Seat, Store, Version};
 
 /// What compactors did.
 #[derive(Clone, Copy)]
@@ -70,7 +70,7 @@ fn meanwhile<N, W, R>(
     rt: &R,
     alloc: Global,
     store: &Store<Counter, N, W>,
-    compactors: (Option<Compactor<N>>, Option<Compactor<N>>),
+    compactors: Compactors<N>,
     readers: Vec<Reader<Counter, N>>,
     queries: &[Query],
     workers: usize,
@@ -92,6 +92,34 @@ where
         move || answered_shared(rt, alloc, readers, queries, workers),
     );
     Some((answered?, compacting?))
+}
+
+/// A batch by workers beside a compactor for each seat of a store, and once more behind them.
+fn answered_twice<N, W, R>(
+    rt: &R,
+    alloc: Global,
+    store: &Store<Counter, N, W>,
+    mut readers: Vec<Reader<Counter, N>>,
+    seats: Vec<Seat>,
+    queries: &[Query],
+    workers: usize,
+) -> Option<Beside>
+where
+    N: Name + Send + Sync,
+    W: Wait + Drop + Send,
+    R: Threads + Wait + Clock + Sync,
+    requires { All (λ seat. seat.table ≡ store.now.table) seats.items }
+{
+    let compactors = two_compactors(store, &mut readers, seats);
+    let ((readers, first), compacting) = meanwhile(
+        rt, alloc, store, compactors, readers, queries, workers,
+    )?;
+    let (_, behind) = answered_shared(rt, alloc, readers, queries, workers)?;
+    Some(Beside {
+        meanwhile: first,
+        behind,
+        compacting,
+    })
 }
 
 /// A batch in a store that is opened here, beside compactors and once more behind them.
@@ -120,22 +148,6 @@ where
     let opened = Store::<Counter, N, W>::open(
         alloc, handle, opening, version, options, count, compactors,
     );
-    let (store, mut readers, mut seats) = opened.ok()?;
-    let one = next_compactor(&store, &mut readers, &mut seats);
-    let other = next_compactor(&store, &mut readers, &mut seats);
-    let ((readers, first), compacting) = meanwhile(
-        rt,
-        alloc,
-        &store,
-        (one, other),
-        readers,
-        queries,
-        workers,
-    )?;
-    let (_, behind) = answered_shared(rt, alloc, readers, queries, workers)?;
-    Some(Beside {
-        meanwhile: first,
-        behind,
-        compacting,
-    })
+    let (store, readers, seats) = opened.ok()?;
+    answered_twice(rt, alloc, &store, readers, seats, queries, workers)
 }

@@ -6,7 +6,7 @@ use std::marker::{Send, Sync};
 use std::sync::Wait;
 use std::thread::{Threads, join};
 use uc_oper::Counter;
-use uc_share::{Name, Reader, Seat, Store};
+use uc_share::{Held, Name, Reader, Seat, Store};
 
 /// How often a compactor looks for something to compact, at the most.
 const LOOKS: usize = 1_000_000;
@@ -24,8 +24,11 @@ enum Look {
     Installed,
 }
 
+/// No, one or two compactors.
+pub(crate) type Compactors<N> = (Option<Compactor<N>>, Option<Compactor<N>>);
+
 /// A compactor of the readers and seats of a store, where a seat is left.
-pub(crate) fn next_compactor<N: Name, W: Wait + Drop>(
+fn next_compactor<N: Name, W: Wait + Drop>(
     store: &Store<Counter, N, W>,
     readers: &mut Vec<Reader<Counter, N>>,
     seats: &mut Vec<Seat>,
@@ -37,6 +40,39 @@ pub(crate) fn next_compactor<N: Name, W: Wait + Drop>(
     let seat = seats.pop()?;
     let reader = readers.pop()?;
     Some((reader, seat))
+}
+
+/// A compactor for each seat of a store, two at the most.
+pub(crate) fn two_compactors<N: Name, W: Wait + Drop>(
+    store: &Store<Counter, N, W>,
+    readers: &mut Vec<Reader<Counter, N>>,
+    mut seats: Vec<Seat>,
+) -> Compactors<N>
+    requires { All (λ seat. seat.table ≡ store.now.table) seats.items }
+    ensures one { IfSome result.0 (λ one. one.1.table ≡ store.now.table) }
+    ensures other { IfSome result.1 (λ other. other.1.table ≡ store.now.table) }
+{
+    let one = next_compactor(store, readers, &mut seats);
+    let other = next_compactor(store, readers, &mut seats);
+    (one, other)
+}
+
+/// Compacts what is claimed and installs it. The seat comes back, unless one of both is refused.
+fn installed<N: Name, W: Wait + Drop>(
+    rt: &(impl Threads + Wait + Sync),
+    alloc: Global,
+    store: &Store<Counter, N, W>,
+    held: Held<Counter, N>,
+    reader: &mut Reader<Counter, N>,
+) -> Option<Seat>
+    requires { held.seat.table ≡ store.now.table }
+    ensures { IfSome result (λ seat. seat.table ≡ store.now.table) }
+{
+    let made = held.compact(rt, alloc).ok()?;
+    match store.install(rt, alloc, held, made, reader) {
+        Ok(seat) => Some(seat),
+        Err(_) => None,
+    }
 }
 
 /// Compacts and installs what is picked. The seat comes back with what came of it, unless a compaction or an install is refused.
@@ -54,14 +90,12 @@ fn compact_once<N: Name, W: Wait + Drop>(
     let Some(stretch) = store.pick(&pin, &mut seat) else {
         return Some((seat, Look::Idle));
     };
-    let held = match store.claim(seat, pin, reader, stretch) {
-        Err((seat, _pin, _error)) => return Some((seat, Look::Late)),
-        Ok(held) => held,
-    };
-    let made = held.compact(rt, alloc).ok()?;
-    match store.install(rt, alloc, held, made, reader) {
-        Ok(seat) => Some((seat, Look::Installed)),
-        Err(_) => None,
+    match store.claim(seat, pin, reader, stretch) {
+        Err((seat, _pin, _error)) => Some((seat, Look::Late)),
+        Ok(held) => {
+            let seat = installed(rt, alloc, store, held, reader)?;
+            Some((seat, Look::Installed))
+        }
     }
 }
 

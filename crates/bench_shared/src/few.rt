@@ -77,6 +77,26 @@ fn ensure_same_each(
     Ok(())
 }
 
+/// Makes sure that batches and single queries beside no, one and two compactors have these answers.
+fn ensure_same(
+    rt: &(impl Clock + Threads + Wait + Sync),
+    alloc: Global,
+    queries: &[Query],
+    checksum: u64,
+) -> Result<()> {
+    for compactors in 0..3 {
+        for workers in [1, 2, 4] {
+            let crew = Crew {
+                workers,
+                compactors,
+            };
+            ensure_same_beside(rt, alloc, queries, crew, checksum)?;
+        }
+        ensure_same_each(rt, alloc, queries, compactors, checksum)?;
+    }
+    Ok(())
+}
+
 /// Answers a few queries of a few writes in all modes, and prints how large the store is, and what the answers were.
 pub(crate) fn few_answers(
     rt: &(impl Clock + Threads + Wait + Sync + Print),
@@ -85,16 +105,7 @@ pub(crate) fn few_answers(
     let version = few_writes(alloc)?;
     let queries = as_one_batch(alloc, few_batches(alloc, version.last())?)?;
     let plain = answered_plain(rt, alloc, &version, &queries, 1).context("a batch is refused")?;
-    for compactors in 0..3 {
-        for workers in [1, 2, 4] {
-            let crew = Crew {
-                workers,
-                compactors,
-            };
-            ensure_same_beside(rt, alloc, &queries, crew, plain.checksum)?;
-        }
-        ensure_same_each(rt, alloc, &queries, compactors, plain.checksum)?;
-    }
+    ensure_same(rt, alloc, &queries, plain.checksum)?;
     let (runs, points) = totals(&version);
     println!(rt; "{runs} {points} {} {:016x}", plain.answers, plain.checksum)?;
     Ok(())

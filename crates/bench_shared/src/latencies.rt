@@ -1,8 +1,8 @@
 //! [`Latencies`]: how long single queries take beside compactors.
-ghost use Rattle.std.specs.Prelude.{◌≡◌, IfSome};
+ghost use Rattle.std.specs.Prelude.{◌≡◌, IfSome, All};
 
 use crate::asking::nanoseconds_since;
-use crate::compacting::{Compactor, all_compact, next_compactor};
+use crate::compacting::{Compactor, Compactors, all_compact, two_compactors};
 use bench_queries::checksum::with_answer;
 use std::alloc::Global;
 use std::fmt;
@@ -14,7 +14,7 @@ use std::time::{Clock, Instant};
 use uc_oper::Counter;
 use uc_query_answer::{Answer, Query};
 use uc_query_read::answer_one;
-use uc_share::{Name, Opening, Options, Reader, Store, Version};
+use uc_share::{Name, Opening, Options, Reader, Seat, Store, Version};
 
 /// What came of single queries.
 #[derive(Drop)]
@@ -35,10 +35,14 @@ impl Latencies {
         })
     }
 
-    /// Counts an answer.
-    fn count(&mut self, answer: &Answer) {
+    /// Counts an answer, and how long it took where compactors were at work.
+    fn count(&mut self, answer: &Answer, time: Option<u64>) -> Option<()> {
         self.answers = self.answers.saturating_add(1);
         self.checksum = with_answer(self.checksum, answer);
+        if let Some(time) = time {
+            self.times.push(time).ok()?;
+        }
+        Some(())
     }
 
     /// The time that so many of 1,000 don't pass.
@@ -74,6 +78,23 @@ fn answer_shown<N: Name, W: Wait + Drop>(
     answer_one::<Counter>(alloc, pin.version(), query).ok()
 }
 
+/// Asks a query with a clock around it, and counts its answer.
+fn ask_one<N: Name, W: Wait + Drop>(
+    clock: &impl Clock,
+    alloc: Global,
+    store: &Store<Counter, N, W>,
+    reader: &mut Reader<Counter, N>,
+    query: &Query,
+    done: &AtomicBool,
+    latencies: &mut Latencies,
+) -> Option<()> {
+    let start = Instant::now(clock).ok()?;
+    let answer = answer_shown(alloc, store, reader, query)?;
+    let time = nanoseconds_since(clock, start)?;
+    let meanwhile = !done.load(Ordering::Acquire);
+    latencies.count(&answer, meanwhile.then_some(time))
+}
+
 /// Asks one query after the other with a clock around each.
 fn ask_each<N: Name, W: Wait + Drop>(
     clock: &impl Clock,
@@ -85,13 +106,15 @@ fn ask_each<N: Name, W: Wait + Drop>(
 ) -> Option<Latencies> {
     let mut latencies = Latencies::new(alloc, queries.len())?;
     for query in queries {
-        let start = Instant::now(clock).ok()?;
-        let answer = answer_shown(alloc, store, &mut reader, query)?;
-        let time = nanoseconds_since(clock, start)?;
-        if !done.load(Ordering::Acquire) {
-            latencies.times.push(time).ok()?;
-        }
-        latencies.count(&answer);
+        ask_one(
+            clock,
+            alloc,
+            store,
+            &mut reader,
+            query,
+            done,
+            &mut latencies,
+        )?;
     }
     latencies.times.sort_unstable();
     Some(latencies)
@@ -124,7 +147,7 @@ fn beside_compactors<N, W, R>(
     rt: &R,
     alloc: Global,
     store: &Store<Counter, N, W>,
-    compactors: (Option<Compactor<N>>, Option<Compactor<N>>),
+    compactors: Compactors<N>,
     reader: Reader<Counter, N>,
     queries: &[Query],
 ) -> Option<Latencies>
@@ -150,6 +173,26 @@ where
     latencies
 }
 
+/// Single queries by one of the readers of a store, beside a compactor for each of its seats.
+fn timed_by_one<N, W, R>(
+    rt: &R,
+    alloc: Global,
+    store: &Store<Counter, N, W>,
+    mut readers: Vec<Reader<Counter, N>>,
+    seats: Vec<Seat>,
+    queries: &[Query],
+) -> Option<Latencies>
+where
+    N: Name + Send + Sync,
+    W: Wait + Drop + Send,
+    R: Threads + Wait + Clock + Sync,
+    requires { All (λ seat. seat.table ≡ store.now.table) seats.items }
+{
+    let compactors = two_compactors(store, &mut readers, seats);
+    let reader = readers.pop()?;
+    beside_compactors(rt, alloc, store, compactors, reader, queries)
+}
+
 /// Single queries of a store that is opened here, by one reader, beside so many compactors.
 pub(crate) fn timed<N, W, R>(
     rt: &R,
@@ -172,9 +215,6 @@ where
     let opened = Store::<Counter, N, W>::open(
         alloc, handle, opening, version, options, count, compactors,
     );
-    let (store, mut readers, mut seats) = opened.ok()?;
-    let one = next_compactor(&store, &mut readers, &mut seats);
-    let other = next_compactor(&store, &mut readers, &mut seats);
-    let reader = readers.pop()?;
-    beside_compactors(rt, alloc, &store, (one, other), reader, queries)
+    let (store, readers, seats) = opened.ok()?;
+    timed_by_one(rt, alloc, &store, readers, seats, queries)
 }
