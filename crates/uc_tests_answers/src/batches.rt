@@ -170,6 +170,24 @@ fn is_refused<O: Operator + Sync, N: Name + Send>(
 }
 
 /// Whether batches are refused as they should be, and one of no queries has no answers.
+fn are_refused<O: Operator + Sync, N: Name + Send>(
+    rt: &(impl Threads + Sync),
+    alloc: Global,
+    mut readers: Vec<Reader<O, N>>,
+    queries: &[Query],
+) -> bool {
+    let mut right = true;
+    for row in refused() {
+        let (back, refused) = is_refused(rt, alloc, readers, queries, *row);
+        readers = back;
+        right = refused && right;
+    }
+    let (readers, none) = is_answered(rt, alloc, readers, (&[], &[]), 3, 2);
+    let (_, again) = is_answered(rt, alloc, readers, (&[], &[]), 1, usize::MAX);
+    right && none && again
+}
+
+/// The same of the readers of a store that is opened here.
 fn batches_are_refused<N: Name + Send, W: Wait + Drop>(
     rt: &(impl Threads + Sync),
     handle: W,
@@ -182,16 +200,7 @@ fn batches_are_refused<N: Name + Send, W: Wait + Drop>(
     requires base { version ≡ N.base }
 {
     let (_store, readers, _) = opened::<Append<b','>, N, W>(handle, alloc, opening, version)?;
-    let mut readers = readers;
-    let mut right = true;
-    for row in refused() {
-        let (back, refused) = is_refused(rt, alloc, readers, queries, *row);
-        readers = back;
-        right = refused && right;
-    }
-    let (readers, none) = is_answered(rt, alloc, readers, (&[], &[]), 3, 2);
-    let (_, again) = is_answered(rt, alloc, readers, (&[], &[]), 1, usize::MAX);
-    Ok(right && none && again)
+    Ok(are_refused(rt, alloc, readers, queries))
 }
 
 #[test]

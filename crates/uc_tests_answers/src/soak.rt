@@ -15,7 +15,7 @@ use uc_query_shared::{Free, answer_all};
 use uc_share::{Name, Opening, Reader, Seat, Store, Version};
 use uc_tests_compactors::drawn::{drawn_store, small_runs};
 use uc_tests_compactors::turns::{four_compact, shows_installs};
-use uc_tests_compactors::worker::next_pair;
+use uc_tests_compactors::worker::{Pair, next_pairs};
 use uc_tests_shared::dice::{Dice, KEYS};
 
 /// How many queries a batch has.
@@ -113,8 +113,8 @@ fn batches_beside_four<O, N, W, R>(
     rt: &R,
     alloc: Global,
     store: &Store<O, N, W>,
-    mut readers: Vec<Reader<O, N>>,
-    mut seats: Vec<Seat>,
+    compactors: (Pair<O, N>, Pair<O, N>),
+    readers: Vec<Reader<O, N>>,
     batch: &Batch,
     seed: u64,
 ) -> Option<u64>
@@ -123,10 +123,10 @@ where
     N: Name + Send + Sync,
     W: Wait + Drop + Send,
     R: Threads + Wait + Sync,
-    requires { All (λ seat. seat.table ≡ store.now.table) seats.items }
+    requires first { (compactors.0.0.1.table ≡ store.now.table) × (compactors.0.1.1.table ≡ store.now.table) }
+    requires second { (compactors.1.0.1.table ≡ store.now.table) × (compactors.1.1.1.table ≡ store.now.table) }
 {
-    let first = next_pair(store, &mut readers, &mut seats)?;
-    let second = next_pair(store, &mut readers, &mut seats)?;
+    let (first, second) = compactors;
     let (installs, alike) = join(
         rt,
         move || -> Option<u64>
@@ -138,9 +138,33 @@ where
     if alike { installs } else { None }
 }
 
-/// How many installs are made in a store that is opened here, where batches are answered as they should be beside its
-/// compactors, and in the end has one event and one id for each install.
+/// How many installs are made in a store, where batches are answered as they should be beside its compactors, and in the end has
+/// one event and one id for each install since a first id.
 fn soaks<O, N, W, R>(
+    rt: &R,
+    alloc: Global,
+    store: &Store<O, N, W>,
+    mut readers: Vec<Reader<O, N>>,
+    mut seats: Vec<Seat>,
+    batch: &Batch,
+    numbers: (u64, u64),
+) -> Option<u64>
+where
+    O: Operator + Send + Sync,
+    N: Name + Send + Sync,
+    W: Wait + Drop + Send,
+    R: Threads + Wait + Sync,
+    requires { All (λ seat. seat.table ≡ store.now.table) seats.items }
+{
+    let (first_id, seed) = numbers;
+    let mut late = readers.pop()?;
+    let compactors = next_pairs(store, &mut readers, &mut seats)?;
+    let installs = batches_beside_four(rt, alloc, store, compactors, readers, batch, seed)?;
+    shows_installs(store, &mut late, first_id, installs).then_some(installs)
+}
+
+/// The same of a store that is opened here.
+fn soaks_opened<O, N, W, R>(
     rt: &R,
     handle: W,
     alloc: Global,
@@ -157,16 +181,10 @@ where
     requires base { opened_with.1 ≡ N.base }
 {
     let (opening, version) = opened_with;
-    let first_id = version.next_id();
+    let numbers = (version.next_id(), seed);
     let opened = Store::<O, N, W>::open(alloc, handle, opening, version, small_runs(), 9, 4);
-    let (store, mut readers, seats) = opened.ok()?;
-    let mut late = readers.pop()?;
-    let installs = batches_beside_four(rt, alloc, &store, readers, seats, batch, seed)?;
-    if shows_installs(&store, &mut late, first_id, installs) {
-        Some(installs)
-    } else {
-        None
-    }
+    let (store, readers, seats) = opened.ok()?;
+    soaks(rt, alloc, &store, readers, seats, batch, numbers)
 }
 
 /// How many installs are made in so many drawn stores, where batches of all of them are answered as they should be.
@@ -182,7 +200,7 @@ fn installs_of<O: Operator + Send + Sync, R: Threads + Wait + Sync>(
         let batch = drawn_batch::<O>(alloc, dice, &writes, version.keeps())?;
         let opened_with = (Opening::new(), version);
         let seed = dice.roll(u64::MAX);
-        let made = soaks::<O, Brand, &R, R>(rt, rt, alloc, opened_with, &batch, seed);
+        let made = soaks_opened::<O, Brand, &R, R>(rt, rt, alloc, opened_with, &batch, seed);
         installs = installs.saturating_add(made.ok_or("a batch is answered differently")?);
     }
     Ok(installs)

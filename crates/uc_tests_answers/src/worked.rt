@@ -8,14 +8,23 @@ use uc_share::Version;
 use uc_tests_compactors::drawn::small_runs;
 use uc_version::open_version;
 
+/// The change with a number.
+fn change(number: u64) -> OpRef<'static> {
+    match number {
+        1 => OpRef::put(b"k", b"a"),
+        2 => OpRef::merge(b"k", b"b"),
+        3 => OpRef::put(b"l", b"x"),
+        4 => OpRef::delete_range(b"k", b"l"),
+        _ => OpRef::merge(b"k", b"c"),
+    }
+}
+
 /// Five writes, numbered from 1: a put and a merge of `k`, a put of `l`, a range deletion from `k` to below `l`, a merge of `k`.
 fn five_writes(alloc: Global) -> Result<Writes, Fail> {
     let mut list = Vec::new(alloc);
-    list.push(WriteRef::new(1, OpRef::put(b"k", b"a")).to_write(alloc)?)?;
-    list.push(WriteRef::new(2, OpRef::merge(b"k", b"b")).to_write(alloc)?)?;
-    list.push(WriteRef::new(3, OpRef::put(b"l", b"x")).to_write(alloc)?)?;
-    list.push(WriteRef::new(4, OpRef::delete_range(b"k", b"l")).to_write(alloc)?)?;
-    list.push(WriteRef::new(5, OpRef::merge(b"k", b"c")).to_write(alloc)?)?;
+    for number in 1..=5 {
+        list.push(WriteRef::new(number, change(number)).to_write(alloc)?)?;
+    }
     Ok(Writes::of(list).ok_or("the sequences don't rise")?)
 }
 

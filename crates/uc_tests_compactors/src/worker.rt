@@ -41,3 +41,20 @@ pub fn next_pair<O: Operator, N: Name, W: Wait + Drop>(
     let other = next_worker(store, readers, seats)?;
     Some((one, other))
 }
+
+/// Four of them, as two pairs.
+pub fn next_pairs<O: Operator, N: Name, W: Wait + Drop>(
+    store: &Store<O, N, W>,
+    readers: &mut Vec<Reader<O, N>>,
+    seats: &mut Vec<Seat>,
+) -> Option<(Pair<O, N>, Pair<O, N>)>
+    requires { All (λ seat. seat.table ≡ store.now.table) seats.old.items }
+    ensures first { IfSome result (λ pairs.
+        (pairs.0.0.1.table ≡ store.now.table) × (pairs.0.1.1.table ≡ store.now.table)) }
+    ensures second { IfSome result (λ pairs.
+        (pairs.1.0.1.table ≡ store.now.table) × (pairs.1.1.1.table ≡ store.now.table)) }
+{
+    let first = next_pair(store, readers, seats)?;
+    let second = next_pair(store, readers, seats)?;
+    Some((first, second))
+}
