@@ -75,6 +75,11 @@ fn number<'a>(alloc: Global, name: &'a str, usual: &'a str, help: &'a str) -> Ar
         .help(help)
 }
 
+/// One of 32 bits.
+fn short_number<'a>(alloc: Global, name: &'a str, usual: &'a str, help: &'a str) -> Arg<'a> {
+    number(alloc, name, usual, help).value_parser(value_parser!(u32))
+}
+
 /// `--operator`.
 fn operator<'a>(alloc: Global, shown: &'a Shown) -> Arg<'a> {
     Arg::new(alloc, "operator")
@@ -86,21 +91,26 @@ fn operator<'a>(alloc: Global, shown: &'a Shown) -> Arg<'a> {
         )
 }
 
+/// `--memtable`.
+fn memtable<'a>(alloc: Global, shown: &'a Shown) -> Arg<'a> {
+    number(
+        alloc,
+        "memtable",
+        shown.memtable.as_str(),
+        "Flush a memtable once it holds this many bytes (write_buffer_size)",
+    )
+    .value_parser(value_parser!(u64))
+}
+
 /// A subcommand, with the operator and how large a memtable grows.
 fn with_writes<'a>(
     alloc: Global,
     command: Command<'a>,
     shown: &'a Shown,
 ) -> Result<Command<'a>, AllocError> {
-    let memtable = number(
-        alloc,
-        "memtable",
-        shown.memtable.as_str(),
-        "Flush a memtable once it holds this many bytes (write_buffer_size)",
-    );
     command
         .arg(operator(alloc, shown))?
-        .arg(memtable.value_parser(value_parser!(u64)))
+        .arg(memtable(alloc, shown))
 }
 
 /// A subcommand, with the options that say when runs are compacted, and how far.
@@ -109,30 +119,27 @@ fn with_limits<'a>(
     command: Command<'a>,
     shown: &'a Shown,
 ) -> Result<Command<'a>, AllocError> {
-    let trigger = number(
-        alloc,
-        "trigger",
-        shown.trigger.as_str(),
-        "Compact once there are this many runs (level0_file_num_compaction_trigger)",
-    );
-    let ratio = number(
-        alloc,
-        "ratio",
-        shown.ratio.as_str(),
-        "Take the next run too while it is at most this many percent larger than the newer ones \
-         together (size_ratio)",
-    );
-    let percent = number(
-        alloc,
-        "percent",
-        shown.percent.as_str(),
-        "Compact everything once the newer runs together exceed this percentage of the oldest run's \
-         size (max_size_amplification_percent)",
-    );
     command
-        .arg(trigger.value_parser(value_parser!(u32)))?
-        .arg(ratio.value_parser(value_parser!(u32)))?
-        .arg(percent.value_parser(value_parser!(u32)))
+        .arg(short_number(
+            alloc,
+            "trigger",
+            shown.trigger.as_str(),
+            "Compact once there are this many runs (level0_file_num_compaction_trigger)",
+        ))?
+        .arg(short_number(
+            alloc,
+            "ratio",
+            shown.ratio.as_str(),
+            "Take the next run too while it is at most this many percent larger than the newer ones \
+             together (size_ratio)",
+        ))?
+        .arg(short_number(
+            alloc,
+            "percent",
+            shown.percent.as_str(),
+            "Compact everything once the newer runs together exceed this percentage of the oldest run's \
+             size (max_size_amplification_percent)",
+        ))
 }
 
 /// A subcommand, with the options that say how many runs are compacted at once.
@@ -141,21 +148,19 @@ fn with_widths<'a>(
     command: Command<'a>,
     shown: &'a Shown,
 ) -> Result<Command<'a>, AllocError> {
-    let least = number(
-        alloc,
-        "least",
-        shown.least.as_str(),
-        "Compact at least this many runs at once (min_merge_width)",
-    );
-    let greatest = number(
-        alloc,
-        "greatest",
-        shown.greatest.as_str(),
-        "Compact at most this many runs at once (max_merge_width)",
-    );
     command
-        .arg(least.value_parser(value_parser!(u32)))?
-        .arg(greatest.value_parser(value_parser!(u32)))
+        .arg(short_number(
+            alloc,
+            "least",
+            shown.least.as_str(),
+            "Compact at least this many runs at once (min_merge_width)",
+        ))?
+        .arg(short_number(
+            alloc,
+            "greatest",
+            shown.greatest.as_str(),
+            "Compact at most this many runs at once (max_merge_width)",
+        ))
 }
 
 /// A subcommand that opens a store, with the store's operator and options.
@@ -234,30 +239,45 @@ Example: (printf 'get 6b last\\nlog\\n'; cat 000003.log) | ucstore ask --operato
 Status: 0 done, 2 a refused command line, query or opening, 3 a log with a fault, 4 out of memory, 5 a
 read or write fault or too long an input.";
 
-/// `--workers`, `--piece` and `--compactors`.
-fn with_threads<'a>(alloc: Global, command: Command<'a>) -> Result<Command<'a>, AllocError> {
-    let workers = number(
+/// `--workers`.
+fn workers<'a>(alloc: Global) -> Arg<'a> {
+    number(
         alloc,
         "workers",
         WORKERS,
         "Answer the queries by this many workers, 1 to 64",
-    );
-    let piece = number(
+    )
+    .value_parser(value_parser!(u64).range(1..=64))
+}
+
+/// `--piece`.
+fn piece<'a>(alloc: Global) -> Arg<'a> {
+    number(
         alloc,
         "piece",
         PIECE,
         "A worker takes this many queries at a time, at least 1",
-    );
-    let compactors = number(
+    )
+    .value_parser(value_parser!(u64).range(1..))
+}
+
+/// `--compactors`.
+fn compactors<'a>(alloc: Global) -> Arg<'a> {
+    number(
         alloc,
         "compactors",
         COMPACTORS,
         "Compact by this many threads meanwhile, at most 16",
-    );
+    )
+    .value_parser(value_parser!(u64).range(0..=16))
+}
+
+/// `--workers`, `--piece` and `--compactors`.
+fn with_threads<'a>(alloc: Global, command: Command<'a>) -> Result<Command<'a>, AllocError> {
     command
-        .arg(workers.value_parser(value_parser!(u64).range(1..=64)))?
-        .arg(piece.value_parser(value_parser!(u64).range(1..)))?
-        .arg(compactors.value_parser(value_parser!(u64).range(0..=16)))
+        .arg(workers(alloc))?
+        .arg(piece(alloc))?
+        .arg(compactors(alloc))
 }
 
 /// `ucstore ask`.
@@ -265,8 +285,7 @@ fn ask<'a>(alloc: Global, shown: &'a Shown) -> Result<Command<'a>, AllocError> {
     let ask = Command::new(alloc, "ask")
         .about(ASK_ABOUT)
         .after_help(ASK_HELP);
-    let ask = with_threads(alloc, ask)?;
-    over_a_store(alloc, ask, shown)
+    over_a_store(alloc, with_threads(alloc, ask)?, shown)
 }
 
 const DUMP_ABOUT: &str = "Print what a write-ahead log holds, and where it breaks";
@@ -293,16 +312,24 @@ fn dump<'a>(alloc: Global) -> Command<'a> {
         .after_help(DUMP_HELP)
 }
 
+/// A command, with one below it that there may have been no memory for.
+fn with_subcommand<'a>(
+    command: Command<'a>,
+    subcommand: Result<Command<'a>, AllocError>,
+) -> Result<Command<'a>, AllocError> {
+    command.subcommand(subcommand?)
+}
+
 /// The whole command line.
 pub fn ucstore<'a>(alloc: Global, shown: &'a Shown) -> Result<Command<'a>, AllocError> {
-    Command::new(alloc, "ucstore")
+    let command = Command::new(alloc, "ucstore")
         .about(ABOUT)
         .version("0.1.0")
-        .subcommand_required(true)
-        .subcommand(play(alloc, shown)?)?
-        .subcommand(ask(alloc, shown)?)?
-        .subcommand(report(alloc, shown)?)?
-        .subcommand(dump(alloc))
+        .subcommand_required(true);
+    let command = with_subcommand(command, play(alloc, shown))?;
+    let command = with_subcommand(command, ask(alloc, shown))?;
+    let command = with_subcommand(command, report(alloc, shown))?;
+    command.subcommand(dump(alloc))
 }
 
 /// The options of a subcommand that opens a store that the words set.

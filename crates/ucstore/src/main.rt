@@ -122,37 +122,53 @@ fn explain(rt: &(impl Print + Eprint), error: &Error) -> Done {
     }
 }
 
-/// Runs what the words name, from standard input to standard output.
+/// Runs the subcommand that the words name. Why its script, queries or log are refused is put in `reason`.
+fn run_subcommand<R: Read, W: Write>(
+    rt: &(impl Threads + Wait + Sync),
+    alloc: Global,
+    matches: &ArgMatches<'_>,
+    reader: &mut R,
+    writer: &mut W,
+    reason: &mut Option<Reason>,
+) -> Done {
+    match matches.subcommand() {
+        Some(("play", words)) => play_script(rt, alloc, words, reader, writer, reason),
+        Some(("ask", words)) => ask_log(rt, alloc, words, reader, writer, reason),
+        Some(("report", words)) => report(rt, alloc, words, reader, writer, reason),
+        Some(("dump", _)) => dump(alloc, reader, writer),
+        // The parser requires a subcommand, and lets no other name through.
+        _ => Done::Refused,
+    }
+}
+
+/// Runs it from standard input to standard output, and says on standard error why it is refused.
+fn run_matches<R: Eprint + Print + Input + AllocGlobal + Threads + Wait + Sync>(
+    rt: &R,
+    matches: &ArgMatches<'_>,
+) -> Result<Done, Refusal> {
+    let alloc = rt.alloc();
+    let Ok(mut writer) = BufWriter::new(alloc, io::writer(rt)) else {
+        return Err(Refusal::Memory);
+    };
+    let (mut reader, mut reason) = (rt.reader(), None);
+    let done = run_subcommand(rt, alloc, matches, &mut reader, &mut writer, &mut reason);
+    if let Some(reason) = reason {
+        let _ = eprintln!(rt; "error: {reason}");
+    }
+    Ok(done)
+}
+
+/// Runs what the words name.
 fn run<R: Print + Eprint + Input + AllocGlobal + Threads + Wait + Sync, S: AsStr>(
     rt: &R,
     words: &[S],
 ) -> Result<Done, Refusal> {
     let alloc = rt.alloc();
     let shown = Shown::new(alloc)?;
-    let matches = match command::ucstore(alloc, &shown)?.try_get_matches_from(words) {
-        Ok(matches) => matches,
-        Err(error) => return Ok(explain(rt, &error)),
-    };
-    let Ok(mut writer) = BufWriter::new(alloc, io::writer(rt)) else {
-        return Err(Refusal::Memory);
-    };
-    let (mut reader, mut reason) = (rt.reader(), None);
-    let done = match matches.subcommand() {
-        Some(("play", play)) => {
-            play_script(rt, alloc, play, &mut reader, &mut writer, &mut reason)
-        }
-        Some(("ask", words)) => { ask_log(rt, alloc, words, &mut reader, &mut writer, &mut reason) }
-        Some(("report", words)) => {
-            report(rt, alloc, words, &mut reader, &mut writer, &mut reason)
-        }
-        Some(("dump", _)) => dump(alloc, &mut reader, &mut writer),
-        // The parser requires a subcommand, and lets no other name through.
-        _ => Done::Refused,
-    };
-    if let Some(reason) = reason {
-        let _ = eprintln!(rt; "error: {reason}");
+    match command::ucstore(alloc, &shown)?.try_get_matches_from(words) {
+        Ok(matches) => run_matches(rt, &matches),
+        Err(error) => Ok(explain(rt, &error)),
     }
-    Ok(done)
 }
 
 /// The words of the command line, the program's own name first.
