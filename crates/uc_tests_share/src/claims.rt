@@ -1,7 +1,7 @@
 //! Claims, compactions and installs, one after the other.
 ghost use Rattle.std.specs.Prelude.{◌≡◌, IfOk};
 
-use crate::stores::{has_ids, merged_runs, opened};
+use crate::stores::{NEWEST, has_ids, merged_runs, newest_claimed, opened};
 use std::alloc::Global;
 use std::marker::{Brand, Sync};
 use std::process::Abort;
@@ -9,13 +9,12 @@ use std::sync::Wait;
 use std::test::Fail;
 use std::thread::Threads;
 use uc_oper::{Append, Operator};
-use uc_share::{ClaimError, Name, Opening, Pin, Reader, Seat, Store, Stretch};
+use uc_share::{ClaimError, Held, Name, Opening, Pin, Reader, Seat, Store, Stretch};
 use uc_tests_compactors::steps::{claim_refusal, claimed, installed};
+use uc_tests_compactors::worker::Worker;
 use uc_version::Version;
 
-/// The two newest runs, and the two behind the newest.
-const NEWEST: Stretch = Stretch { first: 0, count: 2 };
-
+/// The two runs behind the newest.
 const OLDEST: Stretch = Stretch { first: 1, count: 2 };
 
 /// What another seat finds while the two newest of three runs are claimed: the older of them is taken, the oldest run isn't,
@@ -37,8 +36,25 @@ fn others_are_busy<O: Operator, N: Name, W: Wait + Drop>(
     Ok(seat)
 }
 
-/// What another seat finds once they are installed: a reader that was late pins the new version, and what was pinned before
-/// still has its runs, but they have moved. The seat that comes back claims what was pinned late.
+/// What was pinned before two of its runs were replaced still has all its runs, but they have moved. The seat comes back.
+fn old_has_moved<O: Operator, N: Name, W: Wait + Drop>(
+    rt: &impl Abort,
+    store: &Store<O, N, W>,
+    seat: Seat,
+    old: Pin<O, N>,
+    reader: &mut Reader<O, N>,
+) -> Seat
+    requires { seat.table ≡ store.now.table }
+    ensures { result.table ≡ store.now.table }
+{
+    assert!(rt; has_ids(old.version(), &[3, 2, 1]));
+    let (seat, error) = claim_refusal(store, seat, old, reader, OLDEST);
+    assert!(rt; error == Some(ClaimError::Moved));
+    seat
+}
+
+/// What another seat finds once they are installed: a reader that was late pins the new version, and what was pinned before has
+/// moved. The seat that comes back claims what was pinned late.
 fn others_have_moved<O: Operator, N: Name, W: Wait + Drop>(
     rt: &impl Abort,
     store: &Store<O, N, W>,
@@ -50,11 +66,42 @@ fn others_have_moved<O: Operator, N: Name, W: Wait + Drop>(
 {
     let now = store.pin(reader)?;
     assert!(rt; has_ids(now.version(), &[4, 1]));
-    assert!(rt; has_ids(old.version(), &[3, 2, 1]));
-    let (seat, error) = claim_refusal(store, seat, old, reader, OLDEST);
-    assert!(rt; error == Some(ClaimError::Moved));
+    let seat = old_has_moved(rt, store, seat, old, reader);
     assert!(rt; claimed(store, seat, now, reader, NEWEST).is_some());
     Ok(())
+}
+
+/// The two newest of three runs, claimed where all three are picked.
+fn two_claimed<O: Operator, N: Name, W: Wait + Drop>(
+    rt: &impl Abort,
+    store: &Store<O, N, W>,
+    mut seat: Seat,
+    reader: &mut Reader<O, N>,
+) -> Result<Held<O, N>, Fail>
+    requires { seat.table ≡ store.now.table }
+    ensures { IfOk result (λ held. held.seat.table ≡ store.now.table) }
+{
+    let pin = store.pin(reader)?;
+    assert!(rt; store.pick(&pin, &mut seat) == Some(Stretch { first: 0, count: 3 }));
+    Ok(claimed(store, seat, pin, reader, NEWEST).ok_or("the claim is refused")?)
+}
+
+/// They are compacted and installed behind another seat's look at them. That seat comes back.
+fn two_installed<O: Operator + Sync, N: Name, W: Wait + Drop>(
+    rt: &(impl Threads + Abort + Wait + Sync),
+    alloc: Global,
+    store: &Store<O, N, W>,
+    held: Held<O, N>,
+    other: Seat,
+    reader: &mut Reader<O, N>,
+) -> Result<Seat, Fail>
+    requires held { held.seat.table ≡ store.now.table }
+    requires other { other.table ≡ store.now.table }
+    ensures { IfOk result (λ seat. seat.table ≡ store.now.table) }
+{
+    let other = others_are_busy(rt, store, other, reader)?;
+    installed(rt, alloc, store, held, reader).ok_or("the install is refused")?;
+    Ok(other)
 }
 
 /// Two of three runs are claimed, compacted and installed, beside a second seat.
@@ -69,13 +116,10 @@ fn two_of_three_runs<O: Operator + Sync, N: Name, W: Wait + Drop>(
     requires one { seats.0.table ≡ store.now.table }
     requires other { seats.1.table ≡ store.now.table }
 {
-    let (mut seat, other) = seats;
+    let (seat, other) = seats;
     let old = store.pin(reader)?;
-    let pin = store.pin(reader)?;
-    assert!(rt; store.pick(&pin, &mut seat) == Some(Stretch { first: 0, count: 3 }));
-    let held = claimed(store, seat, pin, reader, NEWEST).ok_or("the claim is refused")?;
-    let other = others_are_busy(rt, store, other, reader)?;
-    installed(rt, alloc, store, held, reader).ok_or("the install is refused")?;
+    let held = two_claimed(rt, store, seat, reader)?;
+    let other = two_installed(rt, alloc, store, held, other, reader)?;
     others_have_moved(rt, store, other, old, late)
 }
 
@@ -127,8 +171,24 @@ fn dropped_stay_busy<O: Operator + Sync, N: Name, W: Wait + Drop>(
     Ok(())
 }
 
-/// A claim is dropped in a store of four runs that is opened here.
+/// A compactor drops its claim of the two newest of four runs, beside a second seat.
 fn claim_is_dropped<O: Operator + Sync, N: Name, W: Wait + Drop>(
+    rt: &(impl Threads + Abort + Wait + Sync),
+    alloc: Global,
+    store: &Store<O, N, W>,
+    worker: Worker<O, N>,
+    second: Seat,
+) -> Result<(), Fail>
+    requires worker { worker.1.table ≡ store.now.table }
+    requires second { second.table ≡ store.now.table }
+{
+    let (mut reader, seat) = worker;
+    drop(newest_claimed(store, seat, &mut reader)?);
+    dropped_stay_busy(rt, alloc, store, second, &mut reader)
+}
+
+/// The same of a store that is opened here.
+fn claim_of_a_store<O: Operator + Sync, N: Name, W: Wait + Drop>(
     rt: &(impl Threads + Abort + Wait + Sync),
     handle: W,
     alloc: Global,
@@ -138,17 +198,13 @@ fn claim_is_dropped<O: Operator + Sync, N: Name, W: Wait + Drop>(
     requires book { opening.seen.book ≡ N.book }
     requires base { version ≡ N.base }
 {
-    let (store, (one, other)) = opened::<O, N, W>(handle, alloc, opening, version)?;
-    let (mut reader, seat) = one;
-    let (_, second) = other;
-    let pin = store.pin(&mut reader)?;
-    drop(claimed(&store, seat, pin, &mut reader, NEWEST).ok_or("the claim is refused")?);
-    dropped_stay_busy(rt, alloc, &store, second, &mut reader)
+    let (store, (worker, (_, second))) = opened::<O, N, W>(handle, alloc, opening, version)?;
+    claim_is_dropped(rt, alloc, &store, worker, second)
 }
 
 #[test]
 fn dropped_claims_stay_busy(rt: HostRuntime) -> Result<(), Fail> {
     let alloc = rt.alloc();
     let version = merged_runs(alloc, 3, &[])?;
-    claim_is_dropped::<Append<0x2C>, Brand, _>(&rt, &rt, alloc, Opening::new(), version)
+    claim_of_a_store::<Append<0x2C>, Brand, _>(&rt, &rt, alloc, Opening::new(), version)
 }

@@ -1,7 +1,9 @@
 //! Installs and openings that are refused.
 ghost use Rattle.std.specs.Prelude.{◌≡◌, IfOk};
 
-use crate::stores::{has_ids, last_runs, merged_runs, merges_alone, opened};
+use crate::stores::{
+    NEWEST, has_ids, last_runs, merged_runs, merges_alone, newest_claimed, opened,
+};
 use std::alloc::Global;
 use std::marker::{Brand, Sync};
 use std::process::Abort;
@@ -10,14 +12,11 @@ use std::test::Fail;
 use std::thread::Threads;
 use uc_compact::Compacted;
 use uc_oper::{Append, Counter, Operator};
-use uc_share::{Held, InstallError, Name, OpenError, Opening, Reader, Store, Stretch};
+use uc_share::{Held, InstallError, Name, OpenError, Opening, Reader, Seat, Store, Stretch};
 use uc_tests_compactors::drawn::small_runs;
 use uc_tests_compactors::steps::{claimed, installed};
 use uc_tests_compactors::worker::Worker;
 use uc_version::{Version, compact_stretch};
-
-/// The two newest runs.
-const NEWEST: Stretch = Stretch { first: 0, count: 2 };
 
 /// Why an install is refused; the claim comes back.
 fn install_refusal<O: Operator, N: Name, W: Wait + Drop>(
@@ -50,47 +49,55 @@ fn compacted<O: Operator + Sync>(
     Ok(compact_stretch::<O>(rt, alloc, version, Stretch { first, count: 2 })?)
 }
 
-/// Why a store refuses what was compacted elsewhere, of the runs from a place on of another version, for its own two newest.
-/// Its own output is installed then.
+/// Why a store refuses what was compacted elsewhere for its own two newest runs. Its own output is installed then.
 fn foreign_refusal<O: Operator + Sync, N: Name, W: Wait + Drop>(
     rt: &(impl Threads + Wait + Sync),
     alloc: Global,
     store: &Store<O, N, W>,
+    seat: Seat,
+    reader: &mut Reader<O, N>,
+    made: Compacted<O>,
+) -> Result<InstallError, Fail>
+    requires { seat.table ≡ store.now.table }
+{
+    let held = newest_claimed(store, seat, reader)?;
+    let (held, error) = install_refusal(rt, alloc, store, held, made, reader)?;
+    installed(rt, alloc, store, held, reader).ok_or("the install is refused")?;
+    Ok(error)
+}
+
+/// The same of a worker. The store's runs are 4 and 1 at the end.
+fn refusal_of_a_worker<O: Operator + Sync, N: Name, W: Wait + Drop>(
+    rt: &(impl Threads + Wait + Sync),
+    alloc: Global,
+    store: &Store<O, N, W>,
     worker: Worker<O, N>,
-    other: &Version,
-    first: usize,
-) -> Result<(Reader<O, N>, InstallError), Fail>
+    made: Compacted<O>,
+) -> Result<InstallError, Fail>
     requires { worker.1.table ≡ store.now.table }
 {
     let (mut reader, seat) = worker;
-    let pin = store.pin(&mut reader)?;
-    let held = claimed(store, seat, pin, &mut reader, NEWEST).ok_or("the claim is refused")?;
-    let made = compacted::<O>(rt, alloc, other, first)?;
-    let (held, error) = install_refusal(rt, alloc, store, held, made, &mut reader)?;
-    installed(rt, alloc, store, held, &mut reader).ok_or("the install is refused")?;
-    Ok((reader, error))
+    let error = foreign_refusal(rt, alloc, store, seat, &mut reader, made)?;
+    if !has_ids(store.pin(&mut reader)?.version(), &[4, 1]) {
+        return Err("its own output isn't installed")?;
+    }
+    Ok(error)
 }
 
-/// The same of a store that is opened here, whose runs are 4 and 1 at the end.
+/// The same of a store that is opened here.
 fn refusal_of_foreign<O: Operator + Sync, N: Name, W: Wait + Drop>(
     rt: &(impl Threads + Wait + Sync),
     handle: W,
     alloc: Global,
     opened_with: (Opening, Version),
-    other: &Version,
-    first: usize,
+    made: Compacted<O>,
 ) -> Result<InstallError, Fail>
     requires book { opened_with.0.seen.book ≡ N.book }
     requires base { opened_with.1 ≡ N.base }
 {
     let (opening, version) = opened_with;
     let (store, (worker, _)) = opened::<O, N, W>(handle, alloc, opening, version)?;
-    let (mut reader, error) = foreign_refusal(rt, alloc, &store, worker, other, first)?;
-    let pin = store.pin(&mut reader)?;
-    if !has_ids(pin.version(), &[4, 1]) {
-        return Err("its own output isn't installed")?;
-    }
-    Ok(error)
+    refusal_of_a_worker(rt, alloc, &store, worker, made)
 }
 
 /// What was compacted of other runs, and under other keeps.
@@ -109,12 +116,11 @@ fn what_is_foreign_is_refused(rt: HostRuntime) -> Result<(), Fail> {
     let alloc = rt.alloc();
     let other = merged_runs(alloc, 2, &[])?;
     for (keeps, first, wanted) in foreign() {
+        let made = compacted::<Counter>(&rt, alloc, &other, *first)?;
         let version = merged_runs(alloc, 2, keeps)?;
         let opening = (Opening::new(), version);
-        let error = refusal_of_foreign::<Counter, Brand, _>(
-            &rt, &rt, alloc, opening, &other, *first,
-        );
-        assert!(rt; error? == *wanted);
+        let error = refusal_of_foreign::<Counter, Brand, _>(&rt, &rt, alloc, opening, made)?;
+        assert!(rt; error == *wanted);
     }
     Ok(())
 }
@@ -122,12 +128,28 @@ fn what_is_foreign_is_refused(rt: HostRuntime) -> Result<(), Fail> {
 #[test]
 fn what_is_for_the_oldest_run_is_refused(rt: HostRuntime) -> Result<(), Fail> {
     let alloc = rt.alloc();
-    let other = merges_alone(alloc)?;
+    let made = compacted::<Counter>(&rt, alloc, &merges_alone(alloc)?, 0)?;
     let version = merged_runs(alloc, 2, &[])?;
     let opening = (Opening::new(), version);
-    let error = refusal_of_foreign::<Counter, Brand, _>(&rt, &rt, alloc, opening, &other, 0);
-    assert!(rt; error? == InstallError::WrongInputs);
+    let error = refusal_of_foreign::<Counter, Brand, _>(&rt, &rt, alloc, opening, made)?;
+    assert!(rt; error == InstallError::WrongInputs);
     Ok(())
+}
+
+/// A claim of the two newest runs, and why the install of what came of them is refused.
+fn claim_refused<O: Operator + Sync, N: Name, W: Wait + Drop>(
+    rt: &(impl Threads + Wait + Sync),
+    alloc: Global,
+    store: &Store<O, N, W>,
+    seat: Seat,
+    reader: &mut Reader<O, N>,
+) -> Result<(Held<O, N>, InstallError), Fail>
+    requires { seat.table ≡ store.now.table }
+    ensures { IfOk result (λ refused. refused.0.seat.table ≡ store.now.table) }
+{
+    let held = newest_claimed(store, seat, reader)?;
+    let made = held.compact(rt, alloc)?;
+    install_refusal(rt, alloc, store, held, made, reader)
 }
 
 /// Why a store that has no id left refuses an install. What is claimed can be given back and claimed again.
@@ -140,10 +162,7 @@ fn last_refusal<O: Operator + Sync, N: Name, W: Wait + Drop>(
     requires { worker.1.table ≡ store.now.table }
 {
     let (mut reader, seat) = worker;
-    let pin = store.pin(&mut reader)?;
-    let held = claimed(store, seat, pin, &mut reader, NEWEST).ok_or("the claim is refused")?;
-    let made = held.compact(rt, alloc)?;
-    let (held, error) = install_refusal(rt, alloc, store, held, made, &mut reader)?;
+    let (held, error) = claim_refused(rt, alloc, store, seat, &mut reader)?;
     let (seat, pin) = store.abandon(held);
     claimed(store, seat, pin, &mut reader, NEWEST).ok_or("the claim is refused")?;
     Ok(error)

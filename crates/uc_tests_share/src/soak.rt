@@ -15,7 +15,7 @@ use uc_query_read::answer_one;
 use uc_share::{Name, Opening, Reader, Seat, Store, Version};
 use uc_tests_compactors::drawn::{drawn_store, small_runs};
 use uc_tests_compactors::turns::{TURNS, four_compact, shows_installs};
-use uc_tests_compactors::worker::next_pair;
+use uc_tests_compactors::worker::{Pair, next_pairs};
 use uc_tests_shared::dice::{Dice, KEYS};
 
 /// Whether a version answers as it should.
@@ -77,13 +77,22 @@ where
     one && other
 }
 
+/// Two of the readers of a store.
+fn next_readers<O: Operator, N: Name>(
+    readers: &mut Vec<Reader<O, N>>,
+) -> Option<(Reader<O, N>, Reader<O, N>)> {
+    let one = readers.pop()?;
+    let other = readers.pop()?;
+    Some((one, other))
+}
+
 /// Four compactors beside two readers. How many installs there were, where all pins answer as they should.
 fn six_at_once<O, N, W, R>(
     rt: &R,
     alloc: Global,
     store: &Store<O, N, W>,
-    mut readers: Vec<Reader<O, N>>,
-    mut seats: Vec<Seat>,
+    compactors: (Pair<O, N>, Pair<O, N>),
+    readers: (Reader<O, N>, Reader<O, N>),
     asked: &[(Query, Answer)],
     seed: u64,
 ) -> Option<u64>
@@ -92,25 +101,69 @@ where
     N: Name + Send + Sync,
     W: Wait + Drop + Send,
     R: Threads + Wait + Sync,
-    requires { All (λ seat. seat.table ≡ store.now.table) seats.items }
+    requires first { (compactors.0.0.1.table ≡ store.now.table) × (compactors.0.1.1.table ≡ store.now.table) }
+    requires second { (compactors.1.0.1.table ≡ store.now.table) × (compactors.1.1.1.table ≡ store.now.table) }
 {
-    let first = next_pair(store, &mut readers, &mut seats)?;
-    let second = next_pair(store, &mut readers, &mut seats)?;
-    let pair = (readers.pop()?, readers.pop()?);
+    let (first, second) = compactors;
     let (installs, alike) = join(
         rt,
         move || -> Option<u64>
             requires first { (first.0.1.table ≡ store.now.table) × (first.1.1.table ≡ store.now.table) }
             requires second { (second.0.1.table ≡ store.now.table) × (second.1.1.table ≡ store.now.table) }
         { four_compact(rt, alloc, store, first, second, seed) },
-        move || two_pin(rt, alloc, store, pair, asked),
+        move || two_pin(rt, alloc, store, readers, asked),
     );
     if alike { installs } else { None }
 }
 
-/// How many installs are made in a store that is opened here, where it answers as it should beside its compactors, and in the
-/// end has one event and one id for each install.
+/// The same with readers and seats of a store.
+fn six_of_a_store<O, N, W, R>(
+    rt: &R,
+    alloc: Global,
+    store: &Store<O, N, W>,
+    readers: &mut Vec<Reader<O, N>>,
+    seats: &mut Vec<Seat>,
+    asked: &[(Query, Answer)],
+    seed: u64,
+) -> Option<u64>
+where
+    O: Operator + Send + Sync,
+    N: Name + Send + Sync,
+    W: Wait + Drop + Send,
+    R: Threads + Wait + Sync,
+    requires { All (λ seat. seat.table ≡ store.now.table) seats.old.items }
+{
+    let compactors = next_pairs(store, readers, seats)?;
+    let pair = next_readers(readers)?;
+    six_at_once(rt, alloc, store, compactors, pair, asked, seed)
+}
+
+/// How many installs are made in a store, where it answers as it should beside its compactors, and in the end has one event and
+/// one id for each install since a first id.
 fn soaks<O, N, W, R>(
+    rt: &R,
+    alloc: Global,
+    store: &Store<O, N, W>,
+    mut readers: Vec<Reader<O, N>>,
+    mut seats: Vec<Seat>,
+    asked: &[(Query, Answer)],
+    numbers: (u64, u64),
+) -> Option<u64>
+where
+    O: Operator + Send + Sync,
+    N: Name + Send + Sync,
+    W: Wait + Drop + Send,
+    R: Threads + Wait + Sync,
+    requires { All (λ seat. seat.table ≡ store.now.table) seats.items }
+{
+    let (first_id, seed) = numbers;
+    let mut late = readers.pop()?;
+    let installs = six_of_a_store(rt, alloc, store, &mut readers, &mut seats, asked, seed)?;
+    shows_installs(store, &mut late, first_id, installs).then_some(installs)
+}
+
+/// The same of a store that is opened here.
+fn soaks_opened<O, N, W, R>(
     rt: &R,
     handle: W,
     alloc: Global,
@@ -127,16 +180,10 @@ where
     requires base { opened_with.1 ≡ N.base }
 {
     let (opening, version) = opened_with;
-    let first_id = version.next_id();
+    let numbers = (version.next_id(), seed);
     let opened = Store::<O, N, W>::open(alloc, handle, opening, version, small_runs(), 7, 4);
-    let (store, mut readers, seats) = opened.ok()?;
-    let mut late = readers.pop()?;
-    let installs = six_at_once(rt, alloc, &store, readers, seats, asked, seed)?;
-    if shows_installs(&store, &mut late, first_id, installs) {
-        Some(installs)
-    } else {
-        None
-    }
+    let (store, readers, seats) = opened.ok()?;
+    soaks(rt, alloc, &store, readers, seats, asked, numbers)
 }
 
 /// The lookup of each key and a scan of all, at a sequence.
@@ -185,7 +232,7 @@ fn installs_of<O: Operator + Send + Sync, R: Threads + Wait + Sync>(
         let asked = questions::<O>(alloc, &writes, version.keeps())?;
         let opened_with = (Opening::new(), version);
         let seed = dice.roll(u64::MAX);
-        let made = soaks::<O, Brand, &R, R>(rt, rt, alloc, opened_with, &asked, seed);
+        let made = soaks_opened::<O, Brand, &R, R>(rt, rt, alloc, opened_with, &asked, seed);
         installs = installs.saturating_add(made.ok_or("a store answers differently")?);
     }
     Ok(installs)

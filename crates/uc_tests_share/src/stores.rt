@@ -7,10 +7,14 @@ use std::test::Fail;
 use uc_batch::Writes;
 use uc_bytes::{OpRef, Write, WriteRef};
 use uc_oper::Operator;
-use uc_share::{Name, Opening, Options, Store, Version};
+use uc_share::{Held, Name, Opening, Options, Reader, Seat, Store, Stretch, Version};
 use uc_tests_compactors::drawn::small_runs;
+use uc_tests_compactors::steps::claimed;
 use uc_tests_compactors::worker::{Pair, next_pair};
 use uc_version::open_version;
+
+/// The two newest runs.
+pub(crate) const NEWEST: Stretch = Stretch { first: 0, count: 2 };
 
 /// A version of these writes, each a run.
 fn version_of(
@@ -88,4 +92,17 @@ pub(crate) fn opened<O: Operator, N: Name, W: Wait + Drop>(
     };
     let pair = next_pair(&store, &mut readers, &mut seats).ok_or("there are no two compactors")?;
     Ok((store, pair))
+}
+
+/// The two newest runs of what is shown, claimed.
+pub(crate) fn newest_claimed<O: Operator, N: Name, W: Wait + Drop>(
+    store: &Store<O, N, W>,
+    seat: Seat,
+    reader: &mut Reader<O, N>,
+) -> Result<Held<O, N>, Fail>
+    requires { seat.table ≡ store.now.table }
+    ensures { IfOk result (λ held. held.seat.table ≡ store.now.table) }
+{
+    let pin = store.pin(reader)?;
+    Ok(claimed(store, seat, pin, reader, NEWEST).ok_or("the claim is refused")?)
 }

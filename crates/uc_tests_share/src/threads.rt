@@ -9,8 +9,9 @@ use std::sync::Wait;
 use std::test::Fail;
 use std::thread::Threads;
 use uc_oper::{Append, Operator};
-use uc_share::{Name, Opening};
+use uc_share::{Name, Opening, Store};
 use uc_tests_compactors::stretches::both_compact;
+use uc_tests_compactors::worker::Pair;
 use uc_version::Version;
 
 /// Whether the two runs of a version have ids 5 and 6, the newer one sequences 3 and 4 and the older one 1 and 2.
@@ -24,8 +25,27 @@ fn has_both(version: &Version) -> bool {
     ids && newest && oldest
 }
 
-/// Both compact a store of four runs that is opened here.
+/// Whether both are installed in a store of four runs.
 fn both_install<O, N, W, R>(
+    rt: &R,
+    alloc: Global,
+    store: &Store<O, N, W>,
+    pair: Pair<O, N>,
+) -> Result<bool, Fail>
+where
+    O: Operator + Send + Sync,
+    N: Name + Send + Sync,
+    W: Wait + Drop + Send,
+    R: Threads + Wait + Sync,
+    requires { (pair.0.1.table ≡ store.now.table) × (pair.1.1.table ≡ store.now.table) }
+{
+    let mut reader = both_compact(rt, alloc, store, pair).ok_or("not both are installed")?;
+    let pin = store.pin(&mut reader)?;
+    Ok(has_both(pin.version()))
+}
+
+/// The same of a store that is opened here.
+fn both_of_a_store<O, N, W, R>(
     rt: &R,
     handle: W,
     alloc: Global,
@@ -41,9 +61,7 @@ where
     requires base { version ≡ N.base }
 {
     let (store, pair) = opened::<O, N, W>(handle, alloc, opening, version)?;
-    let mut reader = both_compact(rt, alloc, &store, pair).ok_or("not both are installed")?;
-    let pin = store.pin(&mut reader)?;
-    Ok(has_both(pin.version()))
+    both_install(rt, alloc, &store, pair)
 }
 
 #[test]
@@ -51,7 +69,7 @@ fn two_stretches_are_installed_at_once(rt: HostRuntime) -> Result<(), Fail> {
     let alloc = rt.alloc();
     for _ in 0..100 {
         let version = merged_runs(alloc, 3, &[])?;
-        let both = both_install::<Append<0x2C>, Brand, _, _>(
+        let both = both_of_a_store::<Append<0x2C>, Brand, _, _>(
             &rt,
             &rt,
             alloc,

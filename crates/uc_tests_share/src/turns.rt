@@ -15,7 +15,8 @@ use uc_query_answer::{Answer, Query, answer_writes};
 use uc_share::{Name, Opening, Options, Reader, Seat, Store, Version};
 use uc_tests_compactors::drawn::small_runs;
 use uc_tests_compactors::steps::installed;
-use uc_tests_compactors::worker::{Worker, next_worker};
+use uc_tests_compactors::turns::shows_installs;
+use uc_tests_compactors::worker::{Worker, next_pair};
 use uc_version::open_version;
 
 /// How often each thread has its turn.
@@ -131,9 +132,60 @@ where
     if alike { installs } else { None }
 }
 
-/// How many installs are made in a store that is opened here. In the end its history has one event for each, and each gave one
+/// Two compactors of the readers and seats of a store, beside a third reader. How many installs there were.
+fn three_of_a_store<O, N, W, R>(
+    rt: &R,
+    alloc: Global,
+    store: &Store<O, N, W>,
+    readers: &mut Vec<Reader<O, N>>,
+    seats: &mut Vec<Seat>,
+    reader: &mut Reader<O, N>,
+    asked: &[(Query, Answer)],
+) -> Option<u64>
+where
+    O: Operator + Send + Sync,
+    N: Name + Send + Sync,
+    W: Wait + Drop + Send,
+    R: Threads + Wait + Sync,
+    requires { All (λ seat. seat.table ≡ store.now.table) seats.old.items }
+{
+    let (one, other) = next_pair(store, readers, seats)?;
+    three_at_once(rt, alloc, store, one, other, reader, asked)
+}
+
+/// How many installs are made in a store. In the end its history has one event for each, and each gave one id since a first
 /// id.
 fn installs_of<O, N, W, R>(
+    rt: &R,
+    alloc: Global,
+    store: &Store<O, N, W>,
+    mut readers: Vec<Reader<O, N>>,
+    mut seats: Vec<Seat>,
+    asked: &[(Query, Answer)],
+    first_id: u64,
+) -> Option<u64>
+where
+    O: Operator + Send + Sync,
+    N: Name + Send + Sync,
+    W: Wait + Drop + Send,
+    R: Threads + Wait + Sync,
+    requires { All (λ seat. seat.table ≡ store.now.table) seats.items }
+{
+    let mut reader = readers.pop()?;
+    let installs = three_of_a_store(
+        rt,
+        alloc,
+        store,
+        &mut readers,
+        &mut seats,
+        &mut reader,
+        asked,
+    )?;
+    shows_installs(store, &mut reader, first_id, installs).then_some(installs)
+}
+
+/// The same of a store that is opened here.
+fn installs_of_a_store<O, N, W, R>(
     rt: &R,
     handle: W,
     alloc: Global,
@@ -151,14 +203,8 @@ where
     let (opening, version) = opened_with;
     let first_id = version.next_id();
     let opened = Store::<O, N, W>::open(alloc, handle, opening, version, pairs_of_runs(), 3, 2);
-    let (store, mut readers, mut seats) = opened.ok()?;
-    let one = next_worker(&store, &mut readers, &mut seats)?;
-    let other = next_worker(&store, &mut readers, &mut seats)?;
-    let mut reader = readers.pop()?;
-    let installs = three_at_once(rt, alloc, &store, one, other, &mut reader, asked)?;
-    let pin = store.pin(&mut reader).ok()?;
-    let given = pin.version().next_id().saturating_sub(first_id);
-    (pin.front().len() == installs && given == installs).then_some(installs)
+    let (store, readers, seats) = opened.ok()?;
+    installs_of(rt, alloc, &store, readers, seats, asked, first_id)
 }
 
 /// 64 puts and merges of eight keys, three merges behind each put.
@@ -227,7 +273,13 @@ fn nobody_is_refused_in_200_turns(rt: HostRuntime) -> Result<(), Fail> {
     };
     let asked = questions::<Append<0x2C>>(alloc, &writes, version.keeps())?;
     let opened_with = (Opening::new(), version);
-    let installs = installs_of::<Append<0x2C>, Brand, _, _>(&rt, &rt, alloc, opened_with, &asked);
+    let installs = installs_of_a_store::<Append<0x2C>, Brand, _, _>(
+        &rt,
+        &rt,
+        alloc,
+        opened_with,
+        &asked,
+    );
     assert!(rt; installs.ok_or("an install was refused, or an answer differs")? >= 30);
     Ok(())
 }
