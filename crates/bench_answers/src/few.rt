@@ -50,13 +50,23 @@ fn same_answers(
     Ok(before)
 }
 
+/// Prints how large a store is behind its compactions, and what the answers were.
+fn print_same(
+    rt: &(impl Clock + Threads + Sync + Print),
+    alloc: Global,
+    owned: &mut Owned<Counter>,
+    batches: &[Vec<Query>],
+) -> Result<()> {
+    let outcome = same_answers(rt, alloc, owned, batches)?;
+    print_figures(rt, owned, &outcome)?;
+    println!(rt; "")?;
+    Ok(())
+}
+
 /// Answers a few queries of a few writes before and after their compactions, and prints how large the store is then, and
 /// what the answers were.
 pub(crate) fn few_answers(rt: &(impl Clock + Threads + Sync + Print), alloc: Global) -> Result<()> {
     let mut owned = few_owned(alloc)?;
     let batches = few_batches(alloc, owned.version().last())?;
-    let outcome = same_answers(rt, alloc, &mut owned, &batches)?;
-    print_figures(rt, &owned, &outcome)?;
-    println!(rt; "")?;
-    Ok(())
+    print_same(rt, alloc, &mut owned, &batches)
 }
