@@ -11,15 +11,22 @@ fn words_of<'a>(alloc: Global, line: &'a str) -> Result<Vec<&'a str>, AllocError
     line.split(' ').collect(alloc)
 }
 
-/// What the words of a line that opens a store set.
-fn options_of(alloc: Global, line: &str) -> Result<(Option<OperatorName>, Options), Fail> {
-    let shown = Shown::new(alloc)?;
-    let words = words_of(alloc, line)?;
-    let matches = command::ucstore(alloc, &shown)?.try_get_matches_from(words.as_slice())?;
+/// What words that open a store set.
+fn options_by(
+    alloc: Global,
+    shown: &Shown,
+    words: &[&str],
+) -> Result<(Option<OperatorName>, Options), Fail> {
+    let matches = command::ucstore(alloc, shown)?.try_get_matches_from(words)?;
     match matches.subcommand() {
         Some((_, words)) => Ok((command::operator_name(words), command::options(words))),
         None => Err(Fail::from(AllocError)),
     }
+}
+
+/// What the words of a line that opens a store set.
+fn options_of(alloc: Global, line: &str) -> Result<(Option<OperatorName>, Options), Fail> {
+    options_by(alloc, &Shown::new(alloc)?, &words_of(alloc, line)?)
 }
 
 /// Lines that set each option.
@@ -85,11 +92,9 @@ const PLANS: [(&str, (usize, usize, usize)); 3] = [
     ),
 ];
 
-/// What the words of a line set.
-fn plan_of(alloc: Global, line: &str) -> Result<(usize, usize, usize), Fail> {
-    let shown = Shown::new(alloc)?;
-    let words = words_of(alloc, line)?;
-    let matches = command::ucstore(alloc, &shown)?.try_get_matches_from(words.as_slice())?;
+/// How many workers, queries of a piece and compactors words set.
+fn plan_by(alloc: Global, shown: &Shown, words: &[&str]) -> Result<(usize, usize, usize), Fail> {
+    let matches = command::ucstore(alloc, shown)?.try_get_matches_from(words)?;
     match matches.subcommand() {
         Some((_, words)) => {
             let plan = command::plan_of(words);
@@ -97,6 +102,11 @@ fn plan_of(alloc: Global, line: &str) -> Result<(usize, usize, usize), Fail> {
         }
         None => Err(Fail::from(AllocError)),
     }
+}
+
+/// How many the words of a line set.
+fn plan_of(alloc: Global, line: &str) -> Result<(usize, usize, usize), Fail> {
+    plan_by(alloc, &Shown::new(alloc)?, &words_of(alloc, line)?)
 }
 
 /// Workers, pieces and compactors are set each by its own word, within the limits.
@@ -111,7 +121,7 @@ fn plans_of_ask(rt: HostRuntime) -> Result<(), Fail> {
 }
 
 /// Command lines, and why they are refused.
-const REFUSED: [(&str, ErrorKind); 20] = [
+static REFUSED: [(&str, ErrorKind); 20] = [
     ("ucstore", ErrorKind::MissingSubcommand),
     ("ucstore pley", ErrorKind::InvalidSubcommand),
     ("ucstore dump log", ErrorKind::UnknownArgument),
@@ -170,18 +180,27 @@ const REFUSED: [(&str, ErrorKind); 20] = [
     ),
 ];
 
+/// These rows.
+fn refused() -> &'static [(&'static str, ErrorKind)] {
+    &REFUSED
+}
+
+/// Why words are refused, if they are.
+fn refusal_of(alloc: Global, words: &[&str]) -> Result<Option<ErrorKind>, Fail> {
+    let shown = Shown::new(alloc)?;
+    match command::ucstore(alloc, &shown)?.try_get_matches_from(words) {
+        Ok(_) => Ok(None),
+        Err(error) => Ok(Some(error.kind())),
+    }
+}
+
 /// A refused command line ends with status 2.
 #[test]
 fn refused_command_lines(rt: HostRuntime) -> Result<(), Fail> {
     let alloc = rt.alloc();
-    for (line, wanted) in REFUSED {
-        let shown = Shown::new(alloc)?;
+    for (line, wanted) in refused() {
         let words = words_of(alloc, line)?;
-        let kind = match command::ucstore(alloc, &shown)?.try_get_matches_from(words.as_slice()) {
-            Ok(_) => None,
-            Err(error) => Some(error.kind()),
-        };
-        assert_eq!(rt; kind, Some(wanted), "{line}");
+        assert_eq!(rt; refusal_of(alloc, &words)?, Some(*wanted), "{line}");
         assert_eq!(rt; run(&rt, words.as_slice()), Ok(Done::Refused), "{line}");
     }
     assert_eq!(rt; Done::Refused.status(), 2);
