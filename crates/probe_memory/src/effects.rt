@@ -1,6 +1,5 @@
 //! Effects on one key, joined and applied, and folds of many. Want of memory loses what is moved in, so it is there twice.
-use crate::marks::{BEGIN, END, mark};
-use crate::probe::{Outcome, Probe, Verdict, tried};
+use crate::probe::{Outcome, Probe, Verdict, tried, tried_again};
 use crate::settings::{LONG, Texts};
 use std::alloc::Global;
 use std::marker::Sync;
@@ -118,17 +117,6 @@ impl Folds {
             Err(_) => Outcome::Memory,
         }
     }
-
-    /// Makes the call between the marks, and judges it.
-    fn tried(mut self, rt: &(impl Threads + Sync), alloc: Global) -> Verdict {
-        let _begin = mark(alloc, BEGIN);
-        let first = self.call(rt, alloc);
-        let _end = mark(alloc, END);
-        match first {
-            Outcome::Memory => Verdict::of_again(self.call(rt, alloc)),
-            first => Verdict::of_first(first),
-        }
-    }
 }
 
 /// Merges folded by threads.
@@ -138,5 +126,6 @@ pub(crate) fn effects_folded(rt: &(impl Threads + Sync), alloc: Global) -> Optio
     for _ in 0..2 {
         lists.push(parts(alloc)?).ok()?;
     }
-    Some(Folds { lists, wanted }.tried(rt, alloc))
+    let mut folds = Folds { lists, wanted };
+    Some(tried_again(alloc, || folds.call(rt, alloc)))
 }

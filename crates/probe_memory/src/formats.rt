@@ -1,5 +1,5 @@
 //! Logs and batches, read and written.
-use crate::probe::{Outcome, Probe, Verdict, tried};
+use crate::probe::{Fault, Outcome, Probe, Verdict, tried};
 use crate::settings::{batch_of, log, ops, writes};
 use std::alloc::Global;
 use uc_batch::{
@@ -90,7 +90,7 @@ pub(crate) fn payload_added(alloc: Global) -> Option<Verdict> {
     if log.finish() == wanted {
         Some(verdict)
     } else {
-        Some(Verdict::Wrong("the log is another"))
+        Some(Verdict::Wrong(Fault::Log))
     }
 }
 

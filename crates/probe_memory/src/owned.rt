@@ -1,14 +1,14 @@
 //! A store in one owner's hands: opened, and claimed, compacted and installed by one call after another or by one for all.
-use crate::marks::{BEGIN, END, mark};
-use crate::probe::{Outcome, Probe, Verdict, tried};
+use crate::probe::{Fault, Outcome, Probe, Verdict, marked, tried, tried_again};
 use crate::settings::{
-    KEEPS, Texts, is_busy, log, owned, same_version, small_runs, version, writes,
+    KEEPS, Texts, is_busy, log, owned, owned_after, same_version, small_runs, version, writes,
 };
 use std::alloc::Global;
 use std::marker::Sync;
 use std::thread::Threads;
 use uc_batch::Writes;
 use uc_compact::Compacted;
+use uc_run::Run;
 use uc_store::open_log;
 use uc_version::{
     CompactError, InstallError, OpenError, Owned, OwnedClaim, Stretch, Version, open_version,
@@ -33,13 +33,6 @@ fn compacted(
         return None;
     }
     owned.compact(rt, alloc, claim).ok()
-}
-
-/// A store whose stretch is compacted.
-fn owned_after(rt: &(impl Threads + Sync), alloc: Global) -> Option<Owned<Texts>> {
-    let mut owned = owned(alloc)?;
-    owned.compact_now(rt, alloc, STRETCH).ok()?;
-    Some(owned)
 }
 
 /// `open_version`.
@@ -117,155 +110,129 @@ pub(crate) fn stretch_claimed(alloc: Global) -> Option<Verdict> {
     Some(tried(alloc, &mut Claims { owned, before }))
 }
 
-/// `Owned::compact`.
-#[derive(Drop)]
-struct Compacts {
-    owned: Owned<Texts>,
-    claim: OwnedClaim,
-    wanted: Compacted<Texts>,
+/// What comes of `Owned::compact`.
+fn compact_outcome(
+    rt: &(impl Threads + Sync),
+    alloc: Global,
+    owned: &Owned<Texts>,
+    claim: &OwnedClaim,
+    wanted: &Run,
+) -> Outcome {
+    if !owned.holds(claim) {
+        return Outcome::Wrong;
+    }
+    match owned.compact(rt, alloc, claim) {
+        Ok(made) => Outcome::of(made.output().same(wanted)),
+        Err(_) => Outcome::Memory,
+    }
 }
 
-impl Compacts {
-    /// Makes the call.
-    fn call(&mut self, rt: &(impl Threads + Sync), alloc: Global) -> Outcome {
-        if !self.owned.holds(&self.claim) {
-            return Outcome::Wrong;
-        }
-        match self.owned.compact(rt, alloc, &self.claim) {
-            Ok(made) => Outcome::of(made.output().same(self.wanted.output())),
-            Err(_) => Outcome::Memory,
-        }
-    }
-
-    /// Makes the call between the marks, and judges it.
-    fn tried(mut self, rt: &(impl Threads + Sync), alloc: Global) -> Verdict {
-        let _begin = mark(alloc, BEGIN);
-        let first = self.call(rt, alloc);
-        let _end = mark(alloc, END);
-        match first {
-            Outcome::Memory => Verdict::of_again(self.call(rt, alloc)),
-            first => Verdict::of_first(first),
-        }
-    }
+/// What comes of compacting a claim, and once more where memory was wanting.
+fn compact_tried(
+    rt: &(impl Threads + Sync),
+    alloc: Global,
+    owned: &Owned<Texts>,
+    claim: &OwnedClaim,
+) -> Option<Verdict> {
+    let wanted = compacted(rt, alloc, owned, claim)?;
+    let wanted = wanted.output();
+    Some(tried_again(alloc, || compact_outcome(rt, alloc, owned, claim, wanted)))
 }
 
 /// Compacts what is claimed.
 pub(crate) fn claim_compacted(rt: &(impl Threads + Sync), alloc: Global) -> Option<Verdict> {
     let mut owned = owned(alloc)?;
     let claim = claimed(&mut owned)?;
-    let wanted = compacted(rt, alloc, &owned, &claim)?;
-    let probe = Compacts {
-        owned,
-        claim,
-        wanted,
-    };
-    Some(probe.tried(rt, alloc))
+    compact_tried(rt, alloc, &owned, &claim)
 }
 
-/// `Owned::install`.
-#[derive(Drop)]
-struct Installs {
-    owned: Owned<Texts>,
-    made: Option<(OwnedClaim, Compacted<Texts>)>,
-    wanted: Owned<Texts>,
+/// A claim, and what its runs become.
+type Made = (OwnedClaim, Compacted<Texts>);
+
+/// What comes of `Owned::install`, which hands back what it took where memory is wanting.
+fn install_outcome(
+    owned: &mut Owned<Texts>,
+    made: Made,
+    wanted: &Version,
+) -> (Outcome, Option<Made>) {
+    let (claim, made) = made;
+    if !owned.holds(&claim) {
+        return (Outcome::Wrong, None);
+    }
+    match owned.install(claim, made) {
+        Ok(_id) => (Outcome::of(same_version(owned.version(), wanted)), None),
+        Err((claim, made, InstallError::Memory)) => (Outcome::Memory, Some((claim, made))),
+        Err(_) => (Outcome::Wrong, None),
+    }
 }
 
-impl Probe for Installs {
-    fn call(&mut self, _alloc: Global) -> Outcome {
-        let Some((claim, made)) = self.made.take() else {
-            return Outcome::Wrong;
-        };
-        if !self.owned.holds(&claim) {
-            return Outcome::Wrong;
-        }
-        match self.owned.install(claim, made) {
-            Ok(_id) => Outcome::of(same_version(self.owned.version(), self.wanted.version())),
-            Err((_claim, _made, InstallError::Memory)) => Outcome::Memory,
-            Err(_) => Outcome::Wrong,
-        }
+/// What comes of installing what was made, by the version that is right behind it, and once more where memory was wanting.
+fn install_tried(alloc: Global, owned: &mut Owned<Texts>, made: Made, wanted: &Version) -> Verdict {
+    let (first, back) = marked(alloc, || install_outcome(owned, made, wanted));
+    match back {
+        Some(made) => Verdict::of_again(install_outcome(owned, made, wanted).0),
+        None => Verdict::of_first(first),
     }
 }
 
 /// A claim of the stretch, and what its runs become.
-fn made_of(
-    rt: &(impl Threads + Sync),
-    alloc: Global,
-    owned: &mut Owned<Texts>,
-) -> Option<(OwnedClaim, Compacted<Texts>)> {
+fn made_of(rt: &(impl Threads + Sync), alloc: Global, owned: &mut Owned<Texts>) -> Option<Made> {
     let claim = claimed(owned)?;
     let made = compacted(rt, alloc, owned, &claim)?;
     Some((claim, made))
 }
 
-/// A store with a claim whose runs are compacted, by the store that is right behind their install.
-fn to_install(rt: &(impl Threads + Sync), alloc: Global, wanted: Owned<Texts>) -> Option<Installs> {
+/// Installs what was compacted, by the store that is right behind it.
+fn installed_as(rt: &(impl Threads + Sync), alloc: Global, wanted: &Version) -> Option<Verdict> {
     let mut owned = owned(alloc)?;
-    let made = Some(made_of(rt, alloc, &mut owned)?);
-    Some(Installs {
-        owned,
-        made,
-        wanted,
-    })
+    let made = made_of(rt, alloc, &mut owned)?;
+    Some(install_tried(alloc, &mut owned, made, wanted))
 }
 
 /// Installs what was compacted.
 pub(crate) fn claim_installed(rt: &(impl Threads + Sync), alloc: Global) -> Option<Verdict> {
-    let wanted = owned_after(rt, alloc)?;
-    let mut probe = to_install(rt, alloc, wanted)?;
-    Some(tried(alloc, &mut probe))
+    installed_as(rt, alloc, owned_after(rt, alloc, STRETCH)?.version())
 }
 
-/// `Owned::compact_now`.
-#[derive(Drop)]
-struct CompactsNow {
-    owned: Owned<Texts>,
-    before: Version,
-    wanted: Owned<Texts>,
-}
-
-impl CompactsNow {
-    /// Makes the call.
-    fn call(&mut self, rt: &(impl Threads + Sync), alloc: Global) -> Outcome {
-        match self.owned.compact_now(rt, alloc, STRETCH) {
-            Ok(_id) => Outcome::of(same_version(self.owned.version(), self.wanted.version())),
-            Err(CompactError::Memory) => Outcome::Memory,
-            Err(_) => Outcome::Wrong,
-        }
-    }
-
-    /// Whether what is lent is as it was before a call that was refused memory.
-    fn is_unchanged(&self) -> bool {
-        same_version(self.owned.version(), &self.before) && !is_busy(&self.owned)
-    }
-
-    /// Makes the call between the marks, and judges it.
-    fn tried(mut self, rt: &(impl Threads + Sync), alloc: Global) -> Verdict {
-        let _begin = mark(alloc, BEGIN);
-        let first = self.call(rt, alloc);
-        let _end = mark(alloc, END);
-        if first == Outcome::Memory && !self.is_unchanged() {
-            return Verdict::Wrong("what it was lent has changed");
-        }
-        match first {
-            Outcome::Memory => Verdict::of_again(self.call(rt, alloc)),
-            first => Verdict::of_first(first),
-        }
+/// What comes of `Owned::compact_now`.
+fn compact_now_outcome(
+    rt: &(impl Threads + Sync),
+    alloc: Global,
+    owned: &mut Owned<Texts>,
+    wanted: &Version,
+) -> Outcome {
+    match owned.compact_now(rt, alloc, STRETCH) {
+        Ok(_id) => Outcome::of(same_version(owned.version(), wanted)),
+        Err(CompactError::Memory) => Outcome::Memory,
+        Err(_) => Outcome::Wrong,
     }
 }
 
-/// A store before the call, by the store that is right behind it.
-fn to_compact(alloc: Global, wanted: Owned<Texts>) -> Option<CompactsNow> {
-    let (owned, before) = (owned(alloc)?, version(alloc)?);
-    Some(CompactsNow {
-        owned,
-        before,
-        wanted,
-    })
+/// What comes of the call, and once more where memory was wanting: then nothing is claimed, and the version is as before.
+fn compact_now_tried(
+    rt: &(impl Threads + Sync),
+    alloc: Global,
+    owned: &mut Owned<Texts>,
+    before: &Version,
+    wanted: &Version,
+) -> Verdict {
+    let first = marked(alloc, || compact_now_outcome(rt, alloc, owned, wanted));
+    if first != Outcome::Memory {
+        return Verdict::of_first(first);
+    }
+    if is_busy(owned) || !same_version(owned.version(), before) {
+        return Verdict::Wrong(Fault::Lent);
+    }
+    Verdict::of_again(compact_now_outcome(rt, alloc, owned, wanted))
+}
+
+/// Makes the call, by the version that is right behind it.
+fn compacted_to(rt: &(impl Threads + Sync), alloc: Global, wanted: &Version) -> Option<Verdict> {
+    let (mut owned, before) = (owned(alloc)?, version(alloc)?);
+    Some(compact_now_tried(rt, alloc, &mut owned, &before, wanted))
 }
 
 /// Claims, compacts and installs a stretch in one call.
 pub(crate) fn compacted_now(rt: &(impl Threads + Sync), alloc: Global) -> Option<Verdict> {
-    let wanted = owned_after(rt, alloc)?;
-    let probe = to_compact(alloc, wanted)?;
-    Some(probe.tried(rt, alloc))
+    compacted_to(rt, alloc, owned_after(rt, alloc, STRETCH)?.version())
 }

@@ -30,6 +30,40 @@ impl Outcome {
     }
 }
 
+/// What else may come of a call.
+#[derive(Clone, Copy)]
+pub(crate) enum Fault {
+    /// It answers what isn't right.
+    Answer,
+    /// Memory was wanting, and the same call doesn't answer what is right at once after it.
+    Again,
+    /// Memory was wanting, and what it was lent isn't as before.
+    Lent,
+    /// Memory was wanting, and what readers pin isn't as before.
+    Shown,
+    /// Memory was wanting, and not all readers came back.
+    Reader,
+    /// The log isn't right in the end.
+    Log,
+    /// The run isn't right in the end.
+    Run,
+}
+
+impl fmt::Display for Fault {
+    fn fmt<W: fmt::Write>(&self, f: &mut fmt::Formatter<W>) -> fmt::Result {
+        let text = match self {
+            Fault::Answer => "it answers something else",
+            Fault::Again => "the same call fails again",
+            Fault::Lent => "what it was lent has changed",
+            Fault::Shown => "what is shown has changed",
+            Fault::Reader => "a reader is lost",
+            Fault::Log => "the log is another",
+            Fault::Run => "the run is another",
+        };
+        f.write_str(text)
+    }
+}
+
 /// What comes of trying a call between the marks.
 #[derive(Clone, Copy)]
 pub(crate) enum Verdict {
@@ -38,7 +72,7 @@ pub(crate) enum Verdict {
     /// Memory was wanting, all was as before, and the same call answered what is right at once after it.
     Memory,
     /// It did something else.
-    Wrong(&'static str),
+    Wrong(Fault),
 }
 
 impl Verdict {
@@ -46,7 +80,7 @@ impl Verdict {
     pub(crate) fn of_first(first: Outcome) -> Verdict {
         match first {
             Outcome::Right => Verdict::Right,
-            _ => Verdict::Wrong("it answers something else"),
+            _ => Verdict::Wrong(Fault::Answer),
         }
     }
 
@@ -54,7 +88,7 @@ impl Verdict {
     pub(crate) fn of_again(again: Outcome) -> Verdict {
         match again {
             Outcome::Right => Verdict::Memory,
-            _ => Verdict::Wrong("the same call fails again"),
+            _ => Verdict::Wrong(Fault::Again),
         }
     }
 }
@@ -64,13 +98,13 @@ impl fmt::Display for Verdict {
         match self {
             Verdict::Right => write!(f, "right"),
             Verdict::Memory => write!(f, "out of memory"),
-            Verdict::Wrong(why) => write!(f, "wrong: {why}"),
+            Verdict::Wrong(fault) => write!(f, "wrong: {fault}"),
         }
     }
 }
 
-/// A call with all that it is lent, and what is right. A call that may start threads has no [`Probe`]: that threads may use what
-/// stands for the runtime can't be said through a trait.
+/// A call with all that it is lent, and what is right. A call that may start threads has no [`Probe`], and is a closure instead:
+/// that threads may use what stands for the runtime can't be said through a trait.
 pub(crate) trait Probe {
     /// Makes the call. It asks for no memory but what the call asks for. What the call takes for good where it fails, is
     /// there twice.
@@ -83,21 +117,46 @@ pub(crate) trait Probe {
     }
 }
 
+/// Makes a call between the marks.
+pub(crate) fn marked<T, F: FnOnce() -> T>(alloc: Global, call: F) -> T
+where
+    F: Drop,
+    requires { F.pre call }
+{
+    let _begin = mark(alloc, BEGIN);
+    let came = call();
+    let _end = mark(alloc, END);
+    came
+}
+
+/// Makes a call between the marks, and the same call again where memory was wanting.
+pub(crate) fn tried_again<F: FnMut() -> Outcome>(alloc: Global, mut call: F) -> Verdict
+where
+    F: Drop,
+    requires { F.IsAlwaysCallable call }
+{
+    let _begin = mark(alloc, BEGIN);
+    let first = call();
+    let _end = mark(alloc, END);
+    match first {
+        Outcome::Memory => Verdict::of_again(call()),
+        first => Verdict::of_first(first),
+    }
+}
+
 /// What comes of a call that was made, and of the same call again where memory was wanting.
 fn judged<P: Probe>(alloc: Global, probe: &mut P, first: Outcome) -> Verdict {
     if first != Outcome::Memory {
         return Verdict::of_first(first);
     }
     if !probe.is_unchanged() {
-        return Verdict::Wrong("what it was lent has changed");
+        return Verdict::Wrong(Fault::Lent);
     }
     Verdict::of_again(probe.call(alloc))
 }
 
 /// Makes a call between the marks, and judges it.
 pub(crate) fn tried<P: Probe>(alloc: Global, probe: &mut P) -> Verdict {
-    let _begin = mark(alloc, BEGIN);
-    let first = probe.call(alloc);
-    let _end = mark(alloc, END);
+    let first = marked(alloc, || probe.call(alloc));
     judged(alloc, probe, first)
 }

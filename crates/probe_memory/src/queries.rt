@@ -3,11 +3,10 @@ ghost use Rattle.std.specs.Prelude.{◌↔◌, IsTrue};
 ghost use Rattle.std.specs.List.{AllByRecursion};
 ghost use Rattle.uc_query.specs.Turns.{HasName};
 
-use crate::marks::{BEGIN, END, mark};
-use crate::probe::{Outcome, Probe, Verdict, tried};
+use crate::probe::{Fault, Outcome, Probe, Verdict, marked, tried, tried_again};
 use crate::settings::{
-    CHANGES, KEEPS, Texts, answer, answers, is_busy, lookup, owned, queries, same_version, scan,
-    version, writes,
+    CHANGES, KEEPS, Texts, answer, answers, is_busy, lookup, owned, owned_after, queries,
+    same_version, scan, version, writes,
 };
 use std::alloc::Global;
 use std::marker::Sync;
@@ -91,74 +90,50 @@ pub(crate) fn scan_asked(alloc: Global) -> Option<Verdict> {
     one_asked(alloc, scan(alloc, CHANGES, 10)?)
 }
 
-/// `answer_plain`.
-#[derive(Drop)]
-struct AnswersPlain {
-    version: Version,
-    queries: Vec<Query>,
-    wanted: Vec<Answer>,
+/// What comes of `answer_plain`.
+fn plain_outcome(
+    rt: &(impl Threads + Sync),
+    alloc: Global,
+    version: &Version,
+    queries: &[Query],
+    wanted: &[Answer],
+) -> Outcome {
+    let (workers, piece) = PLAN;
+    match answer_plain::<Texts>(rt, alloc, version, queries, workers, piece) {
+        Ok(answers) => Outcome::of(answers.as_slice() == wanted),
+        Err(AskError::Memory) => Outcome::Memory,
+        Err(_) => Outcome::Wrong,
+    }
 }
 
-impl AnswersPlain {
-    /// Makes the call.
-    fn call(&mut self, rt: &(impl Threads + Sync), alloc: Global) -> Outcome {
-        let (workers, piece) = PLAN;
-        match answer_plain::<Texts>(rt, alloc, &self.version, &self.queries, workers, piece) {
-            Ok(answers) => Outcome::of(answers == self.wanted),
-            Err(AskError::Memory) => Outcome::Memory,
-            Err(_) => Outcome::Wrong,
-        }
-    }
-
-    /// Makes the call between the marks, and judges it.
-    fn tried(mut self, rt: &(impl Threads + Sync), alloc: Global) -> Verdict {
-        let _begin = mark(alloc, BEGIN);
-        let first = self.call(rt, alloc);
-        let _end = mark(alloc, END);
-        match first {
-            Outcome::Memory => Verdict::of_again(self.call(rt, alloc)),
-            first => Verdict::of_first(first),
-        }
-    }
+/// Answers queries from one version.
+fn plain_tried(
+    rt: &(impl Threads + Sync),
+    alloc: Global,
+    version: &Version,
+    queries: &[Query],
+) -> Option<Verdict> {
+    let wanted = answers(alloc, queries)?;
+    let wanted = wanted.as_slice();
+    Some(tried_again(alloc, || plain_outcome(rt, alloc, version, queries, wanted)))
 }
 
 /// Answers a batch from one version.
 pub(crate) fn plain_asked(rt: &(impl Threads + Sync), alloc: Global) -> Option<Verdict> {
     let (version, queries) = (version(alloc)?, queries(alloc)?);
-    let wanted = answers(alloc, &queries)?;
-    let probe = AnswersPlain {
-        version,
-        queries,
-        wanted,
-    };
-    Some(probe.tried(rt, alloc))
+    plain_tried(rt, alloc, &version, &queries)
 }
 
-/// `report`.
-#[derive(Drop)]
-struct Reports {
-    version: Version,
-    wanted: Report,
-}
-
-impl Reports {
-    /// Makes the call.
-    fn call(&mut self, rt: &(impl Threads + Sync), alloc: Global) -> Outcome {
-        match report(rt, alloc, &self.version) {
-            Ok(report) => Outcome::of(report == self.wanted),
-            Err(_) => Outcome::Memory,
-        }
-    }
-
-    /// Makes the call between the marks, and judges it.
-    fn tried(mut self, rt: &(impl Threads + Sync), alloc: Global) -> Verdict {
-        let _begin = mark(alloc, BEGIN);
-        let first = self.call(rt, alloc);
-        let _end = mark(alloc, END);
-        match first {
-            Outcome::Memory => Verdict::of_again(self.call(rt, alloc)),
-            first => Verdict::of_first(first),
-        }
+/// What comes of `report`.
+fn report_outcome(
+    rt: &(impl Threads + Sync),
+    alloc: Global,
+    version: &Version,
+    wanted: &Report,
+) -> Outcome {
+    match report(rt, alloc, version) {
+        Ok(report) => Outcome::of(report == *wanted),
+        Err(_) => Outcome::Memory,
     }
 }
 
@@ -166,7 +141,8 @@ impl Reports {
 pub(crate) fn version_reported(rt: &(impl Threads + Sync), alloc: Global) -> Option<Verdict> {
     let version = version(alloc)?;
     let wanted = report(rt, alloc, &version).ok()?;
-    Some(Reports { version, wanted }.tried(rt, alloc))
+    let (version, wanted) = (&version, &wanted);
+    Some(tried_again(alloc, || report_outcome(rt, alloc, version, wanted)))
 }
 
 /// Whether a call's name is one of those that there are.
@@ -205,26 +181,6 @@ fn calls(alloc: Global) -> Option<Vec<Call>> {
     Some(calls)
 }
 
-/// `run_calls`. The calls before the one that is refused memory stand.
-#[derive(Drop)]
-struct MakesCalls {
-    owned: Owned<Texts>,
-    calls: Vec<Call>,
-    /// The store before the calls, behind each that changes it, and behind all.
-    steps: Vec<Owned<Texts>>,
-    answers: Vec<Answer>,
-}
-
-impl MakesCalls {
-    /// Whether the store is as it is behind so many of the changes.
-    fn is_at(&self, step: usize) -> bool {
-        match self.steps.get(step) {
-            Some(wanted) => same_version(self.owned.version(), wanted.version()),
-            None => false,
-        }
-    }
-}
-
 /// Whether these are the replies to the calls.
 fn are_replies(replies: &[Reply], answers: &[Answer]) -> bool {
     match replies {
@@ -238,63 +194,67 @@ fn are_replies(replies: &[Reply], answers: &[Answer]) -> bool {
     }
 }
 
-impl MakesCalls {
-    /// Makes the call.
-    fn call(&mut self, rt: &(impl Threads + Sync), alloc: Global) -> Outcome {
-        if !have_names(&self.calls) {
-            return Outcome::Wrong;
-        }
-        match run_calls(rt, alloc, &mut self.owned, &self.calls) {
-            Ok(replies) => Outcome::of(are_replies(&replies, &self.answers)),
-            Err(AskError::Memory) => Outcome::Memory,
-            Err(_) => Outcome::Wrong,
-        }
+/// What comes of `run_calls`.
+fn calls_outcome(
+    rt: &(impl Threads + Sync),
+    alloc: Global,
+    owned: &mut Owned<Texts>,
+    calls: &[Call],
+    answers: &[Answer],
+) -> Outcome {
+    if !have_names(calls) {
+        return Outcome::Wrong;
     }
-
-    /// Whether what is lent is as it was before a call that was refused memory.
-    fn is_unchanged(&self) -> bool {
-        !is_busy(&self.owned) && (self.is_at(0) || self.is_at(1))
-    }
-
-    /// Makes the call between the marks, and judges it.
-    fn tried(mut self, rt: &(impl Threads + Sync), alloc: Global) -> Verdict {
-        let _begin = mark(alloc, BEGIN);
-        let first = self.call(rt, alloc);
-        let _end = mark(alloc, END);
-        if first == Outcome::Memory && !self.is_unchanged() {
-            return Verdict::Wrong("what it was lent has changed");
-        }
-        match first {
-            Outcome::Memory => Verdict::of_again(self.call(rt, alloc)),
-            first => Verdict::of_first(first),
-        }
+    match run_calls(rt, alloc, owned, calls) {
+        Ok(replies) => Outcome::of(are_replies(&replies, answers)),
+        Err(AskError::Memory) => Outcome::Memory,
+        Err(_) => Outcome::Wrong,
     }
 }
 
-/// The store before the calls, and behind the compaction.
-fn steps(rt: &(impl Threads + Sync), alloc: Global) -> Option<Vec<Owned<Texts>>> {
-    let mut after = owned(alloc)?;
-    after.compact_now(rt, alloc, NEWEST).ok()?;
-    let mut steps = Vec::new(alloc);
-    steps.push(owned(alloc)?).ok()?;
-    steps.push(after).ok()?;
-    Some(steps)
+/// Whether no claim is left in a store, and its version is the one before the calls or the one behind their compaction: the calls
+/// before the one that is refused memory stand.
+fn is_between(owned: &Owned<Texts>, before: &Version, after: &Version) -> bool {
+    let now = owned.version();
+    !is_busy(owned) && (same_version(now, before) || same_version(now, after))
 }
 
-/// A store and the calls, by what is right.
-fn to_call(alloc: Global, steps: Vec<Owned<Texts>>, answers: Vec<Answer>) -> Option<MakesCalls> {
-    let (owned, calls) = (owned(alloc)?, calls(alloc)?);
-    Some(MakesCalls {
-        owned,
-        calls,
-        steps,
-        answers,
-    })
+/// What comes of the calls, and once more where memory was wanting.
+fn calls_tried(
+    rt: &(impl Threads + Sync),
+    alloc: Global,
+    owned: &mut Owned<Texts>,
+    calls: &[Call],
+    answers: &[Answer],
+    between: (&Version, &Version),
+) -> Verdict {
+    let first = marked(alloc, || calls_outcome(rt, alloc, owned, calls, answers));
+    if first != Outcome::Memory {
+        return Verdict::of_first(first);
+    }
+    let (before, after) = between;
+    if !is_between(owned, before, after) {
+        return Verdict::Wrong(Fault::Lent);
+    }
+    Verdict::of_again(calls_outcome(rt, alloc, owned, calls, answers))
+}
+
+/// Makes calls, by their answers and the version behind their compaction.
+fn made_with(
+    rt: &(impl Threads + Sync),
+    alloc: Global,
+    calls: &[Call],
+    answers: &[Answer],
+    after: &Version,
+) -> Option<Verdict> {
+    let (mut owned, before) = (owned(alloc)?, version(alloc)?);
+    let between = (&before, after);
+    Some(calls_tried(rt, alloc, &mut owned, calls, answers, between))
 }
 
 /// Makes a list of calls.
 pub(crate) fn calls_made(rt: &(impl Threads + Sync), alloc: Global) -> Option<Verdict> {
-    let answers = answers(alloc, &queries(alloc)?)?;
-    let probe = to_call(alloc, steps(rt, alloc)?, answers)?;
-    Some(probe.tried(rt, alloc))
+    let (calls, answers) = (calls(alloc)?, answers(alloc, &queries(alloc)?)?);
+    let after = owned_after(rt, alloc, NEWEST)?;
+    made_with(rt, alloc, &calls, &answers, after.version())
 }

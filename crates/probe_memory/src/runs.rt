@@ -1,6 +1,5 @@
 //! Memtables, runs, compactions of runs, and tables of claim words.
-use crate::marks::{BEGIN, END, mark};
-use crate::probe::{Outcome, Probe, Verdict, tried};
+use crate::probe::{Fault, Outcome, Probe, Verdict, tried, tried_again};
 use crate::settings::{CHANGES, KEEPS, LONG, Texts, version, writes};
 use std::alloc::Global;
 use std::marker::Sync;
@@ -91,7 +90,7 @@ fn inserted_last(alloc: Global, mut probe: Inserts, wanted: &Run) -> Option<Verd
     if flushed(alloc, probe.memtable)?.same(wanted) {
         Some(verdict)
     } else {
-        Some(Verdict::Wrong("the run is another"))
+        Some(Verdict::Wrong(Fault::Run))
     }
 }
 
@@ -134,18 +133,22 @@ impl Probe for Flushes {
     }
 }
 
-/// Flushes a memtable.
-pub(crate) fn memtable_flushed(alloc: Global) -> Option<Verdict> {
-    let wanted = whole_run(alloc)?;
+/// A memtable of all changes.
+fn to_flush(alloc: Global) -> Option<Flushes> {
     let memtable = memtable_of(alloc, writes(alloc)?.list())?;
     let size = memtable.size();
+    let wanted = whole_run(alloc)?;
     let memtable = Some(memtable);
-    let mut probe = Flushes {
+    Some(Flushes {
         memtable,
         size,
         wanted,
-    };
-    Some(tried(alloc, &mut probe))
+    })
+}
+
+/// Flushes a memtable.
+pub(crate) fn memtable_flushed(alloc: Global) -> Option<Verdict> {
+    Some(tried(alloc, &mut to_flush(alloc)?))
 }
 
 /// A put of the long text.
@@ -198,18 +201,20 @@ impl Probe for Builds {
     }
 }
 
-/// Builds a run. Want of memory loses the points, so they are there twice.
-pub(crate) fn run_built(alloc: Global) -> Option<Verdict> {
-    let wanted = run_of(alloc, points(alloc)?)?;
+/// The points twice, since want of memory loses them.
+fn points_twice(alloc: Global) -> Option<Vec<Vec<Entry>>> {
     let mut lists = Vec::new(alloc);
     for _ in 0..2 {
         lists.push(points(alloc)?).ok()?;
     }
-    let mut probe = Builds {
-        points: lists,
-        wanted,
-    };
-    Some(tried(alloc, &mut probe))
+    Some(lists)
+}
+
+/// Builds a run.
+pub(crate) fn run_built(alloc: Global) -> Option<Verdict> {
+    let wanted = run_of(alloc, points(alloc)?)?;
+    let points = points_twice(alloc)?;
+    Some(tried(alloc, &mut Builds { points, wanted }))
 }
 
 /// `Run::effect`.
@@ -256,34 +261,19 @@ fn compacted(
     compact(rt, alloc, runs, &KEEPS, true).ok()
 }
 
-/// `compact`.
-#[derive(Drop)]
-struct Compacts {
-    runs: Vec<Arc<Run>>,
-    wanted: Compacted<Texts>,
-}
-
-impl Compacts {
-    /// Makes the call.
-    fn call(&mut self, rt: &(impl Threads + Sync), alloc: Global) -> Outcome {
-        if !inputs_stand(&self.runs, &KEEPS) {
-            return Outcome::Wrong;
-        }
-        match compact::<Texts>(rt, alloc, &self.runs, &KEEPS, true) {
-            Ok(made) => Outcome::of(made.output().same(self.wanted.output())),
-            Err(_) => Outcome::Memory,
-        }
+/// What comes of `compact`.
+fn compact_outcome(
+    rt: &(impl Threads + Sync),
+    alloc: Global,
+    runs: &[Arc<Run>],
+    wanted: &Run,
+) -> Outcome {
+    if !inputs_stand(runs, &KEEPS) {
+        return Outcome::Wrong;
     }
-
-    /// Makes the call between the marks, and judges it.
-    fn tried(mut self, rt: &(impl Threads + Sync), alloc: Global) -> Verdict {
-        let _begin = mark(alloc, BEGIN);
-        let first = self.call(rt, alloc);
-        let _end = mark(alloc, END);
-        match first {
-            Outcome::Memory => Verdict::of_again(self.call(rt, alloc)),
-            first => Verdict::of_first(first),
-        }
+    match compact::<Texts>(rt, alloc, runs, &KEEPS, true) {
+        Ok(made) => Outcome::of(made.output().same(wanted)),
+        Err(_) => Outcome::Memory,
     }
 }
 
@@ -291,7 +281,8 @@ impl Compacts {
 pub(crate) fn runs_compacted(rt: &(impl Threads + Sync), alloc: Global) -> Option<Verdict> {
     let runs = runs(alloc)?;
     let wanted = compacted(rt, alloc, &runs)?;
-    Some(Compacts { runs, wanted }.tried(rt, alloc))
+    let (runs, wanted) = (runs.as_slice(), wanted.output());
+    Some(tried_again(alloc, || compact_outcome(rt, alloc, runs, wanted)))
 }
 
 /// `ClaimTable::new`.

@@ -1,11 +1,13 @@
 //! What calls are lent: a few changes, and what is made of them.
 use std::alloc::Global;
+use std::marker::Sync;
+use std::thread::Threads;
 use uc_batch::{Writes, fits_batch, write_batch};
 use uc_bytes::{Bytes, Op, OpRef, WriteRef};
 use uc_logrec::LogWriter;
 use uc_oper::Append;
 use uc_query_answer::{Answer, Query, answer_writes};
-use uc_version::{MOST_SLOTS, Options, Owned, Placed, Version, open_plain, open_version};
+use uc_version::{MOST_SLOTS, Options, Owned, Placed, Stretch, Version, open_plain, open_version};
 
 /// Merges join texts by commas.
 pub(crate) type Texts = Append<b','>;
@@ -86,6 +88,17 @@ pub(crate) fn version(alloc: Global) -> Option<Version> {
 /// A store of them.
 pub(crate) fn owned(alloc: Global) -> Option<Owned<Texts>> {
     open_plain(alloc, &writes(alloc)?, &KEEPS, small_runs()).ok()
+}
+
+/// A store of them, behind the compaction of a stretch.
+pub(crate) fn owned_after(
+    rt: &(impl Threads + Sync),
+    alloc: Global,
+    stretch: Stretch,
+) -> Option<Owned<Texts>> {
+    let mut owned = owned(alloc)?;
+    owned.compact_now(rt, alloc, stretch).ok()?;
+    Some(owned)
 }
 
 /// A lookup of the key `k`.

@@ -2,8 +2,10 @@
 ghost use Rattle.std.specs.Prelude.{◌≡◌, IfSome, All};
 
 use crate::marks::{BEGIN, END, mark};
-use crate::probe::{Outcome, Probe, Verdict, tried};
-use crate::settings::{Texts, answers, owned, queries, same_version, small_runs, version};
+use crate::probe::{Fault, Outcome, Verdict, marked, tried_again};
+use crate::settings::{
+    Texts, answers, owned, owned_after, queries, same_version, small_runs, version,
+};
 use std::alloc::Global;
 use std::marker::{Brand, Send, Sync};
 use std::sync::Wait;
@@ -11,11 +13,11 @@ use std::thread::Threads;
 use uc_compact::Compacted;
 use uc_query_answer::{Answer, Query};
 use uc_query_shared::{AskError, Free, answer_all};
+use uc_run::Run;
 use uc_share::{
     ClaimError, Held, InstallError, Name, OpenError, Opening, Pin, Reader, Seat, Store, Stretch,
     Version,
 };
-use uc_version::Owned;
 
 /// A call of a store that is open.
 #[derive(Clone, Copy)]
@@ -32,6 +34,22 @@ pub(crate) enum SharedCall {
 /// The runs that are claimed.
 const STRETCH: Stretch = Stretch { first: 1, count: 4 };
 
+/// What comes of looking at what a store opened with: a version that is pinned, one reader more and two seats.
+fn look_outcome<N: Name, W: Wait + Drop>(
+    store: &Store<Texts, N, W>,
+    readers: &mut Vec<Reader<Texts, N>>,
+    seats: &[Seat],
+    wanted: &Version,
+) -> Outcome {
+    let Some(mut reader) = readers.pop() else {
+        return Outcome::Wrong;
+    };
+    match pin_outcome(store, &mut reader, wanted) {
+        Outcome::Right => Outcome::of(readers.len() == 1 && seats.len() == 2),
+        _ => Outcome::Wrong,
+    }
+}
+
 /// What comes of opening a store for two readers and two seats, of which this version is pinned then.
 fn open_outcome<N: Name, W: Wait + Drop>(
     handle: W,
@@ -45,13 +63,7 @@ fn open_outcome<N: Name, W: Wait + Drop>(
 {
     let opened = Store::<Texts, N, W>::open(alloc, handle, opening, version, small_runs(), 2, 2);
     match opened {
-        Ok((store, mut readers, seats)) => match readers.pop() {
-            Some(mut reader) => match pin_outcome(&store, &mut reader, wanted) {
-                Outcome::Right => Outcome::of(readers.len() == 1 && seats.len() == 2),
-                _ => Outcome::Wrong,
-            },
-            None => Outcome::Wrong,
-        },
+        Ok((store, mut readers, seats)) => look_outcome(&store, &mut readers, &seats, wanted),
         Err(OpenError::Memory) => Outcome::Memory,
         Err(_) => Outcome::Wrong,
     }
@@ -86,56 +98,65 @@ fn pin_outcome<N: Name, W: Wait + Drop>(
     }
 }
 
-/// `Store::pin`.
-#[derive(Drop)]
-struct Pins<'a, N: Name, W: Wait + Drop> {
-    store: &'a Store<Texts, N, W>,
-    reader: Reader<Texts, N>,
-    wanted: Version,
-}
-
-impl<N: Name, W: Wait + Drop> Probe for Pins<'_, N, W> {
-    fn call(&mut self, _alloc: Global) -> Outcome {
-        pin_outcome(self.store, &mut self.reader, &self.wanted)
-    }
+/// What comes of `Store::pin` between the marks, and once more where memory was wanting.
+fn pinned<N: Name, W: Wait + Drop>(
+    alloc: Global,
+    store: &Store<Texts, N, W>,
+    reader: &mut Reader<Texts, N>,
+    wanted: &Version,
+) -> Verdict {
+    tried_again(alloc, || pin_outcome(store, reader, wanted))
 }
 
 /// What comes of a pick, which is the runs that a store in one owner's hands picks.
 fn picked<N: Name, W: Wait + Drop>(
     alloc: Global,
     store: &Store<Texts, N, W>,
-    pin: Pin<Texts, N>,
+    pin: &Pin<Texts, N>,
     mut seat: Seat,
-) -> Option<Verdict>
+    wanted: Option<Stretch>,
+) -> Verdict
     requires { seat.table ≡ store.now.table }
 {
-    let wanted = owned(alloc)?.pick();
     let _begin = mark(alloc, BEGIN);
-    let stretch = store.pick(&pin, &mut seat);
+    let stretch = store.pick(pin, &mut seat);
     let _end = mark(alloc, END);
-    Some(Verdict::of_first(Outcome::of(stretch == wanted)))
+    Verdict::of_first(Outcome::of(stretch == wanted))
 }
 
-/// What comes of a claim. Where memory was wanting, the seat and the pin are there for another.
+/// What comes of a claim, and the seat and the pin where memory was wanting.
+fn claim_outcome<N: Name, W: Wait + Drop>(
+    store: &Store<Texts, N, W>,
+    reader: &mut Reader<Texts, N>,
+    seat: Seat,
+    pin: Pin<Texts, N>,
+) -> (Outcome, Option<(Seat, Pin<Texts, N>)>)
+    requires { seat.table ≡ store.now.table }
+    ensures { IfSome result.1 (λ back. back.0.table ≡ store.now.table) }
+{
+    match store.claim(seat, pin, reader, STRETCH) {
+        Ok(held) => (Outcome::of(held.stretch() == STRETCH), None),
+        Err((seat, pin, ClaimError::Memory)) => (Outcome::Memory, Some((seat, pin))),
+        Err(_) => (Outcome::Wrong, None),
+    }
+}
+
+/// What comes of a claim between the marks. Where memory was wanting, the seat and the pin are there for another.
 fn claimed<N: Name, W: Wait + Drop>(
     alloc: Global,
     store: &Store<Texts, N, W>,
-    mut reader: Reader<Texts, N>,
+    reader: &mut Reader<Texts, N>,
     seat: Seat,
     pin: Pin<Texts, N>,
 ) -> Verdict
     requires { seat.table ≡ store.now.table }
 {
     let _begin = mark(alloc, BEGIN);
-    let claimed = store.claim(seat, pin, &mut reader, STRETCH);
+    let (first, back) = claim_outcome(store, reader, seat, pin);
     let _end = mark(alloc, END);
-    match claimed {
-        Ok(held) => Verdict::of_first(Outcome::of(held.stretch() == STRETCH)),
-        Err((seat, pin, ClaimError::Memory)) => {
-            let again = store.claim(seat, pin, &mut reader, STRETCH);
-            Verdict::of_again(Outcome::of(again.is_ok()))
-        }
-        Err(_) => Verdict::of_first(Outcome::Wrong),
+    match back {
+        Some((seat, pin)) => Verdict::of_again(claim_outcome(store, reader, seat, pin).0),
+        None => Verdict::of_first(first),
     }
 }
 
@@ -155,49 +176,33 @@ fn held_by<N: Name, W: Wait + Drop>(
     }
 }
 
-/// `Held::compact`.
-#[derive(Drop)]
-struct Compacts<N: Name> {
-    held: Held<Texts, N>,
-    wanted: Compacted<Texts>,
-}
-
-impl<N: Name> Compacts<N> {
-    /// Makes the call.
-    fn call(&mut self, rt: &(impl Threads + Sync), alloc: Global) -> Outcome {
-        match self.held.compact(rt, alloc) {
-            Ok(made) => Outcome::of(made.output().same(self.wanted.output())),
-            Err(_) => Outcome::Memory,
-        }
-    }
-
-    /// Makes the call between the marks, and judges it.
-    fn tried(mut self, rt: &(impl Threads + Sync), alloc: Global) -> Verdict {
-        let _begin = mark(alloc, BEGIN);
-        let first = self.call(rt, alloc);
-        let _end = mark(alloc, END);
-        match first {
-            Outcome::Memory => Verdict::of_again(self.call(rt, alloc)),
-            first => Verdict::of_first(first),
-        }
+/// What comes of `Held::compact`.
+fn compact_outcome<N: Name>(
+    rt: &(impl Threads + Sync),
+    alloc: Global,
+    held: &Held<Texts, N>,
+    wanted: &Run,
+) -> Outcome {
+    match held.compact(rt, alloc) {
+        Ok(made) => Outcome::of(made.output().same(wanted)),
+        Err(_) => Outcome::Memory,
     }
 }
 
-/// What comes of a compaction of what is held.
+/// What comes of a compaction of what is held, and once more where memory was wanting.
 fn compacted<N: Name>(
     rt: &(impl Threads + Sync),
     alloc: Global,
-    held: Held<Texts, N>,
+    held: &Held<Texts, N>,
 ) -> Option<Verdict> {
     let wanted = held.compact(rt, alloc).ok()?;
-    Some(Compacts { held, wanted }.tried(rt, alloc))
+    let wanted = wanted.output();
+    Some(tried_again(alloc, || compact_outcome(rt, alloc, held, wanted)))
 }
 
-/// A store in one owner's hands behind an install.
-fn owned_after(rt: &(impl Threads + Sync), alloc: Global) -> Option<Owned<Texts>> {
-    let mut owned = owned(alloc)?;
-    owned.compact_now(rt, alloc, STRETCH).ok()?;
-    Some(owned)
+/// The runs that are picked.
+fn pick_wanted(alloc: Global) -> Option<Option<Stretch>> {
+    Some(owned(alloc)?.pick())
 }
 
 /// What is held, and what was made of it.
@@ -243,7 +248,7 @@ fn install_tried<N: Name, W: Wait + Drop>(
         return Verdict::of_first(first.and(pinned));
     };
     if pin_outcome(store, reader, before) != Outcome::Right {
-        return Verdict::Wrong("what is shown has changed");
+        return Verdict::Wrong(Fault::Shown);
     }
     let (again, _made) = install_outcome(rt, alloc, store, made, reader);
     Verdict::of_again(again.and(pin_outcome(store, reader, after)))
@@ -256,12 +261,11 @@ fn installed<N: Name, W: Wait + Drop, R: Threads + Wait + Sync>(
     store: &Store<Texts, N, W>,
     held: Held<Texts, N>,
     reader: &mut Reader<Texts, N>,
+    shown: (&Version, &Version),
 ) -> Option<Verdict>
     requires { held.seat.table ≡ store.now.table }
 {
     let made = held.compact(rt, alloc).ok()?;
-    let (before, after) = (version(alloc)?, owned_after(rt, alloc)?);
-    let shown = (&before, after.version());
     Some(install_tried(rt, alloc, store, (held, made), reader, shown))
 }
 
@@ -277,8 +281,7 @@ fn abandoned<N: Name, W: Wait + Drop>(
     let _begin = mark(alloc, BEGIN);
     let (seat, pin) = store.abandon(held);
     let _end = mark(alloc, END);
-    let again = store.claim(seat, pin, reader, STRETCH);
-    Verdict::of_first(Outcome::of(again.is_ok()))
+    Verdict::of_first(claim_outcome(store, reader, seat, pin).0)
 }
 
 /// What comes of a batch of queries by three workers, and the readers.
@@ -305,14 +308,15 @@ fn batch_tried<N: Name + Send>(
     queries: &[Query],
     wanted: &[Answer],
 ) -> Verdict {
-    let _begin = mark(alloc, BEGIN);
-    let (readers, first) = batch_outcome(rt, alloc, readers, queries, wanted);
-    let _end = mark(alloc, END);
+    let (readers, first) = marked(
+        alloc,
+        move || batch_outcome(rt, alloc, readers, queries, wanted),
+    );
     if first != Outcome::Memory {
         return Verdict::of_first(first);
     }
     if readers.len() != 3 {
-        return Verdict::Wrong("a reader is lost");
+        return Verdict::Wrong(Fault::Reader);
     }
     Verdict::of_again(batch_outcome(rt, alloc, readers, queries, wanted).1)
 }
@@ -328,42 +332,47 @@ fn asked<N: Name + Send>(
     Some(batch_tried(rt, alloc, readers, &queries, &wanted))
 }
 
-/// What comes of a call that needs a claim.
+/// What comes of a call that needs a claim, where `before` is shown.
 fn with_claim<N: Name, W: Wait + Drop, R: Threads + Wait + Sync>(
     rt: &R,
     alloc: Global,
     store: &Store<Texts, N, W>,
-    mut reader: Reader<Texts, N>,
+    reader: &mut Reader<Texts, N>,
     held: Held<Texts, N>,
     call: SharedCall,
+    before: &Version,
 ) -> Option<Verdict>
     requires { held.seat.table ≡ store.now.table }
 {
     match call {
-        SharedCall::Compact => compacted(rt, alloc, held),
-        SharedCall::Abandon => Some(abandoned(alloc, store, held, &mut reader)),
-        _ => installed(rt, alloc, store, held, &mut reader),
+        SharedCall::Compact => compacted(rt, alloc, &held),
+        SharedCall::Abandon => Some(abandoned(alloc, store, held, reader)),
+        _ => {
+            let after = owned_after(rt, alloc, STRETCH)?;
+            installed(rt, alloc, store, held, reader, (before, after.version()))
+        }
     }
 }
 
-/// What comes of a call that needs a pin and a seat.
+/// What comes of a call that needs a pin and a seat, where `before` is shown.
 fn with_pin<N: Name, W: Wait + Drop, R: Threads + Wait + Sync>(
     rt: &R,
     alloc: Global,
     store: &Store<Texts, N, W>,
-    mut reader: Reader<Texts, N>,
+    reader: &mut Reader<Texts, N>,
     seat: Seat,
     call: SharedCall,
+    before: &Version,
 ) -> Option<Verdict>
     requires { seat.table ≡ store.now.table }
 {
-    let pin = store.pin(&mut reader).ok()?;
+    let pin = store.pin(reader).ok()?;
     match call {
-        SharedCall::Pick => picked(alloc, store, pin, seat),
+        SharedCall::Pick => Some(picked(alloc, store, &pin, seat, pick_wanted(alloc)?)),
         SharedCall::Claim => Some(claimed(alloc, store, reader, seat, pin)),
         _ => {
-            let held = held_by(store, &mut reader, seat, pin)?;
-            with_claim(rt, alloc, store, reader, held, call)
+            let held = held_by(store, reader, seat, pin)?;
+            with_claim(rt, alloc, store, reader, held, call, before)
         }
     }
 }
@@ -382,34 +391,43 @@ fn next_worker<N: Name, W: Wait + Drop>(
     Some((reader, seat))
 }
 
-/// What comes of a call of a store that is opened here.
+/// What comes of a call of a reader and a seat of a store, where `before` is shown.
+fn worker_verdict<N: Name, W: Wait + Drop, R: Threads + Wait + Sync>(
+    rt: &R,
+    alloc: Global,
+    store: &Store<Texts, N, W>,
+    readers: &mut Vec<Reader<Texts, N>>,
+    seats: &mut Vec<Seat>,
+    call: SharedCall,
+    before: &Version,
+) -> Option<Verdict>
+    requires { All (λ seat. seat.table ≡ store.now.table) seats.old.items }
+{
+    let (mut reader, seat) = next_worker(store, readers, seats)?;
+    match call {
+        SharedCall::Pin => Some(pinned(alloc, store, &mut reader, before)),
+        _ => with_pin(rt, alloc, store, &mut reader, seat, call, before),
+    }
+}
+
+/// What comes of a call of a store that is opened here, where `before` is shown.
 fn store_verdict<N: Name + Send, W: Wait + Drop, R: Threads + Wait + Sync>(
     rt: &R,
     handle: W,
     alloc: Global,
-    opening: Opening,
-    version: Version,
+    opened_with: (Opening, Version),
     call: SharedCall,
+    before: &Version,
 ) -> Option<Verdict>
-    requires book { opening.seen.book ≡ N.book }
-    requires base { version ≡ N.base }
+    requires book { opened_with.0.seen.book ≡ N.book }
+    requires base { opened_with.1 ≡ N.base }
 {
-    let opened = Store::<Texts, N, W>::open(alloc, handle, opening, version, small_runs(), 4, 2);
+    let (opening, version) = opened_with;
+    let opened = Store::<Texts, N, W>::open(alloc, handle, opening, version, small_runs(), 3, 2);
     let (store, mut readers, mut seats) = opened.ok()?;
-    let (reader, seat) = next_worker(&store, &mut readers, &mut seats)?;
     match call {
         SharedCall::AnswerAll => asked(rt, alloc, readers),
-        SharedCall::Pin => {
-            let wanted = crate::settings::version(alloc)?;
-            let store = &store;
-            let mut probe = Pins {
-                store,
-                reader,
-                wanted,
-            };
-            Some(tried(alloc, &mut probe))
-        }
-        _ => with_pin(rt, alloc, &store, reader, seat, call),
+        _ => worker_verdict(rt, alloc, &store, &mut readers, &mut seats, call, before),
     }
 }
 
@@ -419,6 +437,7 @@ pub(crate) fn shared_verdict(
     alloc: Global,
     call: SharedCall,
 ) -> Option<Verdict> {
-    let version = version(alloc)?;
-    store_verdict::<Brand, _, _>(rt, rt, alloc, Opening::new(), version, call)
+    let (version, before) = (version(alloc)?, version(alloc)?);
+    let opened_with = (Opening::new(), version);
+    store_verdict::<Brand, _, _>(rt, rt, alloc, opened_with, call, &before)
 }
