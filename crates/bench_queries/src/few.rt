@@ -1,5 +1,6 @@
 //! A few writes, and a few queries of them: a small fixed piece of work.
-ghost use Rattle.std.specs.Prelude.{◌<◌, ◌^◌};
+ghost use Rattle.std.specs.Prelude.{◌≡◌, ◌<◌, ◌^◌, true};
+ghost use Rattle.uc_version_pick.specs.Options.{are_good};
 
 use crate::numbers::Numbers;
 use crate::opening::finished;
@@ -56,7 +57,9 @@ fn inserted(alloc: Global, writes: u64, options: Options) -> Result<Opener, Allo
 }
 
 /// The options of a store of a few writes, which has a run for each 4 KiB.
-pub fn few_options() -> Options {
+pub fn few_options() -> Options
+    ensures { are_good result ≡ true }
+{
     Options {
         memtable: MEMTABLE,
         ..Options::usual()

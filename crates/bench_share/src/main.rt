@@ -11,6 +11,7 @@
 #![tactic(auto)]
 
 ghost use Rattle.std.specs.Prelude.{◌≡◌};
+ghost use Rattle.uc_share.specs.Stores.{IsNamed};
 
 mod installing;
 mod pinning;
@@ -19,7 +20,7 @@ mod times;
 
 use crate::installing::{Work, install_all};
 use crate::pinning::{DONE, INSTALLING, Way, Window, all_pin};
-use crate::stores::{opened, version_of};
+use crate::stores::{opened, opening_of};
 use crate::times::Times;
 use anyhow::{Result, bail, ensure};
 use std::alloc::Global;
@@ -30,7 +31,7 @@ use std::sync::atomic::Ordering;
 use std::thread::{Threads, join};
 use std::time::{Clock, Instant};
 use uc_oper::{Counter, Operator};
-use uc_share::{Name, Opening, Reader, Seat, Store, Version};
+use uc_share::{Name, Opening, Reader, Seat, Store};
 
 /// How often an installer looks whether all readers pin.
 const PATIENCE: u64 = 10_000_000_000;
@@ -171,7 +172,7 @@ fn outcome_opened<O, N, W, R>(
     rt: &R,
     handle: W,
     alloc: Global,
-    opened_with: (Opening, Version),
+    opening: Opening<O>,
     plan: Plan,
     work: &mut Work,
 ) -> Outcome
@@ -180,11 +181,9 @@ where
     N: Name + Send + Sync,
     W: Wait + Drop + Send,
     R: Threads + Wait + Clock + Sync,
-    requires book { opened_with.0.seen.book ≡ N.book }
-    requires base { opened_with.1 ≡ N.base }
+    requires { IsNamed opening N.book N.table N.base }
 {
-    let count = plan.readers.saturating_add(1);
-    let (store, readers, seat) = opened::<O, N, W>(handle, alloc, opened_with, count)?;
+    let (store, readers, seat) = opened::<O, N, W>(handle, alloc, opening)?;
     outcome(rt, alloc, &store, readers, seat, plan, work)
 }
 
@@ -200,15 +199,9 @@ fn outcomes(
     let mut length = 0_u64;
     let mut times = Times::new(alloc)?;
     for _ in 0..stores {
-        let version = version_of(alloc, points)?;
-        let opened_with = (Opening::new(), version);
+        let opening = opening_of(alloc, points, plan.readers.saturating_add(1))?;
         let Some((one, more)) = outcome_opened::<Counter, Brand, _, _>(
-            rt,
-            rt,
-            alloc,
-            opened_with,
-            plan,
-            work,
+            rt, rt, alloc, opening, plan, work,
         ) else {
             bail!("a pin or an install is refused");
         };

@@ -1,5 +1,6 @@
 //! Stores of 64 runs.
 ghost use Rattle.std.specs.Prelude.{◌≡◌, IfSome, All};
+ghost use Rattle.uc_share.specs.Stores.{IsNamed};
 
 use anyhow::{Result, bail, ensure};
 use std::alloc::Global;
@@ -7,8 +8,7 @@ use std::sync::Wait;
 use uc_batch::Writes;
 use uc_bytes::{OpRef, WriteRef};
 use uc_oper::Operator;
-use uc_share::{Name, Opening, Options, Reader, Seat, Store, Version};
-use uc_version::open_version;
+use uc_share::{Name, Opening, Options, Reader, Seat, Store};
 
 /// How many runs a store has at first.
 const RUNS: u64 = 64;
@@ -21,8 +21,12 @@ fn options(memtable: u64) -> Options {
     }
 }
 
-/// A version of 64 runs with so many puts each, of keys of eight bytes, each with a value of one.
-pub(crate) fn version_of(alloc: Global, points: u64) -> Result<Version> {
+/// A store of 64 runs with so many puts each, of keys of eight bytes, each with a value of one, for so many readers and a seat.
+pub(crate) fn opening_of<O: Operator>(
+    alloc: Global,
+    points: u64,
+    readers: usize,
+) -> Result<Opening<O>> {
     let mut list = Vec::new(alloc);
     for seq in 1..=RUNS.saturating_mul(points) {
         let key = seq.wrapping_mul(0x9E37_79B9_7F4A_7C15).to_be_bytes();
@@ -32,11 +36,14 @@ pub(crate) fn version_of(alloc: Global, points: u64) -> Result<Version> {
         bail!("the sequences don't rise");
     };
     let memtable = points.saturating_mul(17);
-    let Ok(version) = open_version(alloc, &writes, &[], &options(memtable)) else {
+    let Ok(opening) = Opening::open(alloc, &writes, &[], options(memtable), readers, 1) else {
         bail!("the store isn't opened");
     };
-    ensure!(version.runs().len() == 64, "the store hasn't 64 runs");
-    Ok(version)
+    ensure!(
+        opening.version().runs().len() == 64,
+        "the store hasn't 64 runs"
+    );
+    Ok(opening)
 }
 
 /// A seat of those of a store.
@@ -50,22 +57,16 @@ fn next_seat<O: Operator, N: Name, W: Wait + Drop>(
     seats.pop()
 }
 
-/// A store with so many readers and a seat.
+/// A store with its readers and its seat.
 pub(crate) fn opened<O: Operator, N: Name, W: Wait + Drop>(
     handle: W,
     alloc: Global,
-    opened_with: (Opening, Version),
-    readers: usize,
+    opening: Opening<O>,
 ) -> Option<(Store<O, N, W>, Vec<Reader<O, N>>, Seat)>
-    requires book { opened_with.0.seen.book ≡ N.book }
-    requires base { opened_with.1 ≡ N.base }
+    requires { IsNamed opening N.book N.table N.base }
     ensures { IfSome result (λ opened. opened.2.table ≡ opened.0.table) }
 {
-    let (opening, version) = opened_with;
-    let opened = Store::<O, N, W>::open(alloc, handle, opening, version, options(1), readers, 1);
-    let Ok((store, readers, mut seats)) = opened else {
-        return None;
-    };
+    let (store, readers, mut seats) = opening.named::<N, W>(alloc, handle).ok()?;
     let seat = next_seat(&store, &mut seats)?;
     Some((store, readers, seat))
 }

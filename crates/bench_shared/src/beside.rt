@@ -1,5 +1,6 @@
 //! [`Beside`]: a batch beside compactors, and once more behind them.
 ghost use Rattle.std.specs.Prelude.{◌≡◌, IfSome, All};
+ghost use Rattle.uc_share.specs.Stores.{IsNamed};
 
 use crate::asked::Crew;
 use crate::asking::{Answered, answered_shared, nanoseconds_since};
@@ -12,7 +13,7 @@ use std::thread::{Threads, join};
 use std::time::{Clock, Instant};
 use uc_oper::Counter;
 use uc_query_answer::Query;
-use uc_share::{Name, Opening, Options, Reader, Seat, Store, Version};
+use uc_share::{Name, Opening, Reader, Seat, Store};
 
 /// What compactors did.
 #[derive(Clone, Copy)]
@@ -127,27 +128,16 @@ pub(crate) fn answered_beside<N, W, R>(
     rt: &R,
     handle: W,
     alloc: Global,
-    opened_with: (Opening, Version),
-    options: Options,
+    opening: Opening<Counter>,
     queries: &[Query],
-    crew: Crew,
+    workers: usize,
 ) -> Option<Beside>
 where
     N: Name + Send + Sync,
     W: Wait + Drop + Send,
     R: Threads + Wait + Clock + Sync,
-    requires book { opened_with.0.seen.book ≡ N.book }
-    requires base { opened_with.1 ≡ N.base }
+    requires { IsNamed opening N.book N.table N.base }
 {
-    let (opening, version) = opened_with;
-    let Crew {
-        workers,
-        compactors,
-    } = crew;
-    let count = workers.saturating_add(compactors);
-    let opened = Store::<Counter, N, W>::open(
-        alloc, handle, opening, version, options, count, compactors,
-    );
-    let (store, readers, seats) = opened.ok()?;
+    let (store, readers, seats) = opening.named::<N, W>(alloc, handle).ok()?;
     answered_twice(rt, alloc, &store, readers, seats, queries, workers)
 }

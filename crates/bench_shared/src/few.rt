@@ -3,6 +3,7 @@ use crate::asked::Crew;
 use crate::asking::answered_plain;
 use crate::beside::answered_beside;
 use crate::latencies::timed;
+use crate::opening::opening_of;
 use anyhow::{Context, Result, ensure};
 use bench_queries::few::{few_batches, few_options, few_writes};
 use bench_queries::opening::totals;
@@ -13,7 +14,6 @@ use std::sync::Wait;
 use std::thread::Threads;
 use std::time::Clock;
 use uc_query_answer::Query;
-use uc_share::Opening;
 
 /// Makes sure that so many workers beside so many compactors come to these answers, and also behind them.
 fn ensure_same_beside(
@@ -23,17 +23,18 @@ fn ensure_same_beside(
     crew: Crew,
     checksum: u64,
 ) -> Result<()> {
-    let version = few_writes(alloc)?;
-    let opened_with = (Opening::new(), version);
-    let beside = answered_beside::<Brand, _, _>(
-        rt,
-        rt,
+    let Crew {
+        workers,
+        compactors,
+    } = crew;
+    let opening = opening_of(
         alloc,
-        opened_with,
+        few_writes(alloc)?,
         few_options(),
-        queries,
-        crew,
-    );
+        workers,
+        compactors,
+    )?;
+    let beside = answered_beside::<Brand, _, _>(rt, rt, alloc, opening, queries, workers);
     let beside = beside.context("a batch or a compaction is refused")?;
     ensure!(
         beside.meanwhile.checksum == checksum,
@@ -44,7 +45,7 @@ fn ensure_same_beside(
         "the answers behind compactors differ"
     );
     ensure!(
-        (beside.compacting.installs > 0) == (crew.compactors > 0),
+        (beside.compacting.installs > 0) == (compactors > 0),
         "the installs aren't those of compactors"
     );
     Ok(())
@@ -58,17 +59,8 @@ fn ensure_same_each(
     compactors: usize,
     checksum: u64,
 ) -> Result<()> {
-    let version = few_writes(alloc)?;
-    let opened_with = (Opening::new(), version);
-    let latencies = timed::<Brand, _, _>(
-        rt,
-        rt,
-        alloc,
-        opened_with,
-        few_options(),
-        queries,
-        compactors,
-    );
+    let opening = opening_of(alloc, few_writes(alloc)?, few_options(), 1, compactors)?;
+    let latencies = timed::<Brand, _, _>(rt, rt, alloc, opening, queries);
     let latencies = latencies.context("a lookup or a compaction is refused")?;
     ensure!(
         latencies.checksum == checksum,

@@ -1,5 +1,6 @@
 //! [`Latencies`]: how long single queries take beside compactors.
 ghost use Rattle.std.specs.Prelude.{◌≡◌, IfSome, All};
+ghost use Rattle.uc_share.specs.Stores.{IsNamed};
 
 use crate::asking::nanoseconds_since;
 use crate::compacting::{Compactor, Compactors, all_compact, two_compactors};
@@ -14,7 +15,7 @@ use std::time::{Clock, Instant};
 use uc_oper::Counter;
 use uc_query_answer::{Answer, Query};
 use uc_query_read::answer_one;
-use uc_share::{Name, Opening, Options, Reader, Seat, Store, Version};
+use uc_share::{Name, Opening, Reader, Seat, Store};
 
 /// What came of single queries.
 #[derive(Drop)]
@@ -193,28 +194,20 @@ where
     beside_compactors(rt, alloc, store, compactors, reader, queries)
 }
 
-/// Single queries of a store that is opened here, by one reader, beside so many compactors.
+/// Single queries of a store that is opened here, by one reader, beside its compactors.
 pub(crate) fn timed<N, W, R>(
     rt: &R,
     handle: W,
     alloc: Global,
-    opened_with: (Opening, Version),
-    options: Options,
+    opening: Opening<Counter>,
     queries: &[Query],
-    compactors: usize,
 ) -> Option<Latencies>
 where
     N: Name + Send + Sync,
     W: Wait + Drop + Send,
     R: Threads + Wait + Clock + Sync,
-    requires book { opened_with.0.seen.book ≡ N.book }
-    requires base { opened_with.1 ≡ N.base }
+    requires { IsNamed opening N.book N.table N.base }
 {
-    let (opening, version) = opened_with;
-    let count = compactors.saturating_add(1);
-    let opened = Store::<Counter, N, W>::open(
-        alloc, handle, opening, version, options, count, compactors,
-    );
-    let (store, readers, seats) = opened.ok()?;
+    let (store, readers, seats) = opening.named::<N, W>(alloc, handle).ok()?;
     timed_by_one(rt, alloc, &store, readers, seats, queries)
 }

@@ -20,12 +20,14 @@ mod beside;
 mod compacting;
 mod few;
 mod latencies;
+mod opening;
 
-use crate::asked::{Asked, asked_by, queries_of};
+use crate::asked::{Asked, Crew, asked_by, queries_of};
 use crate::asking::answered_plain;
 use crate::beside::answered_beside;
 use crate::few::few_answers;
 use crate::latencies::timed;
+use crate::opening::opening_of;
 use anyhow::{Context, Result};
 use bench_queries::opening::{opened, totals};
 use std::alloc::Global;
@@ -36,7 +38,7 @@ use std::sync::Wait;
 use std::thread::Threads;
 use std::time::Clock;
 use uc_query_answer::Query;
-use uc_share::{Opening, Options, Version};
+use uc_share::{Options, Version};
 
 /// Measures what is asked for in a store that opens with a version, and prints a line of it.
 fn measure(
@@ -55,29 +57,17 @@ fn measure(
             println!(rt; "{}", answered.context("a batch is refused")?)?;
         }
         Asked::Beside(crew) => {
-            let opened_with = (Opening::new(), version);
-            let beside = answered_beside::<Brand, _, _>(
-                rt,
-                rt,
-                alloc,
-                opened_with,
-                options,
-                queries,
-                crew,
-            );
+            let Crew {
+                workers,
+                compactors,
+            } = crew;
+            let opening = opening_of(alloc, version, options, workers, compactors)?;
+            let beside = answered_beside::<Brand, _, _>(rt, rt, alloc, opening, queries, workers);
             println!(rt; "{}", beside.context("a batch or a compaction is refused")?)?;
         }
         Asked::Lookups(compactors) => {
-            let opened_with = (Opening::new(), version);
-            let times = timed::<Brand, _, _>(
-                rt,
-                rt,
-                alloc,
-                opened_with,
-                options,
-                queries,
-                compactors,
-            );
+            let opening = opening_of(alloc, version, options, 1, compactors)?;
+            let times = timed::<Brand, _, _>(rt, rt, alloc, opening, queries);
             println!(rt; "{}", times.context("a lookup or a compaction is refused")?)?;
         }
     }

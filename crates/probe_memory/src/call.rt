@@ -78,7 +78,7 @@ static CALLS: [(Call, &str); 34] = [
     (Call::OwnedCompact, "Owned::compact"),
     (Call::OwnedInstall, "Owned::install"),
     (Call::OwnedCompactNow, "Owned::compact_now"),
-    (Call::StoreOpen, "Store::open"),
+    (Call::StoreOpen, "Opening::named"),
     (Call::StorePin, "Store::pin"),
     (Call::StorePick, "Store::pick"),
     (Call::StoreClaim, "Store::claim"),

@@ -24,6 +24,15 @@ impl Outcome {
         }
     }
 
+    /// What comes of a call that memory was wanting for, by whether it hands back what it took.
+    pub(crate) fn of_refused(is_handed_back: bool) -> Outcome {
+        if is_handed_back {
+            Outcome::Memory
+        } else {
+            Outcome::Wrong
+        }
+    }
+
     /// What comes of two, one after the other: the first that isn't right.
     pub(crate) fn and(self, other: Outcome) -> Outcome {
         if self == Outcome::Right { other } else { self }

@@ -1,4 +1,7 @@
 //! What calls are lent: a few changes, and what is made of them.
+ghost use Rattle.std.specs.Prelude.{◌≡◌, true};
+ghost use Rattle.uc_version_pick.specs.Options.{are_good};
+
 use std::alloc::Global;
 use std::marker::Sync;
 use std::thread::Threads;
@@ -71,7 +74,9 @@ pub(crate) fn log(alloc: Global) -> Option<Vec<u8>> {
 }
 
 /// Options under which each change is a run, and two runs are compacted.
-pub(crate) fn small_runs() -> Options {
+pub(crate) fn small_runs() -> Options
+    ensures { are_good result ≡ true }
+{
     Options {
         memtable: 1,
         trigger: 2,

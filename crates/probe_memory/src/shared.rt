@@ -1,5 +1,6 @@
 //! A store that threads share: opened, pinned, picked, claimed, compacted and installed, and asked by a batch.
 ghost use Rattle.std.specs.Prelude.{◌≡◌, IfSome, All};
+ghost use Rattle.uc_share.specs.Stores.{IsNamed};
 
 use crate::marks::{BEGIN, END, mark};
 use crate::probe::{Fault, Outcome, Verdict, marked, tried_again};
@@ -50,28 +51,28 @@ fn look_outcome<N: Name, W: Wait + Drop>(
     }
 }
 
-/// What comes of opening a store for two readers and two seats, of which this version is pinned then.
-fn open_outcome<N: Name, W: Wait + Drop>(
+/// What comes of naming a store, of which this version is pinned then.
+fn name_outcome<N: Name, W: Wait + Drop>(
     handle: W,
     alloc: Global,
-    opening: Opening,
-    version: Version,
+    opening: Opening<Texts>,
     wanted: &Version,
 ) -> Outcome
-    requires book { opening.seen.book ≡ N.book }
-    requires base { version ≡ N.base }
+    requires { IsNamed opening N.book N.table N.base }
 {
-    let opened = Store::<Texts, N, W>::open(alloc, handle, opening, version, small_runs(), 2, 2);
-    match opened {
+    match opening.named::<N, W>(alloc, handle) {
         Ok((store, mut readers, seats)) => look_outcome(&store, &mut readers, &seats, wanted),
-        Err(OpenError::Memory) => Outcome::Memory,
-        Err(_) => Outcome::Wrong,
+        Err((opening, _)) => Outcome::of_refused(same_version(opening.version(), wanted)),
     }
 }
 
-/// The same under a name that is made here.
+/// What comes of opening a store for two readers and two seats, and of naming it.
 fn opens(rt: &impl Wait, alloc: Global, version: Version, wanted: &Version) -> Outcome {
-    open_outcome::<Brand, _>(rt, alloc, Opening::new(), version, wanted)
+    match Opening::of(alloc, version, small_runs(), 2, 2) {
+        Ok(opening) => name_outcome::<Brand, _>(rt, alloc, opening, wanted),
+        Err((version, OpenError::Memory)) => Outcome::of_refused(same_version(&version, wanted)),
+        Err(_) => Outcome::Wrong,
+    }
 }
 
 /// Opens a store. The version is moved in, so it is there twice.
@@ -415,16 +416,13 @@ fn store_verdict<N: Name + Send, W: Wait + Drop, R: Threads + Wait + Sync>(
     rt: &R,
     handle: W,
     alloc: Global,
-    opened_with: (Opening, Version),
+    opening: Opening<Texts>,
     call: SharedCall,
     before: &Version,
 ) -> Option<Verdict>
-    requires book { opened_with.0.seen.book ≡ N.book }
-    requires base { opened_with.1 ≡ N.base }
+    requires { IsNamed opening N.book N.table N.base }
 {
-    let (opening, version) = opened_with;
-    let opened = Store::<Texts, N, W>::open(alloc, handle, opening, version, small_runs(), 3, 2);
-    let (store, mut readers, mut seats) = opened.ok()?;
+    let (store, mut readers, mut seats) = opening.named::<N, W>(alloc, handle).ok()?;
     match call {
         SharedCall::AnswerAll => asked(rt, alloc, readers),
         _ => worker_verdict(rt, alloc, &store, &mut readers, &mut seats, call, before),
@@ -438,6 +436,6 @@ pub(crate) fn shared_verdict(
     call: SharedCall,
 ) -> Option<Verdict> {
     let (version, before) = (version(alloc)?, version(alloc)?);
-    let opened_with = (Opening::new(), version);
-    store_verdict::<Brand, _, _>(rt, rt, alloc, opened_with, call, &before)
+    let opening = Opening::of(alloc, version, small_runs(), 3, 2).ok()?;
+    store_verdict::<Brand, _, _>(rt, rt, alloc, opening, call, &before)
 }

@@ -17,7 +17,7 @@ fn main(rt: HostRuntime) -> Result<()> {
     rt.stdin().read_to_end(&mut log)?;
     let OpenedLog { store, ended } = open_log::<Texts>(alloc, &log, &[], Options::usual())?;
     let last = store.version().last();
-    println!(rt; "{last} writes, and the log ends {ended:?}")?;
+    println!(rt; "the last sequence is {last}, and the log ends {ended:?}")?;
     if let Answer::Value(Some(value)) = get::<Texts>(alloc, store.version(), b"k", last)? {
         let text = str::from_utf8(value.as_slice())?;
         println!(rt; "k is {text}")?;

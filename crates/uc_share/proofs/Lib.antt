@@ -1,1 +1,4 @@
 pub mod StillThere
+pub mod Refused
+pub mod InRange
+pub mod Machine

@@ -1,5 +1,6 @@
 -- Claimed runs that stand in a later version by their ids, and what was compacted of them.
 use Rattle.std.proofs.Common.{◌≡◌, ◌≤◌, List, Contains, length, fold, sym, ap, subst}
+use Rattle.std.specs.Prelude.{Option, Some, None, IfNone}
 use Rattle.std.specs.List.{AllByRecursion}
 use mathlib.Core.List.{IsPrefix}
 use Rattle.uc_oper.specs.Operation.{Operation}
@@ -10,6 +11,7 @@ use Rattle.uc_version_state.specs.Refusals.{AreInPlace, AreReplaceable}
 use Rattle.uc_version_state.specs.Histories.{after}
 use Rattle.uc_version_state.specs.declared.event.Event.{Event}
 use Rattle.uc_version.specs.Compacting.{IsInstallable, install_for}
+use Rattle.uc_share.specs.Installing.{MayInstallHere}
 use Rattle.uc_share_versions.specs.Fronts.{Moment}
 use Rattle.uc_share_versions.proofs.Claimed.{part_within}
 use Rattle.uc_share.specs.Claims.{Claim, claimed_runs}
@@ -29,7 +31,7 @@ pub may_install : (m : Operation) (base : Stored) (h : Claim) (now : Moment) (ma
     → h.pin.version ≡ fold after base h.pin.events → now.version ≡ fold after base now.events → IsVersion h.pin.version
     → IsPrefix h.pin.events now.events → 2 ≤ length (claimed_runs h) → Stand made.inputs made.keeps
     → made.inputs ≡ contents_of (claimed_runs h) → AreReplaceable now.version (ids_of (claimed_runs h)) (terms_of made)
-    → MayInstall m now.version (install_for m (claimed_runs h) made)
+    → MayInstallHere m now.version (claimed_runs h) made
 may_install m base h now made stay fit pinned shown is before two stand inputs there =
     let claimed = claimed_runs h in
     let has : AllByRecursion (λ (run : PlacedRun). Contains h.pin.version.runs run) claimed = part_within h.pin.version.runs h.stretch.first h.stretch.count in
@@ -38,4 +40,13 @@ may_install m base h now made stay fit pinned shown is before two stand inputs t
     (subst (λ (v : Stored). AllByRecursion (λ (run : PlacedRun). Contains v.runs run) claimed) pinned has)
     (subst (λ (v : Stored). AreInPlace v (ids_of claimed)) shown there.in_place) in
     let same_now : standing (ids_of claimed) now.version.runs ≡ claimed = subst (λ (v : Stored). standing (ids_of claimed) v.runs ≡ claimed) (sym shown) same in
-    fit now.version claimed made two stand (ap contents_of same_now) (record { inputs = inputs; there = there })
+    let installable : IsInstallable now.version claimed made = record { inputs = inputs; there = there } in record {
+      same = same_now;
+      installable = installable;
+      may = fit now.version claimed made two stand (ap contents_of same_now) installable;
+    }
+
+-- what holds of a version that doesn't refuse it
+pub if_none : {R : Type 0} (P Q : Type 0) (r : Option R) → (P → Q) → IfNone r P → IfNone r Q
+if_none P Q None f p = f p
+if_none P Q (Some r) f p = tt

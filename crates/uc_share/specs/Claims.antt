@@ -1,5 +1,5 @@
 -- Claims of stretches of pinned versions.
-use Rattle.std.specs.Prelude.{◌≡◌, ◌+◌, ◌≤◌, Some, ⊤, Contains, List, length}
+use Rattle.std.specs.Prelude.{◌≡◌, ◌+◌, ◌≤◌, Some, None, Contains, List, length}
 use Rattle.uc_claims.specs.Holding.{Holding}
 use Rattle.uc_version_pick.specs.declared.stretch.Stretch.{Stretch}
 use Rattle.uc_version_state.specs.Versions.{PlacedRun, Stored, ids_of, slots_of}
@@ -7,7 +7,10 @@ use Rattle.uc_version_state.specs.Refusals.{AreInPlace}
 use Rattle.uc_version.specs.Claiming.{range_refusal}
 use Rattle.uc_version.specs.Compacting.{runs_at}
 use Rattle.uc_version.specs.declared.claim_error.ClaimError.{ClaimError}
-use Rattle.uc_version.specs.declared.claim_error.ClaimError.TheVariants.{OutOfRange, TooNarrow, Busy, Moved, Memory}
+use Rattle.uc_version.specs.declared.claim_error.ClaimError.TheVariants as refused
+use Rattle.uc_share.specs.declared.held.LookError.{LookError}
+use Rattle.uc_share.specs.declared.held.LookError.TheVariants.{Moved, Memory}
+use Rattle.uc_version_state.specs.declared.event.Event.{Event}
 use Rattle.uc_share_versions.specs.Fronts.{Moment}
 
 -- a claim: the seat with the slots that it holds, the pinned version with the history that leads to it, and the stretch
@@ -34,10 +37,22 @@ pub record IsClaim (c : Claim) : Type 0 where
   pub within : c.stretch.first + c.stretch.count ≤ length c.pin.version.runs
   pub slots : c.seat.slots ≡ slots_of (claimed_runs c)
 
--- why a stretch of a pinned version isn't claimed, where this is the version that the caller has seen then
+-- Why a stretch of a pinned version isn't claimed, where this is the version that the caller has seen then: the first of these
+-- that holds. Want of memory is told of a stretch that may be claimed alone.
 abbrev pub IsClaimRefused : Moment → Stretch → Stored → ClaimError → Type 0
-IsClaimRefused pin s present OutOfRange = range_refusal (length pin.version.runs) s ≡ Some OutOfRange
-IsClaimRefused pin s present TooNarrow = range_refusal (length pin.version.runs) s ≡ Some TooNarrow
-IsClaimRefused pin s present (Busy slot) = Contains (slots_of (pinned_runs pin s)) slot
-IsClaimRefused pin s present Moved = ¬ AreInPlace present (ids_of (pinned_runs pin s))
-IsClaimRefused pin s present Memory = ⊤
+IsClaimRefused pin s present refused.OutOfRange = range_refusal (length pin.version.runs) s ≡ Some refused.OutOfRange
+IsClaimRefused pin s present refused.TooNarrow = range_refusal (length pin.version.runs) s ≡ Some refused.TooNarrow
+IsClaimRefused pin s present (refused.Busy slot) = (range_refusal (length pin.version.runs) s ≡ None) × Contains (slots_of (pinned_runs pin s)) slot
+IsClaimRefused pin s present refused.Moved = (range_refusal (length pin.version.runs) s ≡ None) × ¬ AreInPlace present (ids_of (pinned_runs pin s))
+IsClaimRefused pin s present refused.Memory = range_refusal (length pin.version.runs) s ≡ None
+
+-- Why no claim is made of slots that are taken: their runs don't stand in the version that the look showed; or memory ran out, and
+-- the look showed nothing.
+abbrev pub IsLookRefused : Claim → List Event → List Event → Stored → LookError → Type 0
+IsLookRefused c before seen present Moved = ¬ AreInPlace present (ids_of (claimed_runs c))
+IsLookRefused c before seen present Memory = seen ≡ before
+
+-- the error that says so
+abbrev pub claim_error : LookError → ClaimError
+claim_error Moved = refused.Moved
+claim_error Memory = refused.Memory

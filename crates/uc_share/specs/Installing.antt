@@ -3,10 +3,12 @@ use Rattle.std.specs.Prelude.{◌≡◌, ◌≢◌, List, [], ◌∷◌, ◌++�
 use mathlib.Core.List.{IsPrefix}
 use Rattle.uc_oper.specs.Operation.{Operation}
 use Rattle.uc_compact_rules.specs.Inputs.{Compaction}
-use Rattle.uc_version_state.specs.Versions.{PlacedRun, Stored}
+use Rattle.uc_version_state.specs.Versions.{PlacedRun, Stored, ids_of}
+use Rattle.uc_version_state.specs.Installs.{standing}
+use Rattle.uc_version_state.specs.Histories.{MayHappen}
 use Rattle.uc_version_state.specs.declared.event.Event.{Event}
 use Rattle.uc_version_state.specs.declared.event.Event.TheVariants.{Installed}
-use Rattle.uc_version.specs.Compacting.{install_for, IsNotInstallable}
+use Rattle.uc_version.specs.Compacting.{install_for, IsInstallable, IsNotInstallable}
 use Rattle.uc_version.specs.declared.install_error.InstallError.{InstallError}
 use Rattle.uc_version.specs.declared.install_error.InstallError.TheVariants.{Memory}
 
@@ -18,6 +20,13 @@ event_of m claimed made = Installed (install_for m claimed made)
 abbrev pub EndsWith : List Event → Event → List Event → Type 0
 EndsWith old e new = (before : List Event) × IsPrefix old before × (new ≡ before ++ e ∷ [])
 
--- want of memory aside, the version shows why what was compacted isn't installed
-abbrev pub ShowsRefusal : Stored → List PlacedRun → Compaction → InstallError → Type 0
-ShowsRefusal v claimed made error = error ≢ Memory → IsNotInstallable v claimed made error
+-- The version shows why what was compacted isn't installed. Want of memory is told only where it may be: nothing else is against it.
+pub record ShowsRefusal (v : Stored) (claimed : List PlacedRun) (made : Compaction) (error : InstallError) : Type 0 where
+  pub shown : error ≢ Memory → IsNotInstallable v claimed made error
+  pub else_memory : error ≡ Memory → IsInstallable v claimed made
+
+-- the claimed runs stand in the version, and what was compacted of them may be installed in their place
+pub record MayInstallHere (m : Operation) (v : Stored) (claimed : List PlacedRun) (made : Compaction) : Type 0 where
+  pub same : standing (ids_of claimed) v.runs ≡ claimed
+  pub installable : IsInstallable v claimed made
+  pub may : MayHappen m v (event_of m claimed made)

@@ -1,58 +1,119 @@
 //! [`Held`]: the right to compact a stretch.
-ghost use Rattle.std.specs.Prelude.{◌≡◌, ◌≤◌, IfOk, length};
+ghost use Rattle.std.specs.Prelude.{◌≡◌, ◌≤◌, ◌↔◌, IfOk, IfErr, IsTrue, fold, length};
+ghost use mathlib.Core.List.{IsPrefix};
 ghost use Rattle.uc_claims.specs.declared.table.TheConstants.{MOST_SLOTS};
-ghost use Rattle.uc_version_state.specs.Versions.{slots_of};
+ghost use Rattle.uc_version_state.specs.Versions.{ids_of};
+ghost use Rattle.uc_version_state.specs.Refusals.{AreInPlace};
+ghost use Rattle.uc_version_state.specs.Histories.{MayFollow, after};
 ghost use Rattle.uc_version.specs.Compacting.{compaction_at};
-ghost use Rattle.uc_share.specs.Claims.{IsClaim, claimed_runs};
+ghost use Rattle.uc_share.specs.Claims.{IsClaim, IsLookRefused, claimed_runs};
 
+use crate::taken::Taken;
 use std::alloc::{AllocError, Global};
 use std::marker::{Model, Sync};
 use std::thread::Threads;
 use uc_claims::HeldSlots;
 use uc_compact::Compacted;
 use uc_oper::Operator;
-use uc_share_versions::{Name, Pin};
-use uc_version::{Placed, Stretch, compact_stretch, stretch_runs};
+use uc_share_versions::{Name, Pin, Reader};
+use uc_version::{Placed, Stretch, Version, compact_stretch, run_ids};
+use uc_version_state::neighbours_stand_where_their_ids_say;
+
+/// Why no claim is made of slots that are taken.
+pub(crate) enum LookError {
+    /// Their runs aren't neighbours any more.
+    Moved,
+    /// Memory ran out.
+    Memory,
+}
 
 /// The right to compact a stretch of a pinned version: while it lives, nobody else claims one of its runs. Give it back by
 /// [`abandon`](crate::Store::abandon) or [`install`](crate::Store::install): dropped, it leaves its slots taken for good.
+///
+/// It is made of taken slots by a look at what is shown, and by nothing else: so who has one has taken its slots first, has
+/// looked then, and has them still.
 #[derive(Drop)]
 pub struct Held<O: Operator, N: Name> {
-    pub(crate) slots: HeldSlots,
-    pub(crate) pin: Pin<O, N>,
-    pub(crate) stretch: Stretch,
+    taken: Taken<O, N>,
 }
 
 impl<O: Operator, N: Name> Model for Held<O, N> {
-    ghost use Rattle.uc_share.specs.Claims.{Claim, IsClaim};
+    ghost use Rattle.uc_share.specs.Claims.{Claim};
 
     ghost Value = { Claim };
 
-    ghost view = { λ h. record { seat = h.slots; pin = h.pin; stretch = h.stretch } };
+    ghost view = { λ h. h.taken };
+}
 
-    ghost invariant = { λ h. IsClaim (record { seat = h.slots; pin = h.pin; stretch = h.stretch }) };
+/// Whether runs stand in a version as neighbours in their order, by their ids.
+fn are_in_place(version: &Version, runs: &[Placed]) -> bool
+    requires { length runs.now ≤ MOST_SLOTS }
+    ensures { IsTrue result ↔ AreInPlace version.now (ids_of runs.now) }
+{
+    version.is_one();
+    neighbours_stand_where_their_ids_say();
+    let ids = run_ids(runs);
+    version.place_of(&ids[..runs.len()]).is_some()
 }
 
 impl<O: Operator, N: Name> Held<O, N> {
+    /// Looks whether the runs whose slots are taken stand as neighbours in their order in the version that is shown now, which
+    /// the reader then has seen. It is refused as [`Reader::pin`] is, and the reader has seen no more then.
+    pub(crate) fn look(
+        taken: Taken<O, N>,
+        reader: &mut Reader<O, N>,
+    ) -> Result<Held<O, N>, (Taken<O, N>, LookError)>
+        ensures seen { IsPrefix reader.old reader.new }
+        ensures legal { MayFollow O.meaning N.base reader.new }
+        ensures ok { IfOk result (λ held. held ≡ taken) }
+        ensures there { IfOk result (λ _.
+            AreInPlace (fold after N.base reader.new) (ids_of (claimed_runs taken))) }
+        ensures err { IfErr result (λ refused. refused.0 ≡ taken) }
+        ensures refused { IfErr result (λ refused.
+            IsLookRefused taken reader.old reader.new (fold after N.base reader.new) refused.1) }
+    {
+        let Ok(present) = reader.pin() else {
+            return Err((taken, LookError::Memory));
+        };
+        if are_in_place(present.version(), taken.runs()) {
+            return Ok(Held { taken });
+        }
+        Err((taken, LookError::Moved))
+    }
+
+    /// The slots, where the right is given up.
+    pub(crate) fn into_taken(self) -> Taken<O, N>
+        ensures { result ≡ self }
+    {
+        self.taken
+    }
+
+    /// The seat with the slots of the claimed runs.
+    pub(crate) fn slots(&self) -> &HeldSlots
+        ensures { result.now ≡ self.now.seat }
+    {
+        self.taken.slots()
+    }
+
     /// The stretch is two runs or more, which the pinned version has. It does nothing.
     pub fn is_one(&self)
         ensures { IsClaim self.now }
     {
-        let _ = &self.stretch;
+        self.taken.is_one();
     }
 
     /// The version that was pinned.
     pub fn pin(&self) -> &Pin<O, N>
         ensures { result.now ≡ self.now.pin }
     {
-        &self.pin
+        self.taken.pin()
     }
 
     /// The stretch of it that is claimed.
     pub fn stretch(&self) -> Stretch
         ensures { result ≡ self.now.stretch }
     {
-        self.stretch
+        self.taken.stretch()
     }
 
     /// The runs that are claimed, as they were pinned.
@@ -61,9 +122,7 @@ impl<O: Operator, N: Name> Held<O, N> {
         ensures two { 2 ≤ length result.now }
         ensures few { length result.now ≤ MOST_SLOTS }
     {
-        self.is_one();
-        self.pin.version().is_one();
-        stretch_runs(self.pin.version(), self.stretch)
+        self.taken.runs()
     }
 }
 
@@ -78,6 +137,6 @@ impl<O: Operator + Sync, N: Name> Held<O, N> {
         ensures { IfOk result (λ made. made ≡ compaction_at self.now.pin.version self.now.stretch) }
     {
         self.is_one();
-        compact_stretch::<O>(rt, alloc, self.pin.version(), self.stretch)
+        compact_stretch::<O>(rt, alloc, self.pin().version(), self.stretch())
     }
 }

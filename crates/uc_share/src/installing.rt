@@ -1,19 +1,22 @@
 //! [`Desk`]: what stands behind a store's lock, and what is done there.
-ghost use Rattle.std.specs.Prelude.{◌≡◌, ◌≢◌, None, IfErr, IfSome, IfNone, OnOk, fold, option_map};
+ghost use Rattle.std.specs.Prelude.{◌≡◌, ◌≢◌, None, IfErr, IfOk, IfSome, IfNone, OnOk, fold, option_map};
 ghost use mathlib.Core.List.{IsPrefix};
-ghost use Rattle.uc_version_state.specs.Versions.{contents_of};
-ghost use Rattle.uc_version_state.specs.Histories.{MayHappen, MayFollow, after};
+ghost use Rattle.uc_version_state.specs.Versions.{contents_of, ids_of};
+ghost use Rattle.uc_version_state.specs.Installs.{terms_of};
+ghost use Rattle.uc_version_state.specs.Refusals.{IsRefused};
+ghost use Rattle.uc_version_state.specs.Histories.{MayFollow, after};
 ghost use Rattle.uc_share_versions.specs.Fronts.{after_event};
 ghost use Rattle.uc_share.specs.Claims.{claimed_runs};
-ghost use Rattle.uc_share.specs.Installing.{event_of, EndsWith, ShowsRefusal};
+ghost use Rattle.uc_share.specs.Installing.{event_of, EndsWith, MayInstallHere, ShowsRefusal};
 
 use crate::held::Held;
-use std::alloc::Global;
+use std::alloc::{AllocError, Global};
 use std::sync::Wait;
 use uc_compact::Compacted;
 use uc_oper::Operator;
-use uc_share_versions::{Book, Front, Name, Pin, Publisher, Reader, claimed_runs_stay_the_same};
+use uc_share_versions::{Front, Name, Pin, Publisher, Reader, claimed_runs_stay_the_same};
 use uc_version::{Event, InstallError, error_of, present_refusal, what_fits_may_be_installed};
+use uc_version_state::Refusal;
 
 /// What was pinned is a beginning of what is shown, since it was shown before. It does nothing: a pin of what isn't shown yet can't
 /// be made, which no clause of a reader's says, so it would wait.
@@ -23,21 +26,6 @@ fn was_shown<O: Operator, N: Name>(rt: &impl Wait, pin: &Pin<O, N>, shown: &Fron
     for _ in rt.forever() {
         if pin.front().len() <= shown.len() {
             pin.begins(shown);
-            return;
-        }
-    }
-}
-
-/// Shows a reader what was published. Only who has the lock publishes, so the first turn is the last; a reader's place that is
-/// refused is tried again.
-fn tell<O: Operator, N: Name>(rt: &impl Wait, reader: &mut Reader<O, N>, shown: &Front<N>)
-    ensures seen { IsPrefix reader.old reader.new }
-    ensures legal { MayFollow O.meaning N.base reader.new }
-    ensures all { reader.new ≡ shown.now }
-{
-    reader.is_one();
-    for _ in rt.forever() {
-        if reader.sees(rt, shown).is_ok() {
             return;
         }
     }
@@ -58,33 +46,35 @@ impl<O: Operator, N: Name, W: Wait + Drop> Desk<O, N, W> {
         }
     }
 
-    /// Installs what was compacted of claimed runs, whose event is this, and shows the reader: one publication of exactly this
+    /// Installs what was compacted of claimed runs, whose event this is, and shows the reader: one publication of exactly this
     /// event, or a refusal that changes nothing that is shown and that the version which the reader then has seen shows. It
-    /// compares no points.
+    /// compares no points. Where there was no memory for the event, that is told last.
     pub(crate) fn install<R: Wait>(
         &mut self,
         rt: &R,
         alloc: Global,
-        book: &Book<N>,
         held: &Held<O, N>,
         made: &Compacted<O>,
-        event: &Event,
+        event: Result<Event, AllocError>,
         reader: &mut Reader<O, N>,
     ) -> Result<(), InstallError>
+        requires table { held.now.seat.table ≡ N.table }
         requires inputs { made.now.inputs ≡ contents_of (claimed_runs held.now) }
-        requires event { event.now ≡ event_of O.meaning (claimed_runs held.now) made.now }
-        ensures published { OnOk result (self.new.publisher ≡ option_map (after_event event.now) self.old.publisher) }
+        requires event { IfOk event (λ event. event ≡ event_of O.meaning (claimed_runs held.now) made.now) }
+        ensures published { OnOk result (self.new.publisher ≡
+            option_map (after_event (event_of O.meaning (claimed_runs held.now) made.now)) self.old.publisher) }
         ensures unchanged { IfErr result (λ _. self.new.publisher ≡ self.old.publisher) }
         ensures seen { IsPrefix reader.old reader.new }
         ensures legal { MayFollow O.meaning N.base reader.new }
-        ensures installed { OnOk result (EndsWith reader.old event.now reader.new) }
+        ensures installed { OnOk result
+            (EndsWith reader.old (event_of O.meaning (claimed_runs held.now) made.now) reader.new) }
         ensures refused { IfErr result (λ error.
             ShowsRefusal (fold after N.base reader.new) (claimed_runs held.now) made.now error) }
     {
         let Some(publisher) = self.publisher.take() else {
             unreachable!()
         };
-        let (publisher, done) = installed(rt, alloc, publisher, book, held, made, event, reader);
+        let (publisher, done) = installed(rt, alloc, publisher, held, made, event, reader);
         self.publisher = Some(publisher);
         done
     }
@@ -95,58 +85,59 @@ fn installed<O: Operator, N: Name, W: Wait + Drop, R: Wait>(
     rt: &R,
     alloc: Global,
     publisher: Publisher<O, N, W>,
-    book: &Book<N>,
     held: &Held<O, N>,
     made: &Compacted<O>,
-    event: &Event,
+    event: Result<Event, AllocError>,
     reader: &mut Reader<O, N>,
 ) -> (Publisher<O, N, W>, Result<(), InstallError>)
+    requires table { held.now.seat.table ≡ N.table }
     requires inputs { made.now.inputs ≡ contents_of (claimed_runs held.now) }
-    requires event { event.now ≡ event_of O.meaning (claimed_runs held.now) made.now }
-    ensures published { OnOk result.1 (result.0 ≡ after_event event.now publisher) }
+    requires event { IfOk event (λ event. event ≡ event_of O.meaning (claimed_runs held.now) made.now) }
+    ensures published { OnOk result.1
+        (result.0 ≡ after_event (event_of O.meaning (claimed_runs held.now) made.now) publisher) }
     ensures unchanged { IfErr result.1 (λ _. result.0 ≡ publisher) }
     ensures seen { IsPrefix reader.old reader.new }
     ensures legal { MayFollow O.meaning N.base reader.new }
-    ensures installed { OnOk result.1 (EndsWith reader.old event.now reader.new) }
+    ensures installed { OnOk result.1
+        (EndsWith reader.old (event_of O.meaning (claimed_runs held.now) made.now) reader.new) }
     ensures refused { IfErr result.1 (λ error.
         ShowsRefusal (fold after N.base reader.new) (claimed_runs held.now) made.now error) }
 {
-    match refusal(rt, &publisher, held, made, reader) {
-        Some(error) => (publisher, Err(error)),
-        None => {
-            let (publisher, done) = publisher.publish(alloc, book, event);
-            if done.is_err() {
-                return (publisher, Err(InstallError::Memory));
-            }
-            tell(rt, reader, &publisher.shown().front::<N>());
-            (publisher, Ok(()))
-        }
+    if let Some(refusal) = refusal(rt, &publisher, held, made, reader) {
+        return (publisher, Err(error_of(refusal)));
     }
+    let Ok(event) = event else {
+        return (publisher, Err(InstallError::Memory));
+    };
+    held.is_one();
+    let (publisher, done) = publisher.publish(alloc, &event, held.slots());
+    if done.is_err() {
+        return (publisher, Err(InstallError::Memory));
+    }
+    reader.sees(rt, &publisher.shown().front::<N>());
+    (publisher, Ok(()))
 }
 
-/// Why what is shown refuses what was compacted of claimed runs, which the reader then has seen. Where nothing refuses it, the
-/// event may happen to the version that is shown.
+/// Why what is shown, all of which the reader then has seen, refuses what was compacted of claimed runs. Where nothing refuses it,
+/// the claimed runs stand there as they were claimed, and the event may happen.
 fn refusal<O: Operator, N: Name, W: Wait + Drop, R: Wait>(
     rt: &R,
     publisher: &Publisher<O, N, W>,
     held: &Held<O, N>,
     made: &Compacted<O>,
     reader: &mut Reader<O, N>,
-) -> Option<InstallError>
+) -> Option<Refusal>
     requires { made.now.inputs ≡ contents_of (claimed_runs held.now) }
     ensures seen { IsPrefix reader.old reader.new }
     ensures legal { MayFollow O.meaning N.base reader.new }
-    ensures all { IfNone result (reader.new ≡ publisher.now.events) }
-    ensures may { IfNone result
-        (MayHappen O.meaning publisher.now.version (event_of O.meaning (claimed_runs held.now) made.now)) }
-    ensures refused { IfSome result (λ error.
-        ShowsRefusal (fold after N.base reader.new) (claimed_runs held.now) made.now error) }
+    ensures all { reader.new ≡ publisher.now.events }
+    ensures may { IfNone result (MayInstallHere O.meaning publisher.now.version (claimed_runs held.now) made.now) }
+    ensures refused { IfSome result (λ refusal.
+        IsRefused publisher.now.version (ids_of (claimed_runs held.now)) (terms_of made.now) refusal) }
 {
     publisher.is_one();
     let shown = publisher.shown().front::<N>();
-    if reader.sees(rt, &shown).is_err() {
-        return Some(InstallError::Memory);
-    }
+    reader.sees(rt, &shown);
     was_shown(rt, held.pin(), &shown);
     version_refusal(publisher, held, made)
 }
@@ -156,13 +147,12 @@ fn version_refusal<O: Operator, N: Name, W: Wait + Drop>(
     publisher: &Publisher<O, N, W>,
     held: &Held<O, N>,
     made: &Compacted<O>,
-) -> Option<InstallError>
+) -> Option<Refusal>
     requires inputs { made.now.inputs ≡ contents_of (claimed_runs held.now) }
     requires before { IsPrefix held.now.pin.events publisher.now.events }
-    ensures may { IfNone result
-        (MayHappen O.meaning publisher.now.version (event_of O.meaning (claimed_runs held.now) made.now)) }
-    ensures refused { IfSome result (λ error.
-        ShowsRefusal publisher.now.version (claimed_runs held.now) made.now error) }
+    ensures may { IfNone result (MayInstallHere O.meaning publisher.now.version (claimed_runs held.now) made.now) }
+    ensures refused { IfSome result (λ refusal.
+        IsRefused publisher.now.version (ids_of (claimed_runs held.now)) (terms_of made.now) refusal) }
 {
     publisher.is_one();
     held.is_one();
@@ -171,8 +161,5 @@ fn version_refusal<O: Operator, N: Name, W: Wait + Drop>(
     made.stands();
     claimed_runs_stay_the_same::<O>();
     what_fits_may_be_installed::<O>();
-    match present_refusal(held.runs(), publisher.shown().version(), made) {
-        None => None,
-        Some(refusal) => Some(error_of(refusal)),
-    }
+    present_refusal(held.runs(), publisher.shown().version(), made)
 }

@@ -1,98 +1,75 @@
 //! [`Store`]: a store that threads share.
-ghost use Rattle.std.specs.Prelude.{◌≡◌, ◌<◌, ◌≤◌, ◌↔◌, ℕ, Bool, List, false, true, Contains, fold, length, slice_index_or};
-ghost use Rattle.std.specs.Prelude.{IsTrue, IsOk, IfOk, IfErr, OnOk};
+ghost use Rattle.std.specs.Prelude.{◌≡◌, ◌<◌, ℕ, Bool, List, None, false, true, fold, length, slice_index_or};
+ghost use Rattle.std.specs.Prelude.{IfOk, IfErr, IfSome, OnOk, OnErr};
 ghost use mathlib.Core.List.{IsPrefix};
-ghost use Rattle.std.specs.List.{AllByRecursion};
-ghost use Rattle.uc_claims.specs.Holding.{free_seat, AreDistinct};
+ghost use Rattle.uc_claims.specs.Holding.{free_seat};
 ghost use Rattle.uc_claims.specs.declared.table.TheConstants.{MOST_SLOTS};
 ghost use Rattle.uc_version_pick.specs.Picks.{picked};
-ghost use Rattle.uc_version_state.specs.Versions as versions;
-ghost use Rattle.uc_version_state.specs.Versions.{Stored, ids_of};
+ghost use Rattle.uc_version_pick.specs.Options.{are_good};
+ghost use Rattle.uc_version_state.specs.Versions.{ids_of};
 ghost use Rattle.uc_version_state.specs.Refusals.{AreInPlace};
 ghost use Rattle.uc_version_state.specs.Histories.{MayFollow, after};
+ghost use Rattle.uc_version.specs.Claiming.{range_refusal};
 ghost use Rattle.uc_version.specs.Picking.{candidates_of};
+ghost use Rattle.uc_version.specs.declared.claim_error.ClaimError.TheVariants.{Memory};
 ghost use Rattle.uc_share_versions.specs.Fronts.{moment};
+ghost use Rattle.uc_share.specs.Claims as claims;
 ghost use Rattle.uc_share.specs.Claims.{claim_of, claimed_runs, IsClaimRefused};
 ghost use Rattle.uc_share.specs.Installing.{event_of, EndsWith, ShowsRefusal};
 
-use crate::held::Held;
+use crate::held::{Held, LookError};
 use crate::installing::Desk;
+use crate::taken::Taken;
+use crate::words::Words;
 use std::alloc::{AllocError, Global};
 use std::marker::Model;
 use std::sync::{Mutex, Wait};
-use uc_claims::{Busy, ClaimTable, HeldSlots, MOST_SLOTS, Seat};
+use uc_claims::{MOST_SLOTS, Seat};
 use uc_compact::Compacted;
 use uc_oper::Operator;
-use uc_share_versions::{Book, Name, Pin, Reader};
-use uc_version::{
-    ClaimError, InstallError, Options, Placed, Stretch, Version, are_inputs, install_event, pick,
-    run_ids, runs_of, slots_of,
-};
-use uc_version_state::neighbours_stand_where_their_ids_say;
+use uc_share_versions::{Name, Pin, Publisher, Reader};
+use uc_version::{ClaimError, InstallError, Options, Stretch, are_inputs, install_event, pick};
+use uc_version_pick::picks_are_unclaimed_runs;
 
 /// A store that threads share by reference: claim words for the slots of its runs, and behind a lock what shows readers the
 /// next version. Contracts see its table of claim words, which its seats carry too, and how it is compacted.
 #[derive(Drop)]
 pub struct Store<O: Operator, N: Name, W: Wait + Drop> {
-    pub(crate) table: ClaimTable,
-    pub(crate) options: Options,
-    pub(crate) book: Book<N>,
-    pub(crate) desk: Mutex<Desk<O, N, W>>,
+    words: Words,
+    options: Options,
+    desk: Mutex<Desk<O, N, W>>,
 }
 
 impl<O: Operator, N: Name, W: Wait + Drop> Model for Store<O, N, W> {
-    ghost use Rattle.std.specs.Prelude.{◌≡◌};
-    ghost use Rattle.uc_claims.specs.declared.table.TheConstants.{MOST_SLOTS};
+    ghost use Rattle.std.specs.Prelude.{◌≡◌, true};
+    ghost use Rattle.uc_version_pick.specs.Options.{are_good};
     ghost use Rattle.uc_share.specs.Stores.{Shared};
 
     ghost Value = { Shared };
 
-    ghost view = { λ s. record { table = s.table.table; options = s.options } };
+    ghost view = { λ s. record { table = s.words; options = s.options } };
 
-    ghost invariant = { λ s. s.table.count ≡ MOST_SLOTS };
-}
-
-/// Whether runs stand in a version as neighbours in their order, by their ids.
-fn are_in_place(version: &Version, runs: &[Placed]) -> bool
-    requires { length runs.now ≤ MOST_SLOTS }
-    ensures { IsTrue result ↔ AreInPlace version.now (ids_of runs.now) }
-{
-    version.is_one();
-    neighbours_stand_where_their_ids_say();
-    let ids = run_ids(runs);
-    version.place_of(&ids[..runs.len()]).is_some()
-}
-
-/// Whether the claimed runs stand as neighbours in their order in the version that is shown now, which the reader then has seen.
-fn are_still_there<O: Operator, N: Name>(
-    held: &Held<O, N>,
-    reader: &mut Reader<O, N>,
-) -> Result<bool, AllocError>
-    ensures seen { IsPrefix reader.old reader.new }
-    ensures legal { MayFollow O.meaning N.base reader.new }
-    ensures there { IfOk result (λ there.
-        IsTrue there ↔ AreInPlace (fold after N.base reader.new) (ids_of (claimed_runs held.now))) }
-{
-    let present = reader.pin()?;
-    Ok(are_in_place(present.version(), held.runs()))
-}
-
-/// Takes the slots of runs, the newest first, or none of them where one is taken, which is named.
-fn take_slots(table: &ClaimTable, seat: Seat, runs: &[Placed]) -> Result<HeldSlots, (Seat, Busy)>
-    requires count { table.now.count ≡ MOST_SLOTS }
-    requires table { seat.table ≡ table.now.table }
-    requires few { length runs.now ≤ MOST_SLOTS }
-    requires below { AllByRecursion (λ slot. slot < MOST_SLOTS) (versions.slots_of runs.now) }
-    requires distinct { AreDistinct (versions.slots_of runs.now) }
-    ensures ok { IfOk result (λ held. held ≡ record seat { slots = versions.slots_of runs.now }) }
-    ensures err { IfErr result (λ refused.
-        (refused.0 ≡ seat) × Contains (versions.slots_of runs.now) refused.1.0) }
-{
-    let slots = slots_of(runs);
-    table.take(seat, &slots[..runs.len()])
+    ghost invariant = { λ s. (s.words ≡ N.table) × (are_good s.options ≡ true) };
 }
 
 impl<O: Operator, N: Name, W: Wait + Drop> Store<O, N, W> {
+    /// A store with these claim words, which is compacted so, and shows what this shows.
+    pub(crate) fn new(
+        words: Words,
+        options: Options,
+        publisher: Publisher<O, N, W>,
+    ) -> Store<O, N, W>
+        requires words { words ≡ N.table }
+        requires options { are_good options ≡ true }
+        ensures { result ≡ record { table = words; options = options } }
+    {
+        Store {
+            words,
+            options,
+            desk: Mutex::new(Desk::new(publisher)),
+        }
+    }
+
     /// Whether the slot is taken, at one moment during the call. The seat stays as it was. It waits for nobody.
     pub fn busy(&self, seat: &mut Seat, slot: usize) -> bool
         requires table { seat.old.table ≡ self.now.table }
@@ -100,7 +77,7 @@ impl<O: Operator, N: Name, W: Wait + Drop> Store<O, N, W> {
         ensures seat { seat.new ≡ seat.old }
         ensures whole { seat.old.whole ≡ true → result ≡ false }
     {
-        self.table.busy(seat, slot)
+        self.words.busy(seat, slot)
     }
 
     /// A flag for each slot: whether it is taken, each at a moment during the call.
@@ -122,36 +99,11 @@ impl<O: Operator, N: Name, W: Wait + Drop> Store<O, N, W> {
         ensures seat { seat.new ≡ seat.old }
         ensures picked { (flags : List Bool) × (result ≡
             picked self.now.options (candidates_of pin.now.version (λ slot. slice_index_or flags slot false))) }
+        ensures claimable { IfSome result (λ stretch. range_refusal (length pin.now.version.runs) stretch ≡ None) }
     {
+        picks_are_unclaimed_runs();
         let busy = self.busy_slots(seat);
         pick(pin.version(), &self.options, &busy)
-    }
-
-    /// Takes the slots of a stretch, or none of them.
-    fn take(
-        &self,
-        seat: Seat,
-        pin: Pin<O, N>,
-        stretch: Stretch,
-    ) -> Result<Held<O, N>, (Seat, Pin<O, N>, ClaimError)>
-        requires { seat.table ≡ self.now.table }
-        ensures ok { IfOk result (λ held. held ≡ claim_of seat pin stretch) }
-        ensures err { IfErr result (λ refused. (refused.0 ≡ seat) × (refused.1 ≡ pin)) }
-        ensures refused { IfErr result (λ refused. (v : Stored) → IsClaimRefused pin stretch v refused.2) }
-    {
-        pin.version().is_one();
-        let runs = match runs_of(pin.version().runs(), stretch) {
-            Err(error) => return Err((seat, pin, error)),
-            Ok(runs) => runs,
-        };
-        match take_slots(&self.table, seat, runs) {
-            Err((seat, busy)) => Err((seat, pin, ClaimError::Busy(busy.0))),
-            Ok(slots) => Ok(Held {
-                slots,
-                pin,
-                stretch,
-            }),
-        }
     }
 
     /// Gives a claim back. It waits for nobody.
@@ -160,12 +112,7 @@ impl<O: Operator, N: Name, W: Wait + Drop> Store<O, N, W> {
         ensures seat { result.0 ≡ free_seat held.seat.table held.seat.whole }
         ensures pin { result.1 ≡ held.pin }
     {
-        let Held {
-            slots,
-            pin,
-            stretch: _,
-        } = held;
-        (self.table.give(slots), pin)
+        held.into_taken().give(&self.words)
     }
 
     /// Claims a stretch of a pinned version: it takes the slots of its runs, and then looks whether these stand in the version
@@ -186,36 +133,39 @@ impl<O: Operator, N: Name, W: Wait + Drop> Store<O, N, W> {
         ensures err { IfErr result (λ refused. (refused.0 ≡ seat) × (refused.1 ≡ pin)) }
         ensures refused { IfErr result (λ refused.
             IsClaimRefused pin stretch (fold after N.base reader.new) refused.2) }
+        ensures unseen { IfErr result (λ refused. refused.2 ≡ Memory → reader.new ≡ reader.old) }
     {
         reader.is_one();
-        let held = match self.take(seat, pin, stretch) {
+        let taken = match Taken::take(&self.words, seat, pin, stretch) {
             Err(refused) => return Err(refused),
-            Ok(held) => held,
+            Ok(taken) => taken,
         };
-        let error = match are_still_there(&held, reader) {
-            Ok(true) => return Ok(held),
-            Ok(false) => ClaimError::Moved,
-            Err(AllocError) => ClaimError::Memory,
-        };
-        let (seat, pin) = self.abandon(held);
-        Err((seat, pin, error))
+        taken.is_one();
+        match Held::look(taken, reader) {
+            Ok(held) => Ok(held),
+            Err((taken, error)) => {
+                let (seat, pin) = taken.give(&self.words);
+                Err((seat, pin, claim_error(error)))
+            }
+        }
     }
 
     /// Pins what is shown now: the version after a history that begins with all that this reader had seen. It waits for nobody.
-    /// It is refused where the version is shared too often, and the reader may have seen more then.
+    /// It is refused where too many own the version, and the reader has seen no more then.
     pub fn pin(&self, reader: &mut Reader<O, N>) -> Result<Pin<O, N>, AllocError>
         ensures seen { IsPrefix reader.old reader.new }
         ensures legal { MayFollow O.meaning N.base reader.new }
         ensures pinned { IfOk result (λ pin. pin ≡ moment N.book (fold after N.base reader.new) reader.new) }
+        ensures refused { OnErr result (reader.new ≡ reader.old) }
     {
         let _ = &self.options;
         reader.pin()
     }
 
     /// Puts what was compacted of the claimed runs in their place, for all readers at once, and shows it to this one. Of several
-    /// refusals the first of these is answered: `WrongInputs`, `WrongKeeps`, `Stale`, `IdsSpent`; or it is `Memory`. The inputs'
-    /// points are compared before the lock is taken, and none behind it. It waits for other installs, and for readers that
-    /// still look at the version before.
+    /// refusals the first of these is answered: `WrongInputs`, `WrongKeeps`, `Stale`, `IdsSpent`; and `Memory` only where none of
+    /// these holds. The inputs' points are compared before the lock is taken, and none behind it. It waits for other installs,
+    /// and for readers that still look at the version before.
     pub fn install(
         &self,
         rt: &impl Wait,
@@ -248,6 +198,7 @@ impl<O: Operator, N: Name, W: Wait + Drop> Store<O, N, W> {
         made: &Compacted<O>,
         reader: &mut Reader<O, N>,
     ) -> Result<(), InstallError>
+        requires { held.now.seat.table ≡ self.now.table }
         ensures seen { IsPrefix reader.old reader.new }
         ensures legal { MayFollow O.meaning N.base reader.new }
         ensures installed { OnOk result
@@ -259,10 +210,18 @@ impl<O: Operator, N: Name, W: Wait + Drop> Store<O, N, W> {
         if !are_inputs(made, held.runs()) {
             return Err(InstallError::WrongInputs);
         }
-        let Ok(event) = install_event(alloc, held.runs(), made) else {
-            return Err(InstallError::Memory);
-        };
+        let event = install_event(alloc, held.runs(), made);
         let mut desk = self.desk.lock(rt);
-        desk.install(rt, alloc, &self.book, held, made, &event, reader)
+        desk.install(rt, alloc, held, made, event, reader)
+    }
+}
+
+/// The error that says why no claim was made of slots that were taken.
+fn claim_error(error: LookError) -> ClaimError
+    ensures { result ≡ claims.claim_error error }
+{
+    match error {
+        LookError::Moved => ClaimError::Moved,
+        LookError::Memory => ClaimError::Memory,
     }
 }

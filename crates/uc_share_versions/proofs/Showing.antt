@@ -1,6 +1,6 @@
 -- The steps of readers and of the writer keep the rule of what is shown.
 use Rattle.std.proofs.Common.{◌≡◌, ℕ, ◌≤◌, ◌≢◌, List, [], ◌∷◌, ◌++◌, fold, length, refl, sym, ap, ◌∙◌, subst, ⊎_elim, le_refl, le_trans, zero-le}
-use Rattle.std.specs.Prelude.{Result, Ok, Err, MatchResult, OnOk}
+use Rattle.std.specs.Prelude.{Result, Ok, Err, MatchResult}
 use mathlib.Core.Option.{some, some-ne-none}
 use lib.ListN.{get_elem?}
 use Rattle.crossbeam_utils.specs.Register.{Admits, TurnsAt}
@@ -48,6 +48,6 @@ pub last_taken : (now next : Moment) (before : List Moment) → fold (λ (x : Mo
 last_taken now next [] = refl
 last_taken now next (s ∷ before) = last_taken s next before
 
-pub ok_shows : {A B : Type 0} (Q Z : Type 0) (r : Result A B) (now made next : Moment) → MatchResult r (λ _. (now ≡ made) × Q) (λ _. Z) → made ≡ next → OnOk r (now ≡ next)
-ok_shows Q Z (Ok x) now made next h e = h.0 ∙ e
-ok_shows Q Z (Err x) now made next h e = tt
+pub ok_shows : {A B : Type 0} (Q Z : Type 0) (r : Result A B) (a : A) (now made next : Moment) → r ≡ Ok a → MatchResult r (λ _. (now ≡ made) × Q) (λ _. Z) → made ≡ next → now ≡ next
+ok_shows Q Z (Ok x) a now made next is h e = h.0 ∙ e
+ok_shows Q Z (Err x) a now made next is h e = cc (is)

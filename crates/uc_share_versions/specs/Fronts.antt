@@ -4,8 +4,11 @@ use mathlib.Core.Option.{some}
 use lib.ListN.{get_elem?}
 use Rattle.logbook.specs.Pages.{Book}
 use Rattle.uc_oper.specs.Operation.{Operation}
-use Rattle.uc_version_state.specs.Versions.{Stored}
-use Rattle.uc_version_state.specs.Histories.{MayFollow, after}
+use Rattle.atomic_table.specs.Seated.{TableId}
+use Rattle.uc_claims.specs.Holding.{Holding}
+use Rattle.uc_version_state.specs.Versions.{Stored, slots_of}
+use Rattle.uc_version_state.specs.Installs.{standing}
+use Rattle.uc_version_state.specs.Histories.{MayFollow, after, ids_replaced}
 use Rattle.uc_version_state.specs.declared.event.Event.{Event}
 
 -- a version, and the events since the store was opened, of the history in a book
@@ -43,6 +46,11 @@ after_event e s = moment s.book (after s.version e) (s.events ++ e ∷ [])
 -- it is shown after an event, and is the store's still
 abbrev pub Goes : Operation → Book → Stored → Moment → Event → Moment → Type 0
 Goes m book base s e t = (t ≡ after_event e s) × IsMoment m book base t
+
+-- a seat of this table holds the slots of the runs that an event replaces in a version
+pub record HoldsReplaced (table : TableId) (v : Stored) (e : Event) (seat : Holding) : Type 0 where
+  pub of_table : seat.table ≡ table
+  pub slots : slots_of (standing (ids_replaced e) v.runs) ≡ seat.slots
 
 -- a store opens for so many readers
 pub record IsCount (readers : ℕ) : Type 0 where

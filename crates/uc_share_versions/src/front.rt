@@ -1,4 +1,4 @@
-//! [`Front`]: a beginning of a store's history that was seen, and [`Book`], what events are added to.
+//! [`Front`]: a beginning of a store's history that was seen.
 ghost use Rattle.std.specs.Prelude.{◌≡◌, ◌<◌, ◌≤◌, ◌^◌, ◌++◌, ◌∷◌, [], length, ◌↔◌, IsTrue};
 ghost use Rattle.std.specs.Bool.{OnTrue};
 ghost use mathlib.Core.List.{IsPrefix};
@@ -6,55 +6,9 @@ ghost use Rattle.uc_share_versions.specs.Rules.{head_of};
 
 use crate::name::Name;
 use crate::rule::{Add, Law, Nothing};
-use logbook::{Offer, Seen, Start, Word};
+use logbook::{Offer, Seen, Word};
 use std::marker::{Model, PhantomData};
 use uc_version_state::Event;
-
-/// A history without an event, which has no name yet.
-pub struct Opening {
-    head: Word<Event, u64, Law>,
-    pub(crate) seen: Seen<Event, u64, Law>,
-    pub ghost empty: { seen.log ≡ [] },
-    pub ghost head_is: { head ≡ head_of seen.book },
-}
-
-impl Opening {
-    /// A history without an event.
-    pub fn new() -> Opening {
-        let (seen, mut first, _second) = Seen::open(Start::alone(), 0, 0);
-        Opening {
-            head: Word::tracked(0, &mut first),
-            seen,
-        }
-    }
-
-    /// The history under its name, and the front that has seen nothing.
-    pub fn named<N: Name>(self) -> (Book<N>, Front<N>)
-        requires { self.seen.book ≡ N.book }
-        ensures { result.1 ≡ [] }
-    {
-        let Opening { head, seen } = self;
-        (
-            Book {
-                head,
-                of: PhantomData,
-            },
-            Front {
-                count: 0,
-                seen,
-                of: PhantomData,
-            },
-        )
-    }
-}
-
-/// What all threads of a store add events to: the length of the history.
-#[derive(Drop)]
-pub struct Book<N: Name> {
-    head: Word<Event, u64, Law>,
-    of: PhantomData<N>,
-    ghost head_is: { head ≡ head_of N.book },
-}
 
 /// A beginning of the history that was seen. Contracts see it as its events, of which no list is kept.
 #[derive(Drop)]
@@ -76,6 +30,19 @@ impl<N: Name> Model for Front<N> {
 }
 
 impl<N: Name> Front<N> {
+    /// What was seen of a history, which has so many events.
+    pub(crate) fn of(count: u64, seen: Seen<Event, u64, Law>) -> Front<N>
+        requires count { count ≡ length seen.log }
+        requires book { seen.book ≡ N.book }
+        ensures { result ≡ seen.log }
+    {
+        Front {
+            count,
+            seen,
+            of: PhantomData,
+        }
+    }
+
     /// How many events it has.
     pub fn len(&self) -> u64
         ensures { result ≡ length self.now }
@@ -114,9 +81,11 @@ impl<N: Name> Front<N> {
         true
     }
 
-    /// Adds an event to all that was seen, and says whether it did. It did not where the history is longer.
-    pub fn add(&mut self, book: &Book<N>, event: &Event) -> bool
-        requires { length self.old < 2 ^ 62 }
+    /// Adds an event to all that was seen, by the word that counts the history, and says whether it did. It did not where the
+    /// history is longer.
+    pub(crate) fn add(&mut self, head: &Word<Event, u64, Law>, event: &Event) -> bool
+        requires head { head.now ≡ head_of N.book }
+        requires room { length self.old < 2 ^ 62 }
         ensures { OnTrue result (self.new ≡ self.old ++ event.now ∷ []) }
     {
         let mut offer: Offer<Event, u64, Law, Nothing> = self
@@ -124,15 +93,13 @@ impl<N: Name> Front<N> {
             .plain::<Nothing, Event, Add>(event);
         let mut pen = self.seen.no_pen();
         let count = self.count;
-        let found = book
-            .head
-            .compare_exchange::<Add, Nothing>(
-                count,
-                count + 1,
-                &mut self.seen,
-                &mut offer,
-                &mut pen,
-            );
+        let found = head.compare_exchange::<Add, Nothing>(
+            count,
+            count + 1,
+            &mut self.seen,
+            &mut offer,
+            &mut pen,
+        );
         self.count = if found == count { count + 1 } else { found };
         found == count
     }

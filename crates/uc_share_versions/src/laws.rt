@@ -6,9 +6,11 @@ ghost use Rattle.uc_version_state.specs.Versions.{PlacedRun, Stored, IsVersion, 
 ghost use Rattle.uc_version_state.specs.Installs.{standing};
 ghost use Rattle.uc_version_state.specs.Refusals.{AreInPlace};
 ghost use Rattle.uc_version_state.specs.declared.event.Event.{Event};
-ghost use Rattle.uc_version_state.specs.Histories.{MayFollow, after, History, IsLegal, version_after};
+ghost use Rattle.uc_version_state.specs.Histories.{MayFollow, after, History, IsLegal, all_ids_replaced, version_after};
+ghost use Rattle.uc_claims.specs.Holding.{AreDistinct};
 
 use uc_oper::Operator;
+use uc_version_state::runs_are_replaced_once;
 
 /// What was seen goes behind every legal history with which the store was opened: the longer history is legal, and the version
 /// after it is the one that what was seen leads to.
@@ -19,6 +21,17 @@ pub fn fronts_go_behind_histories<O: Operator>()
     ensures after { (h : History) (base : Stored) (events : List Event) → version_after h ≡ base →
         version_after (record h { events = h.events ++ events }) ≡ fold after base events }
 {}
+
+/// No run is replaced twice, in no front: behind every legal history with which the store was opened, the ids of all runs that the
+/// events of a front replace are distinct, and they were replaced by none before.
+pub fn fronts_replace_runs_once<O: Operator>()
+    ensures { (h : History) (base : Stored) (events : List Event) → IsLegal O.meaning h →
+        version_after h ≡ base → MayFollow O.meaning base events →
+        AreDistinct (all_ids_replaced (record h { events = h.events ++ events })) }
+{
+    fronts_go_behind_histories::<O>();
+    runs_are_replaced_once::<O>();
+}
 
 /// Claimed runs stand as they were: where runs with their ids stand as neighbours in a version that comes later in the store's
 /// history, these are the claimed runs, with their contents. So no point has to be looked at to know it.

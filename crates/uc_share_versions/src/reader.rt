@@ -1,5 +1,5 @@
 //! [`Reader`]: what pins versions.
-ghost use Rattle.std.specs.Prelude.{◌≡◌, ◌≤◌, [], length, fold, IfOk, OnOk};
+ghost use Rattle.std.specs.Prelude.{◌≡◌, ◌≤◌, [], length, fold, IfOk, OnErr};
 ghost use mathlib.Core.List.{IsPrefix};
 ghost use Rattle.left_right.specs.Sides.{view};
 ghost use Rattle.uc_version_state.specs.Histories.{MayFollow, after};
@@ -29,7 +29,7 @@ pub struct Reader<O: Operator, N: Name> {
 }
 
 impl<O: Operator, N: Name> Model for Reader<O, N> {
-    ghost use Rattle.std.specs.Prelude.{◌≤◌, List, length, IfSome};
+    ghost use Rattle.std.specs.Prelude.{◌≤◌, ◌≢◌, List, None, length, IfSome};
     ghost use Rattle.left_right.specs.Sides as sides;
     ghost use Rattle.uc_version_state.specs.declared.event.Event.{Event};
     ghost use Rattle.uc_version_state.specs.Histories.{MayFollow};
@@ -38,7 +38,8 @@ impl<O: Operator, N: Name> Model for Reader<O, N> {
 
     ghost view = { λ r. r.front };
 
-    ghost invariant = { λ r. IfSome r.place (λ p. length r.front ≤ sides.view p.place) × MayFollow O.meaning N.base r.front };
+    ghost invariant = { λ r. (r.place ≢ None) × IfSome r.place (λ p. length r.front ≤ sides.view p.place)
+        × MayFollow O.meaning N.base r.front };
 }
 
 /// Looks at what is shown, and pins it for the reader with this number. It waits for nobody.
@@ -87,15 +88,16 @@ impl<O: Operator, N: Name> Reader<O, N> {
     }
 
     /// Pins what is shown now: the version after a history that begins with all that this reader had seen. It waits for
-    /// nobody. It is refused where the version is shared too often, and the reader may have seen more then.
+    /// nobody. It is refused where too many own the version, and the reader has seen no more then.
     pub fn pin(&mut self) -> Result<Pin<O, N>, AllocError>
         ensures seen { IsPrefix self.old self.new }
         ensures legal { MayFollow O.meaning N.base self.new }
         ensures pinned { IfOk result (λ pin. pin ≡ moment N.book (fold after N.base self.new) self.new) }
+        ensures refused { OnErr result (self.new ≡ self.old) }
     {
         self.is_one();
         let Some(place) = self.place.take() else {
-            return Err(AllocError);
+            unreachable!()
         };
         let (place, pin) = look(place, self.number);
         self.place = Some(place);
@@ -106,20 +108,18 @@ impl<O: Operator, N: Name> Reader<O, N> {
         Ok(pin)
     }
 
-    /// Enters until it has seen what is shown, of which a front is given. Nothing else is shown meanwhile where the caller has
-    /// what shows it, so that the first turn is the last. It is refused as `pin` is.
-    pub fn sees(&mut self, rt: &impl Wait, shown: &Front<N>) -> Result<(), AllocError>
+    /// Pins until it has seen what is shown, of which a front is given. Nothing else is shown meanwhile where the caller has
+    /// what shows it, so that the first turn is the last; a refused pin is tried again.
+    pub fn sees(&mut self, rt: &impl Wait, shown: &Front<N>)
         ensures seen { IsPrefix self.old self.new }
         ensures legal { MayFollow O.meaning N.base self.new }
-        ensures all { OnOk result (self.new ≡ shown.now) }
+        ensures all { self.new ≡ shown.now }
     {
         self.is_one();
         for _ in rt.forever() {
-            self.pin()?;
-            if self.front.is_same(shown) {
-                return Ok(());
+            if self.pin().is_ok() && self.front.is_same(shown) {
+                return;
             }
         }
-        Err(AllocError)
     }
 }

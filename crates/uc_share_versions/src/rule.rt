@@ -5,7 +5,7 @@
 //!
 //! | Kind of step | Made by | What it does |
 //! |---|---|---|
-//! | add | `Front::add` | an event goes behind the history, where the caller has seen all of it |
+//! | add | `Book::add`, by `Publisher::publish` alone | an event goes behind the history, all of which is shown |
 //! | publish | `Publisher::publish` | the version after that event is shown, with the history up to it |
 //! | enter | `Reader::pin` | the reader sees the history that is shown, and what it knew is a beginning of that |
 use crate::name::Name;

@@ -73,11 +73,14 @@ impl Model for Shares {
 }
 
 impl Shares {
-    /// A version, with a share for each of so many readers. Want of memory loses it.
-    pub(crate) fn new(alloc: Global, version: Version, readers: usize) -> Result<Shares, AllocError>
-        ensures { IfOk result (λ shares. shares ≡ version) }
+    /// A version, with a share for each of so many readers.
+    pub(crate) fn new(
+        alloc: Global,
+        version: Arc<Version>,
+        readers: usize,
+    ) -> Result<Shares, AllocError>
+        ensures { IfOk result (λ shares. shares ≡ arc_value version) }
     {
-        let version = Arc::new(alloc, version)?;
         let mut others = Vec::with_capacity(alloc, readers)?;
         for _ in 0..readers {
             others.push(Share::new(alloc, version.clone()?)?)?;

@@ -87,11 +87,7 @@ impl Shown {
         requires { self.now.book ≡ N.book }
         ensures { result ≡ self.now.events }
     {
-        Front {
-            count: self.count,
-            seen: self.seen.again(),
-            of: PhantomData,
-        }
+        Front::of(self.count, self.seen.again())
     }
 }
 

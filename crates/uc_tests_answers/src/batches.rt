@@ -1,5 +1,6 @@
 //! Batches asked before, beside and after compactions.
 ghost use Rattle.std.specs.Prelude.{◌≡◌};
+ghost use Rattle.uc_share.specs.Stores.{IsNamed};
 
 use crate::stores::{compacts, opened};
 use crate::worked::{five_runs, seven_answers, seven_queries};
@@ -11,7 +12,7 @@ use std::thread::{Threads, join};
 use uc_oper::{Append, Operator};
 use uc_query_answer::{Answer, Query};
 use uc_query_shared::{AskError, Free, answer_all, batch_refusal};
-use uc_share::{Name, Opening, Reader, Store, Version};
+use uc_share::{Name, Opening, Reader, Store};
 use uc_tests_compactors::worker::Worker;
 
 /// Readers, and whether every batch that they were lent for was answered as it should be.
@@ -99,8 +100,7 @@ fn batches_beside_a_compactor<O, N, W, R>(
     rt: &R,
     handle: W,
     alloc: Global,
-    opening: Opening,
-    version: Version,
+    opening: Opening<O>,
     batch: (&[Query], &[Answer]),
 ) -> Result<(bool, u64), Fail>
 where
@@ -108,10 +108,9 @@ where
     N: Name + Send + Sync,
     W: Wait + Drop + Send,
     R: Threads + Wait + Sync,
-    requires book { opening.seen.book ≡ N.book }
-    requires base { version ≡ N.base }
+    requires { IsNamed opening N.book N.table N.base }
 {
-    let (store, readers, (compactor, _)) = opened::<O, N, W>(handle, alloc, opening, version)?;
+    let (store, readers, (compactor, _)) = opened::<O, N, W>(handle, alloc, opening)?;
     let (readers, before) = all_are_answered(rt, alloc, readers, batch);
     let (asked, installs) = asked_beside(rt, alloc, &store, readers, compactor, batch);
     let (readers, beside) = asked;
@@ -122,15 +121,14 @@ where
 #[test]
 fn batches_are_answered_beside_a_compactor(rt: HostRuntime) -> Result<(), Fail> {
     let alloc = rt.alloc();
-    let version = five_runs(alloc)?;
+    let opening = five_runs(alloc)?;
     let queries = seven_queries(alloc)?;
     let answers = seven_answers(alloc)?;
     let (right, installs) = batches_beside_a_compactor::<Append<b','>, Brand, _, _>(
         &rt,
         &rt,
         alloc,
-        Opening::new(),
-        version,
+        opening,
         (&queries, &answers),
     )?;
     assert!(rt; right);
@@ -192,30 +190,21 @@ fn batches_are_refused<N: Name + Send, W: Wait + Drop>(
     rt: &(impl Threads + Sync),
     handle: W,
     alloc: Global,
-    opening: Opening,
-    version: Version,
+    opening: Opening<Append<b','>>,
     queries: &[Query],
 ) -> Result<bool, Fail>
-    requires book { opening.seen.book ≡ N.book }
-    requires base { version ≡ N.base }
+    requires { IsNamed opening N.book N.table N.base }
 {
-    let (_store, readers, _) = opened::<Append<b','>, N, W>(handle, alloc, opening, version)?;
+    let (_store, readers, _) = opened::<Append<b','>, N, W>(handle, alloc, opening)?;
     Ok(are_refused(rt, alloc, readers, queries))
 }
 
 #[test]
 fn batches_that_are_refused(rt: HostRuntime) -> Result<(), Fail> {
     let alloc = rt.alloc();
-    let version = five_runs(alloc)?;
+    let opening = five_runs(alloc)?;
     let queries = seven_queries(alloc)?;
-    let right = batches_are_refused::<Brand, _>(
-        &rt,
-        &rt,
-        alloc,
-        Opening::new(),
-        version,
-        &queries,
-    )?;
+    let right = batches_are_refused::<Brand, _>(&rt, &rt, alloc, opening, &queries)?;
     assert!(rt; right);
     Ok(())
 }

@@ -1,63 +1,33 @@
 //! Gates that hold workers up.
 ghost use Rattle.std.specs.Prelude.{◌≡◌};
+ghost use Rattle.uc_share.specs.Stores.{IsNamed};
 
+use crate::signals::{Signal, TURNS};
 use crate::stores::opened;
 use crate::worked::{five_runs, seven_answers, seven_queries};
 use std::alloc::Global;
 use std::marker::{Brand, Send, Sync};
 use std::sync::Wait;
-use std::sync::atomic::{AtomicBool, Ordering};
 use std::test::Fail;
-use std::thread::{Threads, join, yield_now};
+use std::thread::{Threads, join};
 use uc_oper::{Append, Operator};
 use uc_query_answer::{Answer, Query};
 use uc_query_shared::{Gate, answer_all};
-use uc_share::{Name, Opening, Reader, Store, Version};
+use uc_share::{Name, Opening, Reader, Store};
 use uc_tests_compactors::stretches::both_compact;
 use uc_tests_compactors::worker::Pair;
-
-/// How often a gate looks before it gives up.
-const TURNS: u32 = 100_000_000;
 
 /// A gate that holds piece 0 until piece 1 has come.
 #[derive(Drop)]
 struct SecondFirst {
-    come: AtomicBool,
-    late: AtomicBool,
-    turns: u32,
-}
-
-impl SecondFirst {
-    fn new(turns: u32) -> SecondFirst {
-        SecondFirst {
-            come: AtomicBool::new(false),
-            late: AtomicBool::new(false),
-            turns,
-        }
-    }
-
-    /// Looks until piece 1 has come, or for too long, which it notes.
-    fn wait(&self) {
-        for _ in 0..self.turns {
-            if self.come.load(Ordering::SeqCst) {
-                return;
-            }
-            yield_now();
-        }
-        self.late.store(true, Ordering::SeqCst);
-    }
-
-    /// Whether piece 1 came in time.
-    fn is_passed(&self) -> bool {
-        self.come.load(Ordering::SeqCst) && !self.late.load(Ordering::SeqCst)
-    }
+    come: Signal,
 }
 
 impl Gate for SecondFirst {
     fn at(&self, piece: usize) {
         match piece {
-            0 => self.wait(),
-            1 => self.come.store(true, Ordering::SeqCst),
+            0 => self.come.wait(),
+            1 => self.come.give(),
             _ => {}
         }
     }
@@ -96,8 +66,7 @@ fn answered_through_the_gate<O, N, W, R>(
     rt: &R,
     handle: W,
     alloc: Global,
-    opening: Opening,
-    version: Version,
+    opening: Opening<O>,
     batch: (&[Query], &[Answer]),
 ) -> Result<bool, Fail>
 where
@@ -105,27 +74,27 @@ where
     N: Name + Send + Sync,
     W: Wait + Drop + Send,
     R: Threads + Wait + Sync,
-    requires book { opening.seen.book ≡ N.book }
-    requires base { version ≡ N.base }
+    requires { IsNamed opening N.book N.table N.base }
 {
-    let (store, readers, pair) = opened::<O, N, W>(handle, alloc, opening, version)?;
-    let gate = SecondFirst::new(TURNS);
+    let (store, readers, pair) = opened::<O, N, W>(handle, alloc, opening)?;
+    let gate = SecondFirst {
+        come: Signal::new(TURNS),
+    };
     let right = is_answered_beside(rt, alloc, &store, readers, pair, batch, &gate);
-    Ok(right && gate.is_passed())
+    Ok(right && gate.come.is_heard())
 }
 
 #[test]
 fn pieces_wait_for_one_another(rt: HostRuntime) -> Result<(), Fail> {
     let alloc = rt.alloc();
-    let version = five_runs(alloc)?;
+    let opening = five_runs(alloc)?;
     let queries = seven_queries(alloc)?;
     let answers = seven_answers(alloc)?;
     let right = answered_through_the_gate::<Append<b','>, Brand, _, _>(
         &rt,
         &rt,
         alloc,
-        Opening::new(),
-        version,
+        opening,
         (&queries, &answers),
     )?;
     assert!(rt; right);

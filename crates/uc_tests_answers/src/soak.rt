@@ -1,5 +1,6 @@
 //! Batches of 200 queries beside four compactors, over many drawn stores: the answers of the plain writes all along.
 ghost use Rattle.std.specs.Prelude.{◌≡◌, All};
+ghost use Rattle.uc_share.specs.Stores.{IsNamed};
 
 use std::alloc::{AllocError, Global};
 use std::marker::{Brand, Send, Sync};
@@ -12,8 +13,8 @@ use uc_bytes::Bytes;
 use uc_oper::{Append, Counter, Maximum, Operator};
 use uc_query_answer::{Answer, Query, answer_writes};
 use uc_query_shared::{Free, answer_all};
-use uc_share::{Name, Opening, Reader, Seat, Store, Version};
-use uc_tests_compactors::drawn::{drawn_store, small_runs};
+use uc_share::{Name, Opening, Reader, Seat, Store};
+use uc_tests_compactors::drawn::drawn_store;
 use uc_tests_compactors::turns::{four_compact, shows_installs};
 use uc_tests_compactors::worker::{Pair, next_pairs};
 use uc_tests_shared::dice::{Dice, KEYS};
@@ -168,7 +169,7 @@ fn soaks_opened<O, N, W, R>(
     rt: &R,
     handle: W,
     alloc: Global,
-    opened_with: (Opening, Version),
+    opening: Opening<O>,
     batch: &Batch,
     seed: u64,
 ) -> Option<u64>
@@ -177,13 +178,10 @@ where
     N: Name + Send + Sync,
     W: Wait + Drop + Send,
     R: Threads + Wait + Sync,
-    requires book { opened_with.0.seen.book ≡ N.book }
-    requires base { opened_with.1 ≡ N.base }
+    requires { IsNamed opening N.book N.table N.base }
 {
-    let (opening, version) = opened_with;
-    let numbers = (version.next_id(), seed);
-    let opened = Store::<O, N, W>::open(alloc, handle, opening, version, small_runs(), 9, 4);
-    let (store, readers, seats) = opened.ok()?;
+    let numbers = (opening.version().next_id(), seed);
+    let (store, readers, seats) = opening.named::<N, W>(alloc, handle).ok()?;
     soaks(rt, alloc, &store, readers, seats, batch, numbers)
 }
 
@@ -196,11 +194,10 @@ fn installs_of<O: Operator + Send + Sync, R: Threads + Wait + Sync>(
 ) -> Result<u64, Fail> {
     let mut installs = 0_u64;
     for _ in 0..stores {
-        let (writes, version) = drawn_store(alloc, dice).ok_or("no store is drawn")?;
-        let batch = drawn_batch::<O>(alloc, dice, &writes, version.keeps())?;
-        let opened_with = (Opening::new(), version);
+        let (writes, opening) = drawn_store::<O>(alloc, dice, 9).ok_or("no store is drawn")?;
+        let batch = drawn_batch::<O>(alloc, dice, &writes, opening.version().keeps())?;
         let seed = dice.roll(u64::MAX);
-        let made = soaks_opened::<O, Brand, &R, R>(rt, rt, alloc, opened_with, &batch, seed);
+        let made = soaks_opened::<O, Brand, &R, R>(rt, rt, alloc, opening, &batch, seed);
         installs = installs.saturating_add(made.ok_or("a batch is answered differently")?);
     }
     Ok(installs)

@@ -1,5 +1,6 @@
 //! A store that threads share, with readers for batches and compactors beside them.
 ghost use Rattle.std.specs.Prelude.{◌≡◌, IfOk};
+ghost use Rattle.uc_share.specs.Stores.{IsNamed};
 
 use std::alloc::Global;
 use std::marker::Sync;
@@ -7,29 +8,21 @@ use std::sync::Wait;
 use std::test::Fail;
 use std::thread::Threads;
 use uc_oper::Operator;
-use uc_share::{Name, Opening, Reader, Seat, Store, Version};
-use uc_tests_compactors::drawn::small_runs;
+use uc_share::{Name, Opening, Reader, Seat, Store};
 use uc_tests_compactors::worker::{Pair, Worker, next_pair};
 
-/// How many workers a batch of these tests has at the most.
-const WORKERS: usize = 7;
-
-/// A store, a reader for each of seven workers, and two compactors.
+/// A store, two compactors, and its other readers.
 pub(crate) fn opened<O: Operator, N: Name, W: Wait + Drop>(
     handle: W,
     alloc: Global,
-    opening: Opening,
-    version: Version,
+    opening: Opening<O>,
 ) -> Result<(Store<O, N, W>, Vec<Reader<O, N>>, Pair<O, N>), Fail>
-    requires book { opening.seen.book ≡ N.book }
-    requires base { version ≡ N.base }
+    requires { IsNamed opening N.book N.table N.base }
     ensures { IfOk result (λ opened.
         (opened.2.0.1.table ≡ opened.0.table) × (opened.2.1.1.table ≡ opened.0.table)) }
 {
-    let readers = WORKERS + 2;
-    let opened = Store::<O, N, W>::open(alloc, handle, opening, version, small_runs(), readers, 2);
-    let Ok((store, mut readers, mut seats)) = opened else {
-        return Err("the store isn't opened")?;
+    let Ok((store, mut readers, mut seats)) = opening.named::<N, W>(alloc, handle) else {
+        return Err("the store has no name")?;
     };
     let pair = next_pair(&store, &mut readers, &mut seats).ok_or("there are no two compactors")?;
     Ok((store, readers, pair))

@@ -3,10 +3,10 @@ use std::alloc::Global;
 use std::test::Fail;
 use uc_batch::Writes;
 use uc_bytes::{Bytes, OpRef, WriteRef};
+use uc_oper::Operator;
 use uc_query_answer::{Answer, Query, Rows};
-use uc_share::Version;
+use uc_share::Opening;
 use uc_tests_compactors::drawn::small_runs;
-use uc_version::open_version;
 
 /// The change with a number.
 fn change(number: u64) -> OpRef<'static> {
@@ -28,10 +28,20 @@ fn five_writes(alloc: Global) -> Result<Writes, Fail> {
     Ok(Writes::of(list).ok_or("the sequences don't rise")?)
 }
 
-/// A version of five runs. A snapshot protects the second write.
-pub(crate) fn five_runs(alloc: Global) -> Result<Version, Fail> {
-    match open_version(alloc, &five_writes(alloc)?, &[2], &small_runs()) {
-        Ok(version) => Ok(version),
+/// How many workers a batch of these tests has at the most.
+const WORKERS: usize = 7;
+
+/// A store of five runs, for a reader of each of seven workers and two compactors. A snapshot protects the second write.
+pub(crate) fn five_runs<O: Operator>(alloc: Global) -> Result<Opening<O>, Fail> {
+    match Opening::open(
+        alloc,
+        &five_writes(alloc)?,
+        &[2],
+        small_runs(),
+        WORKERS + 2,
+        2,
+    ) {
+        Ok(opening) => Ok(opening),
         Err(_) => Err("the store isn't opened")?,
     }
 }

@@ -1,5 +1,6 @@
 //! Claims, compactions and installs, one after the other.
 ghost use Rattle.std.specs.Prelude.{◌≡◌, IfOk};
+ghost use Rattle.uc_share.specs.Stores.{IsNamed};
 
 use crate::stores::{NEWEST, has_ids, merged_runs, newest_claimed, opened};
 use std::alloc::Global;
@@ -12,7 +13,6 @@ use uc_oper::{Append, Operator};
 use uc_share::{ClaimError, Held, Name, Opening, Pin, Reader, Seat, Store, Stretch};
 use uc_tests_compactors::steps::{claim_refusal, claimed, installed};
 use uc_tests_compactors::worker::Worker;
-use uc_version::Version;
 
 /// The two runs behind the newest.
 const OLDEST: Stretch = Stretch { first: 1, count: 2 };
@@ -128,13 +128,11 @@ fn stretch_of_a_store<O: Operator + Sync, N: Name, W: Wait + Drop>(
     rt: &(impl Threads + Abort + Wait + Sync),
     handle: W,
     alloc: Global,
-    opening: Opening,
-    version: Version,
+    opening: Opening<O>,
 ) -> Result<(), Fail>
-    requires book { opening.seen.book ≡ N.book }
-    requires base { version ≡ N.base }
+    requires { IsNamed opening N.book N.table N.base }
 {
-    let (store, (one, other)) = opened::<O, N, W>(handle, alloc, opening, version)?;
+    let (store, (one, other)) = opened::<O, N, W>(handle, alloc, opening)?;
     let (mut reader, seat) = one;
     let (mut late, second) = other;
     two_of_three_runs(rt, alloc, &store, (seat, second), &mut reader, &mut late)
@@ -143,8 +141,8 @@ fn stretch_of_a_store<O: Operator + Sync, N: Name, W: Wait + Drop>(
 #[test]
 fn stretches_are_installed_once(rt: HostRuntime) -> Result<(), Fail> {
     let alloc = rt.alloc();
-    let version = merged_runs(alloc, 2, &[])?;
-    stretch_of_a_store::<Append<0x2C>, Brand, _>(&rt, &rt, alloc, Opening::new(), version)
+    let opening = merged_runs(alloc, 2, &[])?;
+    stretch_of_a_store::<Append<0x2C>, Brand, _>(&rt, &rt, alloc, opening)
 }
 
 /// What another seat finds where the claim of the two newest of four runs was dropped: what has one of them is busy for good, and
@@ -192,19 +190,17 @@ fn claim_of_a_store<O: Operator + Sync, N: Name, W: Wait + Drop>(
     rt: &(impl Threads + Abort + Wait + Sync),
     handle: W,
     alloc: Global,
-    opening: Opening,
-    version: Version,
+    opening: Opening<O>,
 ) -> Result<(), Fail>
-    requires book { opening.seen.book ≡ N.book }
-    requires base { version ≡ N.base }
+    requires { IsNamed opening N.book N.table N.base }
 {
-    let (store, (worker, (_, second))) = opened::<O, N, W>(handle, alloc, opening, version)?;
+    let (store, (worker, (_, second))) = opened::<O, N, W>(handle, alloc, opening)?;
     claim_is_dropped(rt, alloc, &store, worker, second)
 }
 
 #[test]
 fn dropped_claims_stay_busy(rt: HostRuntime) -> Result<(), Fail> {
     let alloc = rt.alloc();
-    let version = merged_runs(alloc, 3, &[])?;
-    claim_of_a_store::<Append<0x2C>, Brand, _>(&rt, &rt, alloc, Opening::new(), version)
+    let opening = merged_runs(alloc, 3, &[])?;
+    claim_of_a_store::<Append<0x2C>, Brand, _>(&rt, &rt, alloc, opening)
 }

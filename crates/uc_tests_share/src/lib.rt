@@ -8,6 +8,8 @@
 #[cfg(test)]
 mod claims;
 #[cfg(test)]
+mod readers;
+#[cfg(test)]
 mod refusals;
 #[cfg(test)]
 mod soak;

@@ -1,8 +1,10 @@
 //! Installs and openings that are refused.
 ghost use Rattle.std.specs.Prelude.{◌≡◌, IfOk};
+ghost use Rattle.uc_share.specs.Stores.{IsNamed};
 
 use crate::stores::{
-    NEWEST, has_ids, last_runs, merged_runs, merges_alone, newest_claimed, opened,
+    NEWEST, has_ids, last_runs, merged_runs, merges, merges_alone, newest_claimed, opened,
+    small_store,
 };
 use std::alloc::Global;
 use std::marker::{Brand, Sync};
@@ -12,7 +14,9 @@ use std::test::Fail;
 use std::thread::Threads;
 use uc_compact::Compacted;
 use uc_oper::{Append, Counter, Operator};
-use uc_share::{Held, InstallError, Name, OpenError, Opening, Reader, Seat, Store, Stretch};
+use uc_share::{
+    Held, InstallError, Name, OpenError, Opening, Options, Reader, Seat, Store, Stretch,
+};
 use uc_tests_compactors::drawn::small_runs;
 use uc_tests_compactors::steps::{claimed, installed};
 use uc_tests_compactors::worker::Worker;
@@ -89,14 +93,12 @@ fn refusal_of_foreign<O: Operator + Sync, N: Name, W: Wait + Drop>(
     rt: &(impl Threads + Wait + Sync),
     handle: W,
     alloc: Global,
-    opened_with: (Opening, Version),
+    opening: Opening<O>,
     made: Compacted<O>,
 ) -> Result<InstallError, Fail>
-    requires book { opened_with.0.seen.book ≡ N.book }
-    requires base { opened_with.1 ≡ N.base }
+    requires { IsNamed opening N.book N.table N.base }
 {
-    let (opening, version) = opened_with;
-    let (store, (worker, _)) = opened::<O, N, W>(handle, alloc, opening, version)?;
+    let (store, (worker, _)) = opened::<O, N, W>(handle, alloc, opening)?;
     refusal_of_a_worker(rt, alloc, &store, worker, made)
 }
 
@@ -114,11 +116,10 @@ fn foreign() -> &'static [(&'static [u64], usize, InstallError)] {
 #[test]
 fn what_is_foreign_is_refused(rt: HostRuntime) -> Result<(), Fail> {
     let alloc = rt.alloc();
-    let other = merged_runs(alloc, 2, &[])?;
+    let other = merged_runs::<Counter>(alloc, 2, &[])?;
     for (keeps, first, wanted) in foreign() {
-        let made = compacted::<Counter>(&rt, alloc, &other, *first)?;
-        let version = merged_runs(alloc, 2, keeps)?;
-        let opening = (Opening::new(), version);
+        let made = compacted::<Counter>(&rt, alloc, other.version(), *first)?;
+        let opening = merged_runs(alloc, 2, keeps)?;
         let error = refusal_of_foreign::<Counter, Brand, _>(&rt, &rt, alloc, opening, made)?;
         assert!(rt; error == *wanted);
     }
@@ -128,9 +129,9 @@ fn what_is_foreign_is_refused(rt: HostRuntime) -> Result<(), Fail> {
 #[test]
 fn what_is_for_the_oldest_run_is_refused(rt: HostRuntime) -> Result<(), Fail> {
     let alloc = rt.alloc();
-    let made = compacted::<Counter>(&rt, alloc, &merges_alone(alloc)?, 0)?;
-    let version = merged_runs(alloc, 2, &[])?;
-    let opening = (Opening::new(), version);
+    let alone = small_store::<Counter>(alloc, &merges_alone(alloc)?, &[])?;
+    let made = compacted::<Counter>(&rt, alloc, alone.version(), 0)?;
+    let opening = merged_runs(alloc, 2, &[])?;
     let error = refusal_of_foreign::<Counter, Brand, _>(&rt, &rt, alloc, opening, made)?;
     assert!(rt; error == InstallError::WrongInputs);
     Ok(())
@@ -173,46 +174,33 @@ fn refusal_of_last<O: Operator + Sync, N: Name, W: Wait + Drop>(
     rt: &(impl Threads + Wait + Sync),
     handle: W,
     alloc: Global,
-    opening: Opening,
-    version: Version,
+    opening: Opening<O>,
 ) -> Result<InstallError, Fail>
-    requires book { opening.seen.book ≡ N.book }
-    requires base { version ≡ N.base }
+    requires { IsNamed opening N.book N.table N.base }
 {
-    let (store, (worker, _)) = opened::<O, N, W>(handle, alloc, opening, version)?;
+    let (store, (worker, _)) = opened::<O, N, W>(handle, alloc, opening)?;
     last_refusal(rt, alloc, &store, worker)
 }
 
 #[test]
 fn no_install_without_an_id(rt: HostRuntime) -> Result<(), Fail> {
     let alloc = rt.alloc();
-    let version = last_runs(alloc)?;
-    let error = refusal_of_last::<Append<0x2C>, Brand, _>(&rt, &rt, alloc, Opening::new(), version);
+    let opening = last_runs(alloc)?;
+    let error = refusal_of_last::<Append<0x2C>, Brand, _>(&rt, &rt, alloc, opening);
     assert!(rt; error? == InstallError::IdsSpent);
     Ok(())
 }
 
-/// How many readers and seats a store opens for, where it is to open for so many.
+/// How many readers and seats an opened store has, once it has a name.
 fn counts_of<O: Operator, N: Name, W: Wait + Drop>(
     handle: W,
     alloc: Global,
-    opening: Opening,
-    version: Version,
-    counts: (usize, usize),
-) -> Result<(usize, usize), OpenError>
-    requires book { opening.seen.book ≡ N.book }
-    requires base { version ≡ N.base }
+    opening: Opening<O>,
+) -> Option<(usize, usize)>
+    requires { IsNamed opening N.book N.table N.base }
 {
-    let (_store, readers, seats) = Store::<O, N, W>::open(
-        alloc,
-        handle,
-        opening,
-        version,
-        small_runs(),
-        counts.0,
-        counts.1,
-    )?;
-    Ok((readers.len(), seats.len()))
+    let (_store, readers, seats) = opening.named::<N, W>(alloc, handle).ok()?;
+    Some((readers.len(), seats.len()))
 }
 
 /// For how many readers and seats a store opens.
@@ -232,15 +220,45 @@ fn counts() -> &'static [((usize, usize), bool)] {
 #[test]
 fn stores_open_for_a_few_readers_and_seats(rt: HostRuntime) -> Result<(), Fail> {
     let alloc = rt.alloc();
-    for (count, opens) in counts() {
-        let version = merged_runs(alloc, 2, &[])?;
-        let opened = counts_of::<Counter, Brand, _>(&rt, alloc, Opening::new(), version, *count);
-        let wanted = if *opens {
-            Ok(*count)
-        } else {
-            Err(OpenError::BadCount)
-        };
-        assert!(rt; opened == wanted);
+    let writes = merges(alloc, 2)?;
+    for ((readers, seats), opens) in counts() {
+        match Opening::<Counter>::open(alloc, &writes, &[], small_runs(), *readers, *seats) {
+            Ok(opening) => {
+                let counted = counts_of::<Counter, Brand, _>(&rt, alloc, opening);
+                assert!(rt; *opens && counted == Some((*readers, *seats)));
+            }
+            Err(error) => assert!(rt; !*opens && error == OpenError::BadCount),
+        }
     }
+    Ok(())
+}
+
+/// Openings that are refused, with the first reason against them: a snapshot, the memtable's bytes, and how many readers.
+static REFUSED: [((u64, u64, usize), OpenError); 4] = [
+    ((4, 0, 0), OpenError::BadCount),
+    ((4, 0, 1), OpenError::BadOption),
+    ((4, 1, 1), OpenError::SnapshotAhead(4)),
+    ((3, 0, 1), OpenError::BadOption),
+];
+
+/// These rows.
+fn refused() -> &'static [((u64, u64, usize), OpenError)] {
+    &REFUSED
+}
+
+#[test]
+fn openings_are_refused_for_the_first_reason(rt: HostRuntime) -> Result<(), Fail> {
+    let alloc = rt.alloc();
+    let writes = merges(alloc, 2)?;
+    for ((keep, memtable, readers), wanted) in refused() {
+        let options = Options {
+            memtable: *memtable,
+            ..small_runs()
+        };
+        let opened = Opening::<Counter>::open(alloc, &writes, &[*keep], options, *readers, 1);
+        assert!(rt; opened.is_err_and(|error| error == *wanted));
+    }
+    let many = Opening::<Counter>::open(alloc, &merges(alloc, 64)?, &[], small_runs(), 1, 1);
+    assert!(rt; many.is_err_and(|error| error == OpenError::TooManyRuns));
     Ok(())
 }

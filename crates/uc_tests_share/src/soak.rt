@@ -1,5 +1,6 @@
 //! Four compactors beside two readers, over many drawn stores: the same answers all along, and each install counted.
 ghost use Rattle.std.specs.Prelude.{◌≡◌, All};
+ghost use Rattle.uc_share.specs.Stores.{IsNamed};
 
 use std::alloc::Global;
 use std::marker::{Brand, Send, Sync};
@@ -13,7 +14,7 @@ use uc_oper::{Append, Counter, Maximum, Operator};
 use uc_query_answer::{Answer, Query, answer_writes};
 use uc_query_read::answer_one;
 use uc_share::{Name, Opening, Reader, Seat, Store, Version};
-use uc_tests_compactors::drawn::{drawn_store, small_runs};
+use uc_tests_compactors::drawn::drawn_store;
 use uc_tests_compactors::turns::{TURNS, four_compact, shows_installs};
 use uc_tests_compactors::worker::{Pair, next_pairs};
 use uc_tests_shared::dice::{Dice, KEYS};
@@ -167,7 +168,7 @@ fn soaks_opened<O, N, W, R>(
     rt: &R,
     handle: W,
     alloc: Global,
-    opened_with: (Opening, Version),
+    opening: Opening<O>,
     asked: &[(Query, Answer)],
     seed: u64,
 ) -> Option<u64>
@@ -176,13 +177,10 @@ where
     N: Name + Send + Sync,
     W: Wait + Drop + Send,
     R: Threads + Wait + Sync,
-    requires book { opened_with.0.seen.book ≡ N.book }
-    requires base { opened_with.1 ≡ N.base }
+    requires { IsNamed opening N.book N.table N.base }
 {
-    let (opening, version) = opened_with;
-    let numbers = (version.next_id(), seed);
-    let opened = Store::<O, N, W>::open(alloc, handle, opening, version, small_runs(), 7, 4);
-    let (store, readers, seats) = opened.ok()?;
+    let numbers = (opening.version().next_id(), seed);
+    let (store, readers, seats) = opening.named::<N, W>(alloc, handle).ok()?;
     soaks(rt, alloc, &store, readers, seats, asked, numbers)
 }
 
@@ -228,11 +226,10 @@ fn installs_of<O: Operator + Send + Sync, R: Threads + Wait + Sync>(
 ) -> Result<u64, Fail> {
     let mut installs = 0_u64;
     for _ in 0..stores {
-        let (writes, version) = drawn_store(alloc, dice).ok_or("no store is drawn")?;
-        let asked = questions::<O>(alloc, &writes, version.keeps())?;
-        let opened_with = (Opening::new(), version);
+        let (writes, opening) = drawn_store::<O>(alloc, dice, 7).ok_or("no store is drawn")?;
+        let asked = questions::<O>(alloc, &writes, opening.version().keeps())?;
         let seed = dice.roll(u64::MAX);
-        let made = soaks_opened::<O, Brand, &R, R>(rt, rt, alloc, opened_with, &asked, seed);
+        let made = soaks_opened::<O, Brand, &R, R>(rt, rt, alloc, opening, &asked, seed);
         installs = installs.saturating_add(made.ok_or("a store answers differently")?);
     }
     Ok(installs)

@@ -1,5 +1,6 @@
 //! Two compactors at once.
 ghost use Rattle.std.specs.Prelude.{◌≡◌};
+ghost use Rattle.uc_share.specs.Stores.{IsNamed};
 
 use crate::stores::{has_ids, merged_runs, opened};
 use std::alloc::Global;
@@ -49,18 +50,16 @@ fn both_of_a_store<O, N, W, R>(
     rt: &R,
     handle: W,
     alloc: Global,
-    opening: Opening,
-    version: Version,
+    opening: Opening<O>,
 ) -> Result<bool, Fail>
 where
     O: Operator + Send + Sync,
     N: Name + Send + Sync,
     W: Wait + Drop + Send,
     R: Threads + Wait + Sync,
-    requires book { opening.seen.book ≡ N.book }
-    requires base { version ≡ N.base }
+    requires { IsNamed opening N.book N.table N.base }
 {
-    let (store, pair) = opened::<O, N, W>(handle, alloc, opening, version)?;
+    let (store, pair) = opened::<O, N, W>(handle, alloc, opening)?;
     both_install(rt, alloc, &store, pair)
 }
 
@@ -68,14 +67,8 @@ where
 fn two_stretches_are_installed_at_once(rt: HostRuntime) -> Result<(), Fail> {
     let alloc = rt.alloc();
     for _ in 0..100 {
-        let version = merged_runs(alloc, 3, &[])?;
-        let both = both_of_a_store::<Append<0x2C>, Brand, _, _>(
-            &rt,
-            &rt,
-            alloc,
-            Opening::new(),
-            version,
-        );
+        let opening = merged_runs(alloc, 3, &[])?;
+        let both = both_of_a_store::<Append<0x2C>, Brand, _, _>(&rt, &rt, alloc, opening);
         assert!(rt; both?);
     }
     Ok(())

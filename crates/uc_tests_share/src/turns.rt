@@ -1,5 +1,6 @@
 //! Two compactors beside one who asks, for 200 turns each: no install is refused, and all answers are those of the plain writes.
 ghost use Rattle.std.specs.Prelude.{◌≡◌, IfSome, All};
+ghost use Rattle.uc_share.specs.Stores.{IsNamed};
 
 use crate::soak::pins_alike;
 use std::alloc::Global;
@@ -12,12 +13,11 @@ use uc_batch::Writes;
 use uc_bytes::{Bytes, OpRef, WriteRef};
 use uc_oper::{Append, Operator};
 use uc_query_answer::{Answer, Query, answer_writes};
-use uc_share::{Name, Opening, Options, Reader, Seat, Store, Version};
+use uc_share::{Name, Opening, Options, Reader, Seat, Store};
 use uc_tests_compactors::drawn::small_runs;
 use uc_tests_compactors::steps::installed;
 use uc_tests_compactors::turns::shows_installs;
 use uc_tests_compactors::worker::{Worker, next_pair};
-use uc_version::open_version;
 
 /// How often each thread has its turn.
 const TURNS: usize = 200;
@@ -189,7 +189,7 @@ fn installs_of_a_store<O, N, W, R>(
     rt: &R,
     handle: W,
     alloc: Global,
-    opened_with: (Opening, Version),
+    opening: Opening<O>,
     asked: &[(Query, Answer)],
 ) -> Option<u64>
 where
@@ -197,13 +197,10 @@ where
     N: Name + Send + Sync,
     W: Wait + Drop + Send,
     R: Threads + Wait + Sync,
-    requires book { opened_with.0.seen.book ≡ N.book }
-    requires base { opened_with.1 ≡ N.base }
+    requires { IsNamed opening N.book N.table N.base }
 {
-    let (opening, version) = opened_with;
-    let first_id = version.next_id();
-    let opened = Store::<O, N, W>::open(alloc, handle, opening, version, pairs_of_runs(), 3, 2);
-    let (store, readers, seats) = opened.ok()?;
+    let first_id = opening.version().next_id();
+    let (store, readers, seats) = opening.named::<N, W>(alloc, handle).ok()?;
     installs_of(rt, alloc, &store, readers, seats, asked, first_id)
 }
 
@@ -268,17 +265,12 @@ fn questions<O: Operator>(
 fn nobody_is_refused_in_200_turns(rt: HostRuntime) -> Result<(), Fail> {
     let alloc = rt.alloc();
     let writes = plain_writes(alloc)?;
-    let Ok(version) = open_version(alloc, &writes, &[20, 40], &pairs_of_runs()) else {
+    let Ok(opening) = Opening::open(alloc, &writes, &[20, 40], pairs_of_runs(), 3, 2) else {
         return Err("the store isn't opened")?;
     };
-    let asked = questions::<Append<0x2C>>(alloc, &writes, version.keeps())?;
-    let opened_with = (Opening::new(), version);
+    let asked = questions::<Append<0x2C>>(alloc, &writes, opening.version().keeps())?;
     let installs = installs_of_a_store::<Append<0x2C>, Brand, _, _>(
-        &rt,
-        &rt,
-        alloc,
-        opened_with,
-        &asked,
+        &rt, &rt, alloc, opening, &asked,
     );
     assert!(rt; installs.ok_or("an install was refused, or an answer differs")? >= 30);
     Ok(())

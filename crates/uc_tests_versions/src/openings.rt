@@ -324,7 +324,7 @@ fn laws_hold() {
 static TEXTS: [(OpenError, &str); 5] = [
     (
         OpenError::BadCount,
-        "a store is opened for at least one thread",
+        "a shared store is for 1 to 128 readers and up to 64 seats",
     ),
     (OpenError::BadOption, "an option is out of range"),
     (

@@ -1,6 +1,7 @@
 //! `ask`: the queries in front of a log, answered beside compactors.
 ghost use denote.Param.Send.{IsSync, IsSend};
 ghost use Rattle.std.specs.Prelude.{◌≡◌, ◌+◌, ◌≤◌, ◌∷◌, [], All, List, Ok, None, codes, drop, take, length, vec_len};
+ghost use Rattle.uc_share.specs.Stores.{IsNamed};
 ghost use Rattle.std.specs.Prelude.{IfOk, OnOk, IfSome};
 ghost use Rattle.uc_batch.specs.Log.{log_writes};
 ghost use Rattle.uc_batch.specs.Rising.{IsRising};
@@ -18,6 +19,7 @@ ghost use Rattle.uc_tool_ask.specs.Plans.{IsPlan};
 
 use crate::answering::print_answers;
 use crate::compacting::{Compactor, all_installs};
+use crate::gate::{CrewGate, Ungated};
 use crate::plan::Plan;
 use std::alloc::{AllocError, Global};
 use std::io::{Read, Write};
@@ -27,7 +29,7 @@ use std::thread::{Threads, join_mut};
 use uc_batch::Ended;
 use uc_oper::Operator;
 use uc_script::{Head, ScriptError, read_head};
-use uc_share::{Name, Opening, Options, Reader, Seat, Store, Version};
+use uc_share::{Name, Opening, Options, Reader, Seat, Store};
 use uc_tool_faults::Source;
 use uc_tool_io::{Done, RunError, finish, finish_without_input, print_refusal, read_input};
 use uc_tool_log_lines::numbered_line;
@@ -63,10 +65,11 @@ fn crew_of<O: Operator, N: Name, W: Wait + Drop>(
 
 /// Prints the answers to the queries of a head while a crew compacts, which has ended then. The crew is moved to its thread: what is
 /// lent to both closures can be followed through one of them alone.
-fn answer_beside_crew<O, N, W, R, V>(
+fn answer_beside_crew<O, N, W, G, R, V>(
     rt: &R,
     alloc: Global,
     store: &Store<O, N, W>,
+    gate: &G,
     mut crew: Vec<Compactor<O, N>>,
     readers: &mut Vec<Reader<O, N>>,
     last: u64,
@@ -78,6 +81,7 @@ where
     O: Operator + Send + Sync,
     N: Name + Send + Sync,
     W: Wait + Drop + Send,
+    G: CrewGate,
     R: Threads + Wait + Sync,
     V: Write,
     requires crew { All (λ x. x.seat.table ≡ store.now.table) crew.items }
@@ -90,7 +94,7 @@ where
         rt,
         &mut move || -> u64
             requires { All (λ x. x.seat.table ≡ store.now.table) crew.items }
-        { all_installs(rt, alloc, store, &mut crew) },
+        { all_installs(rt, alloc, store, gate, &mut crew) },
         &mut || -> Result<Done, RunError>
             requires { plan.workers ≤ vec_len readers.now }
         { print_answers(rt, alloc, head, last, plan, readers, writer) },
@@ -98,41 +102,31 @@ where
     (printed, installs)
 }
 
-/// Opens a store that threads share, and prints the answers to the queries of a head while compactors compact it.
-fn answer_shared<O, N, R, V>(
+/// Names a store that threads share, and prints the answers to the queries of a head while compactors compact it.
+fn answer_shared<O, N, G, R, V>(
     rt: &R,
     alloc: Global,
-    opened_with: (Opening, Version),
+    opening: Opening<O>,
     head: &[u8],
-    options: &Options,
     plan: Plan,
+    gate: &G,
     writer: &mut V,
 ) -> Asked
 where
     O: Operator + Send + Sync,
     N: Name + Send + Sync,
+    G: CrewGate,
     R: Threads + Wait + Sync,
     V: Write,
-    requires book { opened_with.0.seen.book ≡ N.book }
-    requires base { opened_with.1 ≡ N.base }
+    requires named { IsNamed opening N.book N.table N.base }
+    requires plan { (opening.readers ≡ plan.workers + plan.compactors) × (opening.seats ≡ plan.compactors) }
     ensures printed { ForEachHistory O.meaning N.base (λ h.
-        Prints (replies_given O.meaning h opened_with.1.last (queries_in head.now))
+        Prints (replies_given O.meaning h opening.version.last (queries_in head.now))
         (V.contents writer.old) (V.contents writer.new) result.0) }
     ensures done { IfOk result.0 (λ done. done ≡ Done.Fine) }
 {
-    let (opening, version) = opened_with;
-    let last = version.last();
-    let readers = plan.workers + plan.compactors;
-    let opened = Store::<O, N, &R>::open(
-        alloc,
-        rt,
-        opening,
-        version,
-        *options,
-        readers,
-        plan.compactors,
-    );
-    let Ok((store, mut readers, seats)) = opened else {
+    let last = opening.version().last();
+    let Ok((store, mut readers, seats)) = opening.named::<N, &R>(alloc, rt) else {
         return (Err(RunError::Memory), 0);
     };
     let Ok(crew) = crew_of(alloc, &store, &mut readers, seats) else {
@@ -142,6 +136,7 @@ where
         rt,
         alloc,
         &store,
+        gate,
         crew,
         &mut readers,
         last,
@@ -153,7 +148,7 @@ where
 
 /// Opens the store that has taken some writes, and prints why it is refused, or the answers to the queries of a head. Where it is
 /// refused, it tells why.
-fn print_opened<O: Operator + Send + Sync, R: Threads + Wait + Sync, V: Write>(
+fn print_opened<O: Operator + Send + Sync, G: CrewGate, R: Threads + Wait + Sync, V: Write>(
     rt: &R,
     alloc: Global,
     opener: Opener,
@@ -161,6 +156,7 @@ fn print_opened<O: Operator + Send + Sync, R: Threads + Wait + Sync, V: Write>(
     head: &[u8],
     options: &Options,
     plan: Plan,
+    gate: &G,
     writer: &mut V,
     reason: &mut Option<Reason>,
 ) -> Asked
@@ -182,8 +178,11 @@ fn print_opened<O: Operator + Send + Sync, R: Threads + Wait + Sync, V: Write>(
     no_refusal_is_leave_to_open();
     match opener.finish(alloc, keeps) {
         Ok(version) => {
-            let opened_with = (Opening::new(), version);
-            answer_shared::<O, Brand, R, V>(rt, alloc, opened_with, head, options, plan, writer)
+            let readers = plan.workers + plan.compactors;
+            let Ok(opening) = Opening::of(alloc, version, *options, readers, plan.compactors) else {
+                return (Err(RunError::Memory), 0);
+            };
+            answer_shared::<O, Brand, G, R, V>(rt, alloc, opening, head, plan, gate, writer)
         }
         Err(OpenError::Memory) => (Err(RunError::Memory), 0),
         Err(error) => {
@@ -215,13 +214,14 @@ fn recover_behind(
 }
 
 /// Answers the queries of a head over the log that stands behind it.
-fn answer_log<O: Operator + Send + Sync, R: Threads + Wait + Sync, V: Write>(
+fn answer_log<O: Operator + Send + Sync, G: CrewGate, R: Threads + Wait + Sync, V: Write>(
     rt: &R,
     alloc: Global,
     input: Vec<u8>,
     head: Head,
     options: &Options,
     plan: Plan,
+    gate: &G,
     writer: &mut V,
     reason: &mut Option<Reason>,
 ) -> Asked
@@ -240,7 +240,7 @@ fn answer_log<O: Operator + Send + Sync, R: Threads + Wait + Sync, V: Write>(
     };
     let Recovered { opener, ended } = recovered;
     match ended {
-        Ended::Clean | Ended::Torn(_) => print_opened::<O, R, V>(
+        Ended::Clean | Ended::Torn(_) => print_opened::<O, G, R, V>(
             rt,
             alloc,
             opener,
@@ -248,6 +248,7 @@ fn answer_log<O: Operator + Send + Sync, R: Threads + Wait + Sync, V: Write>(
             &lines,
             options,
             plan,
+            gate,
             writer,
             reason,
         ),
@@ -266,12 +267,13 @@ fn print_fault<V: Write>(alloc: Global, line: u64, writer: &mut V) -> Result<Don
 }
 
 /// Answers the queries in front of a log, or tells why they are refused.
-fn run<O: Operator + Send + Sync, R: Threads + Wait + Sync, V: Write>(
+fn run<O: Operator + Send + Sync, G: CrewGate, R: Threads + Wait + Sync, V: Write>(
     rt: &R,
     alloc: Global,
     input: Vec<u8>,
     options: &Options,
     plan: Plan,
+    gate: &G,
     writer: &mut V,
     reason: &mut Option<Reason>,
 ) -> Asked
@@ -283,12 +285,43 @@ fn run<O: Operator + Send + Sync, R: Threads + Wait + Sync, V: Write>(
     ensures opening { OnOk result.0 (TellsOpening (cause_of options.now input.items) reason.new) }
 {
     match read_head(alloc, &input) {
-        Ok(head) => answer_log::<O, R, V>(rt, alloc, input, head, options, plan, writer, reason),
+        Ok(head) => answer_log::<O, G, R, V>(
+            rt, alloc, input, head, options, plan, gate, writer, reason,
+        ),
         Err(ScriptError::Fault(line)) => {
             *reason = reason_of_line(alloc, Source::Head, &input, line);
             (print_fault(alloc, line, writer), 0)
         }
         Err(ScriptError::Memory) => (Err(RunError::Memory), 0),
+    }
+}
+
+/// Answers the queries in front of a log by a plan, with a gate for its compactors, and tells why they are refused.
+fn ask_by_plan<O: Operator + Send + Sync, R: Read, W: Write, G: CrewGate>(
+    rt: &(impl Threads + Wait + Sync),
+    alloc: Global,
+    reader: &mut R,
+    writer: &mut W,
+    options: &Options,
+    plan: Plan,
+    gate: &G,
+    reason: &mut Option<Reason>,
+) -> (Done, u64)
+    ensures written { IfSome (R.remaining reader.old) (λ input.
+        HasWritten (ask_of O.meaning options.now input) input (W.contents writer.old) (W.contents writer.new) result.0) }
+    ensures told { IfSome (R.remaining reader.old) (λ input. IsReason (cause_of options.now input) reason.new) }
+    ensures opening { result.0 ≡ Done.Refused →
+        IfSome (R.remaining reader.old) (λ input. TellsOpening (cause_of options.now input) reason.new) }
+{
+    *reason = None;
+    match read_input(alloc, reader) {
+        Ok(input) => {
+            let (outcome, installs) = run::<O, G, _, W>(
+                rt, alloc, input, options, plan, gate, writer, reason,
+            );
+            (finish(writer, outcome), installs)
+        }
+        Err(error) => (finish_without_input(writer, error), 0),
     }
 }
 
@@ -313,21 +346,12 @@ pub fn ask_with_reason<O: Operator + Send + Sync, R: Read, W: Write>(
     ensures opening { result.0 ≡ Done.Refused →
         IfSome (R.remaining reader.old) (λ input. TellsOpening (cause_of options.now input) reason.new) }
 {
-    *reason = None;
     let plan = Plan {
         workers,
         piece,
         compactors,
     };
-    match read_input(alloc, reader) {
-        Ok(input) => {
-            let (outcome, installs) = run::<O, _, W>(
-                rt, alloc, input, options, plan, writer, reason,
-            );
-            (finish(writer, outcome), installs)
-        }
-        Err(error) => (finish_without_input(writer, error), 0),
-    }
+    ask_by_plan::<O, R, W, Ungated>(rt, alloc, reader, writer, options, plan, &Ungated, reason)
 }
 
 /// Answers the queries in front of a log: reads all of the input, checks its head, opens a store from the log behind that, and
@@ -367,4 +391,29 @@ pub fn ask<O: Operator + Send + Sync, R: Read, W: Write>(
         compactors,
         &mut reason,
     )
+}
+
+/// Answers the queries in front of a log as [`ask`] does. The gate is called by each compactor in each of its turns.
+pub fn ask_through<O: Operator + Send + Sync, R: Read, W: Write, G: CrewGate>(
+    rt: &(impl Threads + Wait + Sync),
+    alloc: Global,
+    reader: &mut R,
+    writer: &mut W,
+    options: &Options,
+    workers: usize,
+    piece: usize,
+    compactors: usize,
+    gate: &G,
+) -> (Done, u64)
+    requires { IsPlan workers piece compactors }
+    ensures { IfSome (R.remaining reader.old) (λ input.
+        HasWritten (ask_of O.meaning options.now input) input (W.contents writer.old) (W.contents writer.new) result.0) }
+{
+    let mut reason = None;
+    let plan = Plan {
+        workers,
+        piece,
+        compactors,
+    };
+    ask_by_plan::<O, R, W, G>(rt, alloc, reader, writer, options, plan, gate, &mut reason)
 }

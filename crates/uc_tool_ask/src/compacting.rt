@@ -2,6 +2,7 @@
 ghost use denote.Param.Send.{IsSync, IsSend};
 ghost use Rattle.std.specs.Prelude.{◌≡◌, All, IfSome};
 
+use crate::gate::CrewGate;
 use std::alloc::Global;
 use std::marker::{Send, Sync};
 use std::mem;
@@ -44,12 +45,14 @@ fn installed<O: Operator + Sync, N: Name, W: Wait + Drop>(
     }
 }
 
-/// A turn of a compactor: what is picked is claimed, compacted and installed. The seat comes back with how many installs that
-/// was, which is none where another compactor was faster. `None` where nothing is picked or memory ran out.
-fn turn<O: Operator + Sync, N: Name, W: Wait + Drop>(
+/// A turn of a compactor: what is picked is claimed, compacted and installed, and the gate is called in between. The seat comes
+/// back with how many installs that was, which is none where another compactor was faster. `None` where nothing is picked or
+/// memory ran out.
+fn turn<O: Operator + Sync, N: Name, W: Wait + Drop, G: CrewGate>(
     rt: &(impl Threads + Wait + Sync),
     alloc: Global,
     store: &Store<O, N, W>,
+    gate: &G,
     mut seat: Seat,
     reader: &mut Reader<O, N>,
 ) -> Option<(Seat, u64)>
@@ -58,18 +61,23 @@ fn turn<O: Operator + Sync, N: Name, W: Wait + Drop>(
 {
     let pin = store.pin(reader).ok()?;
     let stretch = store.pick(&pin, &mut seat)?;
+    gate.picked();
     match store.claim(seat, pin, reader, stretch) {
-        Ok(held) => Some((installed(rt, alloc, store, held, reader)?, 1)),
+        Ok(held) => {
+            gate.claimed();
+            Some((installed(rt, alloc, store, held, reader)?, 1))
+        }
         Err((_seat, _pin, ClaimError::Memory)) => None,
         Err((seat, _pin, _error)) => Some((seat, 0)),
     }
 }
 
 /// How many installs a compactor makes: it takes turns until nothing is picked, memory runs out, or its turns are over.
-fn installs_of<O: Operator + Sync, N: Name, W: Wait + Drop>(
+fn installs_of<O: Operator + Sync, N: Name, W: Wait + Drop, G: CrewGate>(
     rt: &(impl Threads + Wait + Sync),
     alloc: Global,
     store: &Store<O, N, W>,
+    gate: &G,
     compactor: Compactor<O, N>,
 ) -> u64
     requires { compactor.seat.table ≡ store.now.table }
@@ -80,7 +88,7 @@ fn installs_of<O: Operator + Sync, N: Name, W: Wait + Drop>(
     } = compactor;
     let mut installs = 0_u64;
     for _ in 0..TURNS {
-        match turn(rt, alloc, store, seat, &mut reader) {
+        match turn(rt, alloc, store, gate, seat, &mut reader) {
             None => return installs,
             Some((back, made)) => {
                 seat = back;
@@ -93,23 +101,25 @@ fn installs_of<O: Operator + Sync, N: Name, W: Wait + Drop>(
 
 /// How many installs a crew of compactors makes, each in a thread of its own where one can be made, and else after another. All
 /// have ended then, and the crew is empty. No install is counted where the list of numbers has no memory.
-pub(crate) fn all_installs<O, N, W, R>(
+pub(crate) fn all_installs<O, N, W, G, R>(
     rt: &R,
     alloc: Global,
     store: &Store<O, N, W>,
+    gate: &G,
     crew: &mut Vec<Compactor<O, N>>,
 ) -> u64
 where
     O: Operator + Send + Sync,
     N: Name + Send + Sync,
     W: Wait + Drop + Send,
+    G: CrewGate,
     R: Threads + Wait + Sync,
     requires { All (λ x. x.seat.table ≡ store.now.table) crew.old.items }
 {
     let crew = mem::replace(crew, Vec::new(alloc));
     let work = |compactor: Compactor<O, N>| -> u64
         requires { compactor.seat.table ≡ store.now.table }
-    { installs_of(rt, alloc, store, compactor) };
+    { installs_of(rt, alloc, store, gate, compactor) };
     match map_vec(rt, crew, &work) {
         Err(_) => 0,
         Ok(installs) => installs

@@ -5,16 +5,19 @@
 //! a function of the bytes that it reads, of the operator and of the options: workers, pieces and compactors aren't in it. The
 //! law `queries_are_answered_from_the_log` says what that means in the words of plain writes.
 //!
-//! Read `specs/Ask.antt` first, then `asking.rt`, `answering.rt` and `compacting.rt`. Recovering and refusing stand in
-//! `uc_tool_opening`, the lines of answers in `uc_tool_lines`, batches in `uc_query_shared` and the store in `uc_share`.
+//! Read `specs/Ask.antt` first, then `asking.rt`, `answering.rt` and `compacting.rt`. `gate.rt` is what tests hold compactors up
+//! with. Recovering and refusing stand in `uc_tool_opening`, the lines of answers in `uc_tool_lines`, batches in `uc_query_shared`
+//! and the store in `uc_share`.
 #![tactic(auto)]
 
 mod answering;
 mod asking;
 mod compacting;
+mod gate;
 mod laws;
 mod plan;
 
-pub use asking::{ask, ask_with_reason};
+pub use asking::{ask, ask_through, ask_with_reason};
+pub use gate::CrewGate;
 pub use laws::queries_are_answered_from_the_log;
 pub use plan::{MOST_COMPACTORS, is_plan};

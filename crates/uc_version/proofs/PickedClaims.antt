@@ -17,7 +17,7 @@ use Rattle.uc_version.specs.Picking.{candidate_of, candidates_of}
 use Rattle.uc_version.specs.Claiming.{first_busy, range_refusal, claim_refusal}
 
 -- a stretch of two runs or more that is there
-in_range : (n : ℕ) (s : Stretch) → 2 ≤ s.count → s.first + s.count ≤ n → range_refusal n s ≡ None
+pub in_range : (n : ℕ) (s : Stretch) → 2 ≤ s.count → s.first + s.count ≤ n → range_refusal n s ≡ None
 in_range n s two within =
     let first : ltb n s.first ≡ false = grind (arith, nat_tests) in
     let count : ltb (n - s.first) s.count ≡ false = grind (arith, nat_tests) in

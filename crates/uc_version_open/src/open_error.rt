@@ -8,8 +8,8 @@ use thiserror::Error;
 /// Why a store isn't opened.
 #[derive(Clone, Copy, Debug, PartialEq, Eq, Error)]
 pub enum OpenError {
-    /// A shared store is for at least one thread. A store that isn't shared never says so.
-    #[error("a store is opened for at least one thread")]
+    /// A shared store is for 1 to 128 readers and up to 64 seats. A store that isn't shared never says so.
+    #[error("a shared store is for 1 to 128 readers and up to 64 seats")]
     BadCount,
     /// An option isn't in its range.
     #[error("an option is out of range")]

@@ -12,7 +12,8 @@ pub struct Options {
     /// Above how many percent of the oldest run's size the newer ones together are compacted with it
     /// (`max_size_amplification_percent`).
     pub percent: u32,
-    /// How many runs a compaction takes at the least, from 2 on (`min_merge_width`).
+    /// How many runs a compaction by size ratio takes at the least, from 2 on (`min_merge_width`). One that lowers the number of
+    /// runs takes two.
     pub least: u32,
     /// How many runs a compaction takes at the most (`max_merge_width`).
     pub greatest: u32,

@@ -1,5 +1,5 @@
 use Rattle.probe_memory.proofs.shared.opens.Given as goal
 
--- the history that was just opened, and the version that it begins with
-abbrev pub ghosts-open_outcome : goal.ghosts-open_outcome
-ghosts-open_outcome g a = record { book = a.opening.seen.book; base = a.version }
+-- the book, the claim words and the version of what was opened
+abbrev pub ghosts-name_outcome : goal.ghosts-name_outcome
+ghosts-name_outcome g a = record { book = a.opening.book; table = a.opening.table; base = a.opening.version }

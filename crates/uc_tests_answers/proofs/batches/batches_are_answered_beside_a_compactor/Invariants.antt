@@ -1,5 +1,5 @@
 use Rattle.uc_tests_answers.proofs.batches.batches_are_answered_beside_a_compactor.Given as goal
 
--- the history that was just opened, and the version that it begins with
+-- the book, the claim words and the version of what was opened
 abbrev pub ghosts-batches_beside_a_compactor : goal.ghosts-batches_beside_a_compactor
-ghosts-batches_beside_a_compactor g a = record { book = a.opening.seen.book; base = a.version }
+ghosts-batches_beside_a_compactor g a = record { book = a.opening.book; table = a.opening.table; base = a.opening.version }

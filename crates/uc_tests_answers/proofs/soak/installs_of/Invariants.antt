@@ -1,5 +1,5 @@
 use Rattle.uc_tests_answers.proofs.soak.installs_of.Given as goal
 
--- the history that was just opened, and the version that it begins with
+-- the book, the claim words and the version of what was opened
 abbrev pub ghosts-soaks_opened : goal.ghosts-soaks_opened
-ghosts-soaks_opened g a = record { book = a.opened_with.0.seen.book; base = a.opened_with.1 }
+ghosts-soaks_opened g a = record { book = a.opening.book; table = a.opening.table; base = a.opening.version }

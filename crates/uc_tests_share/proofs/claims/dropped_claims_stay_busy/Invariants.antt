@@ -1,5 +1,5 @@
 use Rattle.uc_tests_share.proofs.claims.dropped_claims_stay_busy.Given as goal
 
--- the history that was just opened, and the version that it begins with
+-- the book, the claim words and the version of what was opened
 abbrev pub ghosts-claim_of_a_store : goal.ghosts-claim_of_a_store
-ghosts-claim_of_a_store g a = record { book = a.opening.seen.book; base = a.version }
+ghosts-claim_of_a_store g a = record { book = a.opening.book; table = a.opening.table; base = a.opening.version }

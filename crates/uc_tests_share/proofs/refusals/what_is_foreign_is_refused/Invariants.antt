@@ -1,5 +1,5 @@
 use Rattle.uc_tests_share.proofs.refusals.what_is_foreign_is_refused.Given as goal
 
--- the history that was just opened, and the version that it begins with
+-- the book, the claim words and the version of what was opened
 abbrev pub ghosts-refusal_of_foreign : goal.ghosts-refusal_of_foreign
-ghosts-refusal_of_foreign g a = record { book = a.opened_with.0.seen.book; base = a.opened_with.1 }
+ghosts-refusal_of_foreign g a = record { book = a.opening.book; table = a.opening.table; base = a.opening.version }

@@ -1,5 +1,5 @@
 use Rattle.uc_tool_ask.proofs.asking.print_opened.Given as goal
 
--- the history that was just opened, and the version that it begins with
+-- the book, the claim words and the version of what was opened
 abbrev pub ghosts-answer_shared : goal.ghosts-answer_shared
-ghosts-answer_shared g a = record { book = a.opened_with.0.seen.book; base = a.opened_with.1 }
+ghosts-answer_shared g a = record { book = a.opening.book; table = a.opening.table; base = a.opening.version }

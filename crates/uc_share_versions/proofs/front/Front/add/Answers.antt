@@ -4,7 +4,7 @@ use Rattle.uc_share_versions.proofs.front.Front.add.Goals as goal
 
 pub compare_exchange-found-requires : goal.compare_exchange-found-requires
 compare_exchange-found-requires g c =
-    let h = c.args.book.now.head_is in
+    let h = c.requires.head in
     let offer = c.plain-offer.ensures in
     let pen = c.no_pen-pen.ensures in (
       ap (λ w. w.tracked) h,

@@ -1,0 +1,28 @@
+-- Claims and picks lie within the runs.
+use Rattle.std.proofs.Common.{◌≡◌, ℕ, ◌+◌, ◌≤◌, List, length, sym, subst}
+use Rattle.std.specs.Prelude.{Option, Some, None, IfSome}
+use Rattle.uc_version_pick.specs.declared.candidate.Candidate.{Candidate}
+use Rattle.uc_version_pick.specs.declared.options.Options.{Options}
+use Rattle.uc_version_pick.specs.declared.stretch.Stretch.{Stretch}
+use Rattle.uc_version_pick.specs.Picks.{picked}
+use Rattle.uc_version_state.specs.Versions.{Stored, ids_of}
+use Rattle.uc_version_state.specs.Refusals.{AreInPlace}
+use Rattle.uc_version_state.specs.declared.event.Event.{Event}
+use Rattle.uc_version.specs.Claiming.{range_refusal}
+use Rattle.uc_version.proofs.PickedClaims.{in_range}
+use Rattle.uc_share_versions.specs.Fronts.{Moment}
+use Rattle.uc_share.specs.Claims.{Claim, IsClaim, IsClaimRefused, IsLookRefused, claim_error, pinned_runs}
+use Rattle.uc_share.specs.declared.held.LookError.{LookError}
+use Rattle.uc_share.specs.declared.held.LookError.TheVariants.{Moved, Memory}
+
+-- what isn't claimed after its slots were taken isn't refused for its range
+pub look_refused : (c : Claim) (before seen : List Event) (present : Stored) (error : LookError) → IsClaim c → IsLookRefused c before seen present error → IsClaimRefused c.pin c.stretch present (claim_error error)
+look_refused c before seen present Moved is h = (in_range (length c.pin.version.runs) c.stretch is.two is.within, h)
+look_refused c before seen present Memory is h = in_range (length c.pin.version.runs) c.stretch is.two is.within
+
+-- what is picked of a version isn't refused for its range
+pub pick_in_range : (o : Options) (runs : List Candidate) (n : ℕ) (r : Option Stretch) → r ≡ picked o runs → length runs ≡ n
+    → ((s : Stretch) → picked o runs ≡ Some s → s.first + s.count ≤ length runs) → ((s : Stretch) → picked o runs ≡ Some s → 2 ≤ s.count)
+    → IfSome r (λ s. range_refusal n s ≡ None)
+pick_in_range o runs n None is len there two = tt
+pick_in_range o runs n (Some s) is len there two = in_range n s (two s (sym is)) (subst (λ (k : ℕ). s.first + s.count ≤ k) len (there s (sym is)))
