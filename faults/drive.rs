@@ -4,6 +4,8 @@
 //!
 //!     drive program LIBRARY NAME INPUT PROGRAM [WORD..]
 //!     drive threads LIBRARY NAME INPUT PROGRAM [WORD..]
+//!     drive writes LIBRARY NAME INPUT PROGRAM [WORD..]
+//!     drive reads LIBRARY NAME INPUT PROGRAM [WORD..]
 //!     drive call LIBRARY NAME PROBE
 //!
 //! A run of a program is right where it answers as the run that is refused nothing, or where its text is some first replies of
@@ -13,8 +15,13 @@
 //! it; it is right where it says `NAME right` or `NAME out of memory`. A run that ends by a signal, hangs for ten seconds or says
 //! anything else is wrong.
 //!
-//! It prints a line: the name, the most requests that a run made, the runs that were refused one, those of them that were
-//! out of memory, and the wrong ones. Its status is 1 where one is wrong.
+//! With `writes` its writes to standard output are refused, and with `reads` its reads of standard input, each once, once with
+//! all later ones, and once behind one that moved a half of its bytes. Such a run is right where the refused call is the last
+//! one of its kind, with status 5 and one line on standard error at the most: behind a write the text is a front of the right
+//! one, behind a read it is `read fault`.
+//!
+//! It prints a line: the name, the most requests that a run made, the runs that were refused one, those of them that said
+//! that memory was wanting or a device failed, and the wrong ones. Its status is 1 where one is wrong.
 
 use std::fs::{self, File};
 use std::io::{self, Read};
@@ -27,14 +34,19 @@ use std::time::{Duration, Instant};
 /// What the program says where memory is wanting, and its status then.
 const NO_MEMORY: (&str, i32) = ("out of memory\n", 4);
 
+/// What the program says where its input can't be read, and its status where a device fails.
+const NO_DEVICE: (&str, i32) = ("read fault\n", 5);
+
 /// How long a run may take.
 const LONGEST: Duration = Duration::from_secs(10);
 
-/// What is run, a program or a single call, and what is refused to it: memory, or threads.
+/// What is run, a program or a single call, and what is refused to it: memory, threads, or what it asks of a device.
 #[derive(Clone, Copy, PartialEq)]
 enum Kind {
     Program,
     Threads,
+    Writes,
+    Reads,
     Call,
 }
 
@@ -57,12 +69,22 @@ struct Run {
     requests: u64,
 }
 
-/// What is refused: nothing, one request, or that one and all later ones.
+/// What is refused: nothing, one request, that one and all later ones, or the one behind it, which moves a half of its bytes.
 #[derive(Clone, Copy, PartialEq)]
 enum Refuse {
     Nothing,
     One(u64),
     From(u64),
+    Behind(u64),
+}
+
+/// What is said of a run.
+enum Judgement {
+    /// It answered as the one that is refused nothing.
+    Answered,
+    /// It said that memory was wanting, or stopped as its device failed.
+    Wanting,
+    Wrong,
 }
 
 /// What came of the runs so far.
@@ -74,18 +96,69 @@ struct Tally {
     wrong: u64,
 }
 
+impl Kind {
+    /// The kind of this name.
+    fn named(name: &str) -> Option<Kind> {
+        match name {
+            "program" => Some(Kind::Program),
+            "threads" => Some(Kind::Threads),
+            "writes" => Some(Kind::Writes),
+            "reads" => Some(Kind::Reads),
+            "call" => Some(Kind::Call),
+            _ => None,
+        }
+    }
+
+    /// What the library is told to count, where it isn't all memory.
+    fn variable(self) -> Option<&'static str> {
+        match self {
+            Kind::Program => None,
+            Kind::Threads => Some("REFUSE_THREADS"),
+            Kind::Writes => Some("REFUSE_WRITES"),
+            Kind::Reads => Some("REFUSE_READS"),
+            Kind::Call => Some("REFUSE_MARKED"),
+        }
+    }
+
+    /// How requests of this kind are refused.
+    fn ways(self) -> &'static [fn(u64) -> Refuse] {
+        match self {
+            Kind::Writes | Kind::Reads => &[Refuse::One, Refuse::From, Refuse::Behind],
+            Kind::Program | Kind::Threads | Kind::Call => &[Refuse::One, Refuse::From],
+        }
+    }
+}
+
+impl Refuse {
+    /// The first request that is refused.
+    fn first(self) -> Option<u64> {
+        match self {
+            Refuse::Nothing => None,
+            Refuse::One(number) | Refuse::From(number) => Some(number),
+            Refuse::Behind(number) => Some(number + 1),
+        }
+    }
+
+    /// What the library is told of it.
+    fn variables(self) -> Vec<(&'static str, String)> {
+        let at = |number: u64| ("REFUSE_AT", number.to_string());
+        match self {
+            Refuse::Nothing => Vec::new(),
+            Refuse::One(number) => vec![at(number)],
+            Refuse::From(number) => vec![at(number), ("REFUSE_ON", "1".into())],
+            Refuse::Behind(number) => vec![at(number), ("REFUSE_SHORT", "1".into())],
+        }
+    }
+}
+
 impl Case {
     /// What the words of the command line ask for.
     fn named(words: &[String]) -> Option<Case> {
-        let (kind, name, library, input, program, rest) = match words {
-            [_, kind, library, name, input, program, rest @ ..] if kind == "program" => {
-                (Kind::Program, name, library, input.as_str(), program, rest)
-            }
-            [_, kind, library, name, input, program, rest @ ..] if kind == "threads" => {
-                (Kind::Threads, name, library, input.as_str(), program, rest)
-            }
-            [_, kind, library, name, program] if kind == "call" => {
-                (Kind::Call, name, library, "/dev/null", program, &words[3..4])
+        let kind = Kind::named(words.get(1)?)?;
+        let (name, library, input, program, rest) = match words {
+            [_, _, library, name, program] if kind == Kind::Call => (name, library, "/dev/null", program, &words[3..4]),
+            [_, _, library, name, input, program, rest @ ..] if kind != Kind::Call => {
+                (name, library, input.as_str(), program, rest)
             }
             _ => return None,
         };
@@ -108,27 +181,11 @@ impl Case {
             .env_clear()
             .env("LD_PRELOAD", &self.library)
             .env("REFUSE_COUNT", count)
+            .envs(self.kind.variable().map(|name| (name, "1")))
+            .envs(refuse.variables())
             .stdin(File::open(&self.input)?)
             .stdout(Stdio::piped())
             .stderr(Stdio::piped());
-        match self.kind {
-            Kind::Program => {}
-            Kind::Threads => {
-                command.env("REFUSE_THREADS", "1");
-            }
-            Kind::Call => {
-                command.env("REFUSE_MARKED", "1");
-            }
-        }
-        match refuse {
-            Refuse::Nothing => {}
-            Refuse::One(number) => {
-                command.env("REFUSE_AT", number.to_string());
-            }
-            Refuse::From(number) => {
-                command.env("REFUSE_AT", number.to_string()).env("REFUSE_ON", "1");
-            }
-        }
         let mut child = command.spawn()?;
         let text = text_of(child.stdout.take().expect("standard output is piped"));
         let said = text_of(child.stderr.take().expect("standard error is piped"));
@@ -213,6 +270,36 @@ fn ends_for_memory(case: &Case, run: &Run, right: &str, ends: &[usize]) -> bool 
     run.status == Some(NO_MEMORY.1) && (says_so || run.text.strip_suffix(NO_MEMORY.0).is_some_and(begins))
 }
 
+/// Whether a run ends at the call of a device that was refused, as it has to: no other call of its kind is made behind it.
+fn ends_for_device(case: &Case, run: &Run, right: &str, refused: u64) -> bool {
+    let is_text = match case.kind {
+        Kind::Reads => run.text == NO_DEVICE.0,
+        _ => right.starts_with(&run.text),
+    };
+    is_text && run.status == Some(NO_DEVICE.1) && run.requests == refused && run.said.lines().count() <= 1
+}
+
+/// Judges a run, of which this request was the first that was refused, if one was.
+fn judge(case: &Case, run: &Run, right: &Run, ends: &[usize], refused: Option<u64>) -> Judgement {
+    let is_answered = run.text == right.text && run.status == right.status;
+    match (case.kind, refused) {
+        (Kind::Writes | Kind::Reads, Some(number)) if ends_for_device(case, run, &right.text, number) => Judgement::Wanting,
+        (Kind::Writes | Kind::Reads, Some(_)) => Judgement::Wrong,
+        (_, Some(_)) if ends_for_memory(case, run, &right.text, ends) => Judgement::Wanting,
+        _ if is_answered => Judgement::Answered,
+        _ => Judgement::Wrong,
+    }
+}
+
+/// A text as it is shown: where it is long, its length and its end.
+fn shortened(text: &str) -> String {
+    let end: String = text.chars().skip(text.chars().count().saturating_sub(60)).collect();
+    match end.len() == text.len() {
+        true => format!("{text:?}"),
+        false => format!("{} bytes to {end:?}", text.len()),
+    }
+}
+
 /// Draws numbers of requests to refuse, until they are beyond the most that a run made.
 fn draw(case: &Case, count: &Path, right: &Run, tally: &Mutex<Tally>, refuse: fn(u64) -> Refuse) -> io::Result<()> {
     let ends = ends_of_replies(&right.text);
@@ -226,16 +313,20 @@ fn draw(case: &Case, count: &Path, right: &Run, tally: &Mutex<Tally>, refuse: fn
             tally.next - 1
         };
         let run = case.run(count, refuse(number))?;
+        let refused = refuse(number).first().filter(|&first| run.requests >= first);
+        let judgement = judge(case, &run, right, &ends, refused);
         let mut tally = tally.lock().expect("no thread panics");
         tally.most = tally.most.max(run.requests);
-        let is_refused = run.requests >= number;
-        tally.refused += u64::from(is_refused);
-        if is_refused && ends_for_memory(case, &run, &right.text, &ends) {
-            tally.wanting += 1;
-        } else if run.text != right.text || run.status != right.status {
-            tally.wrong += 1;
-            let Run { text, said, status, .. } = run;
-            eprintln!("{}: wrong where request {number} is refused: {status:?}, {text:?}, {said:?}", case.name);
+        tally.refused += u64::from(refused.is_some());
+        match judgement {
+            Judgement::Answered => {}
+            Judgement::Wanting => tally.wanting += 1,
+            Judgement::Wrong => {
+                tally.wrong += 1;
+                let text = shortened(&run.text);
+                let Run { said, status, requests, .. } = run;
+                eprintln!("{}: wrong where request {number} of {requests} is refused: {status:?}, {text}, {said:?}", case.name);
+            }
         }
     }
 }
@@ -248,7 +339,7 @@ fn drive(case: &Case, folder: &Path) -> io::Result<bool> {
     }
     let threads = thread::available_parallelism()?.get();
     let mut tally = Tally { next: 1, most: right.requests, refused: 0, wanting: 0, wrong: 0 };
-    for refuse in [Refuse::One as fn(u64) -> Refuse, Refuse::From] {
+    for &refuse in case.kind.ways() {
         let shared = Mutex::new(Tally { next: 1, ..tally });
         thread::scope(|scope| -> io::Result<()> {
             let draws = (0..threads).map(|thread| {
@@ -268,7 +359,7 @@ fn drive(case: &Case, folder: &Path) -> io::Result<bool> {
 fn main() -> ExitCode {
     let words: Vec<String> = std::env::args().collect();
     let Some(case) = Case::named(&words) else {
-        eprintln!("drive program|threads LIBRARY NAME INPUT PROGRAM [WORD..]\ndrive call LIBRARY NAME PROBE");
+        eprintln!("drive program|threads|writes|reads LIBRARY NAME INPUT PROGRAM [WORD..]\ndrive call LIBRARY NAME PROBE");
         return ExitCode::from(2);
     };
     let folder = std::env::temp_dir().join(format!("refuse-{}", std::process::id()));

@@ -1,9 +1,13 @@
-/* Refuses requests for memory, or for threads: preloaded into a program, it counts what the program asks for after its
- * start, and refuses one request of them, or that one and all later ones. For tests alone; nothing here is part of the program.
+/* Refuses requests for memory or for threads, writes or reads: preloaded into a program, it counts what the program asks for
+ * after its start, and refuses one request of them, or that one and all later ones. For tests alone; nothing here is part of
+ * the program.
  *
  * REFUSE_AT=N       the request that is refused, from 1 on; without it none is
  * REFUSE_ON=1       and all later ones too
+ * REFUSE_SHORT=1    that write or read moves a half of its bytes, and the one behind it is refused
  * REFUSE_THREADS=1  threads are counted and refused, and memory isn't
+ * REFUSE_WRITES=1   writes to standard output are counted and refused, and memory isn't
+ * REFUSE_READS=1    reads of standard input are counted and refused, and memory isn't
  * REFUSE_MARKED=1   only what is asked for between two marks counts, each a request of a size that nothing else asks for
  * REFUSE_COUNT=PATH a file of 8 bytes, which holds the number of requests so far, also where the program is killed
  */
@@ -16,6 +20,8 @@
 #include <stdint.h>
 #include <stdlib.h>
 #include <sys/mman.h>
+#include <sys/syscall.h>
+#include <sys/uio.h>
 #include <unistd.h>
 
 /* The marks, in bytes: where counting begins, and where it ends. */
@@ -30,7 +36,8 @@ extern void *__libc_memalign(size_t alignment, size_t size);
 static _Atomic uint64_t *count;
 static uint64_t first;
 static int later;
-static int threads;
+static int halved;
+static enum { MEMORY, THREADS, WRITES, READS } refusing;
 static int marked;
 static atomic_int counting;
 
@@ -45,7 +52,10 @@ __attribute__((constructor)) static void begin(void) {
     if (page == MAP_FAILED) return;
     first = at == NULL ? 0 : strtoull(at, NULL, 10);
     later = getenv("REFUSE_ON") != NULL;
-    threads = getenv("REFUSE_THREADS") != NULL;
+    halved = getenv("REFUSE_SHORT") != NULL;
+    if (getenv("REFUSE_THREADS") != NULL) refusing = THREADS;
+    if (getenv("REFUSE_WRITES") != NULL) refusing = WRITES;
+    if (getenv("REFUSE_READS") != NULL) refusing = READS;
     marked = getenv("REFUSE_MARKED") != NULL;
     counting = !marked;
     count = page;
@@ -66,7 +76,7 @@ static int is_next_refused(void) {
 
 /* Whether this request for memory is refused. */
 static int refused(size_t size) {
-    if (count == NULL || threads || marks(size) || !counting || !is_next_refused()) return 0;
+    if (count == NULL || refusing != MEMORY || marks(size) || !counting || !is_next_refused()) return 0;
     errno = ENOMEM;
     return 1;
 }
@@ -89,7 +99,36 @@ int posix_memalign(void **result, size_t alignment, size_t size) {
 }
 
 int pthread_create(pthread_t *thread, const pthread_attr_t *attributes, void *(*work)(void *), void *given) {
-    if (count != NULL && threads && is_next_refused()) return EAGAIN;
+    if (count != NULL && refusing == THREADS && is_next_refused()) return EAGAIN;
     int (*create)(pthread_t *, const pthread_attr_t *, void *(*)(void *), void *) = dlsym(RTLD_NEXT, "pthread_create");
     return create(thread, attributes, work, given);
+}
+
+/* How many of the bytes the next write or read of a device moves: all, a half of them, or none, since it is refused. */
+static ssize_t moved(size_t size) {
+    uint64_t number = atomic_fetch_add(count, 1) + 1;
+    if (halved && number == first) return (size + 1) / 2;
+    if (first == 0 || !(number == first + halved || (number > first && later))) return size;
+    errno = number % 2 == 0 ? EIO : ENOSPC;
+    return -1;
+}
+
+ssize_t write(int file, const void *bytes, size_t size) {
+    ssize_t taken = size;
+    if (count != NULL && refusing == WRITES && file == STDOUT_FILENO) taken = moved(size);
+    return taken < 0 ? -1 : syscall(SYS_write, file, bytes, taken);
+}
+
+/* To standard output the first part that has bytes is written alone, as a write of several parts may do. */
+ssize_t writev(int file, const struct iovec *parts, int number) {
+    int part = 0;
+    if (count == NULL || refusing != WRITES || file != STDOUT_FILENO) return syscall(SYS_writev, file, parts, number);
+    while (part < number && parts[part].iov_len == 0) part++;
+    return part == number ? 0 : write(file, parts[part].iov_base, parts[part].iov_len);
+}
+
+ssize_t read(int file, void *bytes, size_t size) {
+    ssize_t taken = size;
+    if (count != NULL && refusing == READS && file == STDIN_FILENO) taken = moved(size);
+    return taken < 0 ? -1 : syscall(SYS_read, file, bytes, taken);
 }

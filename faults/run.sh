@@ -2,7 +2,7 @@
 # Tries the built program on refused memory and threads, damaged logs and failing devices. docs/RELIABILITY.md says what that
 # covers.
 #
-#     faults/run.sh [planted] [memory] [asks] [threads] [calls] [damage] [devices]
+#     faults/run.sh [planted] [memory] [asks] [threads] [calls] [damage] [devices] [writes] [reads]
 #
 # Without words it tries all of these. The last line says how many rows were wrong, and the status is 1 where one was. Needs cc,
 # rustc, glibc, crates/ucstore/out/ucstore, which ./build makes, or another program, named by OURS, and for `calls`
@@ -33,20 +33,26 @@ build_drive() {
 }
 
 # The driver itself: of a program that answers right it says so, and each planted wrong answer it finds.
+plant() { # KIND INPUT WAY..
+    local kind=$1 input=$2 way found wanted
+    shift 2
+    for way in right "$@"; do
+        found=yes
+        "$work/drive" "$kind" "$work/refuse.so" "$way" "$input" "$work/planted" "$kind" "$way" > /dev/null 2>&1 && found=no
+        printf '%-34s %9s\n' "$kind, $way" "$found"
+        wanted=yes
+        [ "$way" != right ] || wanted=no
+        [ "$found" = "$wanted" ] || wrong=$((wrong + 1))
+    done
+}
+
 planted() {
-    local way
     build_drive
     cc -O0 -o "$work/planted" "$here/planted.c"
     printf '%-34s %9s\n' 'planted answer' found
-    "$work/drive" program "$work/refuse.so" right /dev/null "$work/planted" right > /dev/null 2>&1 || wrong=$((wrong + 1))
-    for way in another-text half-a-line another-status nothing-said a-signal no-end; do
-        if "$work/drive" program "$work/refuse.so" "$way" /dev/null "$work/planted" "$way" > /dev/null 2>&1; then
-            printf '%-34s %9s\n' "$way" no
-            wrong=$((wrong + 1))
-        else
-            printf '%-34s %9s\n' "$way" yes
-        fi
-    done
+    plant program /dev/null another-text half-a-line another-status nothing-said a-signal no-end
+    plant writes /dev/null behind-a-hole written-again all-written-again fault-said as-if-written
+    plant reads "$here/queries.script" read-again looked-again as-if-at-the-end
 }
 
 memory() {
@@ -188,16 +194,59 @@ devices() {
     "$ours" dump < "$work/log" > /dev/full 2> "$work/said" || echo $? > "$work/status"
     device "no room for the text" 5
     echo 0 > "$work/status"
+    "$ours" --help > /dev/full 2> "$work/said" || echo $? > "$work/status"
+    device "no room for the help" 5
+    echo 0 > "$work/status"
     "$ours" dump < "$work" > "$work/text" 2> "$work/said" || echo $? > "$work/status"
     device "an input that can't be read" 5
 }
 
+# A script whose replies are longer together than the buffer in front of standard output, and one of them alone.
+long_script() {
+    local short long key
+    printf -v short '%0400d' 0
+    printf -v long '%020000d' 0
+    for key in {1000..1199}; do
+        echo "put $key $short"
+    done
+    printf 'put 1150 %s\nkeep 100\nopen\n' "$long"
+    printf 'get %d last\n' {1000..1099}
+    echo 'scan . - 50 last'
+    printf 'get %d last\n' {1100..1180}
+}
+
+# Each write or read of a run fails once, alone, with all later ones, and behind one that moved a half of its bytes.
+fail_each() { # KIND
+    local fail=("$work/drive" "$1" "$work/refuse.so")
+    build_drive
+    build make_log "$top/bench/make_log.rs"
+    long_script > "$work/long.script"
+    asked_of "$work/long.script" > "$work/long"
+    grep '^put ' "$work/long.script" | "$work/make_log" lines > "$work/long.log"
+    "$work/make_log" small 2 > "$work/log"
+    printf '%-34s %9s %9s %9s %7s\n' "failed $1" calls failed told wrong
+    "${fail[@]}" play "$work/long.script" "$ours" play --operator append || wrong=$((wrong + 1))
+    "${fail[@]}" ask "$work/long" "$ours" ask --operator append --piece 2 --compactors 2 || wrong=$((wrong + 1))
+    "${fail[@]}" dump "$work/long.log" "$ours" dump || wrong=$((wrong + 1))
+    # 64 runs, which fill more than the buffer as they are told twice.
+    "${fail[@]}" report "$work/log" "$ours" report --operator append --memtable 29500 --trigger 65 ||
+        wrong=$((wrong + 1))
+}
+
+writes() {
+    fail_each writes
+}
+
+reads() {
+    fail_each reads
+}
+
 if [ $# -eq 0 ]; then
-    set -- planted memory asks threads calls damage devices
+    set -- planted memory asks threads calls damage devices writes reads
 fi
 for part in "$@"; do
     case $part in
-        planted | memory | asks | threads | calls | damage | devices) "$part" ;;
+        planted | memory | asks | threads | calls | damage | devices | writes | reads) "$part" ;;
         *)
             echo "run.sh: no part is named $part" >&2
             exit 2

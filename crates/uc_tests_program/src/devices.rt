@@ -1,4 +1,4 @@
-//! Readers that fail, give little at a time or too much, and writers that fail.
+//! Readers that fail, give little at a time or too much, and writers that fail. Those that fail do so once, and would go on.
 use std::alloc::Global;
 use std::io;
 use std::io::{ErrorKind, Read, Write};
@@ -90,25 +90,43 @@ fn runs<R: Read, W: Write>(
     }
 }
 
-/// Gives some bytes, at most `step` at a time, and fails at one of its reads.
+/// Gives some bytes, at most `step` at a time, and fails at one of its reads. The reads behind that one would give the rest.
 #[derive(Drop)]
-struct Source {
+pub(crate) struct Source {
     left: &'static [u8],
     step: usize,
     /// How many reads come before the one that fails.
     good: usize,
+    has_failed: bool,
+    /// How many reads came behind the one that failed.
+    late: usize,
 }
 
 impl Read for Source {
     fn read(&mut self, buf: &mut [u8]) -> io::Result<usize> {
-        if self.good == 0 {
+        if self.has_failed {
+            self.late = self.late.saturating_add(1);
+        } else if self.good == 0 {
+            self.has_failed = true;
             return Err(io::Error::from(ErrorKind::ConnectionReset));
+        } else {
+            self.good -= 1;
         }
-        self.good -= 1;
         let count = buf.len().min(self.left.len()).min(self.step);
         buf[..count].copy_from_slice(&self.left[..count]);
         self.left = &self.left[count..];
         Ok(count)
+    }
+}
+
+/// A reader of these bytes, whose read behind `good` ones fails.
+pub(crate) fn source_of(left: &'static [u8], step: usize, good: usize) -> Source {
+    Source {
+        left,
+        step,
+        good,
+        has_failed: false,
+        late: 0,
     }
 }
 
@@ -129,7 +147,7 @@ impl Read for Untouched {
 
 /// How a writer fails.
 #[derive(Clone, Copy, PartialEq, Eq)]
-enum Failure {
+pub(crate) enum Failure {
     /// A write answers an error.
     Error,
     /// A write takes nothing.
@@ -138,32 +156,43 @@ enum Failure {
     Flush,
 }
 
-/// Takes at most `step` bytes at a time, and fails behind some good writes.
+/// Takes at most `step` bytes at a time, and fails once: at the write behind some good ones, or at its first flush. The calls
+/// behind that one would succeed.
 #[derive(Drop)]
-struct Sink {
+pub(crate) struct Sink {
     text: Vec<u8>,
     step: usize,
     /// How many writes come before the one that fails.
     good: usize,
     failure: Failure,
-    /// How many writes came behind the one that failed.
-    late: usize,
     has_failed: bool,
+    flushes: usize,
+    /// How many writes and flushes came behind the call that failed.
+    late: usize,
+}
+
+impl Sink {
+    /// Whether this call is the one that fails. Those behind it are counted.
+    fn fails(&mut self, is_due: bool) -> bool {
+        if self.has_failed {
+            self.late = self.late.saturating_add(1);
+            return false;
+        }
+        self.has_failed = is_due;
+        is_due
+    }
 }
 
 impl Write for Sink {
     fn write(&mut self, buf: &[u8]) -> io::Result<usize> {
-        if self.has_failed {
-            self.late = self.late.saturating_add(1);
-        }
-        if self.good == 0 && self.failure != Failure::Flush {
-            self.has_failed = true;
+        let is_due = self.good == 0 && self.failure != Failure::Flush;
+        self.good = self.good.saturating_sub(1);
+        if self.fails(is_due) {
             return match self.failure {
                 Failure::Nothing => Ok(0),
                 _ => Err(io::Error::from(ErrorKind::BrokenPipe)),
             };
         }
-        self.good = self.good.saturating_sub(1);
         let count = buf.len().min(self.step);
         if self.text.extend_from_slice(&buf[..count]).is_err() {
             return Err(io::Error::from(ErrorKind::OutOfMemory));
@@ -172,11 +201,37 @@ impl Write for Sink {
     }
 
     fn flush(&mut self) -> io::Result<()> {
-        match self.failure {
-            Failure::Flush => Err(io::Error::from(ErrorKind::BrokenPipe)),
-            _ => Ok(()),
+        let is_due = self.failure == Failure::Flush;
+        self.flushes = self.flushes.saturating_add(1);
+        if self.fails(is_due) {
+            return Err(io::Error::from(ErrorKind::BrokenPipe));
         }
+        Ok(())
     }
+}
+
+/// A writer of a byte at a time, whose write behind `good` ones fails, or its flush.
+pub(crate) fn failing(alloc: Global, good: usize, failure: Failure) -> Sink {
+    Sink {
+        text: Vec::new(alloc),
+        step: 1,
+        good,
+        failure,
+        has_failed: false,
+        flushes: 0,
+        late: 0,
+    }
+}
+
+/// Asserts what went out, how often it was flushed, and that nothing was asked of the writer behind the call that failed.
+pub(crate) fn took(rt: &impl Abort, sink: &Sink, want: &[u8], flushes: usize) {
+    assert_eq!(rt; sink.text.as_slice(), want);
+    assert_eq!(rt; (sink.flushes, sink.late), (flushes, 0));
+}
+
+/// Asserts that nothing was read behind the read that failed.
+pub(crate) fn gave_no_more(rt: &impl Abort, source: &Source) {
+    assert_eq!(rt; source.late, 0);
 }
 
 /// Runs a program from a reader into a vector, and asserts what is written and how it ends.
@@ -193,7 +248,7 @@ fn reads<R: Read>(
     assert_eq!(rt; done, ended);
 }
 
-/// A read that fails is told alone, whichever it is; the one behind the last isn't made.
+/// A read that fails is told alone, whichever it is, and is the last one; the one behind the end isn't made.
 #[test]
 fn reads_that_fail(rt: HostRuntime) {
     for (program, input, printed) in RUNS {
@@ -201,17 +256,14 @@ fn reads_that_fail(rt: HostRuntime) {
             // One for each piece, and one that finds the end.
             let count = input.len().div_ceil(step).saturating_add(1);
             for good in 0..count.saturating_add(2) {
-                let mut reader = Source {
-                    left: input,
-                    step,
-                    good,
-                };
+                let mut reader = source_of(input, step, good);
                 let told = if good < count {
                     (b"read fault\n".as_slice(), Done::Device)
                 } else {
                     (printed, Done::Fine)
                 };
                 reads(&rt, rt.alloc(), program, &mut reader, told);
+                gave_no_more(&rt, &reader);
             }
         }
     }
@@ -261,48 +313,43 @@ fn inputs_above_the_limit(rt: HostRuntime) {
     }
 }
 
-/// Runs a program into a writer that fails, and asserts that these bytes of its text went out and nothing
-/// was written behind the failure.
+/// Runs a program into a writer, and asserts what went out of its text, how the run ends and how often it was flushed.
 fn writes<R: Read>(
     rt: &(impl Abort + Threads + Wait + Sync),
     alloc: Global,
     program: Program,
-    reader: &mut R,
-    (sink, want): (Sink, &[u8]),
+    (reader, writer): (&mut R, &mut Sink),
+    (want, ended, flushes): (&[u8], Done, usize),
 ) {
-    let mut writer = sink;
-    let done = runs(rt, alloc, program, reader, &mut writer);
-    assert_eq!(rt; writer.text.as_slice(), want);
-    assert_eq!(rt; done, Done::Device);
-    assert_eq!(rt; writer.late, 0);
+    let done = runs(rt, alloc, program, reader, writer);
+    took(rt, writer, want, flushes);
+    assert_eq!(rt; done, ended);
 }
 
-/// A writer of a byte at a time, whose write behind `good` ones fails.
-fn failing(alloc: Global, good: usize, failure: Failure) -> Sink {
-    Sink {
-        text: Vec::new(alloc),
-        step: 1,
-        good,
-        failure,
-        late: 0,
-        has_failed: false,
-    }
-}
-
-/// What went out is a front of the text, and nothing is written behind it.
+/// What went out is a front of the text, and nothing is written or flushed behind it.
 #[test]
 fn writes_that_fail(rt: HostRuntime) {
     for (program, input, printed) in RUNS {
         for good in 0..printed.len() {
             for failure in [Failure::Error, Failure::Nothing] {
-                let mut reader = input;
-                let told = (failing(rt.alloc(), good, failure), &printed[..good]);
-                writes(&rt, rt.alloc(), program, &mut reader, told);
+                let (mut reader, mut writer) = (input, failing(rt.alloc(), good, failure));
+                let told = (&printed[..good], Done::Device, 0);
+                writes(&rt, rt.alloc(), program, (&mut reader, &mut writer), told);
             }
         }
-        let mut reader = input;
-        let told = (failing(rt.alloc(), 0, Failure::Flush), printed);
-        writes(&rt, rt.alloc(), program, &mut reader, told);
+    }
+}
+
+/// A run is flushed once, at its end. Where that fails all of the text went out, and it isn't tried again.
+#[test]
+fn flushes_that_fail(rt: HostRuntime) {
+    for (program, input, printed) in RUNS {
+        for (failure, done) in [(Failure::Flush, Done::Device), (Failure::Error, Done::Fine)] {
+            let mut writer = failing(rt.alloc(), printed.len(), failure);
+            let mut reader = input;
+            let told = (printed, done, 1);
+            writes(&rt, rt.alloc(), program, (&mut reader, &mut writer), told);
+        }
     }
 }
 
@@ -312,13 +359,16 @@ fn both_fail(rt: HostRuntime) {
     let text = b"read fault\n";
     for (program, input, _) in RUNS {
         for good in 0..text.len() {
-            let mut reader = Source {
-                left: input,
-                step: 3,
-                good: 4,
-            };
-            let told = (failing(rt.alloc(), good, Failure::Error), &text[..good]);
-            writes(&rt, rt.alloc(), program, &mut reader, told);
+            let mut reader = source_of(input, 3, 4);
+            let mut writer = failing(rt.alloc(), good, Failure::Error);
+            let told = (&text[..good], Done::Device, 0);
+            writes(&rt, rt.alloc(), program, (&mut reader, &mut writer), told);
+            gave_no_more(&rt, &reader);
         }
+        let mut reader = source_of(input, 3, 4);
+        let mut writer = failing(rt.alloc(), 0, Failure::Flush);
+        let told = (text.as_slice(), Done::Device, 1);
+        writes(&rt, rt.alloc(), program, (&mut reader, &mut writer), told);
+        gave_no_more(&rt, &reader);
     }
 }

@@ -3,13 +3,15 @@
 //! Everything here runs the calls of other crates as their users do, over logs and answers that were worked
 //! out by hand. Read `runs.rt` first: it has one run of each program.
 //!
-//! `reports.rt` has reports on logs, `devices.rt` readers and writers that fail, for scripts and for logs, `queries.rt`
-//! answers to queries by the plain programs, `reply_lines.rt` the line of each reply, and `reasons.rt` why runs are refused, as a
-//! reader is told. It goes through all crates.
+//! `reports.rt` has reports on logs, `devices.rt` readers and writers that fail, for scripts and for logs, `endings.rt` the
+//! same for the calls that all programs share, `queries.rt` answers to queries by the plain programs, `reply_lines.rt` the
+//! line of each reply, and `reasons.rt` why runs are refused, as a reader is told. It goes through all crates.
 #![tactic(auto)]
 
 #[cfg(test)]
 mod devices;
+#[cfg(test)]
+mod endings;
 #[cfg(test)]
 mod queries;
 #[cfg(test)]

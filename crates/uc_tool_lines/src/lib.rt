@@ -1,8 +1,8 @@
 //! The lines that the program prints.
 //!
 //! Each line is a stated function of what it prints, ends with LF, and has bytes in hexadecimal and numbers in decimal.
-//! Read `specs/Line.antt` first, then `specs/ReplyLines.antt` and `replies.rt`: a reply is printed as one line or several
-//! whole ones.
+//! Read `specs/Line.antt` of `uc_tool_log_lines` first, then `specs/ReplyLines.antt` and `replies.rt`: a reply is printed as one
+//! line or several whole ones.
 #![tactic(auto)]
 
 mod answers;

@@ -20,9 +20,9 @@ lines that begin with # are skipped. Keys and values are hexadecimal, . for the 
                 claim NAME FIRST COUNT   install NAME   abandon NAME
                 compact FIRST COUNT   pick   report
 
-Change number i has the sequence i. SEQUENCE is a number, or `last` after open; it has to be kept or
-the last one. HIGH is a key or - for none. NAME is a number below 32; FIRST counts runs from 0, the
-newest.
+Change number i has the sequence i; the store takes none after open. SEQUENCE is a number, or `last`
+after open; it has to be kept or the last one. HIGH is a key or - for none. NAME is a number below 32;
+FIRST counts runs from 0, the newest.
 
 A script with a fault prints `fault line N` and nothing else; standard error says what is wrong with
 that line. A refused opening prints `refused` and why; standard error names the option or number.
@@ -153,7 +153,7 @@ fn with_widths<'a>(
             alloc,
             "least",
             shown.least.as_str(),
-            "Compact at least this many runs at once (min_merge_width)",
+            "Compact at least this many runs of similar size (min_merge_width); to lower their number, 2 do",
         ))?
         .arg(short_number(
             alloc,
@@ -300,7 +300,7 @@ write, in the words of a script behind its sequence, and then one that says how 
   batch fault ...     the payload of that number, from 1, is not a batch, or not one that may follow
 
 Of RocksDB's logs these are read: records that aren't recycled, uncompressed, without timestamps, of the
-default column family, without transactions.
+default column family, and of transactions those that aren't prepared.
 
 Status: 0 clean or torn, 3 a fault, 2 a refused command line, 4 out of memory, 5 a read or write fault or
 too long an input.";

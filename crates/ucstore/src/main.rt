@@ -112,12 +112,13 @@ fn report<R: Read, W: Write>(
     }
 }
 
-/// Prints why the words don't name a run, or the help that they ask for.
+/// Prints why the words don't name a run, or the help that they ask for, which may fail as any text may.
 fn explain(rt: &(impl Print + Eprint), error: &Error) -> Done {
-    let _ = error.print(rt);
+    let is_printed = error.print(rt).is_ok();
     match error.kind() {
         ErrorKind::OutOfMemory => Done::NoMemory,
-        ErrorKind::DisplayHelp | ErrorKind::DisplayVersion => Done::Fine,
+        ErrorKind::DisplayHelp | ErrorKind::DisplayVersion if is_printed => Done::Fine,
+        ErrorKind::DisplayHelp | ErrorKind::DisplayVersion => Done::Device,
         _ => Done::Refused,
     }
 }
@@ -141,17 +142,39 @@ fn run_subcommand<R: Read, W: Write>(
     }
 }
 
+/// Lets a writer go. Nothing is written behind a failed write: what the buffer holds then is given up, since its drop would
+/// try to write it again.
+fn let_go<W: Write + Drop>(writer: BufWriter<W>, done: Done) {
+    if done == Done::Device {
+        let (_inner, _unwritten) = writer.into_parts();
+    }
+}
+
+/// Runs it through a buffer in front of a writer.
+fn run_buffered<R: Read, W: Write + Drop>(
+    rt: &(impl Threads + Wait + Sync),
+    alloc: Global,
+    matches: &ArgMatches<'_>,
+    reader: &mut R,
+    inner: W,
+    reason: &mut Option<Reason>,
+) -> Result<Done, Refusal> {
+    let Ok(mut writer) = BufWriter::new(alloc, inner) else {
+        return Err(Refusal::Memory);
+    };
+    let done = run_subcommand(rt, alloc, matches, reader, &mut writer, reason);
+    let_go(writer, done);
+    Ok(done)
+}
+
 /// Runs it from standard input to standard output, and says on standard error why it is refused.
 fn run_matches<R: Eprint + Print + Input + AllocGlobal + Threads + Wait + Sync>(
     rt: &R,
     matches: &ArgMatches<'_>,
 ) -> Result<Done, Refusal> {
-    let alloc = rt.alloc();
-    let Ok(mut writer) = BufWriter::new(alloc, io::writer(rt)) else {
-        return Err(Refusal::Memory);
-    };
     let (mut reader, mut reason) = (rt.reader(), None);
-    let done = run_subcommand(rt, alloc, matches, &mut reader, &mut writer, &mut reason);
+    let inner = io::writer(rt);
+    let done = run_buffered(rt, rt.alloc(), matches, &mut reader, inner, &mut reason)?;
     if let Some(reason) = reason {
         let _ = eprintln!(rt; "error: {reason}");
     }

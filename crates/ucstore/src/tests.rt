@@ -247,3 +247,68 @@ fn a_word_that_is_not_text(rt: HostRuntime) -> Result<(), Fail> {
     assert_eq!(rt; read.len(), 2);
     Ok(())
 }
+
+/// Takes a byte at a time and fails once, at the write behind some good ones. The calls behind it would succeed.
+#[derive(Drop)]
+struct Sink {
+    text: Vec<u8>,
+    /// How many writes come before the one that fails.
+    good: usize,
+    has_failed: bool,
+    /// How many writes came behind the one that failed.
+    late: usize,
+}
+
+impl Write for Sink {
+    fn write(&mut self, buf: &[u8]) -> io::Result<usize> {
+        if self.has_failed {
+            self.late = self.late.saturating_add(1);
+        } else if self.good == 0 {
+            self.has_failed = true;
+            return Err(io::Error::from(io::ErrorKind::StorageFull));
+        } else {
+            self.good -= 1;
+        }
+        let count = buf.len().min(1);
+        if self.text.extend_from_slice(&buf[..count]).is_err() {
+            return Err(io::Error::from(io::ErrorKind::OutOfMemory));
+        }
+        Ok(count)
+    }
+
+    fn flush(&mut self) -> io::Result<()> {
+        Ok(())
+    }
+}
+
+/// Dumps a log without records through a buffer.
+fn dump_into(
+    rt: &(impl Threads + Wait + Sync),
+    alloc: Global,
+    sink: &mut Sink,
+) -> Result<Done, Fail> {
+    let shown = Shown::new(alloc)?;
+    let words = ["ucstore", "dump"];
+    let matches = command::ucstore(alloc, &shown)?.try_get_matches_from(&words)?;
+    let mut log = b"".as_slice();
+    Ok(run_buffered(rt, alloc, &matches, &mut log, sink, &mut None)?)
+}
+
+/// What goes out is a front of the text, and the buffer isn't written again behind the write that failed.
+#[test]
+fn writes_that_fail_are_the_last(rt: HostRuntime) -> Result<(), Fail> {
+    let dumped = b"clean\n";
+    for good in 0..7 {
+        let mut sink = Sink {
+            text: Vec::new(rt.alloc()),
+            good,
+            has_failed: false,
+            late: 0,
+        };
+        let done = dump_into(&rt, rt.alloc(), &mut sink)?;
+        assert_eq!(rt; sink.text.as_slice(), &dumped[..good.min(6)]);
+        assert_eq!(rt; done, if good < 6 { Done::Device } else { Done::Fine });
+        assert_eq!(rt; sink.late, 0);
+    }
+    Ok(())
+}
