@@ -1,84 +1,36 @@
-// Lookups and scans of a store of counters, and what they are answered: what the programs that ours are measured against share.
+// How a RocksDB store of counters is read.
 
 #pragma once
 
-#include <optional>
-#include <utility>
-#include <variant>
-
+#include "queries.h"
 #include "rocksdb_store.h"
 
 namespace counters {
 
-// How many keys a log of counters has.
-const uint64_t kKeys = 300'000;
-const uint64_t kMostRows = 50;
-
-// Numbers by SplitMix64.
-class Numbers {
- public:
-  explicit Numbers(uint64_t seed) : state_(seed) {}
-
-  uint64_t Next() {
-    state_ += 0x9e3779b97f4a7c15;
-    uint64_t mixed = (state_ ^ (state_ >> 30)) * 0xbf58476d1ce4e5b9;
-    mixed = (mixed ^ (mixed >> 27)) * 0x94d049bb133111eb;
-    return mixed ^ (mixed >> 31);
-  }
-
- private:
-  uint64_t state_;
-};
-
-struct Get {
-  std::string key;
-};
-
-struct Scan {
-  std::string low;
-  uint64_t limit;
-};
-
-using Query = std::variant<Get, Scan>;
-using Value = std::optional<std::string>;
-using Rows = std::vector<std::pair<std::string, std::string>>;
-using Answer = std::variant<Value, Rows>;
-
-inline std::string KeyOf(uint64_t number) {
-  char key[32];
-  std::snprintf(key, sizeof key, "account/%08" PRIu64, number);
-  return key;
-}
-
-inline std::vector<Query> Lookups(Numbers& numbers, int count, uint64_t keys) {
-  std::vector<Query> queries;
-  for (int place = 0; place < count; place++) queries.push_back(Get{KeyOf(numbers.Next() % keys)});
-  return queries;
-}
-
-inline std::vector<Query> Scans(Numbers& numbers, int count) {
-  std::vector<Query> queries;
-  for (int place = 0; place < count; place++) {
-    std::string low = KeyOf(numbers.Next() % kKeys);
-    queries.push_back(Scan{low, numbers.Next() % kMostRows + 1});
-  }
-  return queries;
-}
+const rocksdb::ReadOptions kReading;
 
 struct Reader {
   rocksdb::DB* db;
+  // What scans go by, where the store stays as it is; else each has an iterator of its own.
+  rocksdb::Iterator* kept = nullptr;
 
   Answer operator()(const Get& get) const {
     std::string value;
-    Status status = db->Get(rocksdb::ReadOptions(), get.key, &value);
+    Status status = db->Get(kReading, get.key, &value);
     if (status.IsNotFound()) return Value();
     Expect(status, "get");
     return Value(std::move(value));
   }
 
   Answer operator()(const Scan& scan) const {
+    if (kept != nullptr) return RowsOf(kept, scan);
+    std::unique_ptr<rocksdb::Iterator> own(db->NewIterator(kReading));
+    return RowsOf(own.get(), scan);
+  }
+
+ private:
+  static Rows RowsOf(rocksdb::Iterator* values, const Scan& scan) {
     Rows rows;
-    std::unique_ptr<rocksdb::Iterator> values(db->NewIterator(rocksdb::ReadOptions()));
     for (values->Seek(scan.low); rows.size() < scan.limit && values->Valid(); values->Next()) {
       rows.emplace_back(values->key().ToString(), values->value().ToString());
     }
@@ -87,23 +39,12 @@ struct Reader {
   }
 };
 
-inline uint64_t WithBytes(uint64_t sum, const std::string& bytes) {
-  for (char byte : bytes) sum = sum * 31 + static_cast<uint8_t>(byte);
-  return sum;
-}
-
-// A checksum and then an answer.
-inline uint64_t WithAnswer(uint64_t sum, const Answer& answer) {
-  if (const Value* value = std::get_if<Value>(&answer)) {
-    return value->has_value() ? WithBytes(sum, **value) * 31 + 1 : sum * 31;
+// Reads all rows, so that the cache of blocks holds them.
+inline void ReadAll(rocksdb::DB* db) {
+  std::unique_ptr<rocksdb::Iterator> values(db->NewIterator(kReading));
+  for (values->SeekToFirst(); values->Valid(); values->Next()) {
   }
-  for (const auto& [key, value] : std::get<Rows>(answer)) sum = WithBytes(WithBytes(sum, key), value);
-  return sum * 31 + 2;
-}
-
-inline uint64_t WithAnswers(uint64_t sum, const std::vector<Answer>& answers) {
-  for (const Answer& answer : answers) sum = WithAnswer(sum, answer);
-  return sum;
+  Expect(values->status(), "read all rows");
 }
 
 }  // namespace counters

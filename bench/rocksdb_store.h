@@ -3,10 +3,13 @@
 
 #pragma once
 
+#include <rocksdb/cache.h>
 #include <rocksdb/db.h>
 #include <rocksdb/env.h>
+#include <rocksdb/filter_policy.h>
 #include <rocksdb/merge_operator.h>
 #include <rocksdb/metadata.h>
+#include <rocksdb/table.h>
 #include <rocksdb/universal_compaction.h>
 
 #include <algorithm>
@@ -20,17 +23,14 @@
 #include <thread>
 #include <vector>
 
+#include "fail.h"
+
 namespace counters {
 
 using rocksdb::Slice;
 using rocksdb::Status;
 
 const std::string kFolder = "/counters";
-
-[[noreturn]] inline void Fail(const std::string& what) {
-  std::fprintf(stderr, "rocksdb: %s\n", what.c_str());
-  std::exit(1);
-}
 
 // Ends the program where a call failed.
 inline void Expect(const Status& status, const char* what) {
@@ -70,9 +70,25 @@ struct Settings {
   int trigger = 4;
   // Whether each flushed file stays.
   bool uncompacted = false;
-  // How many compactions run at once at the most, where RocksDB isn't left to choose.
-  int compactions = 0;
+  // How many compactions run at once at the most, each in as many parts.
+  int compactions = std::max(1, static_cast<int>(std::thread::hardware_concurrency()));
 };
+
+// How many bits a key the filters of tables have: none, as ours have none, where FILTER doesn't say so.
+inline double FilterBits() {
+  const char* bits = std::getenv("FILTER");
+  return bits == nullptr ? 0 : std::atof(bits);
+}
+
+// Tables whose blocks all stay in memory, as those of ours do.
+inline std::shared_ptr<rocksdb::TableFactory> TablesInMemory() {
+  const size_t kCache = 1 << 30;
+  rocksdb::BlockBasedTableOptions options;
+  options.block_cache = rocksdb::NewLRUCache(kCache);
+  double bits = FilterBits();
+  if (bits > 0) options.filter_policy.reset(rocksdb::NewBloomFilterPolicy(bits));
+  return std::shared_ptr<rocksdb::TableFactory>(rocksdb::NewBlockBasedTableFactory(options));
+}
 
 inline rocksdb::Options OptionsIn(rocksdb::Env* env, const Settings& settings) {
   rocksdb::Options options;
@@ -87,10 +103,10 @@ inline rocksdb::Options OptionsIn(rocksdb::Env* env, const Settings& settings) {
   options.disable_auto_compactions = settings.uncompacted;
   options.compression = rocksdb::kNoCompression;
   options.merge_operator = std::make_shared<Counter>();
-  if (settings.compactions > 0) {
-    options.max_background_compactions = settings.compactions;
-    options.max_background_flushes = 1;
-  }
+  options.table_factory = TablesInMemory();
+  // One flush, and the others compact.
+  options.max_background_jobs = settings.compactions + 1;
+  options.max_subcompactions = static_cast<uint32_t>(settings.compactions);
   return options;
 }
 

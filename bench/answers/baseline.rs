@@ -2,11 +2,13 @@
 //!
 //!     baseline answers|hot|deleted|shared [--one-batch] [--threads N]
 //!     baseline operands
+//!     baseline rows
 //!
 //! It reads a log of counters from standard input, folds its writes as they come, and answers the workload's queries: the
 //! same line as `bench_answers`, with one run and a point for each key. With `--one-batch` all queries are one batch, and with
 //! `--threads` so many threads draw pieces of 16 queries. `operands` prints how many operands the lookups of `hot` fold:
-//! those behind the last put or deletion of each key, where nothing has folded them before.
+//! those behind the last put or deletion of each key, where nothing has folded them before. `rows` writes all keys that have a
+//! value, in order, and their values, each text behind its length of 4 bytes, low byte first.
 
 #[path = "../log.rs"]
 mod log;
@@ -15,7 +17,7 @@ mod store;
 
 use log::{read_batch, Ended, LogReader, Op};
 use std::collections::{BTreeMap, HashMap};
-use std::io::{self, Read};
+use std::io::{self, BufWriter, Read, Write};
 use std::ops::Bound;
 use std::sync::atomic::{AtomicUsize, Ordering};
 use std::thread;
@@ -250,6 +252,18 @@ fn print_operands(log: &[u8]) {
     println!("{}", queries.map(|query| folded(&query)).sum::<u64>());
 }
 
+/// Writes the keys and values after all writes of a log.
+fn write_rows(log: Vec<u8>) -> io::Result<()> {
+    let mut out = BufWriter::new(io::stdout().lock());
+    for (key, value) in values_of(log) {
+        for text in [key, value] {
+            out.write_all(&u32::try_from(text.len()).expect("a short text").to_le_bytes())?;
+            out.write_all(&text)?;
+        }
+    }
+    out.flush()
+}
+
 fn main() -> io::Result<()> {
     let words: Vec<String> = std::env::args().skip(1).collect();
     let words: Vec<&str> = words.iter().map(String::as_str).collect();
@@ -260,12 +274,13 @@ fn main() -> io::Result<()> {
             print_operands(&log);
             return Ok(());
         }
+        ["rows"] => return write_rows(log),
         [workload, "--one-batch", options @ ..] => {
             let queries = batches_of(workload).into_iter().flatten();
             (vec![queries.collect()], options)
         }
         [workload, options @ ..] => (batches_of(workload), options),
-        [] => panic!("usage: baseline WORKLOAD [--one-batch] [--threads N], or baseline operands"),
+        [] => panic!("usage: baseline WORKLOAD [--one-batch] [--threads N], or baseline operands, or baseline rows"),
     };
     let threads = match options {
         [] => 1,

@@ -1,30 +1,43 @@
 #!/bin/bash
-# Measures lookups and scans of a store that opens from a log, against plain Rust with a BTreeMap and against RocksDB.
+# Measures lookups and scans of a store that opens from a log, against plain Rust with a BTreeMap, against RocksDB, and against
+# LMDB over the rows of a compacted store.
 #
 #     bench/answers/run.sh [PART..]
 #
-# The parts are answers, workers, uncompacted, hot, deleted and ranged, or all of them where none is named.
+# The parts are answers, workers, uncompacted, hot, deleted and ranged, or all of them where none is named. They take about seven
+# minutes, of which the workers, who have no RocksDB beside them, take four.
 #
 # It measures crates/bench_answers/out/bench_answers (or OURS), which `rt run` in crates/bench_answers builds; OURS=none
-# leaves it out. baseline.rs, machine.rs and ../make_log.rs are built by `rustc -O` in a temporary folder, and rocksdb.cc by
-# `g++ -O2` where RocksDB's headers are installed (Debian's librocksdb-dev); where they aren't, it is left out.
+# leaves it out. baseline.rs, machine.rs and ../make_log.rs are built by `rustc -O` in a temporary folder, rocksdb.cc by
+# `g++ -O2` against RocksDB without assertions (../rocksdb/build.sh makes it) and against Debian's (librocksdb-dev), and lmdb.cc
+# against Debian's LMDB (liblmdb-dev); what isn't there is left out.
 #
-# Each program runs in a process of its own, in turn, TURNS times (5): it opens the log, makes the queries, answers them
-# once, and prints how long that took without the rest. A row has the turn with the least time, and where it says so the
-# median of all turns. All programs must come to the same answers. Logs: `counters` of MIB MiB (60), `hot` of HOT_MIB
-# (16), `deleted` and `ranged` (see ../make_log.rs), which have the same queries.
+# RocksDB has the options of ../rocksdb_store.h, which are printed, and reads all rows once before the clock starts, so that its
+# cache of blocks holds them; all scans go by one iterator. Where nothing is compacted, it is measured with a Bloom filter of 10 bits a
+# key too, of which ours has none. LMDB has one row for each key, as plain Rust folds them: written by
+# MDB_WRITEMAP, MDB_NOSYNC and MDB_NOMETASYNC to a file in /dev/shm, and read in one transaction that stays open, scans by one
+# cursor. What it takes to load isn't measured.
+#
+# Each program runs in a process of its own, in turn, TURNS times (5), and Debian's RocksDB in the first turn alone: it opens the
+# log, makes the queries, answers them once, and prints how long that took without the rest. A row has the turn with the least
+# time, and where it says so the median of all turns. All programs must come to the same answers. Logs: `counters` of MIB MiB
+# (60), `hot` of HOT_MIB (16), `deleted` and `ranged` (see ../make_log.rs), which have the same queries. RESULTS names a file for
+# the figures as JSON.
 set -u -o pipefail
 
 here=$(cd "$(dirname "${BASH_SOURCE[0]}")" && pwd) || exit 1
 ours=${OURS:-$here/../../crates/bench_answers/out/bench_answers}
 turns=${TURNS:-5}
 folder=$(mktemp -d) || exit 1
-trap 'rm -rf "$folder"' EXIT
+memory=$(mktemp -d -p /dev/shm 2> /dev/null || mktemp -d) || exit 1
+trap 'rm -rf "$folder" "$memory"' EXIT
 
 fail() {
     echo "run.sh: $*" >&2
     exit 1
 }
+
+. "$here/../rocksdb/libraries.sh"
 
 build() { # SOURCE
     rustc --edition 2021 -O -o "$folder/$(basename "$1" .rs)" "$1" || fail "$1 doesn't build"
@@ -36,12 +49,13 @@ build_all() {
     build "$here/baseline.rs"
     build "$here/machine.rs"
     if [ "$ours" != none ]; then ours=$(realpath -e "$ours") || exit 2; fi
-    has_rocksdb=
-    if echo '#include <rocksdb/db.h>' | g++ -std=c++17 -fsyntax-only -x c++ - 2> "$folder/said"; then
-        g++ -O2 -std=c++17 -o "$folder/rocksdb" "$here/rocksdb.cc" -lrocksdb || fail "rocksdb.cc doesn't build"
-        has_rocksdb=yes
+    build_rocksdb "$here/rocksdb.cc"
+    has_lmdb=
+    if has_header lmdb.h; then
+        g++ -O2 -std=c++17 -o "$folder/lmdb" "$here/lmdb.cc" -llmdb || fail "lmdb.cc doesn't build"
+        has_lmdb=yes
     else
-        echo "run.sh: RocksDB is left out: its headers (librocksdb-dev) or g++ aren't there" >&2
+        echo "LMDB is left out: its header (liblmdb-dev) or g++ aren't there" >&2
     fi
 }
 
@@ -50,6 +64,12 @@ make_logs() {
     "$folder/make_log" hot "${HOT_MIB:-16}" > "$folder/hot.log" || fail "no log"
     "$folder/make_log" deleted > "$folder/deleted.log" || fail "no log"
     "$folder/make_log" ranged > "$folder/ranged.log" || fail "no log"
+    if [ -n "$has_lmdb" ]; then
+        for log in answers hot deleted ranged; do
+            "$folder/baseline" rows < "$folder/$log.log" > "$folder/$log.rows" || fail "no rows"
+        done
+        log=
+    fi
 }
 
 # What is measured side by side: a name for each row, the program, its words, and its log (or else that of its workload).
@@ -62,7 +82,9 @@ plan() { # NAME PROGRAM WORDS: adds a row, where the program is there
     shift 2
     case $program in
         ours) if [ "$ours" = none ]; then return; fi ;;
-        rocksdb) if [ -z "$has_rocksdb" ]; then return; fi ;;
+        rocksdb | debian) if ! has_rocksdb "$program"; then return; fi ;;
+        filtered) if ! has_rocksdb rocksdb; then return; fi ;;
+        lmdb) if [ -z "$has_lmdb" ]; then return; fi ;;
     esac
     names+=("$name")
     programs[$name]=$program
@@ -70,15 +92,27 @@ plan() { # NAME PROGRAM WORDS: adds a row, where the program is there
     logs[$name]=${log:-$1}
 }
 
+# Plans the same of RocksDB without assertions and of Debian's, which has no row of its own but stands in a column.
+plan_rocksdb() { # KIND WORDS: `_compacted`, or whatever else stands behind the names
+    plan "RocksDB$1" rocksdb "${@:2}"
+    plan "Debian's$1" debian "${@:2}"
+}
+
 # Runs one row's program over its workload's log, and keeps what it prints behind the sum of its times.
 run_once() { # NAME
-    local program=${programs[$1]} asked
+    local program=${programs[$1]} input=$folder/${logs[$1]}.log asked
     read -ra asked <<< "${words[$1]}"
     case $program in
-        ours) program=$ours ;;
-        *) program=$folder/$program ;;
+        ours) asked=("$ours" "${asked[@]}") ;;
+        filtered) asked=(env FILTER=10 "$folder/rocksdb" "${asked[@]}") ;;
+        lmdb)
+            rm -f "$memory"/*
+            asked=("$folder/lmdb" "${asked[@]}" "$memory/rows")
+            input=$folder/${logs[$1]}.rows
+            ;;
+        *) asked=("$folder/$program" "${asked[@]}") ;;
     esac
-    "$program" "${asked[@]}" < "$folder/${logs[$1]}.log" > "$folder/line" || fail "$1 fails"
+    "${asked[@]}" < "$input" > "$folder/line" || fail "$1 fails"
     awk '{ sum = 0; for (field = 5; field <= NF; field++) sum += $field; printf "%.0f %s\n", sum, $0 }' "$folder/line" \
         >> "$folder/row.$1" || fail "no figures of $1"
 }
@@ -90,11 +124,14 @@ middle() {
 
 # Runs all rows in turn, TURNS times or as often as is said, and keeps the line of each one's least sum and the median of its
 # sums. The answers of all are the same.
-measure() { # [TIMES]
-    local name
+measure() { # PART [TIMES]
+    local turn name
     if [ "${#names[@]}" -eq 0 ]; then return; fi
-    for _ in $(seq "${1:-$turns}"); do
-        for name in "${names[@]}"; do run_once "$name"; done
+    for turn in $(seq "${2:-$turns}"); do
+        for name in "${names[@]}"; do
+            if [ "$turn" -gt 1 ] && [ "${programs[$name]}" = debian ]; then continue; fi
+            run_once "$name"
+        done
     done
     [ "$(for name in "${names[@]}"; do cut -d ' ' -f 4,5 "$folder/row.$name"; done | sort -u | wc -l)" -eq 1 ] ||
         fail "the answers differ: ${words[${names[0]}]}"
@@ -103,12 +140,21 @@ measure() { # [TIMES]
         head -n 1 "$folder/sorted.$name" > "$folder/least.$name" || fail "no figures of $name"
         middle < "$folder/sorted.$name" > "$folder/median.$name" || fail "no median of $name"
         rm "$folder/row.$name" "$folder/sorted.$name"
+        keep_row "$1" "$name"
     done
 }
 
+# Keeps the least time of a row, whose name begins with its program. What has one row of deleted keys is like a compacted store.
+keep_row() { # PART NAME
+    local time row=
+    if [[ $2 == *_* ]]; then row=${2#*_}; elif [[ $1 == deleted || $1 == ranged ]]; then row=compacted; fi
+    read -r time _ < "$folder/least.$2"
+    keep_ms "$1" "${row//_/ }" "${2%%_*}" "$time"
+}
+
 # Prints a row for each name: its runs and points, and what awk says of it. `sum` is its least time, `time[1]` and on are
-# those of its batches then, `median` is that of all its turns, and `over(NAME)` is `sum` over that of another row. Then
-# nothing is planned any more.
+# those of its batches then, `median` is that of all its turns, and `over(NAME)` is `sum` over that of another row. Debian's
+# RocksDB has no row. Then nothing is planned any more.
 print_rows() { # AWK
     local name
     for name in "${names[@]}"; do
@@ -117,11 +163,13 @@ print_rows() { # AWK
         function cell(format, number) { return sprintf("%12s", sprintf(format, number)) }
         function ms(nanoseconds) { return cell("%.2f", nanoseconds / 1e6) }
         function over(other) { return sums[other] ? cell("%.2f", sum / sums[other]) : cell("-", 0) }
+        function debian(kind) { return "Debian\047s" kind }
         { names[NR] = $1; medians[$1] = $2; sums[$1] = $3; lines[NR] = $0 }
         END {
             for (row = 1; row <= NR; row++) {
                 count = split(lines[row], fields, " ")
                 name = names[row]; median = fields[2]; sum = fields[3]; runs = fields[4]; points = fields[5]
+                if (name ~ /^Debian/) continue
                 for (place = 8; place <= count; place++) time[place - 7] = fields[place]
                 said = ""
                 '"$1"'
@@ -144,10 +192,11 @@ answers() {
     echo "answers: 20,000 lookups and 500 scans, compacted"
     plan ours ours answers
     plan BTreeMap baseline answers
-    plan RocksDB rocksdb answers
-    measure
-    heading 'lookups ms' 'scans ms' 'sum ms' '/ BTreeMap' '/ RocksDB'
-    print_rows 'said = ms(time[1]) ms(time[2]) ms(sum) over("BTreeMap") over("RocksDB")'
+    plan LMDB lmdb answers
+    plan_rocksdb '' answers
+    measure answers
+    heading 'lookups ms' 'scans ms' 'sum ms' '/ BTreeMap' '/ LMDB' '/ RocksDB' "/ Debian's"
+    print_rows 'said = ms(time[1]) ms(time[2]) ms(sum) over("BTreeMap") over("LMDB") over("RocksDB") over(debian(""))'
 }
 
 # How much more the processors do together than one does, whatever the program.
@@ -159,7 +208,7 @@ machine() {
 }
 
 # 2. The same queries as one batch, by more workers, in smaller and larger pieces. How fast four processors are together
-# changes with what else the machine does, so these rows have four times the turns.
+# changes with what else the machine does, so these rows have three times the turns.
 workers() {
     local workers piece
     machine
@@ -172,7 +221,7 @@ workers() {
     for workers in 1 2 4; do
         plan "BTreeMap_pieces_of_16_workers_$workers" baseline answers --one-batch --threads "$workers"
     done
-    measure $((4 * turns))
+    measure workers $((3 * turns))
     heading 'ms' 'faster' 'median ms' 'faster'
     print_rows 'one = name; sub(/[0-9]+$/, "1", one)
         said = ms(sum) cell("%.2f", sums[one] / sum) ms(median) cell("%.2f", medians[one] / median)'
@@ -182,33 +231,38 @@ workers() {
 uncompacted() {
     echo "answers, not compacted"
     plan ours ours answers --uncompacted
-    plan RocksDB rocksdb answers --uncompacted
-    measure
-    heading 'lookups ms' 'scans ms' 'sum ms' '/ RocksDB'
-    print_rows 'said = ms(time[1]) ms(time[2]) ms(sum) over("RocksDB")'
+    plan_rocksdb '' answers --uncompacted
+    plan RocksDB+filter filtered answers --uncompacted
+    measure uncompacted
+    heading 'lookups ms' 'scans ms' 'sum ms' '/ RocksDB' '/ +filter' "/ Debian's"
+    print_rows 'said = ms(time[1]) ms(time[2]) ms(sum) over("RocksDB") over("RocksDB+filter") over(debian(""))'
 }
 
 # 4. Few keys with many merges.
 hot() {
-    local memtable trigger operands program
+    local memtable trigger operands
     operands=$("$folder/baseline" operands < "$folder/hot.log") || fail "no operands"
     echo "hot: 20,000 lookups; where no flush or compaction folds operands, they fold $operands"
     plan BTreeMap baseline hot
-    for program in ours RocksDB; do
-        plan "${program}_uncompacted" "${program,,}" hot --uncompacted
-        for memtable in 1 4 16; do
-            for trigger in 2 4 8; do
-                plan "${program}_memtable_${memtable}_MiB_trigger_$trigger" "${program,,}" hot \
-                    --memtable $((memtable << 20)) --trigger "$trigger"
-            done
+    plan LMDB lmdb hot
+    plan_hot _uncompacted --uncompacted
+    for memtable in 1 4 16; do
+        for trigger in 2 4 8; do
+            plan_hot "_memtable_${memtable}_MiB_trigger_$trigger" --memtable $((memtable << 20)) --trigger "$trigger"
         done
     done
-    measure
-    heading 'ms' 'ns/lookup' 'ns/operand' '/ BTreeMap'
+    measure hot
+    heading 'ms' 'ns/lookup' 'ns/operand' '/ BTreeMap' '/ RocksDB' "/ Debian's"
     # A store with as many points as writes folds what was counted; in another one it can't be said.
     print_rows 'whole = name ~ /^ours/ && points == '"$(hot_writes)"'
+        kind = name; if (!sub(/^[^_]*_/, "_", kind)) kind = ""
         said = ms(sum) cell("%.0f", sum / 20000) (whole ? cell("%.0f", sum / '"$operands"') : cell("-", 0)) \
-            over("BTreeMap")'
+            over("BTreeMap") over("RocksDB" kind) over(debian(kind))'
+}
+
+plan_hot() { # KIND WORDS
+    plan "ours$1" ours hot "${@:2}"
+    plan_rocksdb "$1" hot "${@:2}"
 }
 
 # How many writes the log of hot counters has: the points of the store that nothing was folded in.
@@ -221,15 +275,17 @@ over_deleted() { # LOG HOW MEMTABLE
     log=$1
     echo "$1: a scan of 5,000 rows, of 10,000 and of 20,000, nine of ten keys deleted $2"
     plan BTreeMap baseline deleted
+    plan LMDB lmdb deleted
     plan ours_uncompacted ours deleted --uncompacted --memtable "$3"
-    plan RocksDB_uncompacted rocksdb deleted --uncompacted --memtable "$3"
+    plan_rocksdb _uncompacted deleted --uncompacted --memtable "$3"
     plan ours_compacted ours deleted --memtable "$3"
-    plan RocksDB_compacted rocksdb deleted --memtable "$3"
-    measure
+    plan_rocksdb _compacted deleted --memtable "$3"
+    measure "$1"
     log=
-    heading '5,000 ms' '10,000 ms' '20,000 ms' '/ 5,000' '/ 10,000' '/ BTreeMap'
-    print_rows 'said = ms(time[1]) ms(time[2]) ms(time[3]) cell("%.2f", time[2] / time[1]) \
-        cell("%.2f", time[3] / time[2]) over("BTreeMap")'
+    heading '5,000 ms' '10,000 ms' '20,000 ms' '/ 5,000' '/ 10,000' '/ BTreeMap' '/ RocksDB' "/ Debian's"
+    print_rows 'kind = name; if (!sub(/^[^_]*_/, "_", kind)) kind = "_compacted"
+        said = ms(time[1]) ms(time[2]) ms(time[3]) cell("%.2f", time[2] / time[1]) \
+            cell("%.2f", time[3] / time[2]) over("BTreeMap") over("RocksDB" kind) over(debian(kind))'
 }
 
 deleted() {
@@ -249,8 +305,10 @@ for part; do
 done
 build_all
 make_logs
-grep -m1 'model name' /proc/cpuinfo
-echo "load: $(cut -d ' ' -f 1-3 /proc/loadavg)"
+say_machine
+say_rocksdb
+if [ -n "$has_lmdb" ]; then echo "LMDB $(dpkg-query -W -f '${Version}' liblmdb-dev)"; fi
 echo
 for part; do "$part"; done
-echo "load: $(cut -d ' ' -f 1-3 /proc/loadavg)"
+say_machine
+write_results answers

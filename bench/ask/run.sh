@@ -4,16 +4,18 @@
 #     bench/ask/run.sh
 #
 # The input is a head of 20,000 lookups and 500 scans behind which stands a log of MIB MiB (60) of counters (`make_log counters`).
-# The built program (crates/ucstore/out/ucstore, or OURS) answers it by WORKERS workers (4), without compactors and beside two;
-# RocksDB recovers the same log in its memory environment and answers by as many threads while its own compactions run. What
-# they print is compared byte for byte. Each runs TURNS times (5), in turn and each time in a process of its own: the least
-# seconds from start to end and the most memory are printed. rocksdb.cc needs RocksDB's headers (Debian's librocksdb-dev).
+# The built program (crates/ucstore/out/ucstore, or OURS; OURS=none leaves it out) answers it by WORKERS workers (4), without
+# compactors and beside two; RocksDB recovers the same log in its memory environment and answers by as many threads while its own
+# compactions run, by as many threads as there are processors (../rocksdb_store.h has its options, and they are printed). What they
+# print is compared byte for byte. Each runs TURNS times (5), in turn and each time in a process of its own, and Debian's RocksDB, whose
+# assertions are on, in the first turn alone: the least seconds from start to end and the most memory are printed. RESULTS names a
+# file for the figures as JSON.
 #
 # Then a hostile input: as many lookups as fit 64 MiB, over an empty log.
 set -u -o pipefail
 
 here=$(cd "$(dirname "${BASH_SOURCE[0]}")" && pwd) || exit 1
-ours=$(realpath -e "${OURS:-$here/../../crates/ucstore/out/ucstore}") || exit 2
+ours=${OURS:-$here/../../crates/ucstore/out/ucstore}
 turns=${TURNS:-5}
 mib=${MIB:-60}
 workers=${WORKERS:-4}
@@ -23,6 +25,21 @@ trap 'rm -rf "$folder"' EXIT
 fail() {
     echo "run.sh: $*" >&2
     exit 1
+}
+
+. "$here/../rocksdb/libraries.sh"
+
+# Builds what there is, and says which programs are measured.
+build_all() {
+    rustc --edition 2021 -O -o "$folder/make_log" "$here/../make_log.rs" || fail "make_log.rs doesn't build"
+    build_rocksdb "$here/rocksdb.cc"
+    programs=()
+    if [ "$ours" != none ]; then
+        ours=$(realpath -e "$ours") || exit 2
+        programs=(compactors0 compactors2)
+    fi
+    programs+=("${rocksdbs[@]}")
+    [ "${#programs[@]}" -gt 0 ] || fail "there is nothing to measure"
 }
 
 # Lookups and scans of the keys that `make_log counters` writes, by lot.
@@ -47,8 +64,8 @@ make_head() {
 # The words of a program's run.
 words_of() { # PROGRAM
     case $1 in
-        rocksdb) words=("$folder/rocksdb" "$workers") ;;
-        *) words=("$ours" ask --operator counter --workers "$workers" --compactors "${1#compactors}") ;;
+        compactors*) words=("$ours" ask --operator counter --workers "$workers" --compactors "${1#compactors}") ;;
+        *) words=("$folder/$1" "$workers") ;;
     esac
 }
 
@@ -62,42 +79,75 @@ run_once() { # PROGRAM INPUT
     echo "$((end - start)) $(tail -n 1 "$folder/memory")" >> "$folder/figures.$1"
 }
 
+# Runs all programs in turn; what they print is the same.
+measure() {
+    local turn program
+    for turn in $(seq "$turns"); do
+        for program in "${programs[@]}"; do
+            if [ "$turn" -gt 1 ] && [ "$program" = debian ]; then continue; fi
+            run_once "$program" "$folder/input"
+            if [ ! -f "$folder/first" ]; then mv "$folder/text" "$folder/first"; else
+                cmp "$folder/text" "$folder/first" || fail "$program prints another text"
+            fi
+        done
+    done
+    echo "$(wc -l < "$folder/first") lines are printed alike"
+}
+
+# A line for each program: its least microseconds, and the most KiB.
+least() {
+    local program
+    for program in "${programs[@]}"; do
+        echo "$program $(cut -d ' ' -f 1 "$folder/figures.$program" | sort -n | head -n 1)" \
+            "$(cut -d ' ' -f 2 "$folder/figures.$program" | sort -n | tail -n 1)"
+    done
+}
+
 table() {
-    awk '{ time[$1] = $2; memory[$1] = $3; names[++count] = $1 }
+    awk '
+    function ratio(one, other) { return other ? sprintf("%5.2f", one / other) : "    -" }
+    { time[$1] = $2; memory[$1] = $3; names[++count] = $1 }
     END {
-        print "program                  seconds  memory MiB  time, memory against RocksDB"
+        print "                                              time against        memory against"
+        print "program                  seconds  memory MiB  RocksDB  Debian'\''s  RocksDB  Debian'\''s"
         for (line = 1; line <= count; line++) {
             n = names[line]
+            if (n == "debian") continue
             word = n == "rocksdb" ? "RocksDB" : "ucstore, " substr(n, 11) " compactors"
-            printf "%-23s  %7.3f  %10.1f  %5.2f  %5.2f\n", word, time[n] / 1e6, memory[n] / 1024,
-                time[n] / time["rocksdb"], memory[n] / memory["rocksdb"]
+            printf "%-23s  %7.3f  %10.1f  %7s  %8s  %7s  %8s\n", word, time[n] / 1e6, memory[n] / 1024,
+                ratio(time[n], time["rocksdb"]), ratio(time[n], time["debian"]),
+                ratio(memory[n], memory["rocksdb"]), ratio(memory[n], memory["debian"])
         }
     }'
 }
 
-rustc --edition 2021 -O -o "$folder/make_log" "$here/../make_log.rs" || fail "make_log.rs doesn't build"
-g++ -O2 -std=c++17 -o "$folder/rocksdb" "$here/rocksdb.cc" -lrocksdb || fail "rocksdb.cc doesn't build"
-{ make_head && "$folder/make_log" counters "$mib"; } > "$folder/input" || fail "no input"
-programs=(compactors0 compactors2 rocksdb)
-for program in "${programs[@]}"; do
-    run_once "$program" "$folder/input"
-    mv "$folder/text" "$folder/text.$program"
-    rm "$folder/figures.$program"
-    cmp "$folder/text.$program" "$folder/text.compactors0" || fail "$program prints another text"
-done
-echo "$(wc -l < "$folder/text.rocksdb") lines are printed alike"
-grep -m1 'model name' /proc/cpuinfo
-echo "load: $(cut -d ' ' -f 1-3 /proc/loadavg)"
-for _ in $(seq "$turns"); do
-    for program in "${programs[@]}"; do run_once "$program" "$folder/input"; done
-done
-for program in "${programs[@]}"; do
-    echo "$program $(cut -d ' ' -f 1 "$folder/figures.$program" | sort -n | head -n 1)" \
-        "$(cut -d ' ' -f 2 "$folder/figures.$program" | sort -n | tail -n 1)"
-    rm "$folder/figures.$program"
-done | table
+# Keeps the figures of each program, those of RocksDB beside each number of compactors.
+keep_all() {
+    local program time memory name row rows
+    while read -r program time memory; do
+        case $program in
+            compactors*) rows=${program#compactors} name=ours ;;
+            *) rows="0 2" name=$(name_of "$program") ;;
+        esac
+        for row in $rows; do keep_run ask "$row compactors" "$name" "$time" "$memory"; done
+    done
+}
 
-yes 'get . 0' | head -c 67108856 > "$folder/input"
-echo log >> "$folder/input"
-run_once compactors0 "$folder/input"
-awk '{ printf "64 MiB of lookups over an empty log: %.2f seconds, %.1f MiB\n", $1 / 1e6, $2 / 1024 }' "$folder/figures.compactors0"
+hostile() {
+    yes 'get . 0' | head -c 67108856 > "$folder/input"
+    echo log >> "$folder/input"
+    rm "$folder/figures.compactors0"
+    run_once compactors0 "$folder/input"
+    awk '{ printf "64 MiB of lookups over an empty log: %.2f seconds, %.1f MiB\n", $1 / 1e6, $2 / 1024 }' "$folder/figures.compactors0"
+}
+
+build_all
+{ make_head && "$folder/make_log" counters "$mib"; } > "$folder/input" || fail "no input"
+say_machine
+say_rocksdb
+measure
+least > "$folder/least" || fail "no figures"
+table < "$folder/least"
+keep_all < "$folder/least"
+write_results ask
+if [ "$ours" != none ]; then hostile; fi

@@ -6,14 +6,17 @@
 # A report opens a write-ahead log, flushes its writes to runs, compacts as universal compaction does until nothing is
 # picked, and says what the store holds before and after. It measures the built program itself
 # (crates/ucstore/out/ucstore, or OURS; OURS=none leaves it out). baseline.rs and ../make_log.rs are built by `rustc -O`
-# in a temporary folder, and rocksdb.cc by `g++ -O2` where RocksDB's headers are installed (Debian's librocksdb-dev);
-# where they aren't, it is left out. RocksDB recovers the same log in its memory environment.
+# in a temporary folder, and rocksdb.cc by `g++ -O2` against RocksDB without assertions (../rocksdb/build.sh makes it) and
+# against Debian's (librocksdb-dev), whose assertions are on; what isn't there is left out. RocksDB recovers the same log in
+# its memory environment; ../rocksdb_store.h has its options, and they are printed. It compacts by as many threads as there
+# are processors, ours and plain Rust by one.
 #
 # First the reports of small logs are compared with ones worked by hand, those of large and of damaged logs with each
 # other, and the values of all keys after the compactions with those that RocksDB has. Then each program runs TURNS
-# times (5) over logs of SIZES MiB (16 30 60), in turn and each time in a process of its own: the least seconds from
-# start to end and the most memory are printed. The logs have batches of one write: half merges of counters, 45 percent
-# puts, 5 percent deletions, and now and then a range deletion (`make_log counters`).
+# times (5), and Debian's RocksDB in the first turn alone, over logs of SIZES MiB (16 30 60), in turn and each time in a
+# process of its own: the least seconds from start to end and the most memory are printed. The logs have batches of one
+# write: half merges of counters, 45 percent puts, 5 percent deletions, and now and then a range deletion (`make_log
+# counters`). RESULTS names a file for the figures as JSON. It takes about two minutes.
 set -u -o pipefail
 
 here=$(cd "$(dirname "${BASH_SOURCE[0]}")" && pwd) || exit 1
@@ -27,6 +30,8 @@ fail() {
     echo "run.sh: $*" >&2
     exit 1
 }
+
+. "$here/../rocksdb/libraries.sh"
 
 build() { # SOURCE
     rustc --edition 2021 -O -o "$folder/$(basename "$1" .rs)" "$1" || fail "$1 doesn't build"
@@ -42,12 +47,8 @@ build_all() {
         reporting=(ucstore baseline)
     fi
     measured=("${reporting[@]}")
-    if echo '#include <rocksdb/db.h>' | g++ -std=c++17 -fsyntax-only -x c++ - 2> "$folder/said"; then
-        g++ -O2 -std=c++17 -o "$folder/rocksdb" "$here/rocksdb.cc" -lrocksdb || fail "rocksdb.cc doesn't build"
-        measured+=(rocksdb)
-    else
-        echo "run.sh: RocksDB is left out: its headers (librocksdb-dev) or g++ aren't there" >&2
-    fi
+    build_rocksdb "$here/rocksdb.cc"
+    measured+=("${rocksdbs[@]}")
 }
 
 run() { # PROGRAM WORDS: runs it over standard input
@@ -184,7 +185,7 @@ check_refused() {
 
 # After any compactions each key has the value that it has in RocksDB.
 check_values() { # LOG
-    local log=$1 words values
+    local log=$1 words values rocksdb
     values=$("$folder/baseline" --values < "$log") || fail "no values"
     for words in "--memtable 1048576 --trigger 2 --percent 100000 --greatest 3" \
         "--memtable 333333 --trigger 8 --percent 100000 --greatest 5 --ratio 0"; do
@@ -193,9 +194,9 @@ check_values() { # LOG
         # shellcheck disable=SC2086
         [ "$("$folder/baseline" --values $words < "$log")" = "$values" ] || fail "$words: other values"
     done
-    if [ "${measured[-1]}" = rocksdb ]; then
-        [ "$("$folder/rocksdb" --values < "$log")" = "$values" ] || fail "RocksDB has other values"
-    fi
+    for rocksdb in "${rocksdbs[@]}"; do
+        [ "$("$folder/$rocksdb" --values < "$log")" = "$values" ] || fail "$rocksdb has other values"
+    done
 }
 
 # Logs that end early, and logs with another byte in their middle.
@@ -223,15 +224,18 @@ run_once() { # PROGRAM LOG
 }
 
 measure() { # MIB: a line for each program with its microseconds and KiB
-    local log=$folder/log program
+    local log=$folder/log turn program
     "$folder/make_log" counters "$1" > "$log" || fail "no log"
     check_same "$log" "$1 MiB"
     if [ "$1" -eq "${sizes[0]}" ]; then
         check_values "$log"
         check_damaged "$log"
     fi
-    for _ in $(seq "$turns"); do
-        for program in "${measured[@]}"; do run_once "$program" "$log" || exit 1; done
+    for turn in $(seq "$turns"); do
+        for program in "${measured[@]}"; do
+            if [ "$turn" -gt 1 ] && [ "$program" = debian ]; then continue; fi
+            run_once "$program" "$log" || exit 1
+        done
     done
     for program in "${measured[@]}"; do
         echo "$program $1 $(cut -d ' ' -f 1 "$folder/figures.$program" | sort -n | head -n 1)" \
@@ -250,16 +254,31 @@ table() {
     }
     END {
         word["ucstore"] = "ucstore"; word["baseline"] = "plain Rust"; word["rocksdb"] = "RocksDB"
-        print "                                          time against                     memory against"
-        print "log     program     seconds  memory MiB  plain Rust  RocksDB  half a log  plain Rust  RocksDB"
+        print "                                          time against                               memory against"
+        print "log     program     seconds  memory MiB  plain Rust  RocksDB  Debian\047s  half a log  plain Rust  RocksDB  Debian\047s"
         for (line = 1; line <= count; line++) {
             n = names[line]; s = size[line]
+            if (n == "debian") continue
             t = time[n, s]; m = memory[n, s]
-            printf "%2d MiB  %-10s  %7.3f  %10.1f  %10s  %7s  %10s  %10s  %7s\n", s, word[n], t / 1e6, m / 1024,
-                ratio(t, time["baseline", s]), ratio(t, time["rocksdb", s]), ratio(t, time[n, s / 2]),
-                ratio(m, memory["baseline", s]), ratio(m, memory["rocksdb", s])
+            printf "%2d MiB  %-10s  %7.3f  %10.1f  %10s  %7s  %8s  %10s  %10s  %7s  %8s\n", s, word[n], t / 1e6, m / 1024,
+                ratio(t, time["baseline", s]), ratio(t, time["rocksdb", s]), ratio(t, time["debian", s]),
+                ratio(t, time[n, s / 2]), ratio(m, memory["baseline", s]), ratio(m, memory["rocksdb", s]),
+                ratio(m, memory["debian", s])
         }
     }'
+}
+
+# Keeps the figures of each program and size.
+keep_all() {
+    local program size time memory name
+    while read -r program size time memory; do
+        case $program in
+            ucstore) name=ours ;;
+            baseline) name="plain Rust" ;;
+            *) name=$(name_of "$program") ;;
+        esac
+        keep_run report "$size MiB" "$name" "$time" "$memory"
+    done
 }
 
 build_all
@@ -268,8 +287,11 @@ check_deletion 6b 1 19
 check_deletion 6c 0 10
 check_number_of_runs
 check_refused
-grep -m1 'model name' /proc/cpuinfo
-echo "load: $(cut -d ' ' -f 1-3 /proc/loadavg)"
+say_machine
+say_rocksdb
 for size in "${sizes[@]}"; do
     measure "$size" || exit 1
-done | table
+done > "$folder/least"
+table < "$folder/least"
+keep_all < "$folder/least"
+write_results report

@@ -4,9 +4,9 @@
 //     rocksdb beside THREADS COMPACTIONS
 //     rocksdb lookups COMPACTIONS
 //
-// It recovers standard input as a log with automatic compactions disabled, and enables them as the clock starts, so many at once at
-// the most, or leaves them disabled where that is 0. It prints the same lines as `bench_shared`, with a 0 for the installs, which it
-// doesn't count.
+// It recovers standard input as a log with automatic compactions disabled, reads all rows once, so that the cache of blocks holds
+// them, and enables compactions as the clock starts, so many at once at the most, each in as many parts, or leaves them disabled
+// where that is 0. It prints the same lines as `bench_shared`, with a 0 for the installs, which it doesn't count.
 
 #include "../rocksdb_queries.h"
 
@@ -142,9 +142,10 @@ int main(int count, char** words) {
   int compactions = std::atoi(words[count - 1]);
   Settings settings;
   settings.uncompacted = true;
-  settings.compactions = compactions;
+  settings.compactions = std::max(1, compactions);
   std::unique_ptr<rocksdb::Env> env(rocksdb::NewMemEnv(rocksdb::Env::Default()));
   std::unique_ptr<rocksdb::DB> db = Recover(OptionsIn(env.get(), settings));
+  ReadAll(db.get());
   Totals totals = TotalsOf(db.get());
   std::printf("%zu %" PRIu64 " ", totals.runs, totals.entries);
   Numbers numbers(1);
