@@ -7,7 +7,7 @@ use std::marker::Sync;
 use std::thread::Threads;
 use std::time::{Clock, Instant};
 use uc_oper::Counter;
-use uc_query_answer::Query;
+use uc_query_read::Query;
 use uc_query_workers::answer_plain;
 use uc_version::Version;
 

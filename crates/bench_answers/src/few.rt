@@ -10,7 +10,7 @@ use std::marker::Sync;
 use std::thread::Threads;
 use std::time::Clock;
 use uc_oper::Counter;
-use uc_query_answer::Query;
+use uc_query_read::Query;
 use uc_version::{Owned, Version};
 
 /// A store of a few writes.

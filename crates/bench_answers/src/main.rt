@@ -33,7 +33,7 @@ use std::marker::Sync;
 use std::thread::Threads;
 use std::time::Clock;
 use uc_oper::Counter;
-use uc_query_answer::Query;
+use uc_query_read::Query;
 use uc_version::Owned;
 
 /// The store of a log, which is let go of once a store is made from it; compacted, where that was asked for.

@@ -3,7 +3,7 @@
 use bench_queries::numbers::Numbers;
 use bench_queries::queries::{KEYS, lookups, scan_from, scans};
 use std::alloc::{AllocError, Global};
-use uc_query_answer::Query;
+use uc_query_read::Query;
 
 /// How many keys a log of hot counters has (`make_log hot`).
 const HOT_KEYS: u64 = 1000;

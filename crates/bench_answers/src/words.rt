@@ -3,7 +3,7 @@
 use crate::answering::Working;
 use crate::queries::Workload;
 use anyhow::{Context, Result, bail, ensure};
-use uc_version_pick::Options;
+use uc_version_state::Options;
 
 /// What the words ask for.
 #[derive(Clone, Copy)]

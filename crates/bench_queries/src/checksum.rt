@@ -1,5 +1,5 @@
 //! Checksums of answers.
-use uc_query_answer::Answer;
+use uc_query_read::Answer;
 
 /// A checksum and then bytes.
 fn with_bytes(checksum: u64, bytes: &[u8]) -> u64 {

@@ -1,6 +1,6 @@
 //! A few writes, and a few queries of them: a small fixed piece of work.
 ghost use Rattle.std.specs.Prelude.{◌≡◌, ◌<◌, ◌^◌, true};
-ghost use Rattle.uc_version_pick.specs.Options.{are_good};
+ghost use Rattle.uc_version_state.specs.Options.{are_good};
 
 use crate::numbers::Numbers;
 use crate::opening::finished;
@@ -8,7 +8,7 @@ use crate::queries::{key_of, lookups, scans};
 use anyhow::Result;
 use std::alloc::{AllocError, Global};
 use uc_bytes::{OpRef, WriteRef};
-use uc_query_answer::Query;
+use uc_query_read::Query;
 use uc_version::{Opener, Options, Version};
 
 const WRITES: u64 = 1000;

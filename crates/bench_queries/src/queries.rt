@@ -2,7 +2,7 @@
 use crate::numbers::Numbers;
 use std::alloc::{AllocError, Global};
 use uc_bytes::Bytes;
-use uc_query_answer::Query;
+use uc_query_read::Query;
 
 /// How many keys a log of counters has (`make_log counters`).
 pub const KEYS: u64 = 300_000;

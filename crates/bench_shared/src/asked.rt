@@ -3,7 +3,7 @@ use anyhow::{Context, Result, bail};
 use bench_queries::numbers::Numbers;
 use bench_queries::queries::{KEYS, as_one_batch, lookups, scans};
 use std::alloc::{AllocError, Global};
-use uc_query_answer::Query;
+use uc_query_read::Query;
 
 const LOOKUPS: usize = 200_000;
 

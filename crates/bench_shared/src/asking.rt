@@ -6,7 +6,7 @@ use std::marker::{Send, Sync};
 use std::thread::Threads;
 use std::time::{Clock, Instant};
 use uc_oper::Counter;
-use uc_query_answer::Query;
+use uc_query_read::Query;
 use uc_query_shared::{Free, answer_all};
 use uc_query_workers::answer_plain;
 use uc_share::{Name, Reader, Version};

@@ -12,7 +12,7 @@ use std::sync::Wait;
 use std::thread::{Threads, join};
 use std::time::{Clock, Instant};
 use uc_oper::Counter;
-use uc_query_answer::Query;
+use uc_query_read::Query;
 use uc_share::{Name, Opening, Reader, Seat, Store};
 
 /// What compactors did.

@@ -13,7 +13,7 @@ use std::marker::{Brand, Sync};
 use std::sync::Wait;
 use std::thread::Threads;
 use std::time::Clock;
-use uc_query_answer::Query;
+use uc_query_read::Query;
 
 /// Makes sure that so many workers beside so many compactors come to these answers, and also behind them.
 fn ensure_same_beside(

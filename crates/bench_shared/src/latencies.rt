@@ -13,8 +13,7 @@ use std::sync::atomic::{AtomicBool, Ordering};
 use std::thread::{Threads, join};
 use std::time::{Clock, Instant};
 use uc_oper::Counter;
-use uc_query_answer::{Answer, Query};
-use uc_query_read::answer_one;
+use uc_query_read::{Answer, Query, answer_one};
 use uc_share::{Name, Opening, Reader, Seat, Store};
 
 /// What came of single queries.

@@ -37,7 +37,7 @@ use std::marker::{Brand, Sync};
 use std::sync::Wait;
 use std::thread::Threads;
 use std::time::Clock;
-use uc_query_answer::Query;
+use uc_query_read::Query;
 use uc_share::{Options, Version};
 
 /// Measures what is asked for in a store that opens with a version, and prints a line of it.

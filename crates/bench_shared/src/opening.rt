@@ -1,6 +1,6 @@
 //! A store that threads share, opened with a version.
 ghost use Rattle.std.specs.Prelude.{◌≡◌, true};
-ghost use Rattle.uc_version_pick.specs.Options.{are_good};
+ghost use Rattle.uc_version_state.specs.Options.{are_good};
 
 use anyhow::{Result, bail};
 use std::alloc::Global;

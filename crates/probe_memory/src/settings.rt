@@ -1,6 +1,6 @@
 //! What calls are lent: a few changes, and what is made of them.
 ghost use Rattle.std.specs.Prelude.{◌≡◌, true};
-ghost use Rattle.uc_version_pick.specs.Options.{are_good};
+ghost use Rattle.uc_version_state.specs.Options.{are_good};
 
 use std::alloc::Global;
 use std::marker::Sync;
@@ -9,7 +9,7 @@ use uc_batch::{Writes, fits_batch, write_batch};
 use uc_bytes::{Bytes, Op, OpRef, WriteRef};
 use uc_logrec::LogWriter;
 use uc_oper::Append;
-use uc_query_answer::{Answer, Query, answer_writes};
+use uc_query_read::{Answer, Query, answer_writes};
 use uc_version::{MOST_SLOTS, Options, Owned, Placed, Stretch, Version, open_plain, open_version};
 
 /// Merges join texts by commas.

@@ -12,7 +12,7 @@ use std::marker::{Brand, Send, Sync};
 use std::sync::Wait;
 use std::thread::Threads;
 use uc_compact::Compacted;
-use uc_query_answer::{Answer, Query};
+use uc_query_read::{Answer, Query};
 use uc_query_shared::{AskError, Free, answer_all};
 use uc_run::Run;
 use uc_share::{

@@ -7,8 +7,8 @@ use Rattle.uc_run_entry.specs.declared.entry.Entry.{Entry}
 use Rattle.uc_run_entry.specs.declared.fragment.Fragment.{Fragment}
 use Rattle.uc_run_entry.specs.Order.{IsFalling, AreInOrder}
 use Rattle.uc_run_entry.specs.Run.{Contents, IsRun, IsWithin}
-use Rattle.uc_run_fragment.specs.Cutting.{fragments_of}
-use Rattle.uc_run_fragment.proofs.Pieces.{in_order, seqs_fall}
+use Rattle.uc_run_entry.specs.Cutting.{fragments_of}
+use Rattle.uc_run_entry.proofs.Pieces.{in_order, seqs_fall}
 use Rattle.uc_compact_rules.specs.Inputs.{Compaction, AreRuns, Stand, low_of, high_of, points_of, ranges_of, keeping_of}
 use Rattle.uc_compact_rules.specs.Stripes.{Keeping}
 use Rattle.uc_compact_rules.specs.Choice.{AreOfOneKey, points_for, points_named, seqs_over}

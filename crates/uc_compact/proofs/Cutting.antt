@@ -16,12 +16,12 @@ use Rattle.uc_bytes.specs.Bytes.{bytes_cmp}
 use Rattle.uc_run_entry.specs.declared.fragment.Fragment.{Fragment}
 use Rattle.uc_run_entry.specs.Order.{IsFalling, AreInOrder}
 use Rattle.uc_run_entry.specs.Run.{Contents, IsRun, IsWhole, covers}
-use Rattle.uc_run_fragment.specs.Cutting.{RangeOf, Piece, has_keys, spans, cut_points, pieces, falling, fragment_over, fragments_of}
-use Rattle.uc_run_fragment.proofs.Cuts.{insert, seen, insert_seen, seen_inserted}
-use Rattle.uc_run_fragment.proofs.Over.{lt_of, lt_le}
-use Rattle.uc_run_fragment.proofs.Seqs.{same_bool}
-use Rattle.uc_run_fragment.proofs.Sets.{sorted_set, all_back}
-use Rattle.uc_run_fragment.proofs.SameSets.{same_set}
+use Rattle.uc_run_entry.specs.Cutting.{RangeOf, Piece, has_keys, spans, cut_points, pieces, falling, fragment_over, fragments_of}
+use Rattle.uc_run_entry.proofs.Cuts.{insert, seen, insert_seen, seen_inserted}
+use Rattle.uc_run_entry.proofs.Over.{lt_of, lt_le}
+use Rattle.uc_run_entry.proofs.SeqsOver.{same_bool}
+use Rattle.uc_run_entry.proofs.Sets.{sorted_set, all_back}
+use Rattle.uc_run_entry.proofs.SameSets.{same_set}
 use Rattle.uc_compact_rules.specs.Inputs.{AreRuns, ranges_over, ranges_of}
 use Rattle.uc_compact.specs.Pieces.{lists_over, fragments_in, piece_over, pieces_over}
 use Rattle.uc_compact.proofs.Keys.{le_itself, no_less_itself}

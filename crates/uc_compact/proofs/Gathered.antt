@@ -10,7 +10,7 @@ use Rattle.std.proofs.lemmas.Grind.{flat_map-append}
 use Rattle.uc_run_entry.specs.declared.fragment.Fragment.{Fragment}
 use Rattle.uc_run_entry.specs.Order.{IsFalling}
 use Rattle.uc_run_entry.specs.Run.{Contents, covers}
-use Rattle.uc_run_fragment.proofs.Sets.{all_back}
+use Rattle.uc_run_entry.proofs.Sets.{all_back}
 use Rattle.uc_compact_rules.specs.Together.{together}
 use Rattle.uc_compact.specs.Pieces.{lists_over, fragments_in, IsList, AreOver, piece_over, pieces_over}
 use Rattle.uc_compact.proofs.Cutting.{IsFilled}

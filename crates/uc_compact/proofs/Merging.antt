@@ -11,8 +11,8 @@ use Rattle.std.proofs.lemmas.Cmp.{nat_list_cmp_total}
 use Rattle.std.proofs.lemmas.Map.Lookups.{exact_bytes}
 use Rattle.uc_bytes.specs.Bytes.{bytes_cmp, same_bytes}
 use Rattle.uc_run_entry.specs.declared.entry.Entry.{Entry}
-use Rattle.uc_run_fragment.proofs.Sets.{all_back, sorted_set}
-use Rattle.uc_run_fragment.proofs.SameSets.{same_sorted, all_inserted}
+use Rattle.uc_run_entry.proofs.Sets.{all_back, sorted_set}
+use Rattle.uc_run_entry.proofs.SameSets.{same_sorted, all_inserted}
 use Rattle.uc_compact.specs.Groups.{Group, keys_of, group_of, groups_of}
 use Rattle.uc_compact.specs.Heads.{first_named, IsFrom, IsOther, IsLeast}
 use Rattle.uc_compact.proofs.Lists.{all-append, all-back, all-mapped, all-unmapped}

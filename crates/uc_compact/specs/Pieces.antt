@@ -4,7 +4,7 @@ use Rattle.std.specs.List.{AllByRecursion, flat_map}
 use Rattle.uc_run_entry.specs.declared.fragment.Fragment.{Fragment}
 use Rattle.uc_run_entry.specs.Order.{IsFalling}
 use Rattle.uc_run_entry.specs.Run.{Contents, covers}
-use Rattle.uc_run_fragment.specs.Cutting.{Piece, pieces}
+use Rattle.uc_run_entry.specs.Cutting.{Piece, pieces}
 use Rattle.uc_compact_rules.specs.Together.{together}
 
 -- the sequences of each fragment over a key

@@ -9,7 +9,7 @@ use std::marker::{Model, PhantomData};
 use std::sync::Arc;
 use uc_compact_rules::compaction_keeps_what_is_read;
 use uc_oper::Operator;
-use uc_run_table::Run;
+use uc_run::Run;
 
 /// Runs that were compacted, and the run that was made of them. A contract sees it as what was asked for: the runs,
 /// the keeps, and whether the oldest run of all was among them; its output is what these definitely become.

@@ -15,8 +15,8 @@ use std::sync::Arc;
 use std::thread::Threads;
 use uc_compact_rules::{Keeping, compaction_gives_a_run, points_are_chosen_key_by_key};
 use uc_oper::Operator;
-use uc_run_fragment::Fragments;
-use uc_run_table::Run;
+use uc_run::Run;
+use uc_run_entry::Fragments;
 
 /// Where the last run is the oldest of all, a sequence of the stripe below which nothing stands.
 fn bottom_of(inputs: &[Arc<Run>], oldest: bool) -> Option<u64>

@@ -8,8 +8,8 @@ ghost use Rattle.uc_run_entry.specs.Run.{IsRun};
 ghost use Rattle.uc_compact.specs.Fronts.{EndBy, EndAbove};
 
 use std::marker::Model;
+use uc_run::Run;
 use uc_run_entry::Fragment;
-use uc_run_table::Run;
 
 /// A run, and the place among its fragments that a walk over rising keys has come to. A contract sees the run alone:
 /// wherever the place is, what is found is the same, and what it saves is time.

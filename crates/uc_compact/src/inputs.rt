@@ -6,7 +6,7 @@ ghost use Rattle.uc_compact_rules.specs.Inputs.{AreRuns, AreNewestFirst, Stand, 
 use std::alloc::{AllocError, Global};
 use std::sync::Arc;
 use uc_compact_rules::keeps_rise;
-use uc_run_table::Run;
+use uc_run::Run;
 
 /// Each is a run: a fact that costs a look at each.
 pub(crate) fn are_runs(inputs: &[Arc<Run>])

@@ -6,7 +6,7 @@ ghost use Rattle.std.specs.List.{flat_map};
 ghost use Rattle.uc_bytes.specs.Bytes.{bytes_cmp};
 ghost use Rattle.uc_run_entry.specs.Order.{AreInOrder};
 ghost use Rattle.uc_run_entry.specs.Run as run;
-ghost use Rattle.uc_run_fragment.specs.Cutting as cutting;
+ghost use Rattle.uc_run_entry.specs.Cutting as cutting;
 ghost use Rattle.uc_compact_rules.specs.Inputs.{ranges_of};
 ghost use Rattle.uc_compact.specs.Pieces.{AreOver, fragments_in, pieces_over};
 
@@ -16,8 +16,8 @@ use crate::piece::Piece;
 use std::alloc::{AllocError, Global};
 use std::collections::BTreeSet;
 use std::sync::Arc;
+use uc_run::Run;
 use uc_run_entry::{Fragment, Seqs};
-use uc_run_table::Run;
 
 /// Puts both ends of each fragment among the cut points.
 fn insert_ends<'a>(

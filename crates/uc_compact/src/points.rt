@@ -20,8 +20,8 @@ use std::sync::Arc;
 use std::thread::Threads;
 use uc_compact_rules::{Keeping, Over, push_kept_points};
 use uc_oper::Operator;
+use uc_run::Run;
 use uc_run_entry::Point;
-use uc_run_table::Run;
 
 /// The sequences of the range deletions over a key.
 fn seqs_over<'a>(pieces: &'a [Piece<'_>], key: &[u8]) -> Over<'a>

@@ -10,7 +10,7 @@ use Rattle.std.specs.BTreeSet.{insert_key}
 use Rattle.std.proofs.lemmas.Bool.Decides.{nat_tests}
 use Rattle.std.proofs.lemmas.List.{take_more}
 use Rattle.std.proofs.lemmas.Cmp.{nat_cmp_total, back_total}
-use Rattle.uc_run_fragment.proofs.Sets.{sorted_set}
+use Rattle.uc_run_entry.proofs.Sets.{sorted_set}
 use Rattle.uc_run_spans.specs.Newest.{newer}
 use Rattle.uc_run_entry.specs.Order.{IsFalling}
 use Rattle.uc_compact_rules.specs.Together.{together}

@@ -13,7 +13,7 @@ use Rattle.uc_run_entry.specs.declared.entry.What.{What}
 use Rattle.uc_run_entry.specs.Run.{Contents}
 use Rattle.uc_run_entry.specs.Lookup.{is_passing, above_newest}
 use Rattle.uc_run_entry.proofs.Points.{PointsFall as Fall}
-use Rattle.uc_run_fragment.specs.Cutting.{fragments_of}
+use Rattle.uc_run_entry.specs.Cutting.{fragments_of}
 use Rattle.uc_compact_rules.specs.Stripes.{Stripe, is_in, stripes, is_bottom}
 use Rattle.uc_compact_rules.specs.Inputs.{Compaction, AreRuns, Stand, points_of, ranges_of, keeping_of}
 use Rattle.uc_compact_rules.specs.Output.{greatest, newest_point, newest_range, what_kept, point_kept, keys_of, points_kept}

@@ -24,10 +24,10 @@ use Rattle.uc_run_entry.specs.Run.{Contents, covers}
 use Rattle.uc_run_entry.specs.Lookup.{is_passing}
 use Rattle.uc_run_entry.proofs.Points.{PointsFall, all_pass}
 use Rattle.uc_run_entry.proofs.Covers.{none_behind}
-use Rattle.uc_run_fragment.specs.Cutting.{RangeOf, range_covers, falling, fragments_of}
-use Rattle.uc_run_fragment.proofs.Pieces.{in_order}
-use Rattle.uc_run_fragment.proofs.Seqs.{seqs_over_key}
-use Rattle.uc_run_fragment.proofs.Sets.{all_back, sorted_set}
+use Rattle.uc_run_entry.specs.Cutting.{RangeOf, range_covers, falling, fragments_of}
+use Rattle.uc_run_entry.proofs.Pieces.{in_order}
+use Rattle.uc_run_entry.proofs.SeqsOver.{seqs_over_key}
+use Rattle.uc_run_entry.proofs.Sets.{all_back, sorted_set}
 use Rattle.uc_compact_rules.specs.Stripes.{Stripe, is_in, stripes, is_bottom}
 use Rattle.uc_compact_rules.specs.Inputs.{Compaction, AreRuns, Stand, points_of, ranges_over, ranges_of, keeping_of}
 use Rattle.uc_compact_rules.specs.Output.{greatest, newest_point, newest_range, effect_in, what_kept, point_kept, keys_of, points_kept, seq_kept, seqs_kept, fragment_kept, fragments_kept}

@@ -10,8 +10,8 @@ use Rattle.uc_run_entry.specs.declared.entry.What.{What}
 use Rattle.uc_run_entry.specs.declared.fragment.Fragment.{Fragment}
 use Rattle.uc_run_entry.specs.Lookup.{is_passing}
 use Rattle.uc_run_entry.specs.Order.{IsFalling}
-use Rattle.uc_run_fragment.specs.Cutting.{fragments_of}
-use Rattle.uc_run_fragment.proofs.Pieces.{seqs_fall}
+use Rattle.uc_run_entry.specs.Cutting.{fragments_of}
+use Rattle.uc_run_entry.proofs.Pieces.{seqs_fall}
 use Rattle.uc_compact_rules.specs.Stripes.{Stripe, is_in, stripes, is_bottom}
 use Rattle.uc_compact_rules.specs.Inputs.{Compaction, AreRuns, Stand, ranges_of, keeping_of}
 use Rattle.uc_compact_rules.specs.Output.{greatest, newest_point, newest_range, effect_in, what_of, what_kept, point_kept, points_kept, seq_kept, seqs_kept, fragment_kept, fragments_kept}

@@ -18,9 +18,9 @@ use Rattle.uc_run_entry.specs.Order.{entry_cmp, IsFalling, AreInOrder}
 use Rattle.uc_run_entry.specs.Run.{Contents, IsRun, IsWithin, IsWhole, covers}
 use Rattle.uc_run_entry.specs.Lookup.{is_passing}
 use Rattle.uc_run_entry.proofs.Points.{PointsFall}
-use Rattle.uc_run_fragment.specs.Cutting.{RangeOf, Piece, spans, fragment_over, pieces, cut_points, fragments_of}
-use Rattle.uc_run_fragment.proofs.Pieces.{in_order, seqs_fall}
-use Rattle.uc_run_fragment.proofs.Sets.{all-insert_key, sorted_set}
+use Rattle.uc_run_entry.specs.Cutting.{RangeOf, Piece, spans, fragment_over, pieces, cut_points, fragments_of}
+use Rattle.uc_run_entry.proofs.Pieces.{in_order, seqs_fall}
+use Rattle.uc_run_entry.proofs.Sets.{all-insert_key, sorted_set}
 use Rattle.uc_compact_rules.specs.Stripes.{Stripe, is_in, stripes}
 use Rattle.uc_compact_rules.specs.Inputs.{Compaction, AreRuns, AreNewestFirst, Stand, high_of, low_of, points_of, ranges_over, ranges_of, keeping_of}
 use Rattle.uc_compact_rules.specs.Output.{greatest, newest_point, point_kept, keys_of, points_kept, seq_kept, seqs_kept, fragment_kept, fragments_kept, output_of}

@@ -8,7 +8,7 @@ use Rattle.uc_run_entry.specs.declared.entry.Entry.{Entry}
 use Rattle.uc_run_entry.specs.declared.fragment.Fragment.{Fragment}
 use Rattle.uc_run_entry.specs.Run.{Contents, IsRun}
 use Rattle.uc_run_entry.specs.PlainList.{plain_list}
-use Rattle.uc_run_fragment.specs.Cutting.{RangeOf}
+use Rattle.uc_run_entry.specs.Cutting.{RangeOf}
 use Rattle.uc_compact_rules.specs.Stripes.{Keeping}
 
 -- runs, the newest first; the kept sequences; and whether the last run is the oldest of all, so that nothing stands below

@@ -14,7 +14,7 @@ use Rattle.uc_run_entry.specs.declared.entry.What.{What}
 use Rattle.uc_run_entry.specs.declared.entry.What.TheVariants.{Put, Delete, Merge}
 use Rattle.uc_run_entry.specs.declared.fragment.Fragment.{Fragment}
 use Rattle.uc_run_entry.specs.Run.{Contents}
-use Rattle.uc_run_fragment.specs.Cutting.{range_covers, fragments_of}
+use Rattle.uc_run_entry.specs.Cutting.{range_covers, fragments_of}
 use Rattle.uc_compact_rules.specs.Stripes.{Stripe, is_in, stripes, Keeping, is_bottom}
 use Rattle.uc_compact_rules.specs.Inputs.{Compaction, high_of, low_of, writes_of, points_of, ranges_of, keeping_of}
 

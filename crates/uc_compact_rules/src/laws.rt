@@ -9,7 +9,7 @@ ghost use Rattle.uc_run_entry.specs.Run.{Contents, IsRun};
 ghost use Rattle.uc_run_entry.specs.PlainList.{plain_list};
 ghost use Rattle.uc_model.specs.Meaning.{effect_on};
 ghost use Rattle.uc_compact_rules.specs.Stripes.{is_in, stripes};
-ghost use Rattle.uc_run_fragment.specs.Cutting.{fragments_of};
+ghost use Rattle.uc_run_entry.specs.Cutting.{fragments_of};
 ghost use Rattle.uc_compact_rules.specs.Choice.{points_for, points_named, seqs_over, AreOfOneKey};
 ghost use Rattle.uc_compact_rules.specs.Inputs.{Compaction, AreRuns, AreNewestFirst, Stand};
 ghost use Rattle.uc_compact_rules.specs.Inputs.{writes_of, points_of, ranges_of, keeping_of};

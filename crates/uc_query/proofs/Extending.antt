@@ -5,8 +5,8 @@ use Rattle.std.specs.List.{AllZip, flat_map}
 use Rattle.std.proofs.lemmas.List.{append_assoc}
 use Rattle.uc_oper.specs.Operation.{Operation}
 use Rattle.uc_bytes.specs.declared.write.Write.{Write}
-use Rattle.uc_query_answer.specs.declared.query.Query.{Query}
-use Rattle.uc_query_answer.specs.Answers.{answer_of}
+use Rattle.uc_query_read.specs.declared.query.Query.{Query}
+use Rattle.uc_query_read.specs.Answers.{answer_of}
 use Rattle.uc_version_state.specs.Versions.{Stored, writes_in}
 use Rattle.uc_version_state.specs.Installs.{Install, MayInstall, installed}
 use Rattle.uc_version_state.specs.declared.event.Event.{Event}

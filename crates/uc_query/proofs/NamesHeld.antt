@@ -9,7 +9,7 @@ use Rattle.uc_claims.specs.Claims.{times}
 use Rattle.uc_claims.specs.Holding.{AreDistinct}
 use Rattle.uc_claims.proofs.Times.{times-cons, one_same, one_other, times-distinct, times-append}
 use Rattle.uc_version_state.proofs.Once.{distinct-from_times, alone}
-use Rattle.uc_version_pick.specs.declared.stretch.Stretch.{Stretch}
+use Rattle.uc_version_state.specs.declared.stretch.Stretch.{Stretch}
 use Rattle.uc_version.specs.declared.held_stretch.HeldStretch.{HeldStretch}
 use Rattle.uc_version.specs.declared.held_stretch.TheConstants.{MOST_CLAIMS}
 use Rattle.uc_version.specs.Owners.{Owner}

@@ -5,7 +5,7 @@ use Rattle.std.proofs.lemmas.Bool.{cases_lt}
 use Rattle.std.proofs.lemmas.Bool.Decides.{nat_tests}
 use Rattle.std.proofs.lemmas.List.{set_past}
 use Rattle.uc_oper.specs.Operation.{Operation}
-use Rattle.uc_version_pick.specs.declared.stretch.Stretch.{Stretch}
+use Rattle.uc_version_state.specs.declared.stretch.Stretch.{Stretch}
 use Rattle.uc_compact_rules.specs.Inputs.{Compaction, Stand}
 use Rattle.uc_version_state.specs.Versions.{Stored, ids_of}
 use Rattle.uc_version_state.specs.Installs.{Install, MayInstall, installed}
@@ -18,7 +18,7 @@ use Rattle.uc_version.specs.AtOnce.{install_at, after_compaction}
 use Rattle.uc_version.proofs.CompactedNow.{free}
 use Rattle.uc_query_workers.specs.declared.ask_error.AskError.{AskError}
 use Rattle.uc_query_workers.specs.Asking.{ask_refusal}
-use Rattle.uc_query_answer.specs.declared.query.Query.{Query}
+use Rattle.uc_query_read.specs.declared.query.Query.{Query}
 use Rattle.uc_query.specs.declared.call.Call.{Call}
 use Rattle.uc_query.specs.declared.call.Call.TheVariants as call
 use Rattle.uc_query.specs.Names.{State, AreHeld}

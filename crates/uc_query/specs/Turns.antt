@@ -1,9 +1,9 @@
 -- What a call does: its reply, and what the store and the names are then.
 use Rattle.std.specs.Prelude.{◌≡◌, ◌⊎◌, IsOk, ℕ, ◌-◌, ◌^◌, ◌<◌, Bool, ⊤, List, Option, Some, None, Result, Ok, Err, nat_lt, if◌then◌else◌}
 use Rattle.uc_oper.specs.Operation.{Operation}
-use Rattle.uc_query_answer.specs.declared.query.Query.{Query}
-use Rattle.uc_version_pick.specs.declared.stretch.Stretch.{Stretch}
-use Rattle.uc_version_pick.specs.Picks.{picked}
+use Rattle.uc_query_read.specs.declared.query.Query.{Query}
+use Rattle.uc_version_state.specs.declared.stretch.Stretch.{Stretch}
+use Rattle.uc_version_state.specs.Picks.{picked}
 use Rattle.uc_version_state.specs.Versions.{Stored}
 use Rattle.uc_version.specs.declared.held_stretch.TheConstants.{MOST_CLAIMS}
 use Rattle.uc_version.specs.declared.claim_error.ClaimError.{ClaimError}

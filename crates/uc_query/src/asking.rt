@@ -11,7 +11,7 @@ use std::marker::Sync;
 use std::thread::Threads;
 use uc_bytes::Items;
 use uc_oper::Operator;
-use uc_query_answer::Query;
+use uc_query_read::Query;
 use uc_query_workers::{AskError, answer_plain};
 use uc_version::Owned;
 

@@ -1,6 +1,6 @@
 //! [`Call`]: what is asked of a store.
 use uc_bytes::Items;
-use uc_query_answer::Query;
+use uc_query_read::Query;
 use uc_version::Stretch;
 
 /// What is asked of a store in one owner's hands. Claims are held under names, which are numbers below

@@ -3,8 +3,7 @@
 //! [`run_calls`] goes through a list of calls to a store in one owner's hands: claims under names, installs, compactions,
 //! picks, reports and batches of queries. Its replies are those of a small machine, a function of what the store holds and of
 //! the calls: read `specs/Turns.antt` first, then `specs/Running.antt`, `named_claims.rt` and `calls.rt`. What a query asks
-//! and what answers it stand in `uc_query_answer`, `uc_query_read` and `uc_query_workers`; their public items are given out
-//! here too.
+//! and what answers it stand in `uc_query_read` and `uc_query_workers`; their public items are given out here too.
 //!
 //! A [`report`] says what a version holds, in numbers: a line for each run, and their totals. Read `specs/Reports.antt`
 //! first, then `reporting.rt`.
@@ -33,6 +32,5 @@ pub use reporting::report;
 pub use run_line::RunLine;
 pub use summary::Report;
 pub use uc_fold::Totals;
-pub use uc_query_answer::{Answer, Query, Rows, answer_writes};
-pub use uc_query_read::{answer_one, get};
+pub use uc_query_read::{Answer, Query, Rows, answer_one, answer_writes, get};
 pub use uc_query_workers::{AskError, MOST_WORKERS, answer_plain};

@@ -1,7 +1,7 @@
 //! [`Reply`]: what comes of a call.
 use crate::summary::Report;
 use uc_bytes::Items;
-use uc_query_answer::Answer;
+use uc_query_read::Answer;
 use uc_version::{ClaimError, InstallError, Stretch};
 
 /// What comes of a [`Call`](crate::Call).

@@ -9,7 +9,7 @@ use Rattle.uc_bytes.specs.Bytes.{bytes_cmp}
 use Rattle.uc_run_entry.specs.declared.entry.Entry.{Entry}
 use Rattle.uc_run_entry.specs.Run.{Contents}
 use Rattle.uc_run_entry.specs.Seek.{is_passed}
-use Rattle.uc_run_table.specs.NextKey.{IsLeastKey, IsNextKey}
+use Rattle.uc_run.specs.NextKey.{IsLeastKey, IsNextKey}
 use Rattle.uc_compact.specs.Heads.{lesser_of}
 use Rattle.uc_compact.proofs.Keys.{lt_of, le_of_not, le_trans, le_of_lt}
 use Rattle.uc_compact_rules.specs.Inputs.{points_of}

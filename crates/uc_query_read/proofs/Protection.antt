@@ -10,7 +10,7 @@ use Rattle.std.proofs.lemmas.Bool.{eq-eqb}
 use Rattle.std.proofs.lemmas.Bool.Decides.{nat_tests}
 use Rattle.std.proofs.lemmas.List.Elements.{All-get_or, All-from_recursion}
 use Rattle.std.proofs.lemmas.List.Folds.{list_any-from_Any, list_any_none}
-use Rattle.uc_query_answer.specs.Answers.{is_protected}
+use Rattle.uc_query_read.specs.Answers.{is_protected}
 
 module _ (at : ℕ) where
   abbrev order : ℕ → Ordering

@@ -23,12 +23,12 @@ use Rattle.uc_run_entry.specs.declared.fragment.Fragment.{Fragment}
 use Rattle.uc_run_entry.specs.Run.{Contents}
 use Rattle.uc_run_entry.specs.PlainList.{op_of, point_write, fragment_writes, plain_list}
 use Rattle.uc_run_entry.specs.PlainList as plain
-use Rattle.uc_run_fragment.proofs.SameSets.{permutation_passes, same_sorted}
+use Rattle.uc_run_entry.proofs.SameSets.{permutation_passes, same_sorted}
 use Rattle.uc_compact.specs.Groups.{keys_of}
 use Rattle.uc_compact.proofs.Lists.{all-front, all-back, all-unmapped}
-use Rattle.uc_query_answer.specs.Answers.{is_below, is_in_range, named_keys, rows_of, first_rows}
-use Rattle.uc_query_answer.specs.Rising.{KeysRise}
-use Rattle.uc_query_answer.specs.Scans.{IsNamed}
+use Rattle.uc_query_read.specs.Answers.{is_below, is_in_range, named_keys, rows_of, first_rows}
+use Rattle.uc_query_read.specs.Rising.{KeysRise}
+use Rattle.uc_query_read.specs.Scans.{IsNamed}
 use Rattle.uc_compact_rules.specs.Inputs.{writes_of, points_of}
 use Rattle.uc_compact_rules.proofs.Lists.{all-append, all-map, all-mapped, all-flat_map}
 use Rattle.uc_query_read.specs.Ahead.{is_ahead, keys_ahead}

@@ -14,10 +14,10 @@ use Rattle.uc_model.specs.Meaning.{value_of}
 use Rattle.uc_run_entry.specs.declared.entry.Entry.{Entry}
 use Rattle.uc_run_entry.specs.Run.{Contents}
 use Rattle.uc_run_entry.specs.Seek.{is_passed, seek_place}
-use Rattle.uc_run_table.specs.Cursors.{Standing}
+use Rattle.uc_run.specs.Cursors.{Standing}
 use Rattle.uc_compact.specs.Groups.{keys_of}
 use Rattle.uc_compact.proofs.Keys.{lt_of}
-use Rattle.uc_query_answer.specs.Answers.{is_below, rows_of}
+use Rattle.uc_query_read.specs.Answers.{is_below, rows_of}
 use Rattle.uc_compact_rules.specs.Inputs.{writes_of, points_of}
 use Rattle.uc_query_read.specs.Ahead.{is_ahead, keys_ahead}
 use Rattle.uc_query_read.specs.Walks.{Walk, walk_at, runs_of, sought, StandsAt, Skips}

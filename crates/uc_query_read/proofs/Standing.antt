@@ -14,11 +14,11 @@ use Rattle.uc_bytes.specs.Bytes.{bytes_cmp}
 use Rattle.uc_run_entry.specs.declared.entry.Entry.{Entry}
 use Rattle.uc_run_entry.specs.Run.{Contents}
 use Rattle.uc_run_entry.specs.Seek.{is_passed, seek_place}
-use Rattle.uc_run_table.specs.Cursors.{Standing}
-use Rattle.uc_run_table.specs.NextKey.{IsLeastKey, IsNextKey}
-use Rattle.uc_run_table.proofs.Order.{key_passed, passed_both}
+use Rattle.uc_run.specs.Cursors.{Standing}
+use Rattle.uc_run.specs.NextKey.{IsLeastKey, IsNextKey}
+use Rattle.uc_run.proofs.Order.{key_passed, passed_both}
 use Rattle.uc_compact.proofs.Lists.{all-front, all-back}
-use Rattle.uc_query_answer.specs.Answers.{is_below}
+use Rattle.uc_query_read.specs.Answers.{is_below}
 use Rattle.uc_compact_rules.specs.Inputs.{points_of}
 use Rattle.uc_query_read.specs.Ahead.{keys_ahead}
 use Rattle.uc_query_read.specs.Walks.{Walk, walk_at, runs_of, standing_at, passed, StandsAt}

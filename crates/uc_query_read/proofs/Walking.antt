@@ -15,13 +15,13 @@ use Rattle.std.proofs.lemmas.Map.Lookups.{exact_bytes}
 use Rattle.uc_bytes.specs.Bytes.{bytes_cmp}
 use Rattle.uc_run_entry.specs.declared.entry.Entry.{Entry}
 use Rattle.uc_run_entry.specs.Seek.{is_passed}
-use Rattle.uc_run_fragment.proofs.Sets.{all_back, sorted_set}
-use Rattle.uc_run_fragment.proofs.SameSets.{all_inserted, same_sorted}
-use Rattle.uc_run_table.specs.NextKey.{IsLeastKey, IsNextKey}
-use Rattle.uc_run_table.proofs.Order.{key_passed}
+use Rattle.uc_run_entry.proofs.Sets.{all_back, sorted_set}
+use Rattle.uc_run_entry.proofs.SameSets.{all_inserted, same_sorted}
+use Rattle.uc_run.specs.NextKey.{IsLeastKey, IsNextKey}
+use Rattle.uc_run.proofs.Order.{key_passed}
 use Rattle.uc_compact.specs.Groups.{keys_of}
 use Rattle.uc_compact.proofs.Keys.{lt_of}
-use Rattle.uc_query_answer.specs.Answers.{is_below}
+use Rattle.uc_query_read.specs.Answers.{is_below}
 use Rattle.uc_compact_rules.proofs.Lists.{all-map, all-mapped, none-passed}
 use Rattle.uc_query_read.specs.Ahead.{is_ahead, keys_ahead, keys_behind, Comes}
 

@@ -3,7 +3,7 @@ use Rattle.std.specs.Prelude.{◌≡◌, ℕ, Bool, true, not, ◌&&◌, List, [
 use Rattle.uc_run_entry.specs.declared.entry.Entry.{Entry}
 use Rattle.uc_run_entry.specs.Seek.{is_passed}
 use Rattle.uc_compact.specs.Groups.{keys_of}
-use Rattle.uc_query_answer.specs.Answers.{is_below}
+use Rattle.uc_query_read.specs.Answers.{is_below}
 
 -- a key that isn't passed over, and is below `high` where there is one
 abbrev pub is_ahead : List ℕ → Bool → Option (List ℕ) → List ℕ → Bool

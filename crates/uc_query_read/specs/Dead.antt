@@ -7,8 +7,8 @@ use Rattle.uc_oper.specs.Operation.{Operation}
 use Rattle.uc_bytes.specs.declared.write.Write.{Write}
 use Rattle.uc_model.specs.Meaning.{value_of}
 use Rattle.uc_run_entry.specs.Run.{IsRun}
-use Rattle.uc_run_table.specs.Cursors.{Standing}
-use Rattle.uc_run_table.specs.Hiding.{hidden_to}
+use Rattle.uc_run.specs.Cursors.{Standing}
+use Rattle.uc_run.specs.Hiding.{hidden_to}
 
 -- the contents over which a cursor goes make a run
 abbrev pub IsOfRun : Standing → Type 0

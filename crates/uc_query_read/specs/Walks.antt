@@ -1,10 +1,10 @@
 -- Where a walk over the points of several runs stands.
 use Rattle.std.specs.Prelude.{◌≡◌, ℕ, ◌≤◌, Bool, true, false, List, Option, length, map, max}
 use Rattle.uc_oper.specs.Operation.{Operation}
-use Rattle.uc_query_answer.specs.Answers.{rows_of}
+use Rattle.uc_query_read.specs.Answers.{rows_of}
 use Rattle.uc_run_entry.specs.Run.{Contents}
 use Rattle.uc_run_entry.specs.Seek.{seek_place}
-use Rattle.uc_run_table.specs.Cursors.{Standing}
+use Rattle.uc_run.specs.Cursors.{Standing}
 use Rattle.uc_compact_rules.specs.Inputs.{points_of, writes_of}
 use Rattle.uc_query_read.specs.Ahead.{keys_ahead}
 

@@ -2,16 +2,17 @@
 ghost use Rattle.std.specs.Prelude.{◌≡◌, IfOk};
 ghost use Rattle.std.specs.List.Sorted.{IsStrictlySortedBy};
 ghost use Rattle.std.specs.Ordering.{nat_cmp};
-ghost use Rattle.uc_query_answer.specs.Answers as answers;
-ghost use Rattle.uc_query_answer.specs.declared.query.Query.TheVariants as query;
+ghost use Rattle.uc_query_read.specs.Answers as answers;
+ghost use Rattle.uc_query_read.specs.declared.query.Query.TheVariants as query;
 ghost use Rattle.uc_compact_rules.specs.Inputs.{writes_of};
 ghost use Rattle.uc_version_state.specs.Versions.{contents_of, writes_in};
 
+use crate::answer::Answer;
 use crate::lookup::value_of_runs;
+use crate::query::Query;
 use crate::scan::rows_of_runs;
 use std::alloc::{AllocError, Global};
 use uc_oper::Operator;
-use uc_query_answer::{Answer, Query};
 use uc_version_state::{Placed, Version};
 
 /// Whether a snapshot protects the sequence, by a search of the kept ones, which rise.
@@ -63,12 +64,12 @@ pub(crate) fn answer_of_runs<O: Operator>(
     }
 }
 
-/// The answer to a query, from a version's runs: what `uc_query_answer` answers from the plain writes that the version stands
-/// for. A sequence that the version doesn't keep is answered `NotProtected`.
+/// The answer to a query, from a version's runs: what [`answer_writes`](crate::answer_writes) says of the plain writes that
+/// the version stands for. A sequence that the version doesn't keep is answered `NotProtected`.
 ///
 /// A lookup costs in each run, from the newest on, what [`Run::effect`](uc_run::Run::effect) does, and looks no further than
 /// the first run that puts or deletes the key. A scan costs a search in each run at its start, and then for each key of a
-/// point in its range, up to the last row's, a step in each run and what [`Cursor::effect`](uc_run_table::Cursor::effect)
+/// point in its range, up to the last row's, a step in each run and what [`Cursor::effect`](uc_run::Cursor::effect)
 /// does. It fails only for want of memory.
 pub fn answer_one<O: Operator>(
     alloc: Global,

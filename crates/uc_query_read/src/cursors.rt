@@ -2,8 +2,8 @@
 ghost use Rattle.std.specs.Prelude.{◌≡◌, ℕ, Bool, List, false, map, option_map, IfOk, IfSome};
 ghost use Rattle.std.specs.List.{AllByRecursion};
 ghost use Rattle.uc_model.specs.Meaning.{effect_on, value_of};
-ghost use Rattle.uc_query_answer.specs.Answers as answers;
-ghost use Rattle.uc_run_table.specs.NextKey.{IsNextKey};
+ghost use Rattle.uc_query_read.specs.Answers as answers;
+ghost use Rattle.uc_run.specs.NextKey.{IsNextKey};
 ghost use Rattle.uc_compact.specs.Heads as heads;
 ghost use Rattle.uc_compact_rules.specs.Inputs.{points_of, writes_of};
 ghost use Rattle.uc_version_state.specs.Versions.{contents_of};
@@ -16,7 +16,7 @@ use std::marker::Model;
 use uc_bytes::Bytes;
 use uc_model::{effect_gives_value, effects_of_parts_compose};
 use uc_oper::{Effect, Operator};
-use uc_run_table::Cursor;
+use uc_run::Cursor;
 use uc_version_state::Placed;
 
 /// Where a walk over the points of runs stands. A contract sees it as the runs' contents, the newest first, and the keys of

@@ -8,8 +8,8 @@ ghost use Rattle.uc_query_read.specs.Dead.{IsHidden, AreDead};
 use crate::cursors::{least_key, lesser};
 use uc_model::{effect_gives_value, effects_of_parts_compose};
 use uc_oper::Operator;
+use uc_run::Cursor;
 use uc_run_entry::plain_list_does_what_is_found;
-use uc_run_table::Cursor;
 
 /// The place of the first run that hides a key, and where that ends.
 fn hidden_by<'a>(cursors: &[Cursor<'a>], key: &[u8], at: u64) -> Option<(usize, &'a [u8])>

@@ -1,5 +1,7 @@
 //! Runs of drawn writes: they are read as the plain writes are.
 use crate::answering::answer_of_runs;
+use crate::plain::answer_writes;
+use crate::query::Query;
 use std::alloc::Global;
 use std::process::Abort;
 use std::sync::Arc;
@@ -7,7 +9,6 @@ use std::test::Fail;
 use uc_batch::Writes;
 use uc_bytes::{Bytes, MAX_SEQUENCE, Op, Write};
 use uc_oper::{Append, Counter, Operator};
-use uc_query_answer::{Query, answer_writes};
 use uc_run::Memtable;
 use uc_version_state::Placed;
 

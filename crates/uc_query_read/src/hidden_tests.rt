@@ -1,4 +1,8 @@
 //! Scans over keys that newer range deletions hide: they show what the plain writes show.
+use crate::answer::Answer;
+use crate::plain::answer_writes;
+use crate::query::Query;
+use crate::rows::Rows;
 use crate::scan::rows_of_runs;
 use std::alloc::Global;
 use std::process::Abort;
@@ -7,7 +11,6 @@ use std::test::Fail;
 use uc_batch::Writes;
 use uc_bytes::{Bytes, MAX_SEQUENCE, Op, Write};
 use uc_oper::Append;
-use uc_query_answer::{Answer, Query, Rows, answer_writes};
 use uc_run::Memtable;
 use uc_version_state::Placed;
 

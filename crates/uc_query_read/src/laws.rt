@@ -1,12 +1,12 @@
 //! What holds of answers over versions.
 ghost use Rattle.std.specs.Prelude.{◌≡◌};
-ghost use Rattle.uc_query_answer.specs.declared.query.Query.{Query};
-ghost use Rattle.uc_query_answer.specs.Answers.{answer_of};
+ghost use Rattle.uc_query_read.specs.declared.query.Query.{Query};
+ghost use Rattle.uc_query_read.specs.Answers.{answer_of};
 ghost use Rattle.uc_version_state.specs.Versions.{writes_in};
 ghost use Rattle.uc_version_state.specs.Histories.{History, IsLegal, version_after, writes_given};
 
+use crate::answer_laws::equal_values_give_equal_answers;
 use uc_oper::Operator;
-use uc_query_answer::equal_values_give_equal_answers;
 use uc_version_state::histories_keep_what_is_read;
 
 /// Whatever happened to a store since its opening, the answer from its version is the answer from the plain writes that it

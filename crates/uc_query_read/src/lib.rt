@@ -1,19 +1,35 @@
-//! What is read of a version: lookups of keys and scans of ranges, at a sequence that is kept.
+//! Queries, their answers, and what is read of a version: lookups of keys and scans of ranges, at a sequence that is kept.
 //!
-//! [`answer_one`] answers a query from a version's runs as `uc_query_answer` does from the plain writes that they stand for.
-//! Read `answering.rt` first, then `lookup.rt`, and for scans `specs/Ahead.antt`, `specs/Walks.antt`, `cursors.rt`,
-//! `dead_keys.rt` and `scan.rt`.
+//! [`answer_writes`] is the slow reference: it answers from a plain list of writes, by the meaning of `uc_model`. Read
+//! `specs/Answers.antt` first, then `query.rt` and `answer.rt`. `specs/Scans.antt` defines a scan without a word on how it is
+//! found, and `answer_laws.rt` says that it is that.
+//!
+//! [`answer_one`] gives the same answer from a version's runs, which stand for those writes. Read `answering.rt` first, then
+//! `lookup.rt`, and for scans `specs/Ahead.antt`, `specs/Walks.antt`, `cursors.rt`, `dead_keys.rt` and `scan.rt`.
 #![tactic(auto)]
 
+mod answer;
+mod answer_laws;
 mod answering;
 mod cursors;
 mod dead_keys;
 mod laws;
 mod lookup;
+mod plain;
+mod query;
+mod rows;
 mod scan;
 
+pub use answer::Answer;
+pub use answer_laws::{
+    equal_values_give_equal_answers, scan_is_answered_by_first_rows, scan_keys_are_named,
+    scan_keys_rise, scan_rows_are_determined, scan_rows_are_first, unprotected_is_refused,
+};
 pub use answering::{answer_one, get};
 pub use laws::histories_keep_answers;
+pub use plain::answer_writes;
+pub use query::Query;
+pub use rows::Rows;
 
 #[cfg(test)]
 mod drawn_tests;

@@ -1,17 +1,18 @@
 //! The rows of a scan of runs.
 ghost use Rattle.std.specs.Prelude.{◌≡◌, false, IfOk};
-ghost use Rattle.uc_query_answer.specs.Answers as answers;
-ghost use Rattle.uc_query_answer.specs.Answers.{named_keys};
+ghost use Rattle.uc_query_read.specs.Answers as answers;
+ghost use Rattle.uc_query_read.specs.Answers.{named_keys};
 ghost use Rattle.uc_compact_rules.specs.Inputs.{writes_of, points_of};
 ghost use Rattle.uc_version_state.specs.Versions.{contents_of};
 ghost use Rattle.uc_query_read.specs.Ahead.{keys_ahead};
 
+use crate::answer_laws::{scan_keys_are_named, scan_keys_rise, scan_rows_are_first};
 use crate::cursors::Cursors;
+use crate::rows::Rows;
 use std::alloc::{AllocError, Global};
 use uc_bytes::Bytes;
 use uc_model::value_is_given;
 use uc_oper::Operator;
-use uc_query_answer::{Rows, scan_keys_are_named, scan_keys_rise, scan_rows_are_first};
 use uc_run::plain_list_is_in_order;
 use uc_version_state::Placed;
 

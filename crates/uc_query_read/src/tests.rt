@@ -1,6 +1,9 @@
 //! Lookups and scans of a few runs.
 use super::*;
+use crate::answer::Answer;
 use crate::answering::answer_of_runs;
+use crate::query::Query;
+use crate::rows::Rows;
 use crate::scan::rows_of_runs;
 use std::alloc::Global;
 use std::process::Abort;
@@ -8,7 +11,6 @@ use std::sync::Arc;
 use std::test::Fail;
 use uc_bytes::{Bytes, MAX_SEQUENCE, Op, Write};
 use uc_oper::Append;
-use uc_query_answer::{Answer, Query, Rows};
 use uc_run::{Memtable, Run};
 use uc_version_state::{Placed, Version};
 

@@ -3,9 +3,9 @@ use Rattle.std.proofs.Common.{◌≡◌, ℕ, List, [], ◌∷◌, ◌++◌, fol
 use Rattle.std.proofs.lemmas.List.{append-nil}
 use Rattle.std.specs.List.{flat_map}
 use Rattle.uc_oper.specs.Operation.{Operation}
-use Rattle.uc_query_answer.specs.Answers.{answer_of}
-use Rattle.uc_query_answer.specs.declared.answer.Answer.{Answer}
-use Rattle.uc_query_answer.specs.declared.query.Query.{Query}
+use Rattle.uc_query_read.specs.Answers.{answer_of}
+use Rattle.uc_query_read.specs.declared.answer.Answer.{Answer}
+use Rattle.uc_query_read.specs.declared.query.Query.{Query}
 use Rattle.uc_query_workers.specs.Pieces.{Batch, piece_of, piece_answers}
 use Rattle.uc_query_shared.specs.Given.{ForEachHistory, piece_given}
 use Rattle.uc_version_state.specs.Versions.{Stored, writes_in}

@@ -2,9 +2,9 @@
 use Rattle.std.proofs.Common.{◌≡◌, ℕ, ◌-◌, ◌<◌, ◌≤◌, List, [], ◌∷◌, ◌++◌, sym, subst, ap, ◌∙◌}
 use Rattle.std.specs.List.{AllByRecursion, flat_map}
 use Rattle.std.proofs.lemmas.List.{append_assoc, append-nil}
-use Rattle.uc_query_pieces.specs.Draws.{Drawing, past}
+use Rattle.uc_query_shared.specs.Draws.{Drawing, past}
 use Rattle.uc_oper.specs.Operation.{Operation}
-use Rattle.uc_query_answer.specs.declared.answer.Answer.{Answer}
+use Rattle.uc_query_read.specs.declared.answer.Answer.{Answer}
 use Rattle.uc_version_state.specs.Versions.{Stored}
 use Rattle.uc_query_workers.specs.Pieces.{Batch}
 use Rattle.uc_query_shared.specs.Given.{ForEachHistory, piece_given}

@@ -5,7 +5,7 @@ use Rattle.std.specs.List.{sum_by, AllByRecursion}
 use Rattle.std.proofs.lemmas.Bool.{lt-ltb}
 use Rattle.std.proofs.lemmas.Bool.Decides.{nat_tests}
 use Rattle.std.proofs.lemmas.List.Sums.{sum_by-cons, sum_by-append, sum_by_push}
-use Rattle.uc_query_pieces.specs.Draws.{times}
+use Rattle.uc_query_shared.specs.Draws.{times}
 use Rattle.uc_query_shared.specs.Drawing.{Rises}
 
 -- 1 where the two are one number, and else 0

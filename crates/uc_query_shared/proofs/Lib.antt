@@ -5,3 +5,4 @@ pub mod Left
 pub mod Ends
 pub mod Seen
 pub mod Shares
+pub mod Moves

@@ -3,10 +3,10 @@ use Rattle.std.proofs.Common.{◌≡◌, ◌≢◌, ℕ, ◌+◌, ◌<◌, ◌�
 use Rattle.std.specs.Prelude.{Some, slice_get}
 use Rattle.std.specs.List.{AllByRecursion, flat_map}
 use Rattle.std.proofs.ByRecursion.{All-set, All-get_or}
-use Rattle.uc_query_pieces.specs.Draws.{times}
+use Rattle.uc_query_shared.specs.Draws.{times}
 use Rattle.uc_query_workers.specs.declared.drawing.Drawn.{Drawn}
 use Rattle.uc_oper.specs.Operation.{Operation}
-use Rattle.uc_query_answer.specs.declared.answer.Answer.{Answer}
+use Rattle.uc_query_read.specs.declared.answer.Answer.{Answer}
 use Rattle.uc_version_state.specs.Versions.{Stored}
 use Rattle.uc_query_shared.specs.Given.{ForEachHistory, piece_given}
 use Rattle.uc_query_workers.specs.Pieces.{Batch, IsDrawn}

@@ -2,8 +2,8 @@
 use Rattle.std.specs.Prelude.{◌≡◌, ℕ, ⊤, ◌<◌, ◌≤◌, List, [], ◌∷◌, ◌++◌}
 use Rattle.std.specs.List.{AllByRecursion, flat_map, sum_by}
 use Rattle.uc_oper.specs.Operation.{Operation}
-use Rattle.uc_query_answer.specs.declared.answer.Answer.{Answer}
-use Rattle.uc_query_pieces.specs.Draws.{times}
+use Rattle.uc_query_read.specs.declared.answer.Answer.{Answer}
+use Rattle.uc_query_shared.specs.Draws.{times}
 use Rattle.uc_query_shared.specs.Given.{ForEachHistory, piece_given}
 use Rattle.uc_query_workers.specs.Pieces.{Batch, IsDrawn}
 use Rattle.uc_query_workers.specs.declared.drawing.Drawn.{Drawn}

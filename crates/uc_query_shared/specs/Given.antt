@@ -1,9 +1,9 @@
 -- The answers to a batch from the plain writes that a store was given.
 use Rattle.std.specs.Prelude.{◌≡◌, ℕ, List, map}
 use Rattle.uc_oper.specs.Operation.{Operation}
-use Rattle.uc_query_answer.specs.declared.query.Query.{Query}
-use Rattle.uc_query_answer.specs.declared.answer.Answer.{Answer}
-use Rattle.uc_query_answer.specs.Answers.{answer_of}
+use Rattle.uc_query_read.specs.declared.query.Query.{Query}
+use Rattle.uc_query_read.specs.declared.answer.Answer.{Answer}
+use Rattle.uc_query_read.specs.Answers.{answer_of}
 use Rattle.uc_query_workers.specs.Pieces.{Batch, piece_of}
 use Rattle.uc_version_state.specs.Versions.{Stored}
 use Rattle.uc_version_state.specs.Histories.{History, IsLegal, version_after, writes_given}

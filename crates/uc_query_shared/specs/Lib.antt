@@ -1,3 +1,4 @@
 pub mod Asking
 pub mod Drawing
 pub mod Given
+pub mod Draws

@@ -1,5 +1,5 @@
 //! [`answer_all`]: the answers to a batch of queries of a shared store.
-ghost use Rattle.uc_query_pieces.specs.Draws.{past};
+ghost use Rattle.uc_query_shared.specs.Draws.{past};
 ghost use Rattle.uc_query_shared.specs.Drawing.{HaveDrawn};
 ghost use Rattle.uc_query_workers.specs.Pieces.{AreNumbers};
 ghost use Rattle.std.specs.Prelude.{◌≡◌, ◌≢◌, ◌⊎◌, ◌<◌, ◌≤◌, ◌*◌, vec_len, None, Some, IfOk, IfErr, OnOk, length};
@@ -11,6 +11,7 @@ ghost use Rattle.uc_query_workers.specs.declared.ask_error.AskError.TheVariants.
 ghost use Rattle.uc_query_workers.specs.declared.ask_error.TheConstants.{MOST_WORKERS};
 ghost use Rattle.uc_version_state.specs.Histories.{History, IsLegal, MayFollow, version_after};
 
+use crate::counter::PieceCounter;
 use crate::drawing::{Shares, drawn_by_workers};
 use crate::gate::Gate;
 use crate::gathering::joined;
@@ -19,10 +20,9 @@ use std::alloc::{AllocError, Global};
 use std::marker::{Send, Sync};
 use std::thread::Threads;
 use uc_oper::Operator;
-use uc_query_answer::{Answer, Query};
-use uc_query_pieces::PieceCounter;
+use uc_query_read::{Answer, Query};
 use uc_query_workers::{AskError, Batch, ask_refusal};
-use uc_share_versions::{Name, Reader};
+use uc_share::{Name, Reader};
 
 /// Why a batch can't be answered by so many workers with so many readers in pieces of so many queries: each worker has a reader
 /// of its own. The workers are looked at first.

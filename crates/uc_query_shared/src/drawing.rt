@@ -3,21 +3,21 @@ ghost use denote.Param.Send.{IsSync, IsSend};
 ghost use Rattle.std.specs.Prelude.{◌≡◌, ◌+◌, ◌<◌, ◌≤◌, ◌++◌, [], ◌∷◌, length, vec_len, vec_capacity, IfOk, OnOk};
 ghost use Rattle.std.specs.List.{AllZip};
 ghost use mathlib.Core.List.{IsPrefix};
-ghost use Rattle.uc_query_pieces.specs.Draws.{past};
+ghost use Rattle.uc_query_shared.specs.Draws.{past};
 ghost use Rattle.uc_query_shared.specs.Drawing.{HasDrawn, HaveDrawn};
 
 use crate::gate::Gate;
 use crate::job::Job;
 use crate::pinning::push_pinned;
+use crate::seat::PieceSeat;
 use std::alloc::{AllocError, Global};
 use std::collections::VecDeque;
 use std::marker::{Send, Sync};
 use std::thread::{Threads, join};
 use uc_oper::Operator;
-use uc_query_answer::Answer;
-use uc_query_pieces::PieceSeat;
+use uc_query_read::Answer;
 use uc_query_workers::Drawn;
-use uc_share_versions::{Name, Reader};
+use uc_share::{Name, Reader};
 
 /// Draws pieces as long as there are any, and appends the answers to each to `answers`, which is empty. Their numbers are given,
 /// in the order in which they were drawn.

@@ -1,14 +1,14 @@
 //! The answers to a batch, put together from what workers drew.
 ghost use Rattle.std.specs.Prelude.{◌≡◌, ◌*◌, ◌+◌, ◌<◌, ◌≤◌, ◌++◌, ℕ, IfOk, OnOk, List, length, map};
 ghost use Rattle.std.specs.List.{AllByRecursion};
-ghost use Rattle.uc_query_answer.specs.declared.answer.Answer.{Answer as AnswerOf};
-ghost use Rattle.uc_query_answer.specs.declared.query.Query.{Query};
+ghost use Rattle.uc_query_read.specs.declared.answer.Answer.{Answer as AnswerOf};
+ghost use Rattle.uc_query_read.specs.declared.query.Query.{Query};
 ghost use Rattle.uc_query_shared.specs.Drawing.{AreLeft};
 ghost use Rattle.uc_query_workers.specs.Pieces as parts;
 ghost use Rattle.uc_query_workers.specs.Pieces.{AreNumbers, IsDrawn};
 
 use std::alloc::{AllocError, Global};
-use uc_query_answer::Answer;
+use uc_query_read::Answer;
 use uc_query_workers::{Batch, Drawn, holder_of, take_first};
 
 /// Moves the answers to the piece with a number, of so many pieces, behind those of `all`. It is the first that is left of what

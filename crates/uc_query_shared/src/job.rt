@@ -1,7 +1,7 @@
 //! [`Job`]: what the workers of a batch share.
 ghost use Rattle.uc_query_workers.specs.Pieces.{AreNumbers};
 
-use uc_query_pieces::PieceCounter;
+use crate::counter::PieceCounter;
 use uc_query_workers::Batch;
 
 /// What the workers of a batch share: its pieces, the counter that these are drawn from, the gate, and for how many answers each

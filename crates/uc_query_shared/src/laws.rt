@@ -1,14 +1,14 @@
 //! What holds of the answers from pinned versions.
 ghost use Rattle.std.specs.Prelude.{◌≡◌, List, fold};
-ghost use Rattle.uc_query_answer.specs.Answers.{answer_of};
-ghost use Rattle.uc_query_answer.specs.declared.query.Query.{Query};
+ghost use Rattle.uc_query_read.specs.Answers.{answer_of};
+ghost use Rattle.uc_query_read.specs.declared.query.Query.{Query};
 ghost use Rattle.uc_version_state.specs.Histories.{History, IsLegal, MayFollow, after, version_after, writes_given};
 ghost use Rattle.uc_version_state.specs.Versions.{Stored, writes_in};
 ghost use Rattle.uc_version_state.specs.declared.event.Event.{Event};
 
 use uc_oper::Operator;
 use uc_query_read::histories_keep_answers;
-use uc_share_versions::fronts_go_behind_histories;
+use uc_share::fronts_go_behind_histories;
 
 /// Whatever happened to a store since it was opened, the answer from the version that is shown is the answer from the plain
 /// writes that it was opened with, at the sequences that it keeps.

@@ -6,9 +6,9 @@ ghost use Rattle.uc_query_shared.specs.Given.{ForEachHistory, piece_given};
 use crate::laws::pinned_versions_answer_as_given;
 use std::alloc::{AllocError, Global};
 use uc_oper::Operator;
-use uc_query_answer::Answer;
+use uc_query_read::Answer;
 use uc_query_workers::Batch;
-use uc_share_versions::{Name, Reader};
+use uc_share::{Name, Reader};
 
 /// Pins what is shown, and appends its answers to the piece with a number. Want of memory leaves some of them there.
 pub(crate) fn push_pinned<O: Operator, N: Name>(

@@ -1,9 +1,9 @@
 -- When a batch of queries is answered by workers, and how.
 use Rattle.std.specs.Prelude.{ℕ, ◌+◌, ◌==◌, Bool, ◌&&◌, List, map, nat_lt, Option, Some, None, if◌then◌else◌}
 use Rattle.uc_oper.specs.Operation.{Operation}
-use Rattle.uc_query_answer.specs.declared.query.Query.{Query}
-use Rattle.uc_query_answer.specs.declared.answer.Answer.{Answer}
-use Rattle.uc_query_answer.specs.Answers.{answer_of}
+use Rattle.uc_query_read.specs.declared.query.Query.{Query}
+use Rattle.uc_query_read.specs.declared.answer.Answer.{Answer}
+use Rattle.uc_query_read.specs.Answers.{answer_of}
 use Rattle.uc_version_state.specs.Versions.{Stored, writes_in}
 use Rattle.uc_query_workers.specs.declared.ask_error.TheConstants.{MOST_WORKERS}
 use Rattle.uc_query_workers.specs.declared.ask_error.AskError.{AskError}

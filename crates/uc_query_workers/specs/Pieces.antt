@@ -1,8 +1,8 @@
 -- The pieces of a batch.
 use Rattle.std.specs.Prelude.{◌≡◌, ℕ, ◌*◌, ◌<◌, List, length, take, drop, flat_map}
 use Rattle.uc_oper.specs.Operation.{Operation}
-use Rattle.uc_query_answer.specs.declared.query.Query.{Query}
-use Rattle.uc_query_answer.specs.declared.answer.Answer.{Answer}
+use Rattle.uc_query_read.specs.declared.query.Query.{Query}
+use Rattle.uc_query_read.specs.declared.answer.Answer.{Answer}
 use Rattle.uc_version_state.specs.Versions.{Stored}
 use Rattle.uc_query_workers.specs.Asking.{answers_of}
 use Rattle.uc_query_workers.specs.declared.drawing.Drawn.{Drawn}

@@ -7,8 +7,7 @@ ghost use Rattle.uc_query_workers.specs.Pieces.{AreNumbers};
 use std::alloc::{AllocError, Global};
 use std::marker::Model;
 use uc_oper::Operator;
-use uc_query_answer::{Answer, Query};
-use uc_query_read::answer_one;
+use uc_query_read::{Answer, Query, answer_one};
 use uc_version_state::Version;
 
 /// Queries, cut into pieces of so many; the last one may have fewer. A contract sees it as these.

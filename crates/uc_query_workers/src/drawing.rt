@@ -12,7 +12,7 @@ use std::collections::VecDeque;
 use std::marker::Sync;
 use std::thread::{Threads, join};
 use uc_oper::Operator;
-use uc_query_answer::Answer;
+use uc_query_read::Answer;
 use uc_version_state::Version;
 
 /// What a worker drew. It is taken from the front where the answers to the batch are put together.

@@ -2,7 +2,7 @@
 ghost use Rattle.std.specs.Prelude.{◌≡◌, ◌≢◌, ◌*◌, ◌<◌, ◌++◌, ℕ, Some, slice_get, IfSome, IfNone, IfOk};
 ghost use Rattle.std.specs.Prelude.{OnOk, List, take, drop, length};
 ghost use Rattle.std.specs.List.{All, AllByRecursion, HoldsAt};
-ghost use Rattle.uc_query_answer.specs.declared.answer.Answer.{Answer as AnswerOf};
+ghost use Rattle.uc_query_read.specs.declared.answer.Answer.{Answer as AnswerOf};
 ghost use Rattle.uc_query_workers.specs.Asking as asking;
 ghost use Rattle.uc_query_workers.specs.Pieces.{IsDrawn};
 ghost use Rattle.uc_query_workers.specs.Pieces as pieces;
@@ -12,7 +12,7 @@ use crate::drawing::Drawn;
 use std::alloc::{AllocError, Global};
 use std::collections::VecDeque;
 use uc_oper::Operator;
-use uc_query_answer::Answer;
+use uc_query_read::Answer;
 use uc_version_state::Version;
 
 /// Moves so many answers from the front of `answers` behind those of `all`. Want of memory loses some of them.

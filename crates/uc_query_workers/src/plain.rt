@@ -12,7 +12,7 @@ use std::alloc::{AllocError, Global};
 use std::marker::Sync;
 use std::thread::Threads;
 use uc_oper::Operator;
-use uc_query_answer::{Answer, Query};
+use uc_query_read::{Answer, Query};
 use uc_version_state::Version;
 
 /// Why a batch can't be answered by so many workers in pieces of so many queries: the workers are looked at first.

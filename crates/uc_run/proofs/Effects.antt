@@ -27,7 +27,7 @@ use Rattle.uc_run_entry.proofs.BySeq.{Rises, all_map, by_seq_is}
 use Rattle.uc_run_entry.proofs.Points.{turn-backwards, PointsFall, all-filtered, passing_fall, by_seq-points, seen_points}
 use Rattle.uc_run_entry.proofs.Covers.{Clears, covers_fall}
 use Rattle.uc_run_entry.proofs.Lookup.{above}
-use Rattle.uc_run_fragment.specs.Cutting.{RangeOf, range_covers, falling, fragments_of}
+use Rattle.uc_run_entry.specs.Cutting.{RangeOf, range_covers, falling, fragments_of}
 use Rattle.uc_run.specs.Flush.{point_of, range_of, points_in, ranges_in, by_key, first_of, flushed}
 use Rattle.uc_run.proofs.ByKey.{all-by_key, passed-by_key}
 use Rattle.uc_run.proofs.Parts.{all_ranges, above_last, rises, IsApartFrom, are_apart}

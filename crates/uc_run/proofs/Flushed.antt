@@ -14,8 +14,8 @@ use Rattle.uc_run_entry.specs.Order.{IsFalling, AreInOrder}
 use Rattle.uc_run_entry.specs.Run.{IsWithin, IsWhole, IsApart, IsRun}
 use Rattle.uc_run_entry.proofs.BySeq.{all_map}
 use Rattle.uc_run_entry.proofs.Points.{all-filtered}
-use Rattle.uc_run_fragment.specs.Cutting.{RangeOf, Piece, spans, cut_points, pieces, falling, fragment_over, fragments_of}
-use Rattle.uc_run_fragment.proofs.Sets.{all-insert_key}
+use Rattle.uc_run_entry.specs.Cutting.{RangeOf, Piece, spans, cut_points, pieces, falling, fragment_over, fragments_of}
+use Rattle.uc_run_entry.proofs.Sets.{all-insert_key}
 use Rattle.uc_run.specs.Flush.{points_in, ranges_in, by_key, first_of}
 use Rattle.uc_run.proofs.ByKey.{all-by_key, sorted-by_key}
 use Rattle.uc_run.proofs.Parts.{all_points, all_ranges, last_is_greatest, up_to_last, last_below, all_below, from_first, have_own_seqs, IsApartFrom, are_apart}

@@ -4,3 +4,15 @@ pub mod Parts
 pub mod Flushed
 pub mod Effects
 pub mod Slots
+pub mod Order
+pub mod LookupEffects
+pub mod Fenced
+pub mod KeyPoints
+pub mod PrefixOrder
+pub mod Fronts
+pub mod Decided
+pub mod LeastKey
+pub mod Passing
+pub mod NearPlace
+pub mod FoundThere
+pub mod Hiding

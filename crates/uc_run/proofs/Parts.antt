@@ -9,7 +9,7 @@ use Rattle.uc_bytes.specs.declared.write.Write.{Write}
 use Rattle.uc_batch.specs.Rising.{IsRising, last_of}
 use Rattle.uc_run_entry.specs.declared.entry.Entry.{Entry}
 use Rattle.uc_run_entry.proofs.BySeq.{Rises, all_map}
-use Rattle.uc_run_fragment.specs.Cutting.{RangeOf}
+use Rattle.uc_run_entry.specs.Cutting.{RangeOf}
 use Rattle.uc_run.specs.Points.{HaveOwnSeqs}
 use Rattle.uc_run.specs.Flush.{point_of, range_of, points_in, ranges_in, first_of}
 

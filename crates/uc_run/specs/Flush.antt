@@ -10,7 +10,7 @@ use Rattle.uc_run_entry.specs.declared.entry.Entry.{Entry}
 use Rattle.uc_run_entry.specs.declared.entry.What.TheVariants as what
 use Rattle.uc_run_entry.specs.Order.{entry_cmp}
 use Rattle.uc_run_entry.specs.Run.{Contents}
-use Rattle.uc_run_fragment.specs.Cutting.{RangeOf, fragments_of}
+use Rattle.uc_run_entry.specs.Cutting.{RangeOf, fragments_of}
 
 -- the point that a change of one key is
 abbrev pub point_of : ℕ → Op → Option Entry

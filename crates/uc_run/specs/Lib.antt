@@ -3,3 +3,11 @@ pub mod Slots
 pub mod HeldWrites
 pub mod Points
 pub mod Flush
+pub mod HeldRuns
+pub mod Blocks
+pub mod Fences
+pub mod Places
+pub mod Prefixes
+pub mod NextKey
+pub mod Cursors
+pub mod Hiding

@@ -10,8 +10,7 @@ use crate::entry_ref::EntryRef;
 use crate::slot::Slot;
 use std::alloc::{AllocError, Global};
 use uc_bytes::OpKind;
-use uc_run_entry::{Point, WhatRef};
-use uc_run_fragment::Range;
+use uc_run_entry::{Point, Range, WhatRef};
 
 /// The texts of a slot in the arena.
 fn texts_at<'a>(text: &'a [u8], slot: &Slot) -> (&'a [u8], &'a [u8])

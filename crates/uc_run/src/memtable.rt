@@ -7,13 +7,13 @@ ghost use Rattle.uc_run.specs.Slots.{Grows};
 
 use crate::flush::{first_seq, points_by_key, ranges_in};
 use crate::laws::flushed_writes_are_a_run;
+use crate::run::Run;
 use crate::size::op_size;
 use crate::slot::Slot;
 use std::alloc::{AllocError, Global};
 use std::marker::Model;
 use uc_bytes::{Write, WriteRef};
-use uc_run_fragment::cut_ranges;
-use uc_run_table::Run;
+use uc_run_entry::cut_ranges;
 
 /// The newest writes, before they become a run (RocksDB wiki, "MemTable"). A contract sees it as the list of the
 /// writes that were inserted, in order.

@@ -6,3 +6,13 @@ pub mod Lookup
 pub mod Covering
 pub mod Apart
 pub mod Falling
+pub use Rattle.uc_run_spans.proofs.Sets
+pub use Rattle.uc_run_spans.proofs.SameSets
+pub mod Pieces
+pub mod Over
+pub mod SeqsOver
+pub mod Covered
+pub mod Cuts
+pub mod Partitions
+pub mod Spanned
+pub mod Written

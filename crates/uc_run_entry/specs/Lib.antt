@@ -6,3 +6,6 @@ pub mod Seek
 pub mod Lookup
 pub mod Packed
 pub mod Overwriting
+pub mod Cutting
+pub mod Shared
+pub mod Spanning

@@ -16,3 +16,7 @@ pub mod Printed
 pub mod Whole
 pub mod Short
 pub mod Names
+pub mod Passing
+pub mod Counted
+pub mod PrintedFaults
+pub mod Said

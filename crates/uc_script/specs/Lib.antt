@@ -11,3 +11,10 @@ pub mod Reading
 pub mod Cases
 pub mod Short
 pub mod Names
+pub mod Parts
+pub mod FieldKinds
+pub mod Words
+pub mod Faults
+pub mod Shortened
+pub mod FaultTexts
+pub mod Explanations

@@ -1,4 +1,5 @@
-//! Scripts as text: what a script's bytes ask, what stands in front of a log, and the small texts that the program prints.
+//! Scripts as text: what a script's bytes ask, what stands in front of a log, the small texts that the program prints, and
+//! what is wrong with a line.
 //!
 //! A script is lines of fields. The lines before its one `open` say what to write and which
 //! sequences to keep, and those after it what to ask. Each line is as it should be, or the script
@@ -14,6 +15,12 @@
 //! field, `setup_line.rt` and `call_line.rt` a line of either part of a script, `head_line.rt` one of a head,
 //! `query_line.rt` what the last two share, and `digits.rt` is the way back for bytes and numbers. `laws.rt` says what
 //! the definitions in `specs/` mean.
+//!
+//! Reading tells the number of the first line at fault and nothing else. [`explain`] looks at that line once more, and says for
+//! a reader what stands there, what is wrong with it and what may stand there: an [`Explanation`], which prints as one line.
+//! Read `specs/Faults.antt`, then `explaining.rt`. `word.rt` has the words that lines begin with and what follows each,
+//! `field_kind.rt` what a field may be, `fault.rt` the kinds of faults, `judging.rt` finds the first of a line,
+//! `shortening.rt` writes a line with printable characters alone, and `fault_laws.rt` says that an explanation is one line.
 #![tactic(auto)]
 
 mod call;
@@ -21,11 +28,18 @@ mod call_line;
 mod call_reader;
 mod digits;
 mod error;
+mod explaining;
+mod explanation;
+mod fault;
+mod fault_laws;
 pub mod field;
+mod field_kind;
 mod head;
 mod head_line;
+mod judging;
 mod laws;
 mod lines;
+mod part;
 mod query;
 mod query_line;
 mod query_reader;
@@ -33,19 +47,29 @@ mod reading;
 mod script;
 mod seq;
 mod setup_line;
+mod shortening;
+mod word;
 
 pub use call::{Call, NAMES};
 pub use call_reader::CallReader;
 pub use digits::{push_hex, push_number};
 pub use error::ScriptError;
+pub use explaining::explain;
+pub use explanation::Explanation;
+pub use fault::LineFault;
+pub use fault_laws::{a_shortened_line_is_short, an_explanation_is_one_line};
+pub use field_kind::FieldKind;
 pub use head::{Head, read_head};
 pub use laws::{
     a_head_is_its_lines, a_script_is_its_lines, a_script_names_no_more_than_it_has,
     names_are_in_range, printed_bytes_are_read, printed_numbers_are_read,
 };
 pub use lines::{is_skipped, next_field, next_line};
+pub use part::{Part, Source};
 pub use query::Query;
 pub use query_reader::QueryReader;
 pub use reading::{judge_script, read_script};
 pub use script::{Calls, Keeps, Ops, Preamble, Script};
 pub use seq::Seq;
+pub use shortening::{MOST_SHOWN, shortened};
+pub use word::Word;

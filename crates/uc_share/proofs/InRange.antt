@@ -1,16 +1,16 @@
 -- Claims and picks lie within the runs.
 use Rattle.std.proofs.Common.{◌≡◌, ℕ, ◌+◌, ◌≤◌, List, length, sym, subst}
 use Rattle.std.specs.Prelude.{Option, Some, None, IfSome}
-use Rattle.uc_version_pick.specs.declared.candidate.Candidate.{Candidate}
-use Rattle.uc_version_pick.specs.declared.options.Options.{Options}
-use Rattle.uc_version_pick.specs.declared.stretch.Stretch.{Stretch}
-use Rattle.uc_version_pick.specs.Picks.{picked}
+use Rattle.uc_version_state.specs.declared.candidate.Candidate.{Candidate}
+use Rattle.uc_version_state.specs.declared.options.Options.{Options}
+use Rattle.uc_version_state.specs.declared.stretch.Stretch.{Stretch}
+use Rattle.uc_version_state.specs.Picks.{picked}
 use Rattle.uc_version_state.specs.Versions.{Stored, ids_of}
 use Rattle.uc_version_state.specs.Refusals.{AreInPlace}
 use Rattle.uc_version_state.specs.declared.event.Event.{Event}
 use Rattle.uc_version.specs.Claiming.{range_refusal}
 use Rattle.uc_version.proofs.PickedClaims.{in_range}
-use Rattle.uc_share_versions.specs.Fronts.{Moment}
+use Rattle.uc_share.specs.Fronts.{Moment}
 use Rattle.uc_share.specs.Claims.{Claim, IsClaim, IsClaimRefused, IsLookRefused, claim_error, pinned_runs}
 use Rattle.uc_share.specs.declared.held.LookError.{LookError}
 use Rattle.uc_share.specs.declared.held.LookError.TheVariants.{Moved, Memory}

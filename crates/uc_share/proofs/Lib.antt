@@ -2,3 +2,8 @@ pub mod StillThere
 pub mod Refused
 pub mod InRange
 pub mod Machine
+pub mod Prefixes
+pub mod Adding
+pub mod Showing
+pub mod Behind
+pub mod Claimed

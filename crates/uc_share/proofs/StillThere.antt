@@ -12,8 +12,8 @@ use Rattle.uc_version_state.specs.Histories.{after}
 use Rattle.uc_version_state.specs.declared.event.Event.{Event}
 use Rattle.uc_version.specs.Compacting.{IsInstallable, install_for}
 use Rattle.uc_share.specs.Installing.{MayInstallHere}
-use Rattle.uc_share_versions.specs.Fronts.{Moment}
-use Rattle.uc_share_versions.proofs.Claimed.{part_within}
+use Rattle.uc_share.specs.Fronts.{Moment}
+use Rattle.uc_share.proofs.Claimed.{part_within}
 use Rattle.uc_share.specs.Claims.{Claim, claimed_runs}
 
 -- the law that runs which stand in a later version by their ids are those that were claimed

@@ -1,7 +1,7 @@
 -- Claims of stretches of pinned versions.
 use Rattle.std.specs.Prelude.{◌≡◌, ◌+◌, ◌≤◌, Some, None, Contains, List, length}
 use Rattle.uc_claims.specs.Holding.{Holding}
-use Rattle.uc_version_pick.specs.declared.stretch.Stretch.{Stretch}
+use Rattle.uc_version_state.specs.declared.stretch.Stretch.{Stretch}
 use Rattle.uc_version_state.specs.Versions.{PlacedRun, Stored, ids_of, slots_of}
 use Rattle.uc_version_state.specs.Refusals.{AreInPlace}
 use Rattle.uc_version.specs.Claiming.{range_refusal}
@@ -11,7 +11,7 @@ use Rattle.uc_version.specs.declared.claim_error.ClaimError.TheVariants as refus
 use Rattle.uc_share.specs.declared.held.LookError.{LookError}
 use Rattle.uc_share.specs.declared.held.LookError.TheVariants.{Moved, Memory}
 use Rattle.uc_version_state.specs.declared.event.Event.{Event}
-use Rattle.uc_share_versions.specs.Fronts.{Moment}
+use Rattle.uc_share.specs.Fronts.{Moment}
 
 -- a claim: the seat with the slots that it holds, the pinned version with the history that leads to it, and the stretch
 pub record Claim : Type 0 where

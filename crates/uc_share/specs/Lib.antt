@@ -1,3 +1,5 @@
 pub mod Claims
 pub mod Stores
 pub mod Installing
+pub mod Fronts
+pub mod Rules

@@ -8,6 +8,9 @@ ghost use Rattle.uc_version_state.specs.Histories.{MayFollow, after};
 ghost use Rattle.uc_version.specs.Compacting.{compaction_at};
 ghost use Rattle.uc_share.specs.Claims.{IsClaim, IsLookRefused, claimed_runs};
 
+use crate::name::Name;
+use crate::pin::Pin;
+use crate::reader::Reader;
 use crate::taken::Taken;
 use std::alloc::{AllocError, Global};
 use std::marker::{Model, Sync};
@@ -15,7 +18,6 @@ use std::thread::Threads;
 use uc_claims::HeldSlots;
 use uc_compact::Compacted;
 use uc_oper::Operator;
-use uc_share_versions::{Name, Pin, Reader};
 use uc_version::{Placed, Stretch, Version, compact_stretch, run_ids};
 use uc_version_state::neighbours_stand_where_their_ids_say;
 

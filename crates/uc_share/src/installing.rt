@@ -5,16 +5,21 @@ ghost use Rattle.uc_version_state.specs.Versions.{contents_of, ids_of};
 ghost use Rattle.uc_version_state.specs.Installs.{terms_of};
 ghost use Rattle.uc_version_state.specs.Refusals.{IsRefused};
 ghost use Rattle.uc_version_state.specs.Histories.{MayFollow, after};
-ghost use Rattle.uc_share_versions.specs.Fronts.{after_event};
+ghost use Rattle.uc_share.specs.Fronts.{after_event};
 ghost use Rattle.uc_share.specs.Claims.{claimed_runs};
 ghost use Rattle.uc_share.specs.Installing.{event_of, EndsWith, MayInstallHere, ShowsRefusal};
 
+use crate::front::Front;
+use crate::front_laws::claimed_runs_stay_the_same;
 use crate::held::Held;
+use crate::name::Name;
+use crate::pin::Pin;
+use crate::publisher::Publisher;
+use crate::reader::Reader;
 use std::alloc::{AllocError, Global};
 use std::sync::Wait;
 use uc_compact::Compacted;
 use uc_oper::Operator;
-use uc_share_versions::{Front, Name, Pin, Publisher, Reader, claimed_runs_stay_the_same};
 use uc_version::{Event, InstallError, error_of, present_refusal, what_fits_may_be_installed};
 use uc_version_state::Refusal;
 

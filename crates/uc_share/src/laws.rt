@@ -4,11 +4,11 @@ ghost use Rattle.uc_compact_rules.specs.Inputs.{Compaction, Stand};
 ghost use Rattle.uc_version_state.specs.Versions.{PlacedRun, Stored, ids_of};
 ghost use Rattle.uc_version_state.specs.Refusals.{AreInPlace};
 ghost use Rattle.uc_version.specs.Compacting.{IsInstallable, install_for};
-ghost use Rattle.uc_version_steps.specs.Machine.{IsMadeFor, still_stand};
+ghost use Rattle.uc_version_state.specs.Machine.{IsMadeFor, still_stand};
 
 use uc_oper::Operator;
 
-/// The machine of `uc_version_steps`, of which `never_stale` speaks, asks of its steps what this store asks of its own: a look finds
+/// The machine of `uc_version_state`, of which `never_stale` speaks, asks of its steps what this store asks of its own: a look finds
 /// claimed runs in place exactly where the machine's does, and an output that may be installed is one that the machine's compactor
 /// may publish.
 pub fn steps_are_those_of_the_machine<O: Operator>()

@@ -13,21 +13,44 @@
 //! | [`Seat`] | [`Store::install`], [`Store::abandon`] | published, to which the slots are lent, or not; and given them back |
 //!
 //! Read `specs/Claims.antt` and `specs/Installing.antt` first, then `opening.rt`, `taken.rt`, `held.rt`, `store.rt` and
-//! `installing.rt`. The history itself stands in `uc_share_versions`.
+//! `installing.rt`.
+//!
+//! Below that stands the history. A [`Front`] is a beginning of it that somebody has seen, a `Book` the history with the right
+//! to add to it, and a [`Name`] says which store it is. What is shown to readers is a version with the history that leads to it
+//! (`Shown`); a [`Reader`] pins it, and a `Publisher` shows the next one. Read `specs/Fronts.antt` first, then `rule.rt`,
+//! `front.rt`, `book.rt`, `reader.rt` and `publisher.rt`.
 #![tactic(auto)]
 
+mod book;
+mod first_readers;
+mod front;
+mod front_laws;
 mod held;
 mod installing;
 mod laws;
+mod name;
 mod opening;
+mod pin;
+mod publisher;
+mod reader;
+mod rule;
+mod share;
+mod shown;
 mod store;
 mod taken;
 mod words;
 
+pub use first_readers::MOST_READERS;
+pub use front::Front;
+pub use front_laws::{
+    claimed_runs_stay_the_same, fronts_go_behind_histories, fronts_replace_runs_once,
+};
 pub use held::Held;
 pub use laws::steps_are_those_of_the_machine;
+pub use name::Name;
 pub use opening::{MOST_SEATS, Opening};
+pub use pin::Pin;
+pub use reader::Reader;
 pub use store::Store;
 pub use uc_claims::Seat;
-pub use uc_share_versions::{Front, MOST_READERS, Name, Pin, Reader};
 pub use uc_version::{ClaimError, InstallError, OpenError, Options, Stretch, Version};

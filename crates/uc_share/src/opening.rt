@@ -1,14 +1,19 @@
 //! [`Opening`]: a store that was opened and has no name yet.
 ghost use Rattle.std.specs.Prelude.{◌≡◌, ◌≢◌, [], Some, None, IfOk, IfErr, All, length, replicate, true, false};
 ghost use Rattle.std.specs.Arc.{arc_value};
-ghost use Rattle.uc_version_pick.specs.Options.{are_good};
+ghost use Rattle.uc_version_state.specs.Options.{are_good};
 ghost use Rattle.uc_version_state.specs.Openings.{Opening as OpeningOf};
 ghost use Rattle.uc_version_state.specs.Histories.{IsLegal, version_after};
 ghost use Rattle.uc_version_open.specs.declared.open_error.OpenError.TheVariants.{BadCount, Memory};
 ghost use Rattle.uc_share.specs.Stores as stores;
 ghost use Rattle.uc_share.specs.Stores.{IsNamed, IsOpenedSo, beginning, shared_refusal};
 
+use crate::book::EmptyHistory;
+use crate::first_readers::MOST_READERS;
 use crate::installing::Desk;
+use crate::name::Name;
+use crate::publisher::Publisher;
+use crate::reader::Reader;
 use crate::store::Store;
 use crate::words::Words;
 use std::alloc::{AllocError, Global};
@@ -17,7 +22,6 @@ use std::sync::{Arc, Mutex, Wait};
 use uc_batch::Writes;
 use uc_claims::Seat;
 use uc_oper::Operator;
-use uc_share_versions::{EmptyHistory, MOST_READERS, Name, Publisher, Reader};
 use uc_version::{OpenError, Options, Version, open_version};
 use uc_version_open::no_refusal_is_leave_to_open;
 
@@ -47,7 +51,7 @@ pub struct Opening<O: Operator> {
 impl<O: Operator> Model for Opening<O> {
     ghost use Rattle.std.specs.Prelude.{◌≡◌, All, length, true};
     ghost use Rattle.std.specs.Arc.{arc_value};
-    ghost use Rattle.uc_version_pick.specs.Options.{are_good};
+    ghost use Rattle.uc_version_state.specs.Options.{are_good};
     ghost use Rattle.uc_share.specs.Stores.{Opened, are_counts};
 
     ghost Value = { Opened };

@@ -4,21 +4,25 @@ ghost use Rattle.std.specs.Prelude.{IfOk, IfErr, IfSome, OnOk, OnErr};
 ghost use mathlib.Core.List.{IsPrefix};
 ghost use Rattle.uc_claims.specs.Holding.{free_seat};
 ghost use Rattle.uc_claims.specs.declared.table.TheConstants.{MOST_SLOTS};
-ghost use Rattle.uc_version_pick.specs.Picks.{picked};
-ghost use Rattle.uc_version_pick.specs.Options.{are_good};
+ghost use Rattle.uc_version_state.specs.Picks.{picked};
+ghost use Rattle.uc_version_state.specs.Options.{are_good};
 ghost use Rattle.uc_version_state.specs.Versions.{ids_of};
 ghost use Rattle.uc_version_state.specs.Refusals.{AreInPlace};
 ghost use Rattle.uc_version_state.specs.Histories.{MayFollow, after};
 ghost use Rattle.uc_version.specs.Claiming.{range_refusal};
 ghost use Rattle.uc_version.specs.Picking.{candidates_of};
 ghost use Rattle.uc_version.specs.declared.claim_error.ClaimError.TheVariants.{Memory};
-ghost use Rattle.uc_share_versions.specs.Fronts.{moment};
+ghost use Rattle.uc_share.specs.Fronts.{moment};
 ghost use Rattle.uc_share.specs.Claims as claims;
 ghost use Rattle.uc_share.specs.Claims.{claim_of, claimed_runs, IsClaimRefused};
 ghost use Rattle.uc_share.specs.Installing.{event_of, EndsWith, ShowsRefusal};
 
 use crate::held::{Held, LookError};
 use crate::installing::Desk;
+use crate::name::Name;
+use crate::pin::Pin;
+use crate::publisher::Publisher;
+use crate::reader::Reader;
 use crate::taken::Taken;
 use crate::words::Words;
 use std::alloc::{AllocError, Global};
@@ -27,9 +31,8 @@ use std::sync::{Mutex, Wait};
 use uc_claims::{MOST_SLOTS, Seat};
 use uc_compact::Compacted;
 use uc_oper::Operator;
-use uc_share_versions::{Name, Pin, Publisher, Reader};
 use uc_version::{ClaimError, InstallError, Options, Stretch, are_inputs, install_event, pick};
-use uc_version_pick::picks_are_unclaimed_runs;
+use uc_version_state::picks_are_unclaimed_runs;
 
 /// A store that threads share by reference: claim words for the slots of its runs, and behind a lock what shows readers the
 /// next version. Contracts see its table of claim words, which its seats carry too, and how it is compacted.
@@ -42,7 +45,7 @@ pub struct Store<O: Operator, N: Name, W: Wait + Drop> {
 
 impl<O: Operator, N: Name, W: Wait + Drop> Model for Store<O, N, W> {
     ghost use Rattle.std.specs.Prelude.{◌≡◌, true};
-    ghost use Rattle.uc_version_pick.specs.Options.{are_good};
+    ghost use Rattle.uc_version_state.specs.Options.{are_good};
     ghost use Rattle.uc_share.specs.Stores.{Shared};
 
     ghost Value = { Shared };

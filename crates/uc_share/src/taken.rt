@@ -5,11 +5,12 @@ ghost use Rattle.uc_claims.specs.declared.table.TheConstants.{MOST_SLOTS};
 ghost use Rattle.uc_version_state.specs.Versions.{Stored};
 ghost use Rattle.uc_share.specs.Claims.{claim_of, claimed_runs, IsClaim, IsClaimRefused};
 
+use crate::name::Name;
+use crate::pin::Pin;
 use crate::words::Words;
 use std::marker::Model;
 use uc_claims::{HeldSlots, Seat};
 use uc_oper::Operator;
-use uc_share_versions::{Name, Pin};
 use uc_version::{ClaimError, Placed, Stretch, runs_of, stretch_runs};
 
 /// The slots of a stretch of a pinned version, taken. Nobody has looked yet whether its runs still stand: a

@@ -10,7 +10,7 @@ use std::sync::Wait;
 use std::test::Fail;
 use std::thread::{Threads, join};
 use uc_oper::{Append, Operator};
-use uc_query_answer::{Answer, Query};
+use uc_query_read::{Answer, Query};
 use uc_query_shared::{AskError, Free, answer_all, batch_refusal};
 use uc_share::{Name, Opening, Reader, Store};
 use uc_tests_compactors::worker::Worker;

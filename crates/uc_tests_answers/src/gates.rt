@@ -11,7 +11,7 @@ use std::sync::Wait;
 use std::test::Fail;
 use std::thread::{Threads, join};
 use uc_oper::{Append, Operator};
-use uc_query_answer::{Answer, Query};
+use uc_query_read::{Answer, Query};
 use uc_query_shared::{Gate, answer_all};
 use uc_share::{Name, Opening, Reader, Store};
 use uc_tests_compactors::stretches::both_compact;

@@ -11,7 +11,7 @@ use std::thread::{Threads, join};
 use uc_batch::Writes;
 use uc_bytes::Bytes;
 use uc_oper::{Append, Counter, Maximum, Operator};
-use uc_query_answer::{Answer, Query, answer_writes};
+use uc_query_read::{Answer, Query, answer_writes};
 use uc_query_shared::{Free, answer_all};
 use uc_share::{Name, Opening, Reader, Seat, Store};
 use uc_tests_compactors::drawn::drawn_store;

@@ -4,7 +4,7 @@ use std::test::Fail;
 use uc_batch::Writes;
 use uc_bytes::{Bytes, OpRef, WriteRef};
 use uc_oper::Operator;
-use uc_query_answer::{Answer, Query, Rows};
+use uc_query_read::{Answer, Query, Rows};
 use uc_share::Opening;
 use uc_tests_compactors::drawn::small_runs;
 

@@ -9,7 +9,7 @@ use std::thread::Threads;
 use uc_bytes::OpRef;
 use uc_oper::{Append, Counter};
 use uc_tool_io::Done;
-use uc_version_pick::Options;
+use uc_version_state::Options;
 
 /// Merges join texts by commas.
 type Texts = Append<b','>;

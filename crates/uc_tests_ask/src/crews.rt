@@ -13,8 +13,8 @@ use uc_bytes::OpRef;
 use uc_oper::Append;
 use uc_tool_ask::{CrewGate, ask_through, is_plan};
 use uc_tool_io::Done;
-use uc_tool_report::report_log;
-use uc_version_pick::Options;
+use uc_tool_play::report_log;
+use uc_version_state::Options;
 
 /// Merges join texts by commas.
 type Texts = Append<b','>;

@@ -5,7 +5,7 @@ use std::test::Fail;
 use uc_oper::Counter;
 use uc_tool_ask::is_plan;
 use uc_tool_io::Done;
-use uc_version_pick::Options;
+use uc_version_state::Options;
 
 /// The log of a batch that sets the key `a` to `1`.
 const ONE: &[u8] = b"\xe9\x9f\x78\x19\x11\x00\x01\

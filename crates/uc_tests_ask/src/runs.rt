@@ -6,7 +6,7 @@ use std::thread::Threads;
 use uc_oper::Operator;
 use uc_tool_ask::{ask, is_plan};
 use uc_tool_io::Done;
-use uc_version_pick::Options;
+use uc_version_state::Options;
 
 /// What a run printed, how it ended, and how many installs its compactors made.
 #[derive(Drop)]

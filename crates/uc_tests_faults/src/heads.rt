@@ -2,8 +2,7 @@
 
 use std::alloc::Global;
 use std::test::Fail;
-use uc_script::{ScriptError, read_head};
-use uc_tool_faults::{Source, explain};
+use uc_script::{ScriptError, Source, explain, read_head};
 
 /// What stands in front of a log, the number of its first line at fault, and what is said of it.
 struct Row {

@@ -2,8 +2,7 @@
 
 use std::alloc::Global;
 use std::test::Fail;
-use uc_script::{ScriptError, judge_script, read_script};
-use uc_tool_faults::{Source, explain};
+use uc_script::{ScriptError, Source, explain, judge_script, read_script};
 
 /// A script, the number of its first line at fault, and what is said of it.
 struct Row {

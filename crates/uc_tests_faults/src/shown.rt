@@ -1,7 +1,7 @@
 //! Lines as they are shown.
 
 use std::test::Fail;
-use uc_tool_faults::{MOST_SHOWN, shortened};
+use uc_script::{MOST_SHOWN, shortened};
 
 /// Short lines.
 static LINES: [(&[u8], &str); 6] = [

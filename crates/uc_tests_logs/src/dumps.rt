@@ -2,8 +2,7 @@
 use std::alloc::Global;
 use std::process::Abort;
 use std::test::Fail;
-use uc_tool_dump::dump;
-use uc_tool_io::Done;
+use uc_tool_io::{Done, dump};
 
 /// A log in hexadecimal, what its dump prints, and how the run ends.
 type Row = (&'static str, &'static str, Done);

@@ -6,8 +6,7 @@ use uc_batch::{BatchError, Ended, Mode, ReadError, read_writes};
 use uc_bytes::Write;
 use uc_logrec::{Ending, LogFault, LogWriter, read_log};
 use uc_tests_shared::lines::op_line;
-use uc_tool_dump::dump;
-use uc_tool_io::Done;
+use uc_tool_io::{Done, dump};
 
 /// A payload of a log, which is a batch.
 #[derive(Clone, Copy)]

@@ -6,7 +6,7 @@
 //!
 //! `logs.rt` has small logs and `batches.rt` batches, whole and faulty, `damage.rt` a log that is cut at each byte and
 //! changed at each byte, `blocks.rt` logs of several blocks, and `dumps.rt` texts of dumps. It stands on the formats and
-//! on `uc_tool_dump`, and not on the store.
+//! on `uc_tool_io`, and not on the store.
 #![tactic(auto)]
 
 #[cfg(test)]

@@ -6,7 +6,7 @@ use std::test::Fail;
 use uc_batch::Writes;
 use uc_bytes::Bytes;
 use uc_oper::{Append, Counter, Operator};
-use uc_query_answer::{
+use uc_query_read::{
     Answer, Query, Rows, answer_writes, equal_values_give_equal_answers,
     scan_is_answered_by_first_rows, scan_keys_are_named, scan_keys_rise, scan_rows_are_determined,
     scan_rows_are_first, unprotected_is_refused,

@@ -9,7 +9,7 @@ use std::thread::Threads;
 use uc_oper::{Append, Counter};
 use uc_tests_shared::options::small;
 use uc_tool_io::Done;
-use uc_version_pick::Options;
+use uc_version_state::Options;
 
 /// Texts that merges join by a comma.
 static JOINED: [Row; 7] = [

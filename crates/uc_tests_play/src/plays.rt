@@ -8,7 +8,7 @@ use uc_oper::Operator;
 use uc_tests_shared::options::small;
 use uc_tool_io::Done;
 use uc_tool_play::play;
-use uc_version_pick::Options;
+use uc_version_state::Options;
 
 /// A script, and what it prints.
 pub type Row = (&'static str, &'static str);

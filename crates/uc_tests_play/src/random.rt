@@ -8,7 +8,7 @@ use std::thread::Threads;
 use uc_batch::Writes;
 use uc_bytes::{Bytes, Op, OpRef, Write};
 use uc_oper::{Append, Counter, Maximum, Operator};
-use uc_query_answer::{Answer, Query, answer_writes};
+use uc_query_read::{Answer, Query, answer_writes};
 use uc_tests_shared::lines::{field, op_line};
 use uc_tests_shared::options::small;
 use uc_tool_io::Done;

@@ -3,9 +3,9 @@ use crate::given::next_random;
 use std::alloc::{AllocError, Global};
 use std::process::Abort;
 use std::test::Fail;
-use uc_run_entry::Fragment;
-use uc_run_fragment::{
-    Fragments, Range, cut_ranges, fragments_are_in_order, fragments_cover_what_ranges_cover,
+use uc_run_entry::{
+    Fragment, Fragments, Range, cut_ranges, fragments_are_in_order,
+    fragments_cover_what_ranges_cover,
 };
 
 /// Ranges and the fragments of them: a begin and an end, with a sequence or with some.

@@ -7,7 +7,7 @@ use uc_batch::{Mode, Writes, fits_batch, read_writes, write_batch};
 use uc_bytes::{Bytes, Op};
 use uc_logrec::LogWriter;
 use uc_oper::Append;
-use uc_query_answer::{Answer, Query, answer_writes};
+use uc_query_read::{Answer, Query, answer_writes};
 
 /// A change, by its texts.
 #[derive(Clone, Copy)]

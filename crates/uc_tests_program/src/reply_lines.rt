@@ -4,12 +4,11 @@ use std::test::Fail;
 use uc_bytes::{Bytes, Items};
 use uc_fold::Totals;
 use uc_query::{Reply, Report, RunLine};
-use uc_query_answer::Answer;
-use uc_tool_lines::{compacted_line, reply_lines};
-use uc_tool_opening::opening_refusal_line;
+use uc_query_read::Answer;
+use uc_tool_opening::{compacted_line, opening_refusal_line, reply_lines};
 use uc_version::{ClaimError, InstallError};
 use uc_version_open::OpenError;
-use uc_version_pick::Stretch;
+use uc_version_state::Stretch;
 
 /// A reply of a test.
 #[derive(Clone, Copy)]

@@ -5,8 +5,8 @@ use std::alloc::{AllocError, Global};
 use std::process::Abort;
 use std::test::Fail;
 use uc_oper::Append;
+use uc_run::Run;
 use uc_run_entry::WhatRef;
-use uc_run_table::Run;
 
 /// A run with a put at 1 of each key of one byte below `count`.
 fn puts(alloc: Global, count: u8) -> Result<Run, Fail> {

@@ -6,8 +6,8 @@ use std::test::Fail;
 use std::thread::Threads;
 use uc_compact::{Compacted, compact, inputs_stand};
 use uc_oper::{Append, Counter, Operator};
+use uc_run::Run;
 use uc_run_entry::WhatRef;
-use uc_run_table::Run;
 
 pub(crate) const ONE: &[u8] = &[1, 0, 0, 0, 0, 0, 0, 0];
 

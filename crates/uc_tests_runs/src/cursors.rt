@@ -4,8 +4,8 @@ use std::alloc::{AllocError, Global};
 use std::process::Abort;
 use std::test::Fail;
 use uc_oper::Append;
+use uc_run::{Cursor, Run};
 use uc_run_entry::{Entry, WhatRef};
-use uc_run_table::{Cursor, Run};
 
 /// What a point of this number says: of four one put, two merges and a delete.
 fn says_of(number: u8, text: &[u8]) -> WhatRef<'_> {

@@ -3,8 +3,8 @@ use std::alloc::{AllocError, Global};
 use std::sync::Arc;
 use std::test::Fail;
 use uc_bytes::Bytes;
+use uc_run::Run;
 use uc_run_entry::{Entry, Fragment, Seqs, WhatRef, is_run};
-use uc_run_table::Run;
 
 /// A point of a test: its key, its sequence, and what it says.
 pub(crate) type Point = (&'static [u8], u64, WhatRef<'static>);

@@ -7,8 +7,8 @@ use std::sync::Arc;
 use std::test::Fail;
 use std::thread::Threads;
 use uc_oper::Counter;
+use uc_run::Run;
 use uc_run_entry::WhatRef;
-use uc_run_table::Run;
 
 const TEN_THOUSAND: &[u8] = &[0x10, 0x27, 0, 0, 0, 0, 0, 0];
 

@@ -5,8 +5,8 @@ use std::test::Fail;
 use uc_bytes::Write;
 use uc_model::effect_at;
 use uc_oper::{Append, Effect, Operator};
+use uc_run::Run;
 use uc_run_entry::WhatRef;
-use uc_run_table::Run;
 
 /// Whether the point at a place puts this value to a key, with this sequence.
 pub(crate) fn puts_at(run: &Run, place: u64, key: &[u8], seq: u64, value: &[u8]) -> bool {

@@ -12,7 +12,7 @@ use std::thread::{Threads, join};
 use uc_batch::Writes;
 use uc_bytes::{Bytes, OpRef, WriteRef};
 use uc_oper::{Append, Operator};
-use uc_query_answer::{Answer, Query, answer_writes};
+use uc_query_read::{Answer, Query, answer_writes};
 use uc_share::{Name, Opening, Options, Reader, Seat, Store};
 use uc_tests_compactors::drawn::small_runs;
 use uc_tests_compactors::steps::installed;

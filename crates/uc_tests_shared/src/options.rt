@@ -1,5 +1,5 @@
 //! Options that tests open stores with.
-use uc_version_pick::Options;
+use uc_version_state::Options;
 
 /// A byte of memtable, so that each write stands in a run of its own.
 pub fn small() -> Options {

@@ -7,8 +7,7 @@ use std::thread::Threads;
 use uc_batch::Writes;
 use uc_bytes::Bytes;
 use uc_oper::{Append, Counter, Maximum, Operator};
-use uc_query_answer::{Query, answer_writes};
-use uc_query_read::answer_one;
+use uc_query_read::{Query, answer_one, answer_writes};
 use uc_tests_shared::dice::{Dice, KEYS};
 use uc_version::{Options, Owned, OwnedClaim, Stretch, open_plain};
 

@@ -7,11 +7,10 @@ use std::thread::Threads;
 use uc_batch::Writes;
 use uc_bytes::{Bytes, OpRef, WriteRef};
 use uc_oper::Append;
-use uc_query_answer::{Answer, Query, Rows};
+use uc_query_read::{Answer, Query, Rows};
 use uc_query_workers::{AskError, answer_plain};
 use uc_version_open::open_version;
-use uc_version_pick::Options;
-use uc_version_state::Version;
+use uc_version_state::{Options, Version};
 
 /// A change of a test.
 #[derive(Clone, Copy)]

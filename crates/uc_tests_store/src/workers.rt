@@ -7,7 +7,7 @@ use std::thread::Threads;
 use uc_batch::Writes;
 use uc_bytes::Bytes;
 use uc_oper::{Append, Counter, Operator};
-use uc_query_answer::{Answer, Query, answer_writes};
+use uc_query_read::{Answer, Query, answer_writes};
 use uc_query_workers::answer_plain;
 use uc_tests_shared::dice::{Dice, KEYS};
 use uc_version::{Options, Version, open_version};

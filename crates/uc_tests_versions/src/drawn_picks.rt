@@ -2,7 +2,7 @@
 use crate::picks::wants_pick;
 use std::alloc::{AllocError, Global};
 use std::test::Fail;
-use uc_version_pick::{Candidate, Options, Stretch};
+use uc_version_state::{Candidate, Options, Stretch};
 
 /// The next number of a row of random ones, below `sides`.
 fn next_random(state: &mut u64, sides: u64) -> u64 {

@@ -6,8 +6,7 @@ use uc_batch::Writes;
 use uc_bytes::{MAX_SEQUENCE, OpRef, WriteRef};
 use uc_run::Run;
 use uc_version_open::{OpenError, Opener, no_refusal_is_leave_to_open, open_version};
-use uc_version_pick::Options;
-use uc_version_state::Version;
+use uc_version_state::{Options, Version};
 
 /// What an opening comes to: how many runs, the id of the newest, and the keeps.
 #[derive(Clone, Copy)]

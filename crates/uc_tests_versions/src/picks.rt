@@ -2,7 +2,7 @@
 use std::alloc::{AllocError, Global};
 use std::process::Abort;
 use std::test::Fail;
-use uc_version_pick::{
+use uc_version_state::{
     Candidate, Options, Stretch, amplified_runs_are_all_picked, collected_is_the_greatest_number,
     nothing_is_picked_below_the_trigger, number_of_runs_picks_from_the_first_stretch, pick_among,
     picks_are_unclaimed_runs, size_ratio_picks_the_first_that_collects_enough,

@@ -6,8 +6,7 @@ use uc_batch::{Ended, fits_batch, write_batch};
 use uc_bytes::OpRef;
 use uc_logrec::LogWriter;
 use uc_version_open::{Recovered, recover};
-use uc_version_pick::Options;
-use uc_version_state::Version;
+use uc_version_state::{Options, Version};
 
 /// The batch of the delete of a key at a sequence.
 fn batch_of(alloc: Global, seq: u64, key: &[u8]) -> Result<Vec<u8>, Fail> {

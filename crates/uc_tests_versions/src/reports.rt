@@ -6,8 +6,7 @@ use uc_batch::Writes;
 use uc_bytes::{OpRef, WriteRef};
 use uc_query::{Report, RunLine, Totals, report};
 use uc_version_open::open_version;
-use uc_version_pick::Options;
-use uc_version_state::Version;
+use uc_version_state::{Options, Version};
 
 /// A change of a test: a put of a key, or a range deletion.
 #[derive(Clone, Copy)]

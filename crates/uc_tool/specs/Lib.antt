@@ -10,11 +10,11 @@ pub use Rattle.uc_tool_play.specs.Turn
 pub use Rattle.uc_tool_ask.specs.Ask
 pub use Rattle.uc_tool_ask.specs.Plans
 pub use Rattle.uc_tool_ask.specs.Readable
-pub use Rattle.uc_tool_report.specs.Report
-pub use Rattle.uc_tool_report.specs.Compacting
+pub use Rattle.uc_tool_play.specs.Report
+pub use Rattle.uc_tool_play.specs.Compacting
 pub use Rattle.uc_tool_io.specs.Ending
 pub use Rattle.uc_tool_io.specs.Status
-pub use Rattle.uc_tool_dump.specs.Dump
+pub use Rattle.uc_tool_io.specs.Dump
 pub use Rattle.uc_tool_play.specs.Reading
-pub use Rattle.uc_tool_words.specs.OperatorName
-pub use Rattle.uc_tool_words.specs.Refusal
+pub use Rattle.uc_tool_io.specs.OperatorName
+pub use Rattle.uc_tool_io.specs.Refusal

@@ -2,8 +2,8 @@
 //!
 //! `play` opens a store over a script's writes and answers its calls; `ask` answers queries over a log by workers, while
 //! compactors compact its store; `report_log` reports what a store holds that opens from a log, and compacts it; `dump` prints
-//! what a log holds. What each prints is a stated function of the bytes that it reads. Each stands in a crate of its own,
-//! `uc_tool_play`, `uc_tool_ask`, `uc_tool_report` and `uc_tool_dump`, over what they share in `uc_tool_io` and
+//! what a log holds. What each prints is a stated function of the bytes that it reads. They stand in `uc_tool_play`
+//! (`play`, `report_log`), `uc_tool_ask` and `uc_tool_io` (`dump`), over what they share in `uc_tool_io` and
 //! `uc_tool_opening`; this crate has nothing of its own but gives them out, so that a caller names it alone.
 //!
 //! Read `uc_tool_io`'s `specs/Output.antt` first, then the head of the subcommand that matters.
@@ -12,12 +12,10 @@
 pub use uc_tool_ask::{
     MOST_COMPACTORS, ask, ask_with_reason, is_plan, queries_are_answered_from_the_log,
 };
-pub use uc_tool_dump::dump;
-pub use uc_tool_io::Done;
+pub use uc_tool_io::{Done, OperatorName, Refusal, dump};
 pub use uc_tool_opening::Reason;
-pub use uc_tool_play::{play, play_with_reason, reads_are_answered_from_plain_writes};
-pub use uc_tool_report::{
-    compactions_end_where_nothing_is_picked, report_log, report_log_with_reason,
+pub use uc_tool_play::{
+    compactions_end_where_nothing_is_picked, play, play_with_reason,
+    reads_are_answered_from_plain_writes, report_log, report_log_with_reason,
 };
-pub use uc_tool_words::{OperatorName, Refusal};
-pub use uc_version_pick::Options;
+pub use uc_version_state::Options;

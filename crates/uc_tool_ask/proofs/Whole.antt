@@ -10,7 +10,7 @@ use Rattle.uc_script.specs.declared.query.Query.{Query as Asked}
 use Rattle.uc_version_state.specs.Openings.{Opening}
 use Rattle.uc_version_open.specs.Refusal.{opening_refusal}
 use Rattle.uc_version_open.specs.declared.open_error.OpenError.{OpenError}
-use Rattle.uc_version_pick.specs.declared.options.Options.{Options}
+use Rattle.uc_version_state.specs.declared.options.Options.{Options}
 use Rattle.uc_tool_io.specs.Ending.{IsWhole}
 use Rattle.uc_tool_ask.specs.Ask.{unless_refused, of_writes, unless_faulty, asked_of, ask_of}
 

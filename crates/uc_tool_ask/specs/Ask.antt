@@ -8,16 +8,16 @@ use Rattle.uc_batch.specs.declared.ended.Ended.{Ended}
 use Rattle.uc_batch.specs.declared.ended.Ended.TheVariants as ended
 use Rattle.uc_script.specs.Head.{Head, head_of}
 use Rattle.uc_script.specs.declared.query.Query.{Query as Asked}
-use Rattle.uc_tool_faults.specs.declared.part.Source.TheVariants as source
-use Rattle.uc_version_pick.specs.declared.options.Options.{Options}
+use Rattle.uc_script.specs.declared.part.Source.TheVariants as source
+use Rattle.uc_version_state.specs.declared.options.Options.{Options}
 use Rattle.uc_version_state.specs.Openings.{Opening, opened}
 use Rattle.uc_version_open.specs.Refusal.{opening_refusal}
 use Rattle.uc_version_open.specs.declared.open_error.OpenError.{OpenError}
-use Rattle.uc_query_answer.specs.Answers.{answer_of}
+use Rattle.uc_query_read.specs.Answers.{answer_of}
 use Rattle.uc_tool_io.specs.Output.{Output, refused}
 use Rattle.uc_tool_io.specs.declared.done.Done.TheVariants.{Fine}
-use Rattle.uc_tool_lines.specs.AnswerLines.{answer_lines}
-use Rattle.uc_tool_log_lines.specs.Line.{numbered_line}
+use Rattle.uc_tool_opening.specs.AnswerLines.{answer_lines}
+use Rattle.uc_tool_io.specs.Line.{numbered_line}
 use Rattle.uc_tool_opening.specs.Asked.{query_of}
 use Rattle.uc_tool_opening.specs.Reasons.{Cause, AtLine, log_cause}
 use Rattle.uc_tool_opening.specs.Refusals.{opening_refusal_line, bad_log}

@@ -2,7 +2,7 @@
 ghost use Rattle.std.specs.Prelude.{◌≡◌, ◌<◌, ◌≤◌, ◌++◌, [], map, vec_len, length, IfOk, OnOk};
 ghost use Rattle.std.specs.List.{flat_map};
 ghost use Rattle.uc_script.specs.Head.{queries_in};
-ghost use Rattle.uc_query_answer.specs.Answers.{answer_of};
+ghost use Rattle.uc_query_read.specs.Answers.{answer_of};
 ghost use Rattle.uc_query_shared.specs.Given.{ForEachHistory};
 ghost use Rattle.uc_tool_io.specs.Output.{Prints, joined};
 ghost use Rattle.uc_tool_opening.specs.Asked as lines;
@@ -15,13 +15,12 @@ use std::marker::{Send, Sync};
 use std::mem;
 use std::thread::Threads;
 use uc_oper::Operator;
-use uc_query_answer::Query;
+use uc_query_read::Query;
 use uc_query_shared::{AskError, Free, answer_all};
 use uc_script::QueryReader;
 use uc_share::{Name, Reader};
 use uc_tool_io::{Done, RunError, write_bytes};
-use uc_tool_lines::answers_lines;
-use uc_tool_opening::query_of;
+use uc_tool_opening::{answers_lines, query_of};
 
 /// How many queries are read and answered at once at the most, so that memory doesn't grow with their number.
 const BATCH: usize = 4096;

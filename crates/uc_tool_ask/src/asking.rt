@@ -11,7 +11,7 @@ ghost use Rattle.uc_version_state.specs.Openings.{Opening as OpeningOf};
 ghost use Rattle.uc_version_open.specs.Progress.{progress_of};
 ghost use Rattle.uc_query_shared.specs.Given.{ForEachHistory};
 ghost use Rattle.uc_tool_io.specs.Output.{Prints, HasWritten, refused};
-ghost use Rattle.uc_tool_log_lines.specs.Line as texts;
+ghost use Rattle.uc_tool_io.specs.Line as texts;
 ghost use Rattle.uc_tool_opening.specs.Reasons.{IsReason, TellsOpening, opening_cause, log_cause};
 ghost use Rattle.uc_tool_ask.specs.Ask.{ask_of, of_log, of_writes, cause_of};
 ghost use Rattle.uc_tool_ask.specs.Given.{replies_given};
@@ -28,11 +28,11 @@ use std::sync::Wait;
 use std::thread::{Threads, join_mut};
 use uc_batch::Ended;
 use uc_oper::Operator;
-use uc_script::{Head, ScriptError, read_head};
+use uc_script::{Head, ScriptError, Source, read_head};
 use uc_share::{Name, Opening, Options, Reader, Seat, Store};
-use uc_tool_faults::Source;
-use uc_tool_io::{Done, RunError, finish, finish_without_input, print_refusal, read_input};
-use uc_tool_log_lines::numbered_line;
+use uc_tool_io::{
+    Done, RunError, finish, finish_without_input, numbered_line, print_refusal, read_input,
+};
 use uc_tool_opening::{
     Reason, print_bad_log, print_refused_opening, reason_of_line, reason_of_opening,
 };

@@ -6,8 +6,8 @@
 //! law `queries_are_answered_from_the_log` says what that means in the words of plain writes.
 //!
 //! Read `specs/Ask.antt` first, then `asking.rt`, `answering.rt` and `compacting.rt`. `gate.rt` is what tests hold compactors up
-//! with. Recovering and refusing stand in `uc_tool_opening`, the lines of answers in `uc_tool_lines`, batches in `uc_query_shared`
-//! and the store in `uc_share`.
+//! with. Recovering, refusing and the lines of answers stand in `uc_tool_opening`, batches in `uc_query_shared` and the store in
+//! `uc_share`.
 #![tactic(auto)]
 
 mod answering;

@@ -4,3 +4,8 @@ pub mod Writing
 pub mod Texts
 pub mod Ending
 pub mod Status
+pub mod OperatorName
+pub mod Refusal
+pub mod Line
+pub mod LogLines
+pub mod Dump

@@ -1,24 +1,48 @@
-//! What every subcommand of the program needs: its input, its output, and its end.
+//! What the subcommands of the program share below the store: words, input, output, the lines of logs, and how a run ends.
 //!
 //! A subcommand reads all of its input, up to a limit, prints replies one after the other, and ends in a [`Done`], whose
 //! number is the exit status. What it may have written by then is `HasWritten`, a relation between its `Output`, which is a
-//! function of the bytes that it read, and what the writer holds. Nothing here knows of logs, of scripts or of stores.
+//! function of the bytes that it read, and what the writer holds. Read `specs/Output.antt` first, then `input.rt` and
+//! `writing.rt`, which are the two ends, and `ending.rt`. The lemmas in `proofs/` are for the loops of the subcommands:
+//! `Printing.antt` if each turn prints one reply, `Parts.antt` if it prints several, and `Written.antt` at the end of a run.
 //!
-//! Read `specs/Output.antt` first, then `input.rt` and `writing.rt`, which are the two ends, and `ending.rt`. The lemmas in
-//! `proofs/` are for the loops of the crates above: `Printing.antt` where each turn prints one reply, `Parts.antt` where it
-//! prints several, and `Written.antt` at the end of a run.
+//! [`OperatorName`] is a merge operator by its word: what the parser of the command line lets through and what the program runs
+//! both come from it, so that no word is let through that names nothing. [`Refusal`] says why there may be no words to
+//! read, and how the program ends then. Read `operator_name.rt`, then `refusal.rt`.
+//!
+//! Each line that is printed is a stated function of what it prints, ends with LF, and has bytes in hexadecimal and numbers in
+//! decimal. `line.rt` makes lines of words, numbers and texts. `logs.rt` has the line of each write of a log, and the one that
+//! says how far the log was read. Read `specs/Line.antt`, then `specs/LogLines.antt`.
+//!
+//! [`dump`] prints a line for each write before a log's first fault, and one that says whether the log ended there, was torn, or
+//! is faulty: `dump_of`, a function of the bytes that it reads. Read `specs/Dump.antt`, then `dumping.rt`. Its loop goes over a
+//! reader that is seen by what is ahead: the record that holds of it is `DumpsOn` in `proofs/Dumps.antt`.
+//!
+//! It stands on the formats alone, and not on the store, so that what prints logs doesn't wait for it.
 #![tactic(auto)]
 
 mod done;
+mod dumping;
 mod ending;
 mod input;
+mod line;
+mod logs;
+mod operator_name;
+mod refusal;
 mod refusing;
 mod run_error;
 mod writing;
 
 pub use done::Done;
+pub use dumping::dump;
 pub use ending::{finish, finish_without_input};
 pub use input::{INPUT_LIMIT, InputError, read_input};
+pub use line::{
+    fields_line, numbered_line, push_counted, push_fields_line, push_numbered_line, push_text_line,
+};
+pub use logs::{ended_line, push_write};
+pub use operator_name::OperatorName;
+pub use refusal::Refusal;
 pub use refusing::print_refusal;
 pub use run_error::RunError;
 pub use writing::write_bytes;

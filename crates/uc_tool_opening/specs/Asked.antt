@@ -1,7 +1,7 @@
 -- What a line that reads asks of a store, once that is open.
 use Rattle.std.specs.Prelude.{ℕ}
-use Rattle.uc_query_answer.specs.declared.query.Query.{Query}
-use Rattle.uc_query_answer.specs.declared.query.Query.TheVariants as query
+use Rattle.uc_query_read.specs.declared.query.Query.{Query}
+use Rattle.uc_query_read.specs.declared.query.Query.TheVariants as query
 use Rattle.uc_script.specs.declared.query.Query.{Query as Asked}
 use Rattle.uc_script.specs.declared.query.Query.TheVariants as asked
 use Rattle.uc_script.specs.declared.seq.Seq.{Seq}

@@ -1,6 +1,6 @@
 -- What stands against an opening that is refused.
 use Rattle.std.specs.Prelude.{nat_lt, ◌||◌, ◌^◌, ◌-◌, Option, Some, None, if◌then◌else◌}
-use Rattle.uc_version_pick.specs.declared.options.Options.{Options}
+use Rattle.uc_version_state.specs.declared.options.Options.{Options}
 use Rattle.uc_version_open.specs.declared.open_error.OpenError.{OpenError}
 use Rattle.uc_version_open.specs.declared.open_error.OpenError.TheVariants as opening
 use Rattle.uc_tool_opening.specs.declared.opening_fault.OpeningFault.{OpeningFault}

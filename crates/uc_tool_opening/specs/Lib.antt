@@ -3,3 +3,8 @@ pub mod Asked
 pub mod Refusals
 pub mod Faults
 pub mod Reasons
+pub use Rattle.uc_tool_io.specs.Line
+pub mod AnswerLines
+pub mod ReportLines
+pub mod RefusalLines
+pub mod ReplyLines

@@ -3,7 +3,7 @@
 ghost use Rattle.std.specs.Prelude.{◌≡◌};
 ghost use Rattle.uc_tool_opening.specs.Asked as lines;
 
-use uc_query_answer::Query;
+use uc_query_read::Query;
 use uc_script::Seq;
 
 /// The sequence that a line names, where `last` is the last one at opening.

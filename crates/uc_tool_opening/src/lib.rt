@@ -1,4 +1,4 @@
-//! What the subcommands that open a store share: opening one from a log, and saying why none is opened.
+//! What the subcommands that open a store share: opening one from a log, saying why none is opened, and the lines of replies.
 //!
 //! `recover_log` reads a log into a store that is being opened, and says how far the log could be read; `open_ops` opens a
 //! store from a script's writes, by way of a log of them; `print_refused_opening` and `print_bad_log` end a run
@@ -12,16 +12,27 @@
 //!
 //! Read `specs/Opening.antt` and `specs/Refusals.antt` first, then `opening.rt` and `refusing.rt`. That the log of a
 //! script's writes gives them back is proved in `proofs/LogAgain.antt`.
+//!
+//! A reply is printed as one line or several whole ones, each a stated function of what it prints. Read `uc_tool_io`'s
+//! `specs/Line.antt`, then `specs/ReplyLines.antt` and `replies.rt`.
 #![tactic(auto)]
 
+mod answers;
 mod asked;
 mod opening;
 mod opening_fault;
 mod reason;
+mod refusals;
 mod refusing;
+mod replies;
+mod reports;
 
+pub use answers::push_answer_lines;
 pub use asked::query_of;
 pub use opening::{open_ops, recover_log};
 pub use opening_fault::{OpeningFault, fault_of_opening, option_fault};
 pub use reason::{Reason, reason_of_line, reason_of_opening};
+pub use refusals::{claim_refusal_line, install_refusal_line};
 pub use refusing::{opening_refusal_line, print_bad_log, print_refused_opening};
+pub use replies::{answers_lines, compacted_line, reply_lines};
+pub use reports::report_lines;

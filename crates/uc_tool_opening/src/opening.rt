@@ -18,8 +18,7 @@ use uc_bytes::Op;
 use uc_logrec::{LogWriter, written_log_is_read};
 use uc_script::{Keeps, Ops};
 use uc_version_open::{OpenError, Opener, Recovered, recover};
-use uc_version_pick::Options;
-use uc_version_state::Version;
+use uc_version_state::{Options, Version};
 
 /// Writes the operations as a log, a batch for each, numbered from 1.
 fn write_log(alloc: Global, ops: &[Op]) -> Result<Vec<u8>, AllocError>

@@ -1,12 +1,12 @@
 //! [`OpeningFault`]: why a store isn't opened, with the option or the number that stands against it.
 
 ghost use Rattle.std.specs.Prelude.{◌≡◌, is_none};
-ghost use Rattle.uc_version_pick.specs.Options.{are_good};
+ghost use Rattle.uc_version_state.specs.Options.{are_good};
 ghost use Rattle.uc_tool_opening.specs.Faults as faults;
 
 use thiserror::Error;
 use uc_version_open::OpenError;
-use uc_version_pick::Options;
+use uc_version_state::Options;
 
 /// Why a store isn't opened, with the option or the number that stands against it.
 #[derive(Clone, Copy, Debug, PartialEq, Eq, Error)]

@@ -7,9 +7,9 @@ ghost use Rattle.uc_tool_opening.specs.Reasons.{AtLine, IsReason};
 use crate::opening_fault::{OpeningFault, fault_of_opening};
 use std::alloc::Global;
 use thiserror::Error;
-use uc_tool_faults::{Explanation, Source, explain};
+use uc_script::{Explanation, Source, explain};
 use uc_version_open::OpenError;
-use uc_version_pick::Options;
+use uc_version_state::Options;
 
 /// Why a run is refused, for a reader. It prints as one line, beside the fixed line of the run.
 #[derive(Debug, Drop, PartialEq, Eq, Error)]

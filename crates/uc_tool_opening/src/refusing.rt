@@ -8,8 +8,7 @@ ghost use Rattle.uc_tool_opening.specs.Refusals.{bad_log};
 use std::alloc::{AllocError, Global};
 use std::io::Write;
 use uc_batch::Ended;
-use uc_tool_io::{Done, RunError, print_refusal, write_bytes};
-use uc_tool_log_lines::{ended_line, numbered_line};
+use uc_tool_io::{Done, RunError, ended_line, numbered_line, print_refusal, write_bytes};
 use uc_version_open::OpenError;
 
 /// The line that says why a store isn't opened.

@@ -7,7 +7,7 @@ use Rattle.uc_query_workers.specs.declared.ask_error.AskError.{AskError}
 use Rattle.uc_query.specs.Names.{State}
 use Rattle.uc_query.specs.Running.{run_of, unless_error}
 use Rattle.uc_query.specs.Turns.{Turn}
-use Rattle.uc_tool_lines.specs.ReplyLines.{reply_lines}
+use Rattle.uc_tool_opening.specs.ReplyLines.{reply_lines}
 use Rattle.uc_tool_play.specs.Play.{call_of, replies_of}
 use Rattle.uc_tool_play.specs.Turn.{Turns}
 

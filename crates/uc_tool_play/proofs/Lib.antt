@@ -3,3 +3,7 @@ pub mod Calls
 pub mod Judged
 pub mod Opened
 pub mod ReadAnswers
+pub mod Compactions
+pub mod Reports
+pub mod Reported
+pub mod NoMorePicks

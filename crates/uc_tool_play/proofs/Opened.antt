@@ -3,13 +3,13 @@ use Rattle.std.proofs.Common.{◌≡◌, ℕ, List, ◌∷◌, Option, None, Res
 use Rattle.std.specs.Io.KnownBytes.{Appends}
 use Rattle.uc_oper.specs.Operation.{Operation}
 use Rattle.uc_script.specs.declared.call.Call.{Call}
-use Rattle.uc_version_pick.specs.declared.options.Options.{Options}
+use Rattle.uc_version_state.specs.declared.options.Options.{Options}
 use Rattle.uc_version_state.specs.Versions.{Stored}
 use Rattle.uc_version_state.specs.Openings.{Opening, opened}
 use Rattle.uc_version_open.specs.Refusal.{opening_refusal}
 use Rattle.uc_version.specs.Owners.{Owner, unclaimed}
 use Rattle.uc_query.specs.Running.{unnamed}
-use Rattle.uc_tool_log_lines.specs.Line.{numbered_line}
+use Rattle.uc_tool_io.specs.Line.{numbered_line}
 use Rattle.uc_tool_io.specs.Writing.{AppendsFront}
 use Rattle.uc_tool_io.specs.Output.{joined, Stops, Prints}
 use Rattle.uc_tool_play.specs.Play.{replies_of, output_of, unless_refused}

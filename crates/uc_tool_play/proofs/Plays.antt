@@ -7,7 +7,7 @@ use Rattle.uc_script.specs.declared.script.Script.{Script}
 use Rattle.uc_version_state.specs.Openings.{Opening}
 use Rattle.uc_version_open.specs.Refusal.{opening_refusal}
 use Rattle.uc_version_open.specs.declared.open_error.OpenError.{OpenError}
-use Rattle.uc_version_pick.specs.declared.options.Options.{Options}
+use Rattle.uc_version_state.specs.declared.options.Options.{Options}
 use Rattle.uc_tool_io.specs.Ending.{IsWhole}
 use Rattle.uc_tool_play.specs.Play.{opening_of, unless_refused, played, play_of}
 

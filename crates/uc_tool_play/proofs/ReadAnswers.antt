@@ -6,11 +6,11 @@ use Rattle.std.specs.List.{AllByRecursion, AllZip, flat_map}
 use Rattle.std.proofs.lemmas.List.{append-nil}
 use Rattle.uc_oper.specs.Operation.{Operation}
 use Rattle.uc_bytes.specs.declared.write.Write.{Write}
-use Rattle.uc_query_answer.specs.declared.answer.Answer.{Answer}
-use Rattle.uc_query_answer.specs.Answers.{answer_of}
+use Rattle.uc_query_read.specs.declared.answer.Answer.{Answer}
+use Rattle.uc_query_read.specs.Answers.{answer_of}
 use Rattle.uc_claims.specs.Holding.{AreDistinct}
-use Rattle.uc_version_pick.specs.declared.options.Options.{Options}
-use Rattle.uc_version_pick.specs.Options.{are_good}
+use Rattle.uc_version_state.specs.declared.options.Options.{Options}
+use Rattle.uc_version_state.specs.Options.{are_good}
 use Rattle.uc_version_state.specs.Versions.{Stored, IsVersion}
 use Rattle.uc_version.specs.declared.held_stretch.HeldStretch.{HeldStretch}
 use Rattle.uc_version.specs.declared.held_stretch.TheConstants.{MOST_CLAIMS}
@@ -26,8 +26,8 @@ use Rattle.uc_query.specs.declared.reply.Reply.{Reply}
 use Rattle.uc_query.specs.declared.reply.Reply.TheVariants.{Answers}
 use Rattle.uc_script.specs.declared.call.Call.{Call}
 use Rattle.uc_script.specs.declared.call.Call.TheVariants.{Read, Claim, Install, Abandon, Compact, Pick, Report}
-use Rattle.uc_tool_lines.specs.AnswerLines.{answer_lines}
-use Rattle.uc_tool_lines.specs.ReplyLines.{reply_lines}
+use Rattle.uc_tool_opening.specs.AnswerLines.{answer_lines}
+use Rattle.uc_tool_opening.specs.ReplyLines.{reply_lines}
 use Rattle.uc_tool_opening.specs.Asked.{query_of}
 use Rattle.uc_tool_play.specs.Play.{call_of}
 use Rattle.uc_tool_play.specs.Reading.{IsRead}

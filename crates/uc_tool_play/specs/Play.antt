@@ -2,15 +2,15 @@
 use Rattle.std.specs.Prelude.{ℕ, List, [], ◌∷◌, map, codes, Option, Some, None, Result, Ok, Err}
 use Rattle.uc_oper.specs.Operation.{Operation}
 use Rattle.uc_batch.specs.Batch.{numbered}
-use Rattle.uc_query_answer.specs.declared.query.Query.{Query}
+use Rattle.uc_query_read.specs.declared.query.Query.{Query}
 use Rattle.uc_script.specs.Script.{script_of}
 use Rattle.uc_script.specs.declared.call.Call.{Call}
 use Rattle.uc_script.specs.declared.call.Call.TheVariants.{Read, Claim, Install, Abandon, Compact, Pick, Report}
 use Rattle.uc_script.specs.declared.error.ScriptError.{ScriptError}
 use Rattle.uc_script.specs.declared.error.ScriptError.TheVariants as errors
 use Rattle.uc_script.specs.declared.script.Script.{Script}
-use Rattle.uc_tool_faults.specs.declared.part.Source.TheVariants as source
-use Rattle.uc_version_pick.specs.declared.options.Options.{Options}
+use Rattle.uc_script.specs.declared.part.Source.TheVariants as source
+use Rattle.uc_version_state.specs.declared.options.Options.{Options}
 use Rattle.uc_version_state.specs.Versions.{Stored}
 use Rattle.uc_version_state.specs.Openings.{Opening, opened}
 use Rattle.uc_version_open.specs.Refusal.{opening_refusal}
@@ -20,11 +20,11 @@ use Rattle.uc_query.specs.Names.{State}
 use Rattle.uc_query.specs.Running.{run_of, unnamed}
 use Rattle.uc_query.specs.declared.call.Call.{Call as StoreCall}
 use Rattle.uc_query.specs.declared.call.Call.TheVariants as store
-use Rattle.uc_tool_log_lines.specs.Line.{numbered_line}
+use Rattle.uc_tool_io.specs.Line.{numbered_line}
 use Rattle.uc_tool_opening.specs.Asked.{query_of}
 use Rattle.uc_tool_opening.specs.Reasons.{Cause, AtLine, opening_cause}
 use Rattle.uc_tool_opening.specs.Refusals.{opening_refusal_line}
-use Rattle.uc_tool_lines.specs.ReplyLines.{reply_lines}
+use Rattle.uc_tool_opening.specs.ReplyLines.{reply_lines}
 use Rattle.uc_tool_io.specs.Output.{Output, refused}
 use Rattle.uc_tool_io.specs.declared.done.Done.TheVariants.{Fine}
 

@@ -3,14 +3,14 @@ use Rattle.std.specs.Prelude.{◌≡◌, ℕ, ⊤, List, ◌∷◌, codes}
 use Rattle.std.specs.List.{AllZip}
 use Rattle.uc_oper.specs.Operation.{Operation}
 use Rattle.uc_bytes.specs.declared.write.Write.{Write}
-use Rattle.uc_query_answer.specs.Answers.{answer_of}
+use Rattle.uc_query_read.specs.Answers.{answer_of}
 use Rattle.uc_script.specs.declared.call.Call.{Call}
 use Rattle.uc_script.specs.declared.call.Call.TheVariants.{Read, Claim, Install, Abandon, Compact, Pick, Report}
 use Rattle.uc_version_state.specs.Openings.{Opening, opened}
 use Rattle.uc_tool_io.specs.Output.{Output}
 use Rattle.uc_tool_io.specs.declared.done.Done.TheVariants.{Fine}
-use Rattle.uc_tool_lines.specs.AnswerLines.{answer_lines}
-use Rattle.uc_tool_log_lines.specs.Line.{numbered_line}
+use Rattle.uc_tool_opening.specs.AnswerLines.{answer_lines}
+use Rattle.uc_tool_io.specs.Line.{numbered_line}
 use Rattle.uc_tool_opening.specs.Asked.{query_of}
 
 -- the lines of a read are those of the answer from these writes alone, which know no run and no compaction

@@ -5,7 +5,7 @@ use Rattle.uc_query.specs.Names.{State}
 use Rattle.uc_query.specs.Turns.{turn_of}
 use Rattle.uc_query.specs.declared.call.Call.{Call}
 use Rattle.uc_query.specs.declared.reply.Reply.{Reply}
-use Rattle.uc_tool_lines.specs.ReplyLines.{reply_lines}
+use Rattle.uc_tool_opening.specs.ReplyLines.{reply_lines}
 
 -- the lines are those of the reply to the call, and the store is left as the call leaves it
 pub record Turns (m : Operation) (old : State) (call : Call) (lines : List ℕ) (new : State) : Type 0 where

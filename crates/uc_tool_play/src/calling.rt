@@ -20,10 +20,9 @@ use uc_oper::Operator;
 use uc_query::{AskError, NamedClaims, Query};
 use uc_script::{Call, CallReader};
 use uc_tool_io::{RunError, write_bytes};
-use uc_tool_lines::reply_lines;
-use uc_tool_opening::query_of;
+use uc_tool_opening::{query_of, reply_lines};
 use uc_version::Owned;
-use uc_version_pick::Stretch;
+use uc_version_state::Stretch;
 
 /// A query alone, for one worker.
 fn asked_alone(alloc: Global, query: Query) -> Result<uc_query::Call, AllocError>

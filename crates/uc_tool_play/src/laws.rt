@@ -3,7 +3,7 @@ ghost use Rattle.std.specs.Prelude.{◌≡◌, ℕ, ◌≤◌, List, Ok, None, l
 ghost use Rattle.std.specs.List.{AllZip};
 ghost use Rattle.uc_batch.specs.Batch.{numbered};
 ghost use Rattle.uc_batch.specs.Rising.{IsRising};
-ghost use Rattle.uc_version_pick.specs.declared.options.Options.{Options};
+ghost use Rattle.uc_version_state.specs.declared.options.Options.{Options};
 ghost use Rattle.uc_version_state.specs.Openings.{opened};
 ghost use Rattle.uc_version_open.specs.Refusal.{opening_refusal};
 ghost use Rattle.uc_version.specs.Owners.{unclaimed};

@@ -1,17 +1,28 @@
-//! `play`: a store over the writes of a script, and the replies to its calls.
+//! `play` and `report_log`: the subcommands that open a store in one owner's hands.
 //!
-//! It reads a script, opens a store from its writes by way of a log, and prints the reply to each of its calls as soon as
+//! `play` reads a script, opens a store from its writes by way of a log, and prints the reply to each of its calls as soon as
 //! it is there. What it prints is `play_of`, a function of the bytes that it reads, of the operator and of the options.
 //! The law `reads_are_answered_from_plain_writes` says what that means of the calls that read: whatever is claimed,
-//! compacted and installed in between, they are answered from the plain writes alone.
+//! compacted and installed in between, they are answered from the plain writes alone. Read `specs/Play.antt` first, then
+//! `playing.rt` and, for the calls, `calling.rt`; `specs/Reading.antt` and `laws.rt` have the law.
 //!
-//! Read `specs/Play.antt` first, then `playing.rt` and, for the calls, `calling.rt`; `specs/Reading.antt` and `laws.rt` have
-//! the law. Opening and refusing stand in `uc_tool_opening`, the lines of replies in `uc_tool_lines`.
+//! `report_log` opens a store from a log, prints a report on it, compacts what universal compaction picks as long as it picks
+//! anything, with a line for each compaction, and prints a report on what is then: `report_of`, again a function of bytes,
+//! operator and options. The law `compactions_end_where_nothing_is_picked` says why the compactions end: nothing more is
+//! picked, or no id is left. Read `specs/Report.antt` first, then `reporting.rt` and, for the loop of compactions,
+//! `compacting.rt` with `specs/Compacting.antt`.
+//!
+//! Opening, refusing and the lines of replies and reports stand in `uc_tool_opening`.
 #![tactic(auto)]
 
 mod calling;
+mod compacting;
 mod laws;
 mod playing;
+mod report_laws;
+mod reporting;
 
 pub use laws::reads_are_answered_from_plain_writes;
 pub use playing::{play, play_with_reason};
+pub use report_laws::compactions_end_where_nothing_is_picked;
+pub use reporting::{report_log, report_log_with_reason};

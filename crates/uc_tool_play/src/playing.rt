@@ -5,7 +5,7 @@ ghost use Rattle.uc_script.specs.Calls.{calls_in, script_with};
 ghost use Rattle.uc_script.specs.Names.{NameIsGood};
 ghost use Rattle.uc_script.specs.Reading.{Gives};
 ghost use Rattle.uc_script.specs.Script.{script_of};
-ghost use Rattle.uc_version_pick.specs.Options.{are_good};
+ghost use Rattle.uc_version_state.specs.Options.{are_good};
 ghost use Rattle.uc_tool_io.specs.declared.input.TheConstants.{INPUT_LIMIT};
 ghost use Rattle.uc_tool_opening.specs.Opening.{FitsLog};
 ghost use Rattle.uc_tool_opening.specs.Reasons.{IsReason, TellsOpening, opening_cause};
@@ -19,18 +19,17 @@ use std::marker::Sync;
 use std::thread::Threads;
 use uc_oper::Operator;
 use uc_script::{
-    Preamble, ScriptError, a_script_names_no_more_than_it_has, judge_script, names_are_in_range,
+    Preamble, ScriptError, Source, a_script_names_no_more_than_it_has, judge_script,
+    names_are_in_range,
 };
-use uc_tool_faults::Source;
 use uc_tool_io::{
-    Done, RunError, finish, finish_without_input, print_refusal, read_input, write_bytes,
+    Done, RunError, finish, finish_without_input, numbered_line, print_refusal, read_input,
+    write_bytes,
 };
-use uc_tool_log_lines::numbered_line;
 use uc_tool_opening::{Reason, open_ops, print_refused_opening, reason_of_line, reason_of_opening};
 use uc_version::Owned;
 use uc_version_open::OpenError;
-use uc_version_pick::Options;
-use uc_version_state::Version;
+use uc_version_state::{Options, Version};
 
 /// Judges a script, and reads what stands up to its `open`. Where it has a fault, it tells why.
 fn judged(alloc: Global, input: &[u8], reason: &mut Option<Reason>) -> Result<Preamble, ScriptError>

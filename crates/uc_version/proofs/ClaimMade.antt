@@ -5,7 +5,7 @@ use Rattle.std.specs.Option.{option_or}
 use Rattle.std.specs.List.{flat_map}
 use Rattle.uc_claims.specs.Claims.{times}
 use Rattle.uc_claims.specs.Holding.{NoneHeld}
-use Rattle.uc_version_pick.specs.declared.stretch.Stretch.{Stretch}
+use Rattle.uc_version_state.specs.declared.stretch.Stretch.{Stretch}
 use Rattle.uc_version_state.specs.Versions.{PlacedRun, slots_of, ids_of}
 use Rattle.uc_version_state.specs.Installs.{part_of, newest_id}
 use Rattle.uc_version.specs.declared.held_stretch.HeldStretch.{HeldStretch}

@@ -3,7 +3,7 @@ use Rattle.std.proofs.Common.{◌≡◌, ◌+◌, ◌≤◌, List, [], ◌∷◌
 use Rattle.std.specs.Prelude.{Option, Some, None}
 use Rattle.std.proofs.lemmas.List.{set-set, set-get_or}
 use Rattle.uc_oper.specs.Operation.{Operation}
-use Rattle.uc_version_pick.specs.declared.stretch.Stretch.{Stretch}
+use Rattle.uc_version_state.specs.declared.stretch.Stretch.{Stretch}
 use Rattle.uc_compact_rules.specs.Inputs.{Compaction, Stand}
 use Rattle.uc_compact_rules.specs.Output.{output_of}
 use Rattle.uc_version_state.specs.Versions.{Stored, IsVersion}

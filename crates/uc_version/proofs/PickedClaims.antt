@@ -6,8 +6,8 @@ use Rattle.std.specs.List.{list_any}
 use Rattle.std.proofs.lemmas.Bool.Decides.{nat_tests}
 use Rattle.std.proofs.lemmas.List.{length-map, drop-map}
 use Rattle.std.specs.List.{take-map}
-use Rattle.uc_version_pick.specs.declared.stretch.Stretch.{Stretch}
-use Rattle.uc_version_pick.specs.Picks.{are_unclaimed}
+use Rattle.uc_version_state.specs.declared.stretch.Stretch.{Stretch}
+use Rattle.uc_version_state.specs.Picks.{are_unclaimed}
 use Rattle.uc_version_state.specs.Versions.{PlacedRun, slots_of}
 use Rattle.uc_version_state.specs.Installs.{part_of}
 use Rattle.uc_version.specs.declared.claim_error.ClaimError.{ClaimError}

@@ -11,7 +11,7 @@ use Rattle.uc_oper.specs.Operation.{Operation}
 use Rattle.uc_claims.specs.Claims.{times}
 use Rattle.uc_claims.specs.Holding.{NoneHeld}
 use Rattle.uc_claims.proofs.Times.{times-cons, one_same, times-from_Contains, list_any-times}
-use Rattle.uc_version_pick.specs.declared.stretch.Stretch.{Stretch}
+use Rattle.uc_version_state.specs.declared.stretch.Stretch.{Stretch}
 use Rattle.uc_compact_rules.specs.Inputs.{Compaction, Stand}
 use Rattle.uc_compact_rules.specs.Output.{output_of}
 use Rattle.uc_version_state.specs.Versions.{Stored, IsVersion, ids_of, slots_of}

@@ -8,7 +8,7 @@ use Rattle.std.proofs.lemmas.List.Elements.{All-from_recursion}
 use Rattle.uc_claims.specs.Claims.{times}
 use Rattle.uc_claims.specs.Holding.{NoneHeld, without}
 use Rattle.uc_claims.proofs.Times.{times-append, times-filter, list_any-times, Contains-from_times}
-use Rattle.uc_version_pick.specs.declared.stretch.Stretch.{Stretch}
+use Rattle.uc_version_state.specs.declared.stretch.Stretch.{Stretch}
 use Rattle.uc_version_state.specs.Versions.{slots_of}
 use Rattle.uc_version_state.proofs.Once.{distinct-from_times, all-from_times}
 use Rattle.uc_version.specs.declared.held_stretch.HeldStretch.{HeldStretch}

@@ -1,7 +1,7 @@
 -- Stretches that are compacted at once: claimed, compacted and put in place.
 use Rattle.std.specs.Prelude.{◌≡◌, None, Some, map}
 use Rattle.uc_oper.specs.Operation.{Operation}
-use Rattle.uc_version_pick.specs.declared.stretch.Stretch.{Stretch}
+use Rattle.uc_version_state.specs.declared.stretch.Stretch.{Stretch}
 use Rattle.uc_version_state.specs.Versions.{Stored}
 use Rattle.uc_version_state.specs.Installs.{Install, IdLeft, installed}
 use Rattle.uc_version.specs.declared.compact_error.CompactError.{CompactError}

@@ -3,7 +3,7 @@ use Rattle.std.specs.Prelude.{◌≡◌, ◌+◌, ◌==◌, Some, List, length}
 use Rattle.uc_oper.specs.Operation.{Operation}
 use Rattle.uc_compact_rules.specs.Inputs.{Compaction}
 use Rattle.uc_compact_rules.specs.Output.{output_of}
-use Rattle.uc_version_pick.specs.declared.stretch.Stretch.{Stretch}
+use Rattle.uc_version_state.specs.declared.stretch.Stretch.{Stretch}
 use Rattle.uc_version_state.specs.Versions.{PlacedRun, Stored, contents_of, ids_of}
 use Rattle.uc_version_state.specs.Installs.{Install, KeepsKnown, NothingBelow, IdLeft, part_of, behind, terms_of}
 use Rattle.uc_version_state.specs.Refusals.{AreInPlace, AreReplaceable, first_unknown}

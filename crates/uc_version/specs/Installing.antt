@@ -3,7 +3,7 @@ use Rattle.std.specs.Prelude.{◌≢◌, ℕ, ◌-◌, List, Option, Some, None,
 use Rattle.uc_oper.specs.Operation.{Operation}
 use Rattle.uc_compact_rules.specs.Inputs.{Compaction}
 use Rattle.uc_compact_rules.specs.Output.{output_of}
-use Rattle.uc_version_pick.specs.declared.stretch.Stretch.{Stretch}
+use Rattle.uc_version_state.specs.declared.stretch.Stretch.{Stretch}
 use Rattle.uc_version_state.specs.Versions.{PlacedRun, Stored}
 use Rattle.uc_version_state.specs.Installs as installs
 use Rattle.uc_version_state.specs.Installs.{Install, replaced}

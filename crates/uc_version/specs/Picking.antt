@@ -1,7 +1,7 @@
 -- What the picker sees of a version.
 use Rattle.std.specs.Prelude.{ℕ, Bool, List, map}
 use Rattle.uc_run_entry.specs.Size.{size_of}
-use Rattle.uc_version_pick.specs.declared.candidate.Candidate.{Candidate}
+use Rattle.uc_version_state.specs.declared.candidate.Candidate.{Candidate}
 use Rattle.uc_version_state.specs.Versions.{PlacedRun, Stored}
 
 -- a run as a candidate, which is claimed where its slot is

@@ -14,7 +14,7 @@ use std::marker::Sync;
 use std::thread::Threads;
 use uc_compact::Compacted;
 use uc_oper::Operator;
-use uc_version_pick::Stretch;
+use uc_version_state::Stretch;
 
 impl<O: Operator> Owned<O> {
     /// What a claim's runs become, if an id is left for it. Nothing is compacted in vain.

@@ -2,7 +2,7 @@
 ghost use Rattle.std.specs.Prelude.{◌≡◌};
 
 use uc_claims::MOST_SLOTS;
-use uc_version_pick::Stretch;
+use uc_version_state::Stretch;
 
 /// The most claims that are held at once: each has two slots or more.
 pub const MOST_CLAIMS: usize = MOST_SLOTS / 2;

@@ -1,7 +1,7 @@
 //! What holds of owners.
 ghost use Rattle.std.specs.Prelude.{◌≡◌, ◌≢◌, ◌≤◌, List, Some, None, true, length};
-ghost use Rattle.uc_version_pick.specs.declared.stretch.Stretch.{Stretch};
-ghost use Rattle.uc_version_pick.specs.Picks.{picked};
+ghost use Rattle.uc_version_state.specs.declared.stretch.Stretch.{Stretch};
+ghost use Rattle.uc_version_state.specs.Picks.{picked};
 ghost use Rattle.uc_compact_rules.specs.Inputs.{Compaction, Stand};
 ghost use Rattle.uc_version_state.specs.Versions.{PlacedRun, Stored, contents_of, ids_of};
 ghost use Rattle.uc_version_state.specs.Installs.{MayInstall, installed, newest_id, standing};
@@ -16,8 +16,7 @@ ghost use Rattle.uc_version.specs.declared.install_error.InstallError.{InstallEr
 ghost use Rattle.uc_version.specs.declared.install_error.InstallError.TheVariants.{IdsSpent};
 
 use uc_oper::Operator;
-use uc_version_pick::picks_are_unclaimed_runs;
-use uc_version_state::install_gives_a_version;
+use uc_version_state::{install_gives_a_version, picks_are_unclaimed_runs};
 
 /// What was compacted of claimed runs, and is installable in a version where the runs with their ids are the same still, is an
 /// event that may happen to that version.

@@ -3,8 +3,8 @@
 //! An [`Owned`] has a version, and the claims of those who compact stretches of its runs. Read `specs/Owners.antt` first,
 //! then `specs/Claiming.antt` and `specs/Installing.antt`, and `owned.rt`; and `specs/AtOnce.antt` with `at_once.rt`. What
 //! holds of compactions of any version's runs, and of their installs, whoever claims them, stands in `specs/Compacting.antt`,
-//! `stretches.rt` and `refusal.rt`. What a version is stands in `uc_version_state`, and the picker in `uc_version_pick`; their
-//! public items are given out here too.
+//! `stretches.rt` and `refusal.rt`. Versions and the picker stand in `uc_version_state`, whose public items are given out
+//! here too.
 #![tactic(auto)]
 
 mod at_once;
@@ -41,5 +41,4 @@ pub use runs::{run_ids, runs_of, slots_of, stretch_runs};
 pub use stretches::{compact_stretch, install_event};
 pub use uc_claims::MOST_SLOTS;
 pub use uc_version_open::{OpenError, Opener, open_version};
-pub use uc_version_pick::{Candidate, Options, Stretch};
-pub use uc_version_state::{Event, Install, Placed, Refusal, Version};
+pub use uc_version_state::{Candidate, Event, Install, Options, Placed, Refusal, Stretch, Version};

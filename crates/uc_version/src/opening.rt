@@ -10,7 +10,7 @@ use std::alloc::Global;
 use uc_batch::Writes;
 use uc_oper::Operator;
 use uc_version_open::{OpenError, open_version};
-use uc_version_pick::Options;
+use uc_version_state::Options;
 
 /// A store of these writes, which keeps these sequences and the last one: each write is inserted into a memtable, which is
 /// flushed to a run as soon as it has `memtable` bytes, and at the end (RocksDB wiki, "MemTable"). It is refused for the

@@ -1,8 +1,8 @@
 //! [`Owned`]: a store that one owner has.
 ghost use Rattle.std.specs.Prelude.{◌≡◌, ◌<◌, Some, None, true, IfOk, IfErr};
 ghost use Rattle.uc_claims.specs.declared.table.TheConstants.{MOST_SLOTS};
-ghost use Rattle.uc_version_pick.specs.Picks.{picked};
-ghost use Rattle.uc_version_pick.specs.Options.{are_good};
+ghost use Rattle.uc_version_state.specs.Picks.{picked};
+ghost use Rattle.uc_version_state.specs.Options.{are_good};
 ghost use Rattle.uc_version.specs.Owners.{IsOwner, is_busy, unclaimed};
 ghost use Rattle.uc_version.specs.Picking.{candidates_of};
 ghost use Rattle.uc_version.specs.Claiming as claiming;
@@ -24,8 +24,7 @@ use std::thread::Threads;
 use uc_claims::{ClaimTable, HeldSlots, MOST_SLOTS};
 use uc_compact::Compacted;
 use uc_oper::Operator;
-use uc_version_pick::{Options, Stretch};
-use uc_version_state::{Version, install_gives_a_version};
+use uc_version_state::{Options, Stretch, Version, install_gives_a_version};
 
 /// A store that one owner has: a version, and the claims of stretches of its runs.
 #[derive(Drop)]

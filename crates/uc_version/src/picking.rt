@@ -2,13 +2,12 @@
 ghost use Rattle.std.specs.Prelude.{◌≡◌, ◌≤◌, ◌<◌, false, length, map, slice_index_or, take};
 ghost use Rattle.std.specs.List.{AllByRecursion};
 ghost use Rattle.uc_claims.specs.declared.table.TheConstants.{MOST_SLOTS};
-ghost use Rattle.uc_version_pick.specs.Picks.{picked};
+ghost use Rattle.uc_version_state.specs.Picks.{picked};
 ghost use Rattle.uc_version_state.specs.Versions.{slots_of};
 ghost use Rattle.uc_version.specs.Picking.{candidate_of, candidates_of};
 
 use uc_claims::MOST_SLOTS;
-use uc_version_pick::{Candidate, Options, Stretch, pick_among};
-use uc_version_state::{Placed, Version};
+use uc_version_state::{Candidate, Options, Placed, Stretch, Version, pick_among};
 
 /// What the picker looks at of a run.
 fn candidate(placed: &Placed, busy: &[bool; MOST_SLOTS]) -> Candidate

@@ -17,8 +17,7 @@ use std::alloc::{AllocError, Global};
 use std::sync::Arc;
 use uc_claims::MOST_SLOTS;
 use uc_run::Run;
-use uc_version_pick::Stretch;
-use uc_version_state::{Placed, Version};
+use uc_version_state::{Placed, Stretch, Version};
 
 /// The runs of a stretch that may be claimed, where they are two or more that are there.
 pub fn runs_of(runs: &[Placed], stretch: Stretch) -> Result<&[Placed], ClaimError>

@@ -10,8 +10,7 @@ use std::marker::Sync;
 use std::thread::Threads;
 use uc_compact::{Compacted, compact};
 use uc_oper::Operator;
-use uc_version_pick::Stretch;
-use uc_version_state::{Event, Install, Placed, Version};
+use uc_version_state::{Event, Install, Placed, Stretch, Version};
 
 /// Whether the last run of a stretch is the oldest of all.
 fn has_oldest(version: &Version, stretch: Stretch) -> bool

@@ -6,7 +6,7 @@ use Rattle.uc_bytes.specs.declared.write.Write.{Write}
 use Rattle.uc_batch.specs.Rising.{last_of}
 use Rattle.uc_run_entry.specs.Run.{Contents}
 use Rattle.uc_run.specs.Flush.{flushed}
-use Rattle.uc_version_pick.specs.Options.{are_good}
+use Rattle.uc_version_state.specs.Options.{are_good}
 use Rattle.uc_version_state.specs.Versions.{PlacedRun}
 use Rattle.uc_version_state.specs.Openings.{Opening, memtables, opened, with_flushed, rising}
 use Rattle.uc_version_state.proofs.Memtables.{some_from}

@@ -6,8 +6,8 @@ use Rattle.uc_claims.specs.declared.table.TheConstants.{MOST_SLOTS}
 use Rattle.uc_run.specs.Size.{memtable_size}
 use Rattle.uc_run.specs.Flush.{flushed}
 use Rattle.uc_run.proofs.Inserted.{last_grown}
-use Rattle.uc_version_pick.specs.declared.options.Options.{Options}
-use Rattle.uc_version_pick.specs.Options.{are_good}
+use Rattle.uc_version_state.specs.declared.options.Options.{Options}
+use Rattle.uc_version_state.specs.Options.{are_good}
 use Rattle.uc_version_state.specs.Openings.{memtables_from, memtables}
 use Rattle.uc_version_open.specs.Refusal.{are_few}
 use Rattle.uc_version_open.specs.Progress.{Flushing, Progress, flushing_of, held_of, progress_of}

@@ -4,8 +4,8 @@ use Rattle.std.specs.Option.{IfSome}
 use Rattle.std.specs.List.{AllByRecursion}
 use Rattle.uc_bytes.specs.declared.write.Write.{Write}
 use Rattle.uc_batch.specs.Rising.{last_of}
-use Rattle.uc_version_pick.specs.declared.options.Options.{Options}
-use Rattle.uc_version_pick.specs.Options.{are_good}
+use Rattle.uc_version_state.specs.declared.options.Options.{Options}
+use Rattle.uc_version_state.specs.Options.{are_good}
 use Rattle.uc_version_state.specs.Openings.{memtables}
 use Rattle.uc_version_state.proofs.Memtables.{joined, joined_from, some_from, last-joined, last_of_some}
 use Rattle.uc_version_open.specs.Refusal.{are_few}

@@ -4,7 +4,7 @@ use Rattle.std.specs.Prelude.{◌^◌}
 use Rattle.std.proofs.lemmas.List.{take_more}
 use Rattle.uc_bytes.specs.declared.write.Write.{Write}
 use Rattle.uc_batch.specs.Rising.{IsRising, last_of}
-use Rattle.uc_version_pick.specs.declared.options.Options.{Options}
+use Rattle.uc_version_state.specs.declared.options.Options.{Options}
 use Rattle.uc_version_open.specs.Progress.{progress_of}
 
 rises_at : (last : ℕ) (ws : List Write) (i : ℕ) (d : Write) → i < length ws → IsRising last ws → (last_of last (take i ws) < (get_or ws i d).seq) × ((get_or ws i d).seq < 2 ^ 56)

@@ -2,7 +2,7 @@
 ghost use Rattle.std.specs.Prelude.{◌≡◌, ◌≢◌, ◌<◌, ◌^◌, ◌∷◌, ◌++◌, [], List, Some, None, IfOk, IfErr, OnOk, OnErr};
 ghost use Rattle.uc_bytes.specs.declared.write.Write.{Write as WriteOf};
 ghost use Rattle.uc_batch.specs.Rising.{IsRising};
-ghost use Rattle.uc_version_pick.specs.declared.options.Options.{Options as OptionsOf};
+ghost use Rattle.uc_version_state.specs.declared.options.Options.{Options as OptionsOf};
 ghost use Rattle.uc_version_state.specs.Versions.{IsVersion};
 ghost use Rattle.uc_version_state.specs.Openings.{Opening as OpeningOf, opened};
 ghost use Rattle.uc_version_open.specs.Progress.{progress_of};
@@ -18,8 +18,7 @@ use crate::placing::placed_runs;
 use std::alloc::{AllocError, Global};
 use std::marker::Model;
 use uc_bytes::WriteRef;
-use uc_version_pick::Options;
-use uc_version_state::{Version, opening_gives_a_version};
+use uc_version_state::{Options, Version, opening_gives_a_version};
 
 /// A store that is being opened, by the writes of a log one after the other.
 ///

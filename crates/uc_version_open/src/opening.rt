@@ -11,8 +11,7 @@ use crate::opener::Opener;
 use std::alloc::{AllocError, Global};
 use uc_batch::Writes;
 use uc_bytes::{Write, WriteRef};
-use uc_version_pick::Options;
-use uc_version_state::Version;
+use uc_version_state::{Options, Version};
 
 /// A store that is being opened, after these writes.
 fn opener_after(alloc: Global, options: Options, writes: &[Write]) -> Result<Opener, AllocError>

@@ -3,13 +3,13 @@ ghost use Rattle.std.specs.Prelude.{◌≡◌, ◌++◌, List, IfOk, OnOk};
 ghost use Rattle.uc_bytes.specs.declared.write.Write.{Write as WriteOf};
 ghost use Rattle.uc_batch.specs.Log.{log_writes};
 ghost use Rattle.uc_batch.specs.Rising.{IsRising};
-ghost use Rattle.uc_version_pick.specs.declared.options.Options.{Options as OptionsOf};
+ghost use Rattle.uc_version_state.specs.declared.options.Options.{Options as OptionsOf};
 ghost use Rattle.uc_version_open.specs.Progress.{progress_of};
 
 use crate::opener::Opener;
 use std::alloc::{AllocError, Global};
 use uc_batch::{Advance, BatchReader, BatchWrites, Ended};
-use uc_version_pick::Options;
+use uc_version_state::Options;
 
 /// A store that is being opened, once it has the writes of a log up to the log's first fault, and how far that was read.
 #[derive(Debug, Drop)]

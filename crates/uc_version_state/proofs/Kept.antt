@@ -7,7 +7,7 @@ use Rattle.std.specs.BTreeSet.{insert_key}
 use Rattle.std.proofs.lemmas.Cmp.{nat_cmp_total}
 use Rattle.std.proofs.lemmas.List.Elements.{All-contains_itself, recursion_from_All, Contains-push, Contains-push_cases, Contains-append_left}
 use Rattle.std.proofs.lemmas.Map.Lookups.{exact_unsigned}
-use Rattle.uc_run_fragment.proofs.Sets.{all-insert_key, all_back, sorted_set}
+use Rattle.uc_run_entry.proofs.Sets.{all-insert_key, all_back, sorted_set}
 use Rattle.uc_batch.specs.Rising.{last_of}
 use Rattle.uc_version_state.specs.Openings.{Opening, rising, opened}
 use Rattle.uc_version_state.proofs.Filling.{of_each}

@@ -14,3 +14,12 @@ pub mod Ids
 pub mod InPlace
 pub mod Growing
 pub mod SameRuns
+mod First
+mod Collected
+mod Unclaimed
+mod Picked
+mod Places
+mod Noted
+mod Counted
+mod StepsKept
+mod Lone

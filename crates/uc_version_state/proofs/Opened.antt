@@ -18,8 +18,8 @@ use Rattle.uc_run_entry.specs.PlainList.{plain_list}
 use Rattle.uc_compact_rules.specs.Inputs.{AreRuns, AreNewestFirst, writes_of}
 use Rattle.uc_compact_rules.proofs.Lists.{all-append, all-map}
 use Rattle.uc_run.specs.Flush.{flushed, first_of}
-use Rattle.uc_version_pick.specs.declared.options.Options.{Options}
-use Rattle.uc_version_pick.specs.Options.{are_good}
+use Rattle.uc_version_state.specs.declared.options.Options.{Options}
+use Rattle.uc_version_state.specs.Options.{are_good}
 use Rattle.uc_version_state.specs.Versions.{PlacedRun, IsVersion, contents_of, ids_of, slots_of, writes_in}
 use Rattle.uc_version_state.specs.Openings.{Opening, MayOpen, with_flushed, flushed_runs, memtables, opened}
 use Rattle.uc_version_state.proofs.Kept.{all_kept, in_order}

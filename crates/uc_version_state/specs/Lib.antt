@@ -6,3 +6,8 @@ pub mod Placing
 pub mod HeldVersions
 pub mod HeldInstalls
 pub mod Refusals
+pub mod Options
+pub mod Picks
+pub mod Collecting
+pub mod Machine
+pub mod Courses

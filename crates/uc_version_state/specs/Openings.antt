@@ -8,8 +8,8 @@ use Rattle.uc_batch.specs.Rising.{IsRising, last_of}
 use Rattle.uc_claims.specs.declared.table.TheConstants.{MOST_SLOTS}
 use Rattle.uc_run.specs.Size.{memtable_size}
 use Rattle.uc_run.specs.Flush.{flushed}
-use Rattle.uc_version_pick.specs.declared.options.Options.{Options}
-use Rattle.uc_version_pick.specs.Options.{are_good}
+use Rattle.uc_version_state.specs.declared.options.Options.{Options}
+use Rattle.uc_version_state.specs.Options.{are_good}
 use Rattle.uc_version_state.specs.Versions.{PlacedRun, Stored}
 
 -- the writes of a log, the sequences that snapshots keep, in any order, and how the store is opened

@@ -1,22 +1,37 @@
-//! Versions: what a store holds at a moment, and what may become of it.
+//! Versions: what a store holds at a moment, what may become of it, and which runs are compacted next.
 //!
 //! A [`Version`] has sorted runs, the newest first, the sequences that snapshots keep, and the number of the next run. What
 //! may happen to it is an event; a history is an opening and the events behind it. Read `specs/Versions.antt` first,
 //! then `specs/Openings.antt`, `specs/Installs.antt` and `specs/Histories.antt`, and `laws.rt`, which says what a store
 //! opens with, and that no event changes what is read.
+//!
+//! [`Options`] say how a store is opened and compacted. The rules of picking are those of RocksDB's universal compaction:
+//! space amplification, size ratio and number of runs, in this order. `specs/Picks.antt` defines them, `picking.rt` picks,
+//! and `pick_laws.rt` says what holds of what is picked.
+//!
+//! Compactors beside each other are a machine of single steps. `specs/Machine.antt` is the whole machine: what a compactor
+//! does, when it may, and what becomes of it. In `specs/Courses.antt` any number of compactors make their steps in any order.
+//! `step_laws.rt` has the law that no checked compactor is ever displaced.
 #![tactic(auto)]
 
+mod candidate;
 mod event;
 mod install;
 mod laws;
+mod options;
+mod pick_laws;
+mod picking;
 mod placed;
 mod refusal;
 mod refusing;
 mod replace;
 mod standing;
+mod step_laws;
+mod stretch;
 mod terms;
 mod version;
 
+pub use candidate::Candidate;
 pub use event::Event;
 pub use install::Install;
 pub use laws::{
@@ -26,8 +41,18 @@ pub use laws::{
     opened_keeps_are_those_given, opening_gives_a_version, opening_keeps_every_effect,
     runs_are_replaced_once, runs_keep_their_contents, runs_stay_until_replaced,
 };
+pub use options::Options;
+pub use pick_laws::{
+    amplified_runs_are_all_picked, collected_is_the_greatest_number,
+    nothing_is_picked_below_the_trigger, number_of_runs_picks_from_the_first_stretch,
+    picks_are_unclaimed_runs, size_ratio_picks_the_first_that_collects_enough,
+    something_is_picked_above_the_trigger,
+};
+pub use picking::pick_among;
 pub use placed::Placed;
 pub use refusal::Refusal;
+pub use step_laws::{a_lone_compactor_installs, never_stale};
+pub use stretch::Stretch;
 pub use terms::Terms;
 pub use version::Version;
 

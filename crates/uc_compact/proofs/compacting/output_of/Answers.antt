@@ -2,7 +2,7 @@ use Rattle.std.proofs.Common.{◌≡◌, ◌∙◌, map, subst}
 use Rattle.std.specs.Arc.{arc_value}
 use Rattle.std.specs.Result.{IfOk}
 use Rattle.uc_run_entry.specs.Run.{Contents}
-use Rattle.uc_run_fragment.specs.Cutting.{fragments_of}
+use Rattle.uc_run_entry.specs.Cutting.{fragments_of}
 use Rattle.uc_compact_rules.specs.Inputs.{Compaction, ranges_of, keeping_of}
 use Rattle.uc_compact_rules.specs.Output.{output_of}
 use Rattle.uc_compact.proofs.Building.{are_fragments, in_order_in, one_key_in, points_by, fragments_by, keeping_by, is_run_by, run_by}

@@ -1,6 +1,6 @@
 use Rattle.std.proofs.Common.{rules, map, take, drop, List}
 use Rattle.uc_run_entry.specs.declared.entry.Entry.{Entry}
-use Rattle.uc_run_fragment.proofs.Written.{written}
+use Rattle.uc_run_entry.proofs.Written.{written}
 use Rattle.uc_compact.specs.Heads.{first_named}
 use Rattle.uc_compact.proofs.Stepping.{gathered}
 use Rattle.uc_compact.proofs.groups.take_from_each.Goals as goal

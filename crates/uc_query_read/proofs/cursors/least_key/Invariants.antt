@@ -1,6 +1,6 @@
 use Rattle.std.proofs.Common.{ℕ, Bool, List, option_map, take}
 use Rattle.std.specs.List.{AllByRecursion}
-use Rattle.uc_run_table.specs.NextKey.{IsNextKey}
+use Rattle.uc_run.specs.NextKey.{IsNextKey}
 use Rattle.uc_compact_rules.specs.Inputs.{points_of}
 use Rattle.uc_query_read.specs.Walks.{runs_of, StandsAt}
 use Rattle.uc_query_read.proofs.cursors.least_key.Given as goal

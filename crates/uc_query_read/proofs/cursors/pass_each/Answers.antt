@@ -1,5 +1,5 @@
 use Rattle.std.proofs.Common.{rules}
-use Rattle.uc_run_fragment.proofs.Written.{written}
+use Rattle.uc_run_entry.proofs.Written.{written}
 use Rattle.uc_query_read.specs.Walks.{passed}
 use Rattle.uc_query_read.proofs.cursors.pass_each.Goals as goal
 

@@ -1,4 +1,4 @@
-use Rattle.uc_query_answer.specs.Query.{at_of}
+use Rattle.uc_query_read.specs.Query.{at_of}
 use Rattle.uc_version_state.specs.Versions.{writes_in}
 use Rattle.uc_version_state.specs.Histories.{version_after, writes_given}
 use Rattle.uc_query_read.proofs.laws.histories_keep_answers.Goals as goal

@@ -1,6 +1,6 @@
 use mathlib.Core.List.{IsPrefix}
 use Rattle.uc_version_state.specs.declared.event.Event.{Event}
-use Rattle.uc_share_versions.proofs.Prefixes.{prefix_self}
+use Rattle.uc_share.proofs.Prefixes.{prefix_self}
 use Rattle.uc_query_shared.proofs.Seen.{all_same}
 use Rattle.uc_query_shared.proofs.answering.answer_all.Goals as goal
 

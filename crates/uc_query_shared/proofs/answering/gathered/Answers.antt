@@ -1,5 +1,5 @@
 use Rattle.std.proofs.Common.{◌≡◌, map, subst, rules}
-use Rattle.uc_query_answer.specs.Answers.{answer_of}
+use Rattle.uc_query_read.specs.Answers.{answer_of}
 use Rattle.uc_version_state.specs.Histories.{version_after, writes_given}
 use Rattle.uc_query_shared.specs.Drawing.{AreLeft, HaveDrawn}
 use Rattle.uc_query_shared.specs.Given.{answers_given}

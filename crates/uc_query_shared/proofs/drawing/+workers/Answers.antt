@@ -2,7 +2,7 @@ use Rattle.std.proofs.Common.{rules, arith, ◌≡◌, ◌≤◌, ◌∷◌, [],
 use Rattle.std.specs.List.{AllZip}
 use mathlib.Core.List.{IsPrefix}
 use Rattle.uc_version_state.specs.declared.event.Event.{Event}
-use Rattle.uc_share_versions.proofs.Prefixes.{prefix_self}
+use Rattle.uc_share.proofs.Prefixes.{prefix_self}
 use Rattle.uc_query_shared.proofs.Ends.{last_goes, zip_length}
 use Rattle.uc_query_shared.proofs.Seen.{all_same}
 use Rattle.uc_query_shared.proofs.drawing.+workers.Goals as goal

@@ -1,6 +1,6 @@
 use Rattle.std.proofs.Common.{rules}
 use Rattle.uc_query_shared.proofs.Draws.{draws_on, draws_nearer}
-use Rattle.uc_share_versions.proofs.Prefixes.{prefix_behind}
+use Rattle.uc_share.proofs.Prefixes.{prefix_behind}
 use Rattle.uc_query_shared.proofs.drawing.draw_pieces.Goals as goal
 
 pub loop-number-smaller : goal.loop-number-smaller

@@ -1,5 +1,5 @@
 use Rattle.std.proofs.Common.{ap, refl}
-use Rattle.uc_query_pieces.specs.Draws.{Drawing}
+use Rattle.uc_query_shared.specs.Draws.{Drawing}
 use Rattle.uc_query_shared.proofs.Shares.{another_worker}
 use Rattle.uc_query_shared.proofs.drawing.together.Goals as goal
 

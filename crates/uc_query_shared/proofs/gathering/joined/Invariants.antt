@@ -1,7 +1,7 @@
 use Rattle.std.proofs.Common.{◌≡◌, ◌*◌, map, take}
 use Rattle.std.specs.List.{AllByRecursion}
-use Rattle.uc_query_answer.specs.declared.answer.Answer.{Answer}
-use Rattle.uc_query_answer.specs.declared.query.Query.{Query}
+use Rattle.uc_query_read.specs.declared.answer.Answer.{Answer}
+use Rattle.uc_query_read.specs.declared.query.Query.{Query}
 use Rattle.uc_query_shared.specs.Drawing.{AreLeft}
 use Rattle.uc_query_workers.specs.Pieces.{IsDrawn, piece_of}
 use Rattle.uc_query_shared.proofs.gathering.joined.Given as goal

@@ -1,5 +1,5 @@
 use Rattle.std.proofs.Common.{◌++◌, ap, sym, ◌∙◌}
-use Rattle.uc_query_answer.specs.Answers.{answer_of}
+use Rattle.uc_query_read.specs.Answers.{answer_of}
 use Rattle.uc_version_state.specs.Versions.{Stored, writes_in}
 use Rattle.uc_version_state.specs.Histories.{version_after, writes_given}
 use Rattle.uc_query_shared.proofs.Behind.{same_given, same_keeps}

@@ -1,5 +1,5 @@
 use Rattle.std.proofs.Common.{ap, ◌∙◌}
-use Rattle.uc_share_versions.specs.Fronts.{Moment}
+use Rattle.uc_share.specs.Fronts.{Moment}
 use Rattle.uc_query_shared.proofs.Behind.{pushed_as_given}
 use Rattle.uc_query_shared.proofs.pinning.push_pinned.Goals as goal
 

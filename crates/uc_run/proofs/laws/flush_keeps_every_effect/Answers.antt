@@ -1,7 +1,7 @@
 use Rattle.std.proofs.Common.{leb, ◌∙◌}
 use Rattle.uc_run_entry.proofs.Lookup.{found_is}
-use Rattle.uc_run_fragment.proofs.Pieces.{in_order, some_seqs, seqs_fall}
-use Rattle.uc_run_fragment.proofs.Seqs.{seqs_over_key}
+use Rattle.uc_run_entry.proofs.Pieces.{in_order, some_seqs, seqs_fall}
+use Rattle.uc_run_entry.proofs.SeqsOver.{seqs_over_key}
 use Rattle.uc_run.specs.Flush.{ranges_in, flushed}
 use Rattle.uc_run.proofs.Flushed.{is_run}
 use Rattle.uc_run.proofs.Effects.{flushed_effect}

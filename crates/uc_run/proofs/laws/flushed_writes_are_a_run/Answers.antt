@@ -1,4 +1,4 @@
-use Rattle.uc_run_fragment.proofs.Pieces.{in_order, some_seqs, seqs_fall}
+use Rattle.uc_run_entry.proofs.Pieces.{in_order, some_seqs, seqs_fall}
 use Rattle.uc_run.proofs.Flushed.{is_run}
 use Rattle.uc_run.proofs.laws.flushed_writes_are_a_run.Goals as goal
 

@@ -1,7 +1,7 @@
 use Rattle.std.proofs.Common.{rules, ◌≡◌, List, ap, ◌∙◌, subst}
 use mathlib.Core.List.{IsPrefix}
 use Rattle.uc_version_state.specs.declared.event.Event.{Event}
-use Rattle.uc_share_versions.specs.Fronts.{Moment, after_event}
+use Rattle.uc_share.specs.Fronts.{Moment, after_event}
 use Rattle.uc_share.specs.Claims.{claimed_runs}
 use Rattle.uc_share.specs.Installing.{event_of}
 use Rattle.uc_share.proofs.installing.installed.Goals as goal

@@ -3,7 +3,7 @@ use Rattle.uc_version_state.specs.Versions.{PlacedRun, Stored, IsVersion, ids_of
 use Rattle.uc_version_state.specs.Installs.{terms_of}
 use Rattle.uc_version_state.specs.Refusals.{AreReplaceable}
 use Rattle.uc_version_state.specs.Histories.{after}
-use Rattle.uc_share_versions.specs.Fronts.{Moment}
+use Rattle.uc_share.specs.Fronts.{Moment}
 use Rattle.uc_share.specs.Claims.{claimed_runs}
 use Rattle.uc_share.specs.Installing.{MayInstallHere}
 use Rattle.uc_share.proofs.StillThere.{may_install, if_none}

@@ -1,5 +1,5 @@
 use Rattle.std.proofs.Common.{◌≡◌, ◌<◌}
-use Rattle.uc_query_pieces.specs.Draws.{past}
+use Rattle.uc_query_shared.specs.Draws.{past}
 use Rattle.uc_tests_claims.proofs.pieces.work.Given as goal
 
 abbrev pub invariant-loop : goal.invariant-loop

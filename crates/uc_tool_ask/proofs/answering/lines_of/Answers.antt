@@ -1,11 +1,11 @@
 use Rattle.std.proofs.Common.{rules, ◌≡◌, List, ap, ◌∙◌}
 use Rattle.std.specs.List.{flat_map}
-use Rattle.uc_query_answer.specs.Answers.{answer_of}
-use Rattle.uc_query_answer.specs.declared.answer.Answer.{Answer}
-use Rattle.uc_query_answer.specs.declared.query.Query.{Query}
+use Rattle.uc_query_read.specs.Answers.{answer_of}
+use Rattle.uc_query_read.specs.declared.answer.Answer.{Answer}
+use Rattle.uc_query_read.specs.declared.query.Query.{Query}
 use Rattle.uc_query_shared.specs.Given.{answers_given}
 use Rattle.uc_version_state.specs.Histories.{version_after, writes_given}
-use Rattle.uc_tool_lines.specs.AnswerLines.{answer_lines}
+use Rattle.uc_tool_opening.specs.AnswerLines.{answer_lines}
 use Rattle.uc_tool_opening.specs.Asked.{query_of}
 use Rattle.uc_tool_ask.proofs.Batches.{lines_are}
 use Rattle.uc_tool_ask.proofs.answering.lines_of.Goals as goal

@@ -1,7 +1,7 @@
 use Rattle.std.proofs.Common.{rules, ◌≡◌, ℕ, codes, Err, ap, sym, subst}
 use Rattle.uc_script.specs.Head.{head_of}
 use Rattle.uc_tool_io.specs.Output.{Output, Prints, refused}
-use Rattle.uc_tool_log_lines.specs.Line.{numbered_line}
+use Rattle.uc_tool_io.specs.Line.{numbered_line}
 use Rattle.uc_tool_ask.specs.Ask.{asked_of}
 use Rattle.uc_tool_ask.proofs.asking.run.Goals as goal
 

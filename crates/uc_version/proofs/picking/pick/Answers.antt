@@ -1,7 +1,7 @@
 use Rattle.std.proofs.Common.{◌≤◌, ◌∙◌, List, length, false, sym, ap, subst}
 use Rattle.std.specs.Prelude.{map, slice_index_or}
 use Rattle.uc_claims.specs.declared.table.TheConstants.{MOST_SLOTS}
-use Rattle.uc_version_pick.specs.Picks.{picked}
+use Rattle.uc_version_state.specs.Picks.{picked}
 use Rattle.uc_version_state.specs.Versions.{PlacedRun}
 use Rattle.uc_version.specs.Picking.{candidate_of}
 use Rattle.uc_version.proofs.Few.{few_runs}

@@ -1,6 +1,6 @@
 use Rattle.std.proofs.Common.{rules, ◌≡◌, true, List, length, subst}
 use Rattle.std.specs.List.{AllByRecursion}
-use Rattle.uc_run_table.specs.Cursors.{Standing}
+use Rattle.uc_run.specs.Cursors.{Standing}
 use Rattle.uc_compact_rules.specs.Inputs.{writes_of}
 use Rattle.uc_query_read.specs.Walks.{walk_at, runs_of, sought, StandsAt}
 use Rattle.uc_query_read.specs.Dead.{AreDead}

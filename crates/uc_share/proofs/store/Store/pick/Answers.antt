@@ -1,6 +1,6 @@
 use Rattle.std.proofs.Common.{◌≡◌, ◌∙◌, ℕ, Bool, ap, false, length, slice_index_or}
 use Rattle.std.proofs.lemmas.List.{length-map}
-use Rattle.uc_version_pick.specs.Picks.{picked}
+use Rattle.uc_version_state.specs.Picks.{picked}
 use Rattle.uc_version_state.specs.Versions.{Stored}
 use Rattle.uc_version.specs.Picking.{candidate_of, candidates_of}
 use Rattle.uc_share.proofs.InRange.{pick_in_range}

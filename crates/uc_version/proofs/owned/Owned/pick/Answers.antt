@@ -2,7 +2,7 @@ use Rattle.std.proofs.Common.{◌≡◌, ◌<◌, ◌∙◌, false, ap}
 use Rattle.std.specs.Prelude.{slice_index_or}
 use Rattle.uc_claims.specs.declared.table.TheConstants.{MOST_SLOTS}
 use Rattle.uc_compact_rules.proofs.Lists.{all-map}
-use Rattle.uc_version_pick.specs.Picks.{picked}
+use Rattle.uc_version_state.specs.Picks.{picked}
 use Rattle.uc_version_state.specs.Versions.{slots_of}
 use Rattle.uc_version.specs.Owners.{Owner, is_busy, claimed_slots}
 use Rattle.uc_version.specs.Picking.{candidates_of}

@@ -1,5 +1,5 @@
 use Rattle.std.proofs.Common.{rules, ◌≡◌, sym, ◌∙◌, subst, true, Some, None}
-use Rattle.uc_version_pick.specs.Options.{are_good}
+use Rattle.uc_version_state.specs.Options.{are_good}
 use Rattle.uc_version_state.specs.Versions.{IsVersion}
 use Rattle.uc_version_state.specs.Openings.{Opening}
 use Rattle.uc_version_open.specs.Refusal.{first_ahead}

@@ -1,4 +1,0 @@
-pub mod RowOrder
-pub mod NamedKeys
-pub mod FirstRows
-pub mod AnswerLaws

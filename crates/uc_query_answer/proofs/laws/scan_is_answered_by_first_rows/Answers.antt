@@ -1,5 +1,0 @@
-use Rattle.uc_query_answer.proofs.AnswerLaws.{scan_answered}
-use Rattle.uc_query_answer.proofs.laws.scan_is_answered_by_first_rows.Goals as goal
-
-pub returns : goal.returns
-returns g c = scan_answered g.O.Operator.meaning

@@ -1,5 +1,0 @@
-use Rattle.uc_query_answer.proofs.FirstRows.{rows_once}
-use Rattle.uc_query_answer.proofs.laws.scan_rows_are_determined.Goals as goal
-
-pub returns : goal.returns
-returns g c = rows_once g.O.Operator.meaning

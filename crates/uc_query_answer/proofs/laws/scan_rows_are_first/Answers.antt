@@ -1,5 +1,0 @@
-use Rattle.uc_query_answer.proofs.FirstRows.{rows_first}
-use Rattle.uc_query_answer.proofs.laws.scan_rows_are_first.Goals as goal
-
-pub returns : goal.returns
-returns g c = rows_first g.O.Operator.meaning

@@ -1,6 +1,0 @@
-use Rattle.std.proofs.Common.{◌≡◌, take}
-use Rattle.uc_query_answer.specs.Answers.{named_keys}
-use Rattle.uc_query_answer.proofs.plain.named_keys.Given as goal
-
-abbrev pub invariant-loop-write : goal.invariant-loop-write
-invariant-loop-write l = l.keys.keys ≡ named_keys (take l.write-index l.writes) l.low l.high

@@ -1,4 +1,0 @@
-pub mod Query
-pub mod Rising
-pub mod Answers
-pub mod Scans

@@ -1,0 +1,16 @@
+use Rattle.std.proofs.Common.{List, filter, ap, ◌∙◌}
+use Rattle.uc_run_entry.specs.declared.fragment.Fragment.{Fragment}
+use Rattle.uc_run_entry.specs.Run.{covers}
+use Rattle.uc_run.specs.Cursors.{Standing}
+use Rattle.uc_run.specs.Hiding.{hidden_to}
+use Rattle.uc_run.proofs.Hiding.{same_hiding}
+use Rattle.uc_run.proofs.cursor.Cursor.hidden_to.Goals as goal
+
+pub returns : goal.returns
+returns c =
+    let key = c.args.key.now in
+    let run = c.self.inside.run.now in
+    let same = c.fragments_near-over.ensures.covering ∙ ap (λ (fs : List Fragment). filter (λ f. covers f key) fs) c.fragments.ensures in
+    c.end_of_hiding.ensures
+    ∙ same_hiding c.args.at key c.fragments_near-over.result.now run.fragments same
+    ∙ ap (λ (s : Standing). hidden_to s.run key c.args.at) c.self.view_is

@@ -1,0 +1,13 @@
+use Rattle.std.proofs.Common.{subst}
+use Rattle.std.specs.List.{AllByRecursion}
+use Rattle.uc_run_entry.specs.declared.fragment.Fragment.{Fragment}
+use Rattle.uc_run_entry.specs.Order.{IsFalling}
+use Rattle.uc_run_entry.specs.Run.{covers}
+use Rattle.uc_run_entry.proofs.Points.{all-filtered}
+use Rattle.uc_run.proofs.lookup.newest_over.Goals as goal
+
+pub newest_at_or_below-requires : goal.newest_at_or_below-requires
+newest_at_or_below-requires c =
+    let all = all-filtered (λ f. IsFalling f.seqs) (λ g. covers g c.args.key.now) c.args.fragments.now c.requires.falling in
+    let one = subst (AllByRecursion (λ (f : Fragment). IsFalling f.seqs)) c.in_ok-fragment.ensures.some all in
+    one.0

@@ -1,0 +1,23 @@
+-- Where a walk over the points of a run stands.
+use Rattle.std.specs.Prelude.{ℕ, Bool, List, ◌≤◌, length}
+use Rattle.std.specs.Ordering.{is_le}
+use Rattle.uc_bytes.specs.Bytes.{bytes_cmp}
+use Rattle.uc_run_entry.specs.declared.fragment.Fragment.{Fragment}
+use Rattle.uc_run_entry.specs.Run.{Contents}
+use Rattle.uc_run.specs.declared.cursor.Cursor.TheInside.{Inside}
+
+-- a run, and how many of its points were passed
+pub record Standing : Type 0 where
+  pub run : Contents
+  pub place : ℕ
+
+abbrev pub standing : Inside → Standing
+standing c = record { run = c.run.now; place = c.place }
+
+-- no more than it has
+abbrev pub IsInside : Inside → Type 0
+IsInside c = c.place ≤ length c.run.now.points
+
+-- a fragment ends at or before a key
+abbrev pub ends_by : List ℕ → Fragment → Bool
+ends_by key f = is_le (bytes_cmp f.end key)

@@ -1,0 +1,157 @@
+//! [`Cursor`]: where a walk over a run's points in order of key stands.
+ghost use Rattle.std.specs.Prelude.{◌≡◌, ◌↔◌, ℕ, Bool, List, true, false, max, option_map, IfOk, IsTrue};
+ghost use Rattle.std.specs.List.{slice_get};
+ghost use Rattle.uc_run_entry.specs.Run.{IsRun};
+ghost use Rattle.uc_run_entry.specs.PlainList.{plain_list};
+ghost use Rattle.uc_run_entry.specs.Seek.{seek_place};
+ghost use Rattle.uc_model.specs.Meaning.{effect_on};
+ghost use Rattle.uc_run.specs.Hiding.{hidden_to};
+ghost use Rattle.uc_run.specs.NextKey.{IsNextKey};
+
+use crate::fences::passed_from;
+use crate::lookup::effect_found;
+use crate::near::{end_of_hiding, fragments_ended, fragments_near};
+use crate::places::points_between;
+use crate::run::Run;
+use std::alloc::{AllocError, Global};
+use std::marker::Model;
+use uc_oper::{Effect, Operator};
+use uc_run_entry::plain_list_does_what_is_found;
+
+/// Where a walk in order of key stands in a run. A contract sees it as the run's contents and how many of its points
+/// it passed.
+#[derive(Debug, Drop)]
+pub struct Cursor<'a> {
+    run: &'a Run,
+    place: usize,
+    /// The place among the fragments where the one over the next key is looked for first.
+    fragment: usize,
+}
+
+impl<'a> Model for Cursor<'a> {
+    ghost use Rattle.uc_run.specs.Cursors.{Standing, standing, IsInside};
+
+    ghost Value = { Standing };
+
+    ghost view = { standing };
+
+    ghost invariant = { IsInside };
+}
+
+impl<'a> Cursor<'a> {
+    /// Before the first point whose key is at or above `low`. It costs a search by the fences.
+    pub(crate) fn before(run: &'a Run, low: &[u8]) -> Cursor<'a>
+        ensures { result ≡ record { run = run.now; place = seek_place run.now.points low.now false } }
+    {
+        Cursor {
+            run,
+            place: run.place_of(low),
+            fragment: 0,
+        }
+    }
+
+    /// What holds of every run: its contents make one. It does nothing.
+    pub fn is_of_run(&self)
+        ensures { IsRun self.now.run.low self.now.run.high self.now.run.points self.now.run.fragments }
+    {
+        self.run.is_one();
+    }
+
+    /// The key of the first point that isn't passed, without a search. Where those points are passed that who looks for the
+    /// keys from a bound on passes over, it is the next key from there.
+    pub fn key(&self) -> Option<&'a [u8]>
+        ensures there { option_map (λ key. key.now) result ≡
+            option_map (λ p. p.key) (slice_get self.now.run.points self.now.place) }
+        ensures next { (low : List ℕ) (strict : Bool) → self.now.place ≡ seek_place self.now.run.points low strict →
+            IsNextKey self.now.run.points low strict (option_map (λ key. key.now) result) }
+    {
+        self.run.is_one();
+        let point = self.run.entries().get(self.place)?;
+        Some(point.key())
+    }
+
+    /// Whether the points before the key are passed and its own aren't. It costs a search by the fences.
+    pub fn is_before(&self, key: &[u8]) -> bool
+        ensures { IsTrue result ↔ (self.now.place ≡ seek_place self.now.run.points key.now false) }
+    {
+        self.run.place_of(key) == self.place
+    }
+
+    /// What the run's writes at or below a sequence together do to a key, where the points before the key are passed and
+    /// its own aren't. A key with few points costs a step for each; one with many, or behind the end of the fragment where
+    /// the cursor stands, a search. It fails only for want of memory.
+    pub fn effect<O: Operator>(
+        &self,
+        alloc: Global,
+        key: &[u8],
+        at: u64,
+    ) -> Result<Effect, AllocError>
+        requires { self.now.place ≡ seek_place self.now.run.points key.now false }
+        ensures { IfOk result (λ effect. effect ≡ effect_on O.meaning (plain_list self.now.run) key.now at) }
+    {
+        self.run.is_one();
+        plain_list_does_what_is_found::<O>();
+        let points = self.run.entries();
+        let end = passed_from(points, self.run.fences(), self.place, key, true);
+        let on = points_between(points, self.place, end, key, at);
+        let over = fragments_near(self.run.fragments(), self.fragment, key);
+        effect_found::<O>(alloc, on, over, key, at)
+    }
+
+    /// Where the first of the run's fragments ends that is over the key with a range deletion at or below the sequence, if one
+    /// is: from the key to below that end the sequence sees nothing of older runs. It costs a search among the fragments where
+    /// the one at which the cursor stands isn't it.
+    pub fn hidden_to(&self, key: &[u8], at: u64) -> Option<&'a [u8]>
+        ensures { option_map (λ end. end.now) result ≡ hidden_to self.now.run key.now at }
+    {
+        self.run.is_one();
+        let over = fragments_near(self.run.fragments(), self.fragment, key);
+        end_of_hiding(over, key, at)
+    }
+
+    /// Passes the points that who looks for the keys from `low` on or, where strict, behind `low`, passes over: a few of them
+    /// one by one, and more by a search by the fences.
+    fn pass_to(&mut self, low: &[u8], strict: bool)
+        ensures { self.new ≡
+            record {
+              run = self.old.run;
+              place = max self.old.place
+                  (seek_place self.old.run.points low.now strict);
+            } }
+    {
+        self.run.is_one();
+        self.place = passed_from(
+            self.run.entries(),
+            self.run.fences(),
+            self.place,
+            low,
+            strict,
+        );
+        self.fragment = fragments_ended(self.run.fragments(), self.fragment, low);
+    }
+
+    /// Passes the points at and below a key: a few of them one by one, and more by a search by the fences.
+    pub fn pass(&mut self, key: &[u8])
+        ensures { self.new ≡
+            record {
+              run = self.old.run;
+              place = max self.old.place
+                  (seek_place self.old.run.points key.now true);
+            } }
+    {
+        self.pass_to(key, true);
+    }
+
+    /// Passes the points below a key: a few of them one by one, and more by a search by the fences. Where the next key is at or
+    /// above it, that costs one comparison.
+    pub fn seek(&mut self, low: &[u8])
+        ensures { self.new ≡
+            record {
+              run = self.old.run;
+              place = max self.old.place
+                  (seek_place self.old.run.points low.now false);
+            } }
+    {
+        self.pass_to(low, false);
+    }
+}

@@ -1,0 +1,76 @@
+//! What a lookup of a key finds among points and fragments.
+ghost use Rattle.std.specs.Prelude.{◌≡◌, filter, IfOk, nat_le};
+ghost use Rattle.std.specs.List.{AllByRecursion, flat_map, slice_get};
+ghost use Rattle.uc_oper.specs.Operation.{Operation};
+ghost use Rattle.uc_oper.specs.declared.effect.Effect.{Effect as EffectOf};
+ghost use Rattle.uc_run_entry.specs.Order.{IsFalling, AreInOrder};
+ghost use Rattle.uc_run_entry.specs.Run.{covers};
+ghost use Rattle.uc_run_entry.specs.Lookup as lookup;
+ghost use Rattle.uc_run.specs.Places.{PointsFall};
+
+use crate::places::newer_than;
+use std::alloc::{AllocError, Global};
+use uc_oper::{Effect, Operator};
+use uc_run_entry::{Fragment, Point, covering_fragment};
+
+/// The points, the newest first, but those that a newer one overwrites.
+fn lasting(points: &[Point]) -> &[Point]
+    ensures { (m : Operation) (before : EffectOf) →
+        lookup.points_effect m before result.now ≡ lookup.points_effect m before points.now }
+{
+    match points.iter().position(Point::overwrites) {
+        None => points,
+        Some(place) => &points[..place + 1],
+    }
+}
+
+/// What points of one key, the newest first, do in turn to what an effect before them leaves. Want of memory
+/// loses that effect.
+fn points_effect<O: Operator>(
+    alloc: Global,
+    before: Effect,
+    points: &[Point],
+) -> Result<Effect, AllocError>
+    ensures { IfOk result (λ effect. effect ≡ lookup.points_effect O.meaning before points.now) }
+{
+    let points = lasting(points);
+    let mut effect = before;
+    for place in (0..points.len()).rev() {
+        effect = points[place].what().after::<O>(alloc, effect)?;
+    }
+    Ok(effect)
+}
+
+/// The sequence of the newest range deletion over the key at or below the sequence.
+fn newest_over(fragments: &[Fragment], key: &[u8], at: u64) -> Option<u64>
+    requires order { AreInOrder fragments.now }
+    requires falling { AllByRecursion (λ f. IsFalling f.seqs) fragments.now }
+    ensures { result ≡
+        slice_get
+        (filter (λ seq. nat_le seq at)
+        (flat_map (λ f. f.seqs) (filter (λ f. covers f key.now) fragments.now))) 0 }
+{
+    let fragment = covering_fragment(fragments, key)?;
+    fragment.seqs.newest_at_or_below(at)
+}
+
+/// What the key's points at or below the sequence do above the newest range deletion over it, which is that of one of the
+/// fragments: what a lookup of the key at the sequence finds.
+pub(crate) fn effect_found<O: Operator>(
+    alloc: Global,
+    on: &[Point],
+    fragments: &[Fragment],
+    key: &[u8],
+    at: u64,
+) -> Result<Effect, AllocError>
+    requires fall { PointsFall on.now }
+    requires order { AreInOrder fragments.now }
+    requires falling { AllByRecursion (λ f. IsFalling f.seqs) fragments.now }
+    ensures { IfOk result (λ effect. effect ≡ lookup.above_newest O.meaning on.now
+        (filter (λ seq. nat_le seq at) (flat_map (λ f. f.seqs) (filter (λ f. covers f key.now) fragments.now)))) }
+{
+    match newest_over(fragments, key, at) {
+        None => points_effect::<O>(alloc, Effect::Keep, on),
+        Some(newest) => points_effect::<O>(alloc, Effect::Set(None), newer_than(on, newest)),
+    }
+}

@@ -1,0 +1,131 @@
+//! Prefixes of keys: numbers that order as the keys do, of the bytes behind those that all keys share.
+ghost use Rattle.std.specs.Prelude.{◌≡◌, ◌<◌, ◌≤◌, true, false, length, map, drop, slice_index, nat_eq, IfOk};
+ghost use Rattle.std.specs.List as list;
+ghost use Rattle.std.specs.List.{AllWithin};
+ghost use Rattle.std.specs.List.Sorted.{IsNonDecreasing, IsPartitionPoint};
+ghost use Rattle.uc_run_entry.specs.Seek as seek;
+ghost use Rattle.uc_run.specs.Prefixes as prefixes;
+ghost use Rattle.uc_run.specs.Prefixes.{AreBytes, AreRising, ArePrefixes};
+
+use crate::places::is_passed;
+use std::alloc::{AllocError, Global};
+use uc_bytes::Bytes;
+
+/// The byte at a place, or 0 where there is none.
+#[inline]
+fn byte_or_zero(bytes: &[u8], place: usize) -> u8
+    ensures { result ≡ slice_index bytes.now place }
+{
+    match bytes.get(place) {
+        Some(byte) => *byte,
+        None => 0,
+    }
+}
+
+/// The first eight bytes as a number, with zeros for those that aren't there.
+fn padded_prefix(bytes: &[u8]) -> u64
+    ensures { result ≡ prefixes.prefix_of bytes.now }
+{
+    u64::from_be_bytes([
+        byte_or_zero(bytes, 0),
+        byte_or_zero(bytes, 1),
+        byte_or_zero(bytes, 2),
+        byte_or_zero(bytes, 3),
+        byte_or_zero(bytes, 4),
+        byte_or_zero(bytes, 5),
+        byte_or_zero(bytes, 6),
+        byte_or_zero(bytes, 7),
+    ])
+}
+
+/// The first eight bytes as a number: read at once where there are eight.
+#[inline]
+fn prefix_of(bytes: &[u8]) -> u64
+    ensures prefix { result ≡ prefixes.prefix_of bytes.now }
+    ensures bytes { AreBytes bytes.now }
+{
+    match bytes.first_chunk::<8>() {
+        Some(first) => u64::from_be_bytes(*first),
+        None => padded_prefix(bytes),
+    }
+}
+
+/// How many bytes two keys have in common at their front.
+fn common_prefix_len(first: &[u8], last: &[u8]) -> usize
+    ensures { result ≡ list.common_prefix_len nat_eq first.now last.now }
+{
+    let short = first.len().min(last.len());
+    for place in 0..short {
+        if first[place] != last[place] {
+            return place;
+        }
+    }
+    short
+}
+
+/// How many bytes at their front all of some keys in order have in common.
+pub(crate) fn shared_front(keys: &[Bytes]) -> usize
+    ensures { result ≡ prefixes.shared_front keys.now }
+{
+    if keys.is_empty() {
+        return 0;
+    }
+    common_prefix_len(keys[0].as_slice(), keys[keys.len() - 1].as_slice())
+}
+
+/// The prefix of each key, behind as many bytes as the keys share.
+pub(crate) fn prefixes_of(
+    alloc: Global,
+    keys: &[Bytes],
+    shared: usize,
+) -> Result<Vec<u64>, AllocError>
+    requires shared { shared ≡ prefixes.shared_front keys.now }
+    requires rising { AreRising keys.now }
+    ensures { IfOk result (λ prefixes. ArePrefixes keys.now shared prefixes.items) }
+{
+    let mut prefixes = Vec::with_capacity(alloc, keys.len())?;
+    for key in keys {
+        let (_, rest) = key.as_slice().split_at(shared);
+        prefixes.push(prefix_of(rest))?;
+    }
+    Ok(prefixes)
+}
+
+/// How many prefixes are below one, and how many at or below it.
+fn equal_range(prefixes: &[u64], wanted: u64) -> (usize, usize)
+    requires { IsNonDecreasing prefixes.now }
+    ensures below { IsPartitionPoint (λ prefix. prefix < wanted) (λ prefix. wanted ≤ prefix) prefixes.now result.0 }
+    ensures up_to { IsPartitionPoint (λ prefix. prefix ≤ wanted) (λ prefix. wanted < prefix) prefixes.now result.1 }
+    ensures order { result.0 ≤ result.1 }
+    ensures bound { result.1 ≤ length prefixes.now }
+{
+    let below = prefixes.partition_point(|prefix| *prefix < wanted);
+    let up_to = prefixes.partition_point(|prefix| *prefix <= wanted);
+    (below, up_to)
+}
+
+/// Between which keys the prefixes don't decide: those before are passed over, and those behind aren't.
+pub(crate) fn undecided(
+    keys: &[Bytes],
+    shared: usize,
+    prefixes: &[u64],
+    low: &[u8],
+    strict: bool,
+) -> (usize, usize)
+    requires rising { AreRising keys.now }
+    requires prefixes { ArePrefixes keys.now shared prefixes.now }
+    ensures order { result.0 ≤ result.1 }
+    ensures bound { result.1 ≤ length keys.now }
+    ensures before { AllWithin (λ key. seek.is_passed low.now strict key ≡ true) keys.now 0 result.0 }
+    ensures behind { AllWithin (λ key. seek.is_passed low.now strict key ≡ false) keys.now result.1 (length keys.now) }
+{
+    let Some(first) = keys.first() else {
+        return (0, 0);
+    };
+    let first = first.as_slice();
+    match low.strip_prefix(&first[..shared]) {
+        Some(rest) => equal_range(prefixes, prefix_of(rest)),
+        None if is_passed(low, strict, first) => (keys.len(), keys.len()),
+        None => (0, 0),
+    }
+}

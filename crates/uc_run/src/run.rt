@@ -1,0 +1,237 @@
+//! [`Run`]: points and range deletions, sorted by key.
+ghost use Rattle.std.specs.Prelude.{◌≡◌, ◌≤◌, ◌↔◌, false, IsTrue, length, IfOk, option_map};
+ghost use Rattle.std.specs.List.{slice_get};
+ghost use Rattle.uc_run_entry.specs.Run.{IsRun};
+ghost use Rattle.uc_run_entry.specs.Size as size;
+ghost use Rattle.uc_run_entry.specs.Seek as seek;
+ghost use Rattle.uc_run_entry.specs.PlainList.{plain_list};
+ghost use Rattle.uc_model.specs.Meaning.{effect_on};
+ghost use Rattle.uc_run_entry.specs.Packed as packed;
+ghost use Rattle.uc_run.specs.Blocks.{blocks_of, fence_of};
+ghost use Rattle.uc_run.specs.Fences.{IsFenced};
+ghost use Rattle.uc_run.specs.NextKey.{IsNextKey};
+
+use crate::cursor::Cursor;
+use crate::fences::{Fences, fences_of, seek_by_fences};
+use crate::lookup::effect_found;
+use crate::places::points_on;
+use crate::run_size::size_of;
+use crate::same::same_points;
+use std::alloc::{AllocError, Global};
+use std::marker::Model;
+use uc_oper::{Effect, Operator};
+use uc_run_entry::{
+    Entry, Fragment, Fragments, Point, WhatRef, plain_list_does_what_is_found, points_of,
+};
+
+/// An immutable sorted table (LevelDB `table_format.md`, in memory): points in order of key, fragments of range
+/// deletions, and the range of their sequences. A contract sees it as these.
+#[derive(Debug, Drop)]
+pub struct Run {
+    low: u64,
+    high: u64,
+    points: Vec<Point>,
+    fences: Fences,
+    fragments: Fragments,
+    size: u64,
+}
+
+impl Model for Run {
+    ghost use Rattle.uc_run_entry.specs.Run.{Contents};
+
+    ghost Value = { Contents };
+
+    ghost use Rattle.uc_run.specs.HeldRuns.{contents, IsHeld};
+
+    ghost view = { contents };
+
+    ghost invariant = { IsHeld };
+}
+
+impl Run {
+    /// The run of these points, which are packed, and fragments. Want of memory loses them.
+    pub fn build(
+        alloc: Global,
+        low: u64,
+        high: u64,
+        points: Vec<Entry>,
+        fragments: Vec<Fragment>,
+    ) -> Result<Run, AllocError>
+        requires { IsRun low high points.items fragments.items }
+        ensures { IfOk result (λ run.
+            run ≡
+            record {
+              low = low;
+              high = high;
+              points = points.items;
+              fragments =
+                  fragments.items;
+            }) }
+    {
+        let points = points_of(alloc, &points)?;
+        Run::from_points(alloc, low, high, points, Fragments::from(fragments))
+    }
+
+    /// The run of points that are packed already, and fragments. Want of memory loses them.
+    pub fn from_points(
+        alloc: Global,
+        low: u64,
+        high: u64,
+        points: Vec<Point>,
+        fragments: Fragments,
+    ) -> Result<Run, AllocError>
+        requires { IsRun low high points.items fragments }
+        ensures { IfOk result (λ run.
+            run ≡ record { low = low; high = high; points = points.items; fragments = fragments }) }
+    {
+        let size = size_of(&points, fragments.as_slice());
+        let fences = fences_of(alloc, &points)?;
+        Ok(Run {
+            low,
+            high,
+            points,
+            fences,
+            fragments,
+            size,
+        })
+    }
+
+    /// The least sequence of its range.
+    pub fn low_seq(&self) -> u64
+        ensures { result ≡ self.now.low }
+    {
+        self.low
+    }
+
+    /// The greatest sequence of its range.
+    pub fn high_seq(&self) -> u64
+        ensures { result ≡ self.now.high }
+    {
+        self.high
+    }
+
+    /// How many points it has.
+    pub fn points(&self) -> u64
+        ensures { result ≡ length self.now.points }
+    {
+        self.points.len() as u64
+    }
+
+    /// What holds of every run: its contents make one. It does nothing.
+    pub fn is_one(&self)
+        ensures { IsRun self.now.low self.now.high self.now.points self.now.fragments }
+    {
+        let _ = &self.low;
+    }
+
+    /// The points, in order of key, the newest of a key first.
+    pub fn entries(&self) -> &[Point]
+        ensures { result.now ≡ self.now.points }
+    {
+        &self.points
+    }
+
+    /// The fragments, in order of key.
+    pub fn fragments(&self) -> &[Fragment]
+        ensures { result.now ≡ self.now.fragments }
+    {
+        self.fragments.as_slice()
+    }
+
+    /// The point at a place in the order of key, the newest of a key first: its key, its sequence, and what it says.
+    pub fn point(&self, place: u64) -> Option<(&[u8], u64, WhatRef<'_>)>
+        ensures { option_map (λ p. record { key = p.0.now; seq = p.1; what = packed.what_of p.2 })
+            result ≡
+            slice_get self.now.points place }
+    {
+        let point = self.points.get(usize::try_from(place).ok()?)?;
+        Some((point.key(), point.seq(), point.what()))
+    }
+
+    /// How many blocks its points fill.
+    pub fn blocks(&self) -> u64
+        ensures { result ≡ blocks_of self.now.points }
+    {
+        self.fences.keys().len() as u64
+    }
+
+    /// The key of the first point of a block.
+    pub fn fence(&self, block: u64) -> Option<&[u8]>
+        ensures { option_map (λ key. key.now) result ≡ fence_of self.now.points block }
+    {
+        let fence = self.fences.keys().get(usize::try_from(block).ok()?)?;
+        Some(fence.as_slice())
+    }
+
+    /// The place of the first point whose key is at or above `low` or, where strict, above it: how many stand before.
+    pub fn seek(&self, low: &[u8], strict: bool) -> u64
+        ensures { result ≡ seek.seek_place self.now.points low.now strict }
+    {
+        seek_by_fences(&self.points, &self.fences, low, strict) as u64
+    }
+
+    /// The place of the first point whose key is at or above `low`.
+    pub(crate) fn place_of(&self, low: &[u8]) -> usize
+        ensures bound { result ≤ length self.now.points }
+        ensures place { result ≡ seek.seek_place self.now.points low.now false }
+    {
+        seek_by_fences(&self.points, &self.fences, low, false)
+    }
+
+    /// The fences of its points.
+    pub(crate) fn fences(&self) -> &Fences
+        ensures { IsFenced self.now.points result.now }
+    {
+        &self.fences
+    }
+
+    /// A walk over the run in order of key, before the first point whose key is at or above `low`. It costs the logarithm of
+    /// the number of points.
+    pub fn cursor(&self, low: &[u8]) -> Cursor<'_>
+        ensures { result ≡ record { run = self.now; place = seek.seek_place self.now.points low.now false } }
+    {
+        Cursor::before(self, low)
+    }
+
+    /// The least key of a point that is at or above `low` or, where strict, above it.
+    pub fn next_key(&self, low: &[u8], strict: bool) -> Option<&[u8]>
+        ensures { IsNextKey self.now.points low.now strict (option_map (λ key. key.now) result) }
+    {
+        let point = self
+            .points
+            .get(seek_by_fences(&self.points, &self.fences, low, strict))?;
+        Some(point.key())
+    }
+
+    /// What the run's writes at or below a sequence together do to a key. It costs the logarithms of the numbers of
+    /// points and fragments and, from the key's last put or delete on, its points. It fails only for want of memory.
+    pub fn effect<O: Operator>(
+        &self,
+        alloc: Global,
+        key: &[u8],
+        at: u64,
+    ) -> Result<Effect, AllocError>
+        ensures { IfOk result (λ effect. effect ≡ effect_on O.meaning (plain_list self.now) key.now at) }
+    {
+        plain_list_does_what_is_found::<O>();
+        let on = points_on(&self.points, &self.fences, key, at);
+        effect_found::<O>(alloc, on, self.fragments.as_slice(), key, at)
+    }
+
+    /// Whether the runs have equal points, fragments and ranges.
+    pub fn same(&self, other: &Run) -> bool
+        ensures { IsTrue result ↔ (self.now ≡ other.now) }
+    {
+        self.low == other.low
+            && self.high == other.high
+            && same_points(&self.points, &other.points)
+            && self.fragments.same(&other.fragments)
+    }
+
+    /// How many bytes its points and fragments have, with 8 for each sequence, held at 2^64 - 1.
+    pub fn size(&self) -> u64
+        ensures { result ≡ size.size_of self.now }
+    {
+        self.size
+    }
+}

@@ -1,0 +1,39 @@
+-- Ranges seen as spans: over which of the pieces between cut points each of them lies.
+use Rattle.std.specs.Prelude.{ℕ, ◌-◌, Bool, List, [], ◌∷◌, length, map, filter, nat_lt}
+use Rattle.std.specs.List.{count_by}
+use Rattle.std.specs.Ordering.{is_lt, is_le}
+use Rattle.uc_bytes.specs.Bytes.{bytes_cmp}
+use Rattle.uc_run_entry.specs.declared.fragment.Fragment.{Fragment}
+use Rattle.uc_run_entry.specs.Cutting.{RangeOf, Piece}
+use Rattle.uc_run_spans.specs.declared.span.Span.{Span}
+
+-- The pieces that a range lies over, by their numbers: from as many as cut points are below its begin, to below the one
+-- whose begin is the last cut point up to its end.
+abbrev pub span_of : List (List ℕ) → RangeOf → Span
+span_of cuts r = record {
+  seq = r.seq;
+  first = count_by (λ cut. is_lt (bytes_cmp cut r.begin)) cuts;
+  end = count_by (λ cut. is_le (bytes_cmp cut r.end)) cuts - 1;
+}
+
+-- whether it lies over any piece
+abbrev pub has_pieces : Span → Bool
+has_pieces s = nat_lt s.first s.end
+
+-- the spans of the ranges that lie over pieces
+abbrev pub spans_of : List (List ℕ) → List RangeOf → List Span
+spans_of cuts ranges = filter has_pieces (map (span_of cuts) ranges)
+
+-- pieces with lists of sequences, one for each
+abbrev pub with_seqs : List Piece → List (List ℕ) → List Fragment
+with_seqs [] lists = []
+with_seqs (piece ∷ pieces) [] = []
+with_seqs (piece ∷ pieces) (seqs ∷ lists) = record { begin = piece.0; end = piece.1; seqs = seqs } ∷ with_seqs pieces lists
+
+-- those of fragments that have sequences
+abbrev pub covered : List Fragment → List Fragment
+covered fragments = filter (λ f. nat_lt 0 (length f.seqs)) fragments
+
+-- those of lists that have sequences
+abbrev pub some_of : List (List ℕ) → List (List ℕ)
+some_of lists = filter (λ seqs. nat_lt 0 (length seqs)) lists

@@ -1,0 +1,113 @@
+//! [`Fragments`]: the fragments of a run.
+ghost use Rattle.std.specs.Prelude.{◌≡◌, ◌↔◌, IsTrue, map, option_map};
+ghost use Rattle.std.specs.Arc.{arc_value};
+ghost use Rattle.uc_run_entry.specs.Shared.{ends_of, AreOfSame};
+ghost use Rattle.uc_run_entry.specs.Spanning.{some_of};
+
+use crate::fragment::Fragment;
+use std::marker::Model;
+use std::sync::Arc;
+use uc_run_spans::Spans;
+
+/// Up to so many sequences a fragment has numbers of its own: they take no more memory than a share of spans, and are
+/// looked through faster.
+pub(crate) const FEW: u64 = 8;
+
+/// Fragments, and the spans that those with many sequences share. A contract sees the list of the fragments.
+#[derive(Debug, Drop)]
+pub struct Fragments {
+    list: Vec<Fragment>,
+    spans: Option<Arc<Spans>>,
+}
+
+impl Model for Fragments {
+    ghost use Rattle.std.specs.Prelude.{List};
+    ghost use Rattle.uc_run_entry.specs.declared.fragment.Fragment.{Fragment};
+    ghost use Rattle.uc_run_entry.specs.Shared.{AreShared};
+
+    ghost Value = { List Fragment };
+
+    ghost view = { λ f. f.list.items };
+
+    ghost invariant = { AreShared };
+}
+
+/// Whether a fragment has the ends of another.
+fn has_ends_of(fragment: &Fragment, other: &Fragment) -> bool
+    ensures { IsTrue result ↔ (ends_of fragment.now ≡ ends_of other.now) }
+{
+    fragment.begin == other.begin && fragment.end == other.end
+}
+
+/// Whether fragments have equal ends.
+fn same_ends(fragments: &[Fragment], others: &[Fragment]) -> bool
+    ensures { IsTrue result ↔ (map ends_of fragments.now ≡ map ends_of others.now) }
+{
+    fragments.len() == others.len()
+        && fragments
+            .iter()
+            .zip(others)
+            .all(|(fragment, other)| has_ends_of(fragment, other))
+}
+
+/// Whether there are spans of both, and their lists are the same.
+fn have_same(spans: &Option<Arc<Spans>>, others: &Option<Arc<Spans>>) -> bool
+    ensures { IsTrue result → AreOfSame (option_map arc_value spans.now) (option_map arc_value others.now) }
+{
+    let Some(spans) = spans else { return false };
+    let Some(others) = others else { return false };
+    spans.is_same(others)
+}
+
+/// Whether fragments are equal, one by one.
+fn same_one_by_one(fragments: &[Fragment], others: &[Fragment]) -> bool
+    ensures { IsTrue result ↔ (fragments.now ≡ others.now) }
+{
+    fragments == others
+}
+
+impl Fragments {
+    /// Fragments whose sequences are those of the spans, where there are any.
+    ///
+    /// The spans are kept only where a fragment shares them.
+    pub(crate) fn with_spans(list: Vec<Fragment>, spans: Arc<Spans>) -> Fragments
+        requires { map (λ f. f.seqs) list.items ≡ some_of (arc_value spans) }
+        ensures { result ≡ list.items }
+    {
+        let is_shared = list.iter().any(|fragment| fragment.seqs.len() > FEW);
+        Fragments {
+            list,
+            spans: if is_shared { Some(spans) } else { None },
+        }
+    }
+
+    /// The fragments.
+    pub fn as_slice(&self) -> &[Fragment]
+        ensures { result.now ≡ self.now }
+    {
+        &self.list
+    }
+
+    /// Whether the fragments are equal.
+    ///
+    /// Where both share spans it goes over the fragments' ends and the spans. Otherwise, and where their spans aren't
+    /// the same, it compares fragment by fragment, up to the first that differs.
+    pub fn same(&self, other: &Fragments) -> bool
+        ensures { IsTrue result ↔ (self.now ≡ other.now) }
+    {
+        if have_same(&self.spans, &other.spans) {
+            same_ends(&self.list, &other.list)
+        } else {
+            same_one_by_one(&self.list, &other.list)
+        }
+    }
+}
+
+impl From<Vec<Fragment>> for Fragments {
+    ghost from_gives = { λ list fragments. fragments ≡ list.items };
+
+    /// Takes the fragments over as they are, without memory.
+    fn from(list: Vec<Fragment>) -> Fragments {
+        Fragments { list, spans: None }
+    }
+}

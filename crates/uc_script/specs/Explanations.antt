@@ -1,0 +1,56 @@
+-- What is said of the line at fault.
+use Rattle.std.specs.Prelude.{ℕ, ◌-◌, ◌==◌, length, Bool, true, false, not, ◌&&◌, List, [], ◌∷◌, take, drop, codes, nat_eq, Option, Some, None, string_bytes, if◌then◌else◌}
+use Rattle.std.specs.List.{list_any, ends_with}
+use Rattle.std.specs.Option.{option_map}
+use Rattle.uc_script.specs.Lines.{lines_of, says}
+use Rattle.uc_script.specs.Faults.{line_fault}
+use Rattle.uc_script.specs.Parts.{part_of}
+use Rattle.uc_script.specs.Shortened.{shortened}
+use Rattle.uc_script.specs.FaultTexts.{line_text, missing_text}
+use Rattle.uc_script.specs.Words.{form_of}
+use Rattle.uc_script.specs.declared.explanation.Explanation.{Explanation}
+use Rattle.uc_script.specs.declared.explanation.Explanation.TheVariants.{Line, Missing}
+use Rattle.uc_script.specs.declared.fault.LineFault.{LineFault}
+use Rattle.uc_script.specs.declared.fault.LineFault.TheVariants.{NoLineFeed}
+use Rattle.uc_script.specs.declared.part.Part.{Part}
+use Rattle.uc_script.specs.declared.part.Part.TheVariants.{Setup, Calls, Head}
+use Rattle.uc_script.specs.declared.part.Source.{Source}
+
+-- What is printed of it.
+abbrev pub explanation_text : Explanation → List ℕ
+explanation_text (Line number line fault) = line_text number (string_bytes line) fault
+explanation_text (Missing number word) = missing_text number (form_of word)
+
+-- Whether a line is `open`.
+abbrev pub says_open : List ℕ → Bool
+says_open line = says line (codes "open")
+
+-- What is said where the line of this number is missing: nothing behind an `open`.
+abbrev pub missing : Part → ℕ → Option (List ℕ)
+missing Setup number = Some (missing_text number (codes "open"))
+missing Calls number = None
+missing Head number = Some (missing_text number (codes "log"))
+
+-- Whether the part is what stands in front of a log.
+abbrev is_head : Part → Bool
+is_head Setup = false
+is_head Calls = false
+is_head Head = true
+
+-- Whether a line, with these behind it, is the end of a head but for its LF.
+abbrev pub lacks_its_end : Part → List ℕ → List (List ℕ) → Bool → Bool
+lacks_its_end part line others ended = is_head part && (says line (codes "log") && (length others == 0 && not ended))
+
+-- What is wrong with a line before these others, in a text that ends with LF or doesn't.
+abbrev pub fault_before : Part → List ℕ → List (List ℕ) → Bool → Option LineFault
+fault_before part line others ended = if lacks_its_end part line others ended then Some NoLineFeed else line_fault part line
+
+-- What is said of the first of these lines, which has this number.
+abbrev pub said_of : Part → ℕ → List (List ℕ) → Bool → Option (List ℕ)
+said_of part number [] ended = missing part number
+said_of part number (line ∷ others) ended = option_map (line_text number (shortened line)) (fault_before part line others ended)
+
+-- What is said of the line of this number, from 1, in a text of this kind, where there is a fault in it or it is missing.
+unfoldable pub explanation_of : Source → List ℕ → ℕ → Option (List ℕ)
+explanation_of source text number =
+    said_of (part_of source (list_any says_open (take (number - 1) (lines_of text)))) number (drop (number - 1) (lines_of text)) (ends_with nat_eq text (10 ∷ []))

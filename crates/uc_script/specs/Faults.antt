@@ -1,0 +1,36 @@
+-- What is wrong with a line.
+use Rattle.std.specs.Prelude.{ℕ, ◌+◌, List, [], ◌∷◌, Option, Some, None, if◌then◌else◌}
+use Rattle.uc_script.specs.Lines.{fields_of, is_skipped}
+use Rattle.uc_script.specs.FieldKinds.{reads}
+use Rattle.uc_script.specs.Words.{named, stands_in, kinds}
+use Rattle.uc_script.specs.declared.fault.LineFault.{LineFault}
+use Rattle.uc_script.specs.declared.fault.LineFault.TheVariants.{UnknownWord, Misplaced, TooFew, TooMany, BadField}
+use Rattle.uc_script.specs.declared.field_kind.FieldKind.{FieldKind}
+use Rattle.uc_script.specs.declared.part.Part.{Part}
+use Rattle.uc_script.specs.declared.word.Word.{Word}
+
+-- What is wrong with fields, from the one of this number on, where fields of these kinds have to stand there.
+abbrev pub arguments_fault : Word → ℕ → List FieldKind → List (List ℕ) → Option LineFault
+arguments_fault word number [] [] = None
+arguments_fault word number [] (field ∷ fields) = Some (TooMany word)
+arguments_fault word number (kind ∷ kinds) [] = Some (TooFew word)
+arguments_fault word number (kind ∷ kinds) (field ∷ fields) =
+    if reads kind field then arguments_fault word (number + 1) kinds fields else Some (BadField word number kind)
+
+-- What is wrong with a line whose first field is this word, and with the fields behind it.
+abbrev pub word_fault : Part → Option Word → List (List ℕ) → Option LineFault
+word_fault part None fields = Some (UnknownWord part)
+word_fault part (Some word) fields = if stands_in word part then arguments_fault word 2 (kinds word) fields else Some (Misplaced part)
+
+abbrev pub fields_fault : Part → List (List ℕ) → Option LineFault
+fields_fault part [] = None
+fields_fault part (word ∷ fields) = word_fault part (named word) fields
+
+-- What is wrong with a line of this part, if anything is.
+unfoldable pub line_fault : Part → List ℕ → Option LineFault
+line_fault part line = if is_skipped line then None else fields_fault part (fields_of line)
+
+-- The fields of what stands behind a space, where there is one.
+abbrev pub fields_after : Option (List ℕ) → List (List ℕ)
+fields_after None = []
+fields_after (Some text) = fields_of text

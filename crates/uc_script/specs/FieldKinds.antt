@@ -1,0 +1,21 @@
+-- What a field behind a line's word may be.
+use Rattle.std.specs.Prelude.{ℕ, List, codes, Bool, is_some}
+use Rattle.uc_script.specs.Texts.{number_of, name_of, text_of, seq_of, high_of}
+use Rattle.uc_script.specs.declared.field_kind.FieldKind.{FieldKind}
+use Rattle.uc_script.specs.declared.field_kind.FieldKind.TheVariants.{Text, High, Number, Name, Seq}
+
+-- Whether a field is of this kind, as lines are read.
+abbrev pub reads : FieldKind → List ℕ → Bool
+reads Text field = is_some (text_of field)
+reads High field = is_some (high_of field)
+reads Number field = is_some (number_of field)
+reads Name field = is_some (name_of field)
+reads Seq field = is_some (seq_of field)
+
+-- What a field of the kind is, as it is printed.
+abbrev pub kind_text : FieldKind → List ℕ
+kind_text Text = codes "hexadecimal, two digits for each byte, or . for no bytes"
+kind_text High = codes "hexadecimal, two digits for each byte, or . for no bytes, or - for no end"
+kind_text Number = codes "a number from 0 to 18446744073709551615, without sign or needless zeros"
+kind_text Name = codes "a number from 0 to 31, without sign or needless zeros"
+kind_text Seq = codes "last, or a number from 0 to 18446744073709551615, without sign or needless zeros"

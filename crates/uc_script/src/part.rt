@@ -1,0 +1,57 @@
+//! [`Part`]: which part of a text a line stands in; [`Source`]: what the text is.
+
+ghost use Rattle.std.specs.Prelude.{◌≡◌, Some};
+ghost use Rattle.uc_script.specs.Parts as parts;
+ghost use Rattle.uc_script.specs.Parts.{first_words};
+
+use std::fmt;
+
+/// What a text is that has lines at fault.
+#[derive(Clone, Copy, Debug, PartialEq, Eq)]
+pub enum Source {
+    /// A script, as [`read_script`](crate::read_script) reads it.
+    Script,
+    /// What stands in front of a log, as [`read_head`](crate::read_head) reads it.
+    Head,
+}
+
+/// Which part of a text a line stands in. It says which words the line may begin with.
+#[derive(Clone, Copy, Debug, PartialEq, Eq)]
+pub enum Part {
+    /// A script before its `open`.
+    Setup,
+    /// A script after its `open`.
+    Calls,
+    /// What stands in front of a log.
+    Head,
+}
+
+impl Part {
+    /// The part of a line, where it is known whether an `open` stands before it.
+    pub fn of(source: Source, is_opened: bool) -> Part
+        ensures { result ≡ parts.part_of source is_opened }
+    {
+        match (source, is_opened) {
+            (Source::Script, false) => Part::Setup,
+            (Source::Script, true) => Part::Calls,
+            (Source::Head, _) => Part::Head,
+        }
+    }
+}
+
+/// Which words a line of the part may begin with.
+impl fmt::Display for Part {
+    ghost output = { λ part. Some (first_words part) };
+
+    fn fmt<W: fmt::Write>(&self, f: &mut fmt::Formatter<W>) -> fmt::Result {
+        f.write_str(match self {
+            Part::Setup => {
+                "before `open` a line begins with put, delete, merge, range, keep or open"
+            }
+            Part::Calls => {
+                "after `open` a line begins with get, scan, claim, install, abandon, compact, pick or report"
+            }
+            Part::Head => "in front of a log a line begins with keep, get, scan or log",
+        })
+    }
+}

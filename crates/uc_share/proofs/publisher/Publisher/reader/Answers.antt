@@ -1,0 +1,5 @@
+use Rattle.uc_share.proofs.Showing.{admits}
+use Rattle.uc_share.proofs.publisher.Publisher.reader.Goals as goal
+
+pub reader-requires : goal.reader-requires
+reader-requires g c = admits g.O.Operator.meaning g.N.Name.book g.N.Name.base

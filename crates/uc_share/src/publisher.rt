@@ -1,0 +1,195 @@
+//! [`Publisher`]: what shows readers the next version.
+ghost use Rattle.std.specs.Prelude.{◌≡◌, ◌≤◌, ◌++◌, ◌∷◌, [], drop, length, IfOk, OnOk, IfErr};
+ghost use Rattle.std.specs.Arc.{arc_value};
+ghost use Rattle.uc_version_state.specs.Histories.{MayHappen, after};
+ghost use Rattle.uc_share.specs.Fronts.{moment, after_event, IsCount, IsMoment, HoldsReplaced};
+
+use crate::book::Book;
+use crate::front::Front;
+use crate::name::Name;
+use crate::reader::Reader;
+use crate::rule::{Rises, Sees};
+use crate::share::Shares;
+use crate::shown::Shown;
+use left_right::writer::Writer;
+use std::alloc::{AllocError, Global};
+use std::marker::Model;
+use std::sync::{Arc, Wait};
+use uc_claims::HeldSlots;
+use uc_oper::Operator;
+use uc_version_state::{Event, Version};
+
+/// What shows readers the next version. It stands behind the store's lock. It has the store's history, all of which is shown. It
+/// keeps a `Wait` handle, since it waits for readers that still look at a version of before, also when it is dropped. Contracts
+/// see what it shows.
+pub struct Publisher<O: Operator, N: Name, W: Wait + Drop> {
+    writer: Writer<Shown, Shown, u64, Rises<O, N>>,
+    book: Book<N>,
+    rt: W,
+}
+
+impl<O: Operator, N: Name, W: Wait + Drop> Model for Publisher<O, N, W> {
+    ghost use Rattle.std.specs.Prelude.{◌≡◌};
+    ghost use Rattle.uc_share.specs.Fronts.{Moment, IsMoment};
+
+    ghost Value = { Moment };
+
+    ghost view = { λ p. p.writer.desk.shown.value };
+
+    ghost invariant = { λ p. IsMoment O.meaning N.book N.base p.writer.desk.shown.value
+        × (p.book ≡ p.writer.desk.shown.value.events) };
+}
+
+impl<O: Operator, N: Name, W: Wait + Drop> Drop for Publisher<O, N, W> {
+    fn drop(self) {
+        let Self {
+            writer,
+            book: _book,
+            rt,
+        } = self;
+        drop(writer.take(&rt));
+    }
+}
+
+/// The version after an event, with a share for each reader.
+fn next_shares<O: Operator>(
+    alloc: Global,
+    shown: &Shown,
+    event: &Event,
+) -> Result<Arc<Shares>, AllocError>
+    requires { MayHappen O.meaning shown.now.version event.now }
+    ensures { IfOk result (λ shares. arc_value shares ≡ after shown.now.version event.now) }
+{
+    let version = Arc::new(alloc, shown.version().after::<O>(alloc, event)?)?;
+    Ok(Arc::new(alloc, Shares::new(alloc, version, shown.readers())?)?)
+}
+
+impl<O: Operator, N: Name, W: Wait + Drop> Publisher<O, N, W> {
+    /// Shows the version that a store is opened with, to so many readers. It queues an entry that is shown again, so that the
+    /// queue has room for each later publication.
+    pub(crate) fn new(
+        alloc: Global,
+        rt: W,
+        version: Arc<Version>,
+        book: Book<N>,
+        readers: usize,
+    ) -> Result<Publisher<O, N, W>, AllocError>
+        requires count { IsCount readers }
+        requires base { arc_value version ≡ N.base }
+        requires book { book ≡ [] }
+        ensures { IfOk result (λ publisher. publisher ≡ moment N.book N.base []) }
+    {
+        let shares = Shares::new(alloc, version, readers)?;
+        let first = Shown::new(Arc::new(alloc, shares)?, book.front().again());
+        let second = first.again()?;
+        let third = first.again()?;
+        let mut writer = Writer::new(alloc, first, second, readers)?;
+        if writer.append(third).is_err() {
+            drop(writer.take(&rt));
+            return Err(AllocError);
+        }
+        Ok(Publisher { writer, book, rt })
+    }
+
+    /// A reader that has seen the opening, with this number. It is refused where as many as there may be are there already.
+    pub(crate) fn reader(&self, front: Front<N>, number: usize) -> Result<Reader<O, N>, AllocError>
+        requires { front ≡ [] }
+        ensures { IfOk result (λ reader. reader ≡ []) }
+    {
+        Ok(Reader::new(self.writer.factory().reader()?, front, number))
+    }
+
+    /// What it shows is of the store's own history, and leads from the opening to the version. It does nothing.
+    pub fn is_one(&self)
+        ensures { IsMoment O.meaning N.book N.base self.now }
+    {
+        let _ = &self.rt;
+    }
+
+    /// What readers are shown now.
+    pub fn shown(&self) -> &Shown
+        ensures { result.now ≡ self.now }
+    {
+        self.writer.published()
+    }
+
+    /// The store's history. All of it is shown, also behind a refused publication.
+    pub fn history(&self) -> &Front<N>
+        ensures { result.now ≡ self.now.events }
+    {
+        self.book.front()
+    }
+
+    /// Shows readers the version after an event, whole. Who publishes is lent the slots of the runs that the event replaces, so
+    /// that nobody else has claimed them. A refusal changes nothing that is shown, and adds nothing to the history: all memory
+    /// is asked for before that, and behind it the event is shown.
+    pub fn publish(
+        self,
+        alloc: Global,
+        event: &Event,
+        slots: &HeldSlots,
+    ) -> (Publisher<O, N, W>, Result<(), AllocError>)
+        requires may { MayHappen O.meaning self.version event.now }
+        requires held { HoldsReplaced N.table self.version event.now slots.now }
+        ensures ok { OnOk result.1 (result.0 ≡ after_event event.now self) }
+        ensures err { IfErr result.1 (λ _. result.0 ≡ self) }
+    {
+        let _ = slots;
+        let Self {
+            writer,
+            mut book,
+            rt,
+        } = self;
+        let shares = match next_shares::<O>(alloc, writer.published(), event) {
+            Err(error) => return (Publisher { writer, book, rt }, Err(error)),
+            Ok(shares) => shares,
+        };
+        if !book.add(event) {
+            return (Publisher { writer, book, rt }, Err(AllocError));
+        }
+        let next = Shown::new(shares, book.front().again());
+        let writer = show(&rt, writer, next);
+        (Publisher { writer, book, rt }, Ok(()))
+    }
+}
+
+/// Queues what comes next behind what is queued. The queue has had room since the opening, so the first turn is the last.
+fn queued<O: Operator, N: Name, W: Wait>(
+    rt: &W,
+    mut writer: Writer<Shown, Shown, u64, Rises<O, N>>,
+    next: Shown,
+) -> Writer<Shown, Shown, u64, Rises<O, N>>
+    ensures desk { result.desk ≡ writer.desk }
+    ensures last { drop result.behind result.log.items ≡ drop writer.behind writer.log.items ++ next ∷ [] }
+{
+    let mut entry = next;
+    for _ in rt.forever() {
+        match writer.append(entry) {
+            Ok(()) => return writer,
+            Err(back) => entry = back,
+        }
+    }
+    unreachable!()
+}
+
+/// Shows readers what comes next, in place of what they were shown. It copies what comes next, which is refused only where too
+/// many own it: then it is tried again, since the history has the event.
+fn show<O: Operator, N: Name, W: Wait>(
+    rt: &W,
+    writer: Writer<Shown, Shown, u64, Rises<O, N>>,
+    next: Shown,
+) -> Writer<Shown, Shown, u64, Rises<O, N>>
+    requires moment { IsMoment O.meaning N.book N.base next }
+    requires longer { length writer.desk.shown.value.events ≤ length next.events }
+    ensures { result.desk.shown.value ≡ next }
+{
+    let mut writer = queued(rt, writer, next);
+    for _ in rt.forever() {
+        let (back, done) = writer.publish_as::<Sees<O, N>, W>(rt);
+        writer = back;
+        if let Ok(()) = done {
+            return writer;
+        }
+    }
+    unreachable!()
+}

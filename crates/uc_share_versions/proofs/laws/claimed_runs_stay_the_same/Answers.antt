@@ -1,5 +1,0 @@
-use Rattle.uc_share_versions.proofs.Claimed.{claimed_same}
-use Rattle.uc_share_versions.proofs.laws.claimed_runs_stay_the_same.Goals as goal
-
-pub returns : goal.returns
-returns g c = claimed_same g.O.Operator.meaning

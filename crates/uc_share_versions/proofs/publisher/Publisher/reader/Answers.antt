@@ -1,5 +1,0 @@
-use Rattle.uc_share_versions.proofs.Showing.{admits}
-use Rattle.uc_share_versions.proofs.publisher.Publisher.reader.Goals as goal
-
-pub reader-requires : goal.reader-requires
-reader-requires g c = admits g.O.Operator.meaning g.N.Name.book g.N.Name.base

@@ -1,5 +1,0 @@
-use Rattle.uc_share_versions.proofs.Prefixes.{prefix_self}
-use Rattle.uc_share_versions.proofs.reader.Reader.sees.Goals as goal
-
-pub loop-init : goal.loop-init
-loop-init g c = (prefix_self c.args.self.now, c.is_one.ensures)

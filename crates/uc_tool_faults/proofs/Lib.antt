@@ -1,4 +1,0 @@
-pub mod Passing
-pub mod Counted
-pub mod Printed
-pub mod Said

@@ -1,8 +1,0 @@
-use Rattle.uc_tool_faults.proofs.Printed.{line_shown, line_short}
-use Rattle.uc_tool_faults.proofs.laws.a_shortened_line_is_short.Goals as goal
-
-pub returns-clause-printable : goal.returns-clause-printable
-returns-clause-printable c = line_shown
-
-pub returns-clause-short : goal.returns-clause-short
-returns-clause-short c = line_short

@@ -1,5 +1,0 @@
-use Rattle.uc_tool_faults.proofs.Said.{explanation_shown}
-use Rattle.uc_tool_faults.proofs.laws.an_explanation_is_one_line.Goals as goal
-
-pub returns : goal.returns
-returns c = explanation_shown

@@ -1,0 +1,56 @@
+//! [`OperatorName`]: which operator merges, as the command line names it.
+
+ghost use Rattle.std.specs.Prelude.{◌≡◌, map};
+ghost use Rattle.uc_tool_io.specs.OperatorName as names;
+ghost use Rattle.uc_tool_io.specs.OperatorName.{operators, word_of};
+
+/// A merge operator that the command line can name.
+///
+/// What the parser lets through, and what the program runs, both come from here: a name that isn't in
+/// `ALL` is refused, and a match over the names is one over all of them.
+#[derive(Clone, Copy, Debug, PartialEq, Eq)]
+pub enum OperatorName {
+    /// `counter`: sums of 64-bit numbers.
+    Counter,
+    /// `append`: texts joined by commas.
+    Append,
+    /// `maximum`: the greater text.
+    Maximum,
+}
+
+impl OperatorName {
+    /// All of them.
+    const ALL: [OperatorName; 3] = [
+        OperatorName::Counter,
+        OperatorName::Append,
+        OperatorName::Maximum,
+    ];
+
+    /// The word for it.
+    fn word(self) -> &'static str
+        ensures { result.now ≡ word_of self }
+    {
+        match self {
+            OperatorName::Counter => "counter",
+            OperatorName::Append => "append",
+            OperatorName::Maximum => "maximum",
+        }
+    }
+
+    /// The words for all of them.
+    pub fn words() -> [&'static str; 3]
+        ensures { map (λ word. word.now) result ≡ map word_of operators }
+    {
+        OperatorName::ALL.map(OperatorName::word)
+    }
+
+    /// The operator that a word names.
+    pub fn named(word: &str) -> Option<OperatorName>
+        ensures { result ≡ names.named word.now }
+    {
+        OperatorName::ALL
+            .iter()
+            .copied()
+            .find(|name| name.word() == word)
+    }
+}

@@ -1,8 +1,0 @@
-use Rattle.std.proofs.Common.{◌≡◌, ◌++◌, length, take, codes}
-use Rattle.std.specs.List.{flat_map}
-use Rattle.uc_tool_log_lines.specs.Line.{numbered_line}
-use Rattle.uc_tool_lines.specs.AnswerLines.{row_line}
-use Rattle.uc_tool_lines.proofs.answers.push_rows.Given as goal
-
-abbrev pub invariant-loop-row : goal.invariant-loop-row
-invariant-loop-row l = l.out.items ≡ l.fn.out.items ++ numbered_line (codes "rows ") (length l.rows) ++ flat_map row_line (take l.row-index l.rows)

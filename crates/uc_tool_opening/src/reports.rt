@@ -1,0 +1,80 @@
+//! The lines of a report.
+
+ghost use Rattle.std.specs.Prelude.{◌≡◌, ◌++◌, IfOk, OnOk};
+ghost use Rattle.std.specs.List.{flat_map};
+ghost use Rattle.uc_tool_opening.specs.ReportLines as lines;
+ghost use Rattle.uc_tool_opening.specs.ReportLines.{run_line};
+
+use std::alloc::{AllocError, Global};
+use uc_fold::Totals;
+use uc_query::{Report, RunLine};
+use uc_tool_io::{push_counted, push_fields_line, push_numbered_line};
+
+/// Appends the line of a run.
+fn push_run(out: &mut Vec<u8>, run: &RunLine) -> Result<(), AllocError>
+    ensures { OnOk result (out.new.items ≡ out.old.items ++ run_line run.now) }
+{
+    push_fields_line(
+        out,
+        &[
+            (b"run ", run.id),
+            (b" slot ", run.slot as u64),
+            (b" points ", run.points),
+            (b" fragments ", run.fragments),
+            (b" size ", run.size),
+            (b" seqs ", run.low),
+            (b" ", run.high),
+        ],
+    )
+}
+
+/// Appends a line for each run.
+fn push_runs(out: &mut Vec<u8>, runs: &[RunLine]) -> Result<(), AllocError>
+    ensures { OnOk result (out.new.items ≡ out.old.items ++ flat_map run_line runs.now) }
+{
+    for run in runs {
+        push_run(out, run)?;
+    }
+    Ok(())
+}
+
+/// Appends how many runs there are, and what they hold in all.
+fn push_total(out: &mut Vec<u8>, runs: usize, total: &Totals) -> Result<(), AllocError>
+    ensures { OnOk result (out.new.items ≡ out.old.items ++ lines.total_line runs total.now) }
+{
+    push_fields_line(
+        out,
+        &[
+            (b"total runs ", runs as u64),
+            (b" points ", total.points),
+            (b" fragments ", total.fragments),
+            (b" size ", total.size),
+        ],
+    )
+}
+
+/// Appends the sequences that are kept.
+fn push_keeps(out: &mut Vec<u8>, keeps: &[u64]) -> Result<(), AllocError>
+    ensures { OnOk result (out.new.items ≡ out.old.items ++ lines.keeps_line keeps.now) }
+{
+    out.extend_from_slice(b"keeps")?;
+    for keep in keeps {
+        push_counted(out, b" ", *keep)?;
+    }
+    out.push(b'\n')?;
+    Ok(())
+}
+
+/// The lines of a report: one for each run, the newest first, then their totals, the sequences that are kept and the last
+/// one. It fails only for want of memory.
+pub fn report_lines(alloc: Global, report: &Report) -> Result<Vec<u8>, AllocError>
+    ensures { IfOk result (λ text. text.items ≡ lines.report_lines report.now) }
+{
+    let mut out = Vec::new(alloc);
+    let runs = report.lines.as_slice();
+    push_runs(&mut out, runs)?;
+    push_total(&mut out, runs.len(), &report.total)?;
+    push_keeps(&mut out, report.keeps.as_slice())?;
+    push_numbered_line(&mut out, b"last ", report.last)?;
+    Ok(out)
+}

@@ -1,4 +1,0 @@
-pub mod Compactions
-pub mod Reports
-pub mod Reported
-pub mod NoMorePicks

@@ -1,2 +1,0 @@
-pub mod OperatorName
-pub mod Refusal

@@ -1,4 +1,0 @@
-mod First
-mod Collected
-mod Unclaimed
-mod Picked

@@ -1,5 +1,0 @@
-use Rattle.uc_version_pick.proofs.Picked.{amplified}
-use Rattle.uc_version_pick.proofs.laws.amplified_runs_are_all_picked.Goals as goal
-
-pub returns : goal.returns
-returns c o runs = amplified o runs

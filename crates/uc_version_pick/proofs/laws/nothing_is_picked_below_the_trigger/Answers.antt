@@ -1,5 +1,0 @@
-use Rattle.uc_version_pick.proofs.Picked.{below}
-use Rattle.uc_version_pick.proofs.laws.nothing_is_picked_below_the_trigger.Goals as goal
-
-pub returns : goal.returns
-returns c o runs l = below o runs l

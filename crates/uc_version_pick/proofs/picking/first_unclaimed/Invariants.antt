@@ -1,7 +1,0 @@
-use Rattle.std.proofs.Common.{◌≡◌, drop}
-use Rattle.uc_version_pick.specs.Picks.{unclaimed_at_most, first_picked}
-use Rattle.uc_version_pick.proofs.picking.first_unclaimed.Given as goal
-
-abbrev pub invariant-loop-first : goal.invariant-loop-first
-invariant-loop-first l =
-    first_picked (unclaimed_at_most l.most) 0 l.candidates ≡ first_picked (unclaimed_at_most l.most) l.first (drop l.first l.candidates)

@@ -1,3 +1,0 @@
-pub mod Options
-pub mod Picks
-pub mod Collecting

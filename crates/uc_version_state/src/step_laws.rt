@@ -1,0 +1,47 @@
+//! What holds of every course of steps.
+ghost use Rattle.std.specs.Prelude.{◌≡◌, ◌≢◌, ◌≤◌, ◌+◌, ℕ, List, Contains, length};
+ghost use Rattle.uc_oper.specs.Operation.{Operation, IsLawful};
+ghost use Rattle.uc_version_state.specs.Versions.{PlacedRun, ids_of};
+ghost use Rattle.uc_version_state.specs.Openings.{Opening, MayOpen, opened};
+ghost use Rattle.uc_version_state.specs.Installs.{Install, part_of, standing};
+ghost use Rattle.uc_version_state.specs.Refusals.{AreInPlace};
+ghost use Rattle.uc_version_state.specs.declared.event.Event.TheVariants.{Installed};
+ghost use Rattle.uc_version_state.specs.Histories.{IsLegal, MayHappen};
+ghost use Rattle.uc_version_state.specs.Machine.{Checked, IsMadeFor, present, phase_of, slots_held};
+ghost use Rattle.uc_version_state.specs.Courses.{Course, IsPossible, machine_after, InstallsAlone};
+
+use crate::laws::opening_gives_a_version;
+
+/// A checked compactor is never displaced. Whatever steps any number of compactors make, in any order: the runs that a
+/// checked compactor noted stand in the present version, the same, as neighbours and in order; no slot is held by two
+/// compactors; every install that a checked compactor made may happen; and so the history is legal.
+pub fn never_stale()
+    ensures in_place { (m : Operation) (course : Course) (c : ℕ) (noted : List PlacedRun) →
+        IsLawful m → IsPossible m course → phase_of c (machine_after course) ≡ Checked noted →
+        AreInPlace (present (machine_after course)) (ids_of noted) }
+    ensures same { (m : Operation) (course : Course) (c : ℕ) (noted : List PlacedRun) →
+        IsLawful m → IsPossible m course → phase_of c (machine_after course) ≡ Checked noted →
+        standing (ids_of noted) (present (machine_after course)).runs ≡ noted }
+    ensures apart { (m : Operation) (course : Course) (c other slot : ℕ) →
+        IsLawful m → IsPossible m course → c ≢ other →
+        Contains (slots_held (phase_of c (machine_after course))) slot →
+        ¬ Contains (slots_held (phase_of other (machine_after course))) slot }
+    ensures may_happen { (m : Operation) (course : Course) (c : ℕ) (noted : List PlacedRun) (i : Install) →
+        IsLawful m → IsPossible m course → phase_of c (machine_after course) ≡ Checked noted →
+        IsMadeFor m (present (machine_after course)) noted i →
+        MayHappen m (present (machine_after course)) (Installed i) }
+    ensures legal { (m : Operation) (course : Course) →
+        IsLawful m → IsPossible m course → IsLegal m (machine_after course).history }
+{
+    opening_gives_a_version();
+}
+
+/// The machine isn't empty: a compactor that goes through its phases alone installs what it made, of any stretch of any
+/// opening.
+pub fn a_lone_compactor_installs()
+    ensures { (m : Operation) (o : Opening) (first count : ℕ) (i : Install) → IsLawful m → MayOpen o →
+        2 ≤ count → first + count ≤ length (opened o).runs →
+        IsMadeFor m (opened o) (part_of first count (opened o).runs) i → InstallsAlone m o i }
+{
+    opening_gives_a_version();
+}

@@ -1,5 +1,0 @@
-mod Places
-mod Noted
-mod Counted
-mod Kept
-mod Lone

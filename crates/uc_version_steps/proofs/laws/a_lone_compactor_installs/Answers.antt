@@ -1,6 +1,0 @@
-use Rattle.uc_version_steps.proofs.Lone.{installs}
-use Rattle.uc_version_steps.proofs.laws.a_lone_compactor_installs.Goals as goal
-
-pub returns : goal.returns
-returns c m o first count i laws may two within made =
-    installs m laws o may (c.opening_gives_a_version.ensures o may) first count two within i made
