@@ -1,4 +1,4 @@
-//! The compactions of `bench_compact` in plain Rust (`bench/compaction.rs`), over runs of a plain layout (`bench/store.rs`).
+//! The compactions of `bench_parts compact` in plain Rust (`bench/compaction.rs`), over runs of a plain layout (`bench/store.rs`).
 
 #[path = "../compaction.rs"]
 mod compaction;

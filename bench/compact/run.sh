@@ -1,14 +1,14 @@
 #!/bin/sh
 # Compactions of several runs into one, beside plain Rust with the same layout, in one thread but for the folds of
 # more than a thousand points of a key.
-# Needs rustc, GNU time, and crates/bench_compact/out/bench_compact, which `rt run` in crates/bench_compact builds.
+# Needs rustc, GNU time, and crates/bench_parts/out/bench_parts, which `rt run` in crates/bench_parts builds.
 # counter: keys of 16 bytes and values of 8, half puts and half merges, eight points to a key over all runs. append: one
 # key, operands of 10 bytes. ranges: five keys with a point each, and a range deletion over three of them.
 # Each line has the medians of TURNS runs (9), which take turns, and both programs must come to the same run. A growth is
 # the time over that of a line above with half as many writes. The first lines have the memory of the runs alone.
 set -eu
 here=$(cd "$(dirname "$0")" && pwd)
-ours=${OURS:-$here/../../crates/bench_compact/out/bench_compact}
+ours=${OURS:-$here/../../crates/bench_parts/out/bench_parts}
 turns=${TURNS:-9}
 work=$(mktemp -d)
 trap 'rm -r "$work"' EXIT
@@ -30,7 +30,7 @@ measure() { # NAME HALF WORDS
     half=$2
     shift 2
     for _ in $(seq "$turns"); do
-        run "ours.$name" "$ours" "$@"
+        run "ours.$name" "$ours" compact "$@"
         run "rust.$name" "$work/baseline" "$@"
     done
     if [ "$(cut -d ' ' -f 2-5 "$work/ours.$name" "$work/rust.$name" | sort -u | wc -l)" -ne 1 ]; then
@@ -51,7 +51,7 @@ measure() { # NAME HALF WORDS
 }
 
 loads() { # WORDS: the memory of the runs that are compacted, in MiB
-    run ours.load "$ours" "$@"
+    run ours.load "$ours" compact "$@"
     run rust.load "$work/baseline" "$@"
     awk -v name="$*" -v memory="$(tail -n 1 "$work/ours.load" | cut -d ' ' -f 2)" \
         -v other="$(tail -n 1 "$work/rust.load" | cut -d ' ' -f 2)" 'BEGIN {

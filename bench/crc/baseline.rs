@@ -1,4 +1,4 @@
-//! The sums of `bench_crc` in plain Rust: slicing by 8, over tables that the compiler makes.
+//! The sums of `bench_parts crc` in plain Rust: slicing by 8, over tables that the compiler makes.
 #[path = "../crc32c.rs"]
 mod crc32c;
 

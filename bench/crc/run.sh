@@ -1,11 +1,11 @@
 #!/bin/sh
 # CRC-32C by `uc_logrec` beside the same algorithm, slicing by 8, in plain Rust.
-# Needs rustc, and crates/bench_crc/out/bench_crc, which `rt run` in crates/bench_crc builds.
+# Needs rustc, and crates/bench_parts/out/bench_parts, which `rt run` in crates/bench_parts builds.
 # A round is the sum of the whole buffer. Each line has the medians of 9 runs, which take turns, and both
 # programs must come to the same checksum. The load is the machine's, over the last minute, 5 and 15.
 set -eu
 here=$(cd "$(dirname "$0")" && pwd)
-ours=${OURS:-$here/../../crates/bench_crc/out/bench_crc}
+ours=${OURS:-$here/../../crates/bench_parts/out/bench_parts}
 work=$(mktemp -d)
 trap 'rm -r "$work"' EXIT
 rustc --edition 2021 -O "$here/baseline.rs" -o "$work/baseline"
@@ -18,7 +18,7 @@ measure() { # SIZE_MIB ROUNDS
     : > "$work/ours"
     : > "$work/rust"
     for _ in 1 2 3 4 5 6 7 8 9; do
-        "$ours" "$1" "$2" >> "$work/ours"
+        "$ours" crc "$1" "$2" >> "$work/ours"
         "$work/baseline" "$1" "$2" >> "$work/rust"
     done
     if [ "$(cut -d ' ' -f 2 "$work/ours" "$work/rust" | sort -u | wc -l)" -ne 1 ]; then

@@ -1,12 +1,12 @@
 #!/bin/sh
 # Folds of merge operands into one key, by `Effect::then`, beside plain Rust that extends one `Vec<u8>`.
-# Needs rustc, and crates/bench_fold/out/bench_fold, which `rt run` in crates/bench_fold builds.
+# Needs rustc, and crates/bench_parts/out/bench_parts, which `rt run` in crates/bench_parts builds.
 # Append: operands of 10 bytes, joined with a comma. Counter: numbers of 8 bytes, added. Each line has the medians
 # of 25 runs, which take turns, and both programs must come to the same operand. The second line of a kind has twice
 # the operands; its last column is our time over that of the first.
 set -eu
 here=$(cd "$(dirname "$0")" && pwd)
-ours=${OURS:-$here/../../crates/bench_fold/out/bench_fold}
+ours=${OURS:-$here/../../crates/bench_parts/out/bench_parts}
 work=$(mktemp -d)
 trap 'rm -r "$work"' EXIT
 rustc --edition 2021 -O "$here/baseline.rs" -o "$work/baseline"
@@ -16,7 +16,7 @@ measure() { # KIND COUNT
     : > "$work/ours"
     : > "$work/rust"
     for _ in $(seq 25); do
-        "$ours" "$1" "$2" >> "$work/ours"
+        "$ours" fold "$1" "$2" >> "$work/ours"
         "$work/baseline" "$1" "$2" >> "$work/rust"
     done
     if [ "$(cut -d ' ' -f 2,3 "$work/ours" "$work/rust" | sort -u | wc -l)" -ne 1 ]; then

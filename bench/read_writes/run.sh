@@ -3,13 +3,13 @@
 #
 #     bench/read_writes/run.sh
 #
-# It needs rustc, and crates/bench_read/out/bench_read (or OURS), which `rt run` in crates/bench_read builds. It
+# It needs rustc, and crates/bench_parts/out/bench_parts (or OURS), which `rt run` in crates/bench_parts builds. It
 # makes logs of 60 MiB by ../make_log.rs, checks that both programs come to the same writes, and prints the medians of
 # nine runs, which take turns, in seconds of the reading alone, and the most memory that a run held.
 set -u -o pipefail
 
 here=$(cd "$(dirname "${BASH_SOURCE[0]}")" && pwd) || exit 1
-ours=$(realpath -e "${OURS:-$here/../../crates/bench_read/out/bench_read}") || exit 2
+ours=$(realpath -e "${OURS:-$here/../../crates/bench_parts/out/bench_parts}") || exit 2
 folder=$(mktemp -d) || exit 1
 trap 'rm -rf "$folder"' EXIT
 
@@ -30,7 +30,7 @@ measure() { # KIND MIB
     rm -f "$folder"/*.lines "$folder"/*.memory
     "$folder/make_log" "$1" "$2" > "$folder/log" || exit 1
     for _ in 1 2 3 4 5 6 7 8 9; do
-        run ours "$ours" measure
+        run ours "$ours" read
         run rust "$folder/baseline"
     done
     if [ "$(cut -d ' ' -f 2,3 "$folder"/*.lines | sort -u | wc -l)" -ne 1 ]; then

@@ -1,4 +1,4 @@
-//! The load and the lookups of `bench_run` in plain Rust, with the same layout (`bench/store.rs`).
+//! The load and the lookups of `bench_parts run` in plain Rust, with the same layout (`bench/store.rs`).
 
 #[path = "../store.rs"]
 mod store;

@@ -1,13 +1,13 @@
 #!/bin/sh
 # Writes loaded into memtables of 4 MiB that are flushed to runs, and 20,000 lookups over all runs, beside plain
 # Rust with the same layout.
-# Needs rustc, GNU time, and crates/bench_run/out/bench_run, which `rt run` in crates/bench_run builds.
+# Needs rustc, GNU time, and crates/bench_parts/out/bench_parts, which `rt run` in crates/bench_parts builds.
 # The writes have keys of 16 bytes and values of 8, half of them merges, eight to a key. Each line has the medians of
 # TURNS runs (9), which take turns, and both programs must come to the same runs and answers. The second line of a
 # step has twice the writes; its last columns are the times over those of the first.
 set -eu
 here=$(cd "$(dirname "$0")" && pwd)
-ours=${OURS:-$here/../../crates/bench_run/out/bench_run}
+ours=${OURS:-$here/../../crates/bench_parts/out/bench_parts}
 turns=${TURNS:-9}
 work=$(mktemp -d)
 trap 'rm -r "$work"' EXIT
@@ -31,7 +31,7 @@ median() { # FILE FIELD
 
 measure() { # WRITES
     for _ in $(seq "$turns"); do
-        run ours "$ours" "$1"
+        run ours "$ours" run "$1"
         run rust "$work/baseline" "$1"
     done
     check_same "$1"
