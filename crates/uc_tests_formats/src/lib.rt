@@ -1,18 +1,31 @@
-//! Worked examples of log records and of scripts.
+//! Worked examples of log records, checksums and write batches, and of logs of batches: what they hold, where they are at
+//! fault, and how they are dumped.
 //!
-//! Everything here runs the calls of other crates as their users do, over bytes that were worked out by hand or come from
-//! the formats' own vectors. It stands on the formats alone, so that it is proved and run before there is a store.
+//! Everything here runs the calls of other crates as their users do, over bytes that were worked out by hand or come from the
+//! formats' own vectors. It stands on the formats and on `uc_tool_io`, and not on the store.
 //!
-//! Read `log_records.rt` first: it has records, and what a log ends with. `scripts.rt` has scripts that are read or
-//! at fault, and `heads.rt` what stands in front of a log; `given.rt` puts texts together for both. Logs of batches, what
-//! they hold and how they are dumped, stand in `uc_tests_logs`.
+//! Read `log_records.rt` first: it has records, and what a log ends with. `checksums.rt` has the vectors of RFC 3720 and the
+//! division beside them, and `spelled_batches.rt` batches that are read, refused, written and lent. `known.rt` asserts what a log
+//! holds, by its payloads, its writes and its dump: `logs.rt` has small logs and `batches.rt` batches, whole and faulty,
+//! `damage.rt` a log that is cut at each byte and changed at each byte, `blocks.rt` logs of several blocks, and `dumps.rt` texts of
+//! dumps.
 #![tactic(auto)]
 
 #[cfg(test)]
-mod given;
+mod batches;
 #[cfg(test)]
-mod heads;
+mod blocks;
+#[cfg(test)]
+mod checksums;
+#[cfg(test)]
+mod damage;
+#[cfg(test)]
+mod dumps;
+#[cfg(test)]
+mod known;
 #[cfg(test)]
 mod log_records;
 #[cfg(test)]
-mod scripts;
+mod logs;
+#[cfg(test)]
+mod spelled_batches;

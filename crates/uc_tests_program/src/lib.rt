@@ -1,4 +1,4 @@
-//! Worked examples of the program's runs but for the scripts in `uc_tests_play`.
+//! Worked examples of the program's runs but for the scripts in `uc_tests_tool`.
 //!
 //! Everything here runs the calls of other crates as their users do, over logs and answers that were worked
 //! out by hand. Read `runs.rt` first: it has one run of each program.

@@ -4,8 +4,7 @@
 //! program that knows nothing of the one that is tested; `options.rt` has options that make a run of each write, `dice.rt`
 //! draws numbers and changes. They are short. What only one crate of tests needs stands in that crate.
 //!
-//! It stands on texts, writes and options alone, so that no crate of tests waits for another or for the store because
-//! of a line.
+//! It stands on texts, writes and options alone, so that no crate of tests waits for another because of a line.
 #![tactic(auto)]
 
 pub mod dice;

@@ -4,6 +4,11 @@
 //! `drawn_picks.rt` random ones beside a plain slow program, and `reports.rt` reports on what a store holds. `stores.rt` opens
 //! stores of a few runs, `at_once.rt` compacts stretches of them at once, and `installs.rt` installs what was made otherwise than
 //! the store makes it.
+//!
+//! `machine.rt` is the machine of compactors of `uc_version_state`, written as ordinary code over runs that are an id and a slot
+//! alone (`step_runs.rt`), with two variants in which a compactor makes its steps in a wrong order. `drawn_steps.rt` runs all three
+//! by drawn steps: the machine never displaces a checked compactor, and each of the others does. `worked_steps.rt` has a course of
+//! each that shows it.
 #![tactic(auto)]
 
 #[cfg(test)]
@@ -11,7 +16,11 @@ mod at_once;
 #[cfg(test)]
 mod drawn_picks;
 #[cfg(test)]
+mod drawn_steps;
+#[cfg(test)]
 mod installs;
+#[cfg(test)]
+mod machine;
 #[cfg(test)]
 mod openings;
 #[cfg(test)]
@@ -21,4 +30,8 @@ mod recoveries;
 #[cfg(test)]
 mod reports;
 #[cfg(test)]
+mod step_runs;
+#[cfg(test)]
 mod stores;
+#[cfg(test)]
+mod worked_steps;
