@@ -70,7 +70,7 @@ impl<O: Operator> Compacted<O> {
     }
 
     /// What holds of every value: the runs are runs, and they and the keeps may be compacted together. It does nothing.
-    pub fn stands(&self)
+    pub fn recall_standing(&self)
         ensures runs { AreRuns self.now.inputs }
         ensures stand { Stand self.now.inputs self.now.keeps }
     {
@@ -84,6 +84,6 @@ impl<O: Operator> Compacted<O> {
         ensures { KeepsReads O.meaning self.now (output_of O.meaning self.now) }
     {
         compaction_keeps_what_is_read::<O>();
-        self.stands();
+        self.recall_standing();
     }
 }

@@ -19,7 +19,7 @@ fn push_kept(
     piece: &Piece<'_>,
     keeping: &Keeping<'_>,
 ) -> Result<(), AllocError>
-    requires is_one { IsFragment piece.now }
+    requires recall { IsFragment piece.now }
     requires keeps_rise { IsStrictlySortedBy nat_cmp keeping.now.keeps }
     ensures { OnOk result
         (kept.new.items ≡

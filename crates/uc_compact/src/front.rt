@@ -103,11 +103,11 @@ impl<'a> Front<'a> {
     /// Where no key is below the one before it, all calls together look at each fragment once, and at two more for each key.
     pub(crate) fn covering(&mut self, key: &[u8]) -> Option<&'a Fragment>
         ensures same { self.new ≡ self.old }
-        ensures is_one { IsRun self.old.low self.old.high self.old.points self.old.fragments }
+        ensures recall { IsRun self.old.low self.old.high self.old.points self.old.fragments }
         ensures some { IfSome result (λ f. filter (λ g. run.covers g key.now) self.old.fragments ≡ f.now ∷ []) }
         ensures none { IfNone result (filter (λ g. run.covers g key.now) self.old.fragments ≡ []) }
     {
-        self.run.is_one();
+        self.run.recall();
         let fragments = self.run.fragments();
         self.place = first_above(fragments, self.place, key);
         covering_at(fragments, self.place, key)

@@ -13,7 +13,7 @@ pub(crate) fn are_runs(inputs: &[Arc<Run>])
     ensures { AreRuns (map arc_value inputs.now) }
 {
     for run in inputs {
-        run.is_one();
+        run.recall();
     }
 }
 

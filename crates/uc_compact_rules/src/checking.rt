@@ -40,7 +40,7 @@ fn points_are_from_one(points: &[&Point]) -> bool
 fn is_apart(point: &Point, seqs: &Over<'_>) -> bool
     ensures { IsTrue result ↔ AllByRecursion (λ n. n ≢ point.now.seq) seqs.now }
 {
-    seqs.falls();
+    seqs.recall_falling();
     let seq = point.seq();
     match seqs.newest_at_or_below(seq) {
         None => true,
@@ -62,7 +62,7 @@ fn are_apart(points: &[&Point], seqs: &Over<'_>) -> bool
 pub fn are_of_one_key(points: &[&Point], seqs: &Over<'_>) -> bool
     ensures { IsTrue result ↔ AreOfOneKey (map (λ p. p.now) points.now) seqs.now }
 {
-    seqs.falls();
+    seqs.recall_falling();
     points_fall(points)
         && points_are_from_one(points)
         && seqs_are_from_one(seqs)

@@ -40,7 +40,7 @@ pub fn kept_seqs(
     requires keeps_rise { IsStrictlySortedBy nat_cmp keeping.now.keeps }
     ensures { IfOk result (λ kept. kept.items ≡ seqs_kept keeping.now seqs.now) }
 {
-    seqs.falls();
+    seqs.recall_falling();
     let mut kept = Vec::new(alloc);
     let mut next = seqs.newest();
     while let Some(newest) = next {

@@ -79,7 +79,7 @@ impl<'a> Over<'a> {
     }
 
     /// What holds of every value: the sequences fall. It does nothing.
-    pub fn falls(&self)
+    pub fn recall_falling(&self)
         ensures { IsFalling self.now }
     {
         let _ = &self.lists;

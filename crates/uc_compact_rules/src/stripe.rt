@@ -102,7 +102,7 @@ impl Stripe {
     pub(crate) fn newest_of(&self, seqs: &Over<'_>) -> Option<u64>
         ensures { result ≡ slice_get (filter (stripes.is_in self.now) seqs.now) 0 }
     {
-        seqs.falls();
+        seqs.recall_falling();
         above(self.above, seqs.newest_at_or_below(self.upto))
     }
 }

@@ -86,7 +86,7 @@ pub fn run_calls<O: Operator + Sync>(
     ensures goes_on { (h : History) → IsLegal O.meaning h → owned.old.version ≡ version_after h →
         LeadsTo O.meaning h owned.new.version }
 {
-    owned.is_one();
+    owned.recall();
     calls_extend_histories::<O>();
     asks_are_answered_from_plain_writes::<O>();
     let mut claims = NamedClaims::new();

@@ -22,7 +22,7 @@ pub(crate) fn claim_under<O: Operator>(
     ensures turn { claim_turn (named owned.old claims.old) name stretch (slice_index_or claims.old name None)
         ≡ replied (named owned.new claims.new) result }
 {
-    owned.is_one();
+    owned.recall();
     claims_are_held();
     let place = usize::from(name);
     if claims[place].is_some() {

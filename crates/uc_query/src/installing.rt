@@ -32,7 +32,7 @@ fn put_in_place<O: Operator>(
     ensures err { IfErr result (λ back.
         (has_id owned.old.version ≡ false) × (back ≡ claim) × (owned.new ≡ owned.old)) }
 {
-    owned.is_one();
+    owned.recall();
     claims_can_be_compacted();
     match owned.install(claim, made) {
         Ok(id) => Ok(id),

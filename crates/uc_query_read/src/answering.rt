@@ -79,7 +79,7 @@ pub fn answer_one<O: Operator>(
     ensures { IfOk result (λ answer.
         answer ≡ answers.answer_of O.meaning (writes_in version.now) version.now.keeps query.now) }
 {
-    version.is_one();
+    version.recall();
     answer_of_runs::<O>(alloc, version.runs(), version.keeps(), query)
 }
 
@@ -96,7 +96,7 @@ pub fn get<O: Operator>(
         answers.answer_of O.meaning (writes_in version.now) version.now.keeps
         (query.Get key.now at)) }
 {
-    version.is_one();
+    version.recall();
     if is_protected(version.keeps(), at) {
         let value = value_of_runs::<O>(alloc, version.runs(), key, at)?;
         Ok(Answer::Value(value))

@@ -17,7 +17,7 @@ fn hidden_by<'a>(cursors: &[Cursor<'a>], key: &[u8], at: u64) -> Option<(usize, 
 {
     for place in 0..cursors.len() {
         let cursor = &cursors[place];
-        cursor.is_of_run();
+        cursor.recall_run();
         if let Some(end) = cursor.hidden_to(key, at) {
             return Some((place, end));
         }

@@ -299,7 +299,7 @@ fn scans_go_over_hot_and_hidden_keys(rt: HostRuntime) -> Result<(), Fail> {
 
 /// A version of one run, of sequences up to 5.
 fn version_of(alloc: Global, run: Arc<Run>) -> Result<Version, Fail> {
-    run.is_one();
+    run.recall();
     if run.high_seq() > 5 {
         return Err(Fail::new("a sequence is above 5"));
     }

@@ -61,7 +61,7 @@ fn gathered<O: Operator, N: Name>(
         answers.items ≡ answers_given O.meaning h batch.now.queries)) }
 {
     let (mut seat, draws) = shares?;
-    counter.all_drawn(&mut seat);
+    counter.recall_all_drawn(&mut seat);
     joined(alloc, batch, pieces, draws)
 }
 
@@ -146,6 +146,6 @@ fn are_legal<O: Operator, N: Name>(readers: &[Reader<O, N>])
     ensures { AllByRecursion (MayFollow O.meaning N.base) readers.now }
 {
     for reader in readers {
-        reader.is_one();
+        reader.recall();
     }
 }

@@ -112,7 +112,7 @@ impl PieceCounter {
 
     /// Says that each piece was drawn once: a seat that has all parts, and that met the end, has the number of each in its
     /// list. It reads the word, and nothing changes.
-    pub fn all_drawn(&self, seat: &mut PieceSeat)
+    pub fn recall_all_drawn(&self, seat: &mut PieceSeat)
         requires table { seat.old.table ≡ self.now.table }
         requires all { (0 < seat.old.parts) × (seat.old.parts ≡ seat.old.all) }
         requires end { 0 < past self.now.pieces seat.old.numbers }

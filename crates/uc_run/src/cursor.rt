@@ -51,10 +51,10 @@ impl<'a> Cursor<'a> {
     }
 
     /// What holds of every run: its contents make one. It does nothing.
-    pub fn is_of_run(&self)
+    pub fn recall_run(&self)
         ensures { IsRun self.now.run.low self.now.run.high self.now.run.points self.now.run.fragments }
     {
-        self.run.is_one();
+        self.run.recall();
     }
 
     /// The key of the first point that isn't passed, without a search. Where those points are passed that who looks for the
@@ -65,7 +65,7 @@ impl<'a> Cursor<'a> {
         ensures next { (low : List ℕ) (strict : Bool) → self.now.place ≡ seek_place self.now.run.points low strict →
             IsNextKey self.now.run.points low strict (option_map (λ key. key.now) result) }
     {
-        self.run.is_one();
+        self.run.recall();
         let point = self.run.entries().get(self.place)?;
         Some(point.key())
     }
@@ -89,7 +89,7 @@ impl<'a> Cursor<'a> {
         requires { self.now.place ≡ seek_place self.now.run.points key.now false }
         ensures { IfOk result (λ effect. effect ≡ effect_on O.meaning (plain_list self.now.run) key.now at) }
     {
-        self.run.is_one();
+        self.run.recall();
         plain_list_does_what_is_found::<O>();
         let points = self.run.entries();
         let end = passed_from(points, self.run.fences(), self.place, key, true);
@@ -104,7 +104,7 @@ impl<'a> Cursor<'a> {
     pub fn hidden_to(&self, key: &[u8], at: u64) -> Option<&'a [u8]>
         ensures { option_map (λ end. end.now) result ≡ hidden_to self.now.run key.now at }
     {
-        self.run.is_one();
+        self.run.recall();
         let over = fragments_near(self.run.fragments(), self.fragment, key);
         end_of_hiding(over, key, at)
     }
@@ -119,7 +119,7 @@ impl<'a> Cursor<'a> {
                   (seek_place self.old.run.points low.now strict);
             } }
     {
-        self.run.is_one();
+        self.run.recall();
         self.place = passed_from(
             self.run.entries(),
             self.run.fences(),

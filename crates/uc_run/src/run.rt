@@ -118,7 +118,7 @@ impl Run {
     }
 
     /// What holds of every run: its contents make one. It does nothing.
-    pub fn is_one(&self)
+    pub fn recall(&self)
         ensures { IsRun self.now.low self.now.high self.now.points self.now.fragments }
     {
         let _ = &self.low;

@@ -102,7 +102,7 @@ impl Seqs {
         match &self.kind {
             Kind::Own(seqs) => are_falling(seqs),
             Kind::Shared(share) => {
-                share.falls();
+                share.recall_falling();
                 true
             }
         }

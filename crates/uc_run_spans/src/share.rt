@@ -40,7 +40,7 @@ impl Share {
     }
 
     /// What holds of every value: the sequences fall. It does nothing.
-    pub(crate) fn falls(&self)
+    pub(crate) fn recall_falling(&self)
         ensures { IsFalling self.now }
     {
         self.spans.fragments();

@@ -62,7 +62,7 @@ impl<N: Name> Front<N> {
     }
 
     /// Of two fronts of one history the one that isn't longer begins the other. It does nothing.
-    pub fn begins(&self, other: &Front<N>)
+    pub fn recall_prefix(&self, other: &Front<N>)
         requires { length self.now ≤ length other.now }
         ensures { IsPrefix self.now other.now }
     {
@@ -77,7 +77,7 @@ impl<N: Name> Front<N> {
         if self.len() != other.len() {
             return false;
         }
-        self.begins(other);
+        self.recall_prefix(other);
         true
     }
 

@@ -52,7 +52,7 @@ fn are_in_place(version: &Version, runs: &[Placed]) -> bool
     requires { length runs.now ≤ MOST_SLOTS }
     ensures { IsTrue result ↔ AreInPlace version.now (ids_of runs.now) }
 {
-    version.is_one();
+    version.recall();
     neighbours_stand_where_their_ids_say();
     let ids = run_ids(runs);
     version.place_of(&ids[..runs.len()]).is_some()
@@ -98,10 +98,10 @@ impl<O: Operator, N: Name> Held<O, N> {
     }
 
     /// The stretch is two runs or more, which the pinned version has. It does nothing.
-    pub fn is_one(&self)
+    pub fn recall(&self)
         ensures { IsClaim self.now }
     {
-        self.taken.is_one();
+        self.taken.recall();
     }
 
     /// The version that was pinned.
@@ -138,7 +138,7 @@ impl<O: Operator + Sync, N: Name> Held<O, N> {
     ) -> Result<Compacted<O>, AllocError>
         ensures { IfOk result (λ made. made ≡ compaction_at self.now.pin.version self.now.stretch) }
     {
-        self.is_one();
+        self.recall();
         compact_stretch::<O>(rt, alloc, self.pin().version(), self.stretch())
     }
 }

@@ -25,12 +25,12 @@ use uc_version_state::Refusal;
 
 /// What was pinned is a beginning of what is shown, since it was shown before. It does nothing: a pin of what isn't shown yet can't
 /// be made, which no clause of a reader's says, so it would wait.
-fn was_shown<O: Operator, N: Name>(rt: &impl Wait, pin: &Pin<O, N>, shown: &Front<N>)
+fn recall_shown<O: Operator, N: Name>(rt: &impl Wait, pin: &Pin<O, N>, shown: &Front<N>)
     ensures { IsPrefix pin.now.events shown.now }
 {
     for _ in rt.forever() {
         if pin.front().len() <= shown.len() {
-            pin.begins(shown);
+            pin.recall_prefix(shown);
             return;
         }
     }
@@ -114,7 +114,7 @@ fn installed<O: Operator, N: Name, W: Wait + Drop, R: Wait>(
     let Ok(event) = event else {
         return (publisher, Err(InstallError::Memory));
     };
-    held.is_one();
+    held.recall();
     let (publisher, done) = publisher.publish(alloc, &event, held.slots());
     if done.is_err() {
         return (publisher, Err(InstallError::Memory));
@@ -140,10 +140,10 @@ fn refusal<O: Operator, N: Name, W: Wait + Drop, R: Wait>(
     ensures refused { IfSome result (λ refusal.
         IsRefused publisher.now.version (ids_of (claimed_runs held.now)) (terms_of made.now) refusal) }
 {
-    publisher.is_one();
+    publisher.recall();
     let shown = publisher.shown().front::<N>();
     reader.sees(rt, &shown);
-    was_shown(rt, held.pin(), &shown);
+    recall_shown(rt, held.pin(), &shown);
     version_refusal(publisher, held, made)
 }
 
@@ -159,11 +159,11 @@ fn version_refusal<O: Operator, N: Name, W: Wait + Drop>(
     ensures refused { IfSome result (λ refusal.
         IsRefused publisher.now.version (ids_of (claimed_runs held.now)) (terms_of made.now) refusal) }
 {
-    publisher.is_one();
-    held.is_one();
-    held.pin().is_one();
-    held.pin().version().is_one();
-    made.stands();
+    publisher.recall();
+    held.recall();
+    held.pin().recall();
+    held.pin().version().recall();
+    made.recall_standing();
     claimed_runs_stay_the_same::<O>();
     what_fits_may_be_installed::<O>();
     present_refusal(held.runs(), publisher.shown().version(), made)

@@ -57,17 +57,17 @@ impl<O: Operator, N: Name> Pin<O, N> {
     }
 
     /// The version is the one after its history, which is legal behind the store's opening. It does nothing.
-    pub fn is_one(&self)
+    pub fn recall(&self)
         ensures { IsMoment O.meaning N.book N.base self.now }
     {
         let _ = &self.share;
     }
 
     /// A history that isn't shorter begins with the pin's. It does nothing.
-    pub fn begins(&self, front: &Front<N>)
+    pub fn recall_prefix(&self, front: &Front<N>)
         requires { length self.now.events ≤ length front.now }
         ensures { IsPrefix self.now.events front.now }
     {
-        self.front.begins(front);
+        self.front.recall_prefix(front);
     }
 }

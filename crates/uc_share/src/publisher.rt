@@ -100,7 +100,7 @@ impl<O: Operator, N: Name, W: Wait + Drop> Publisher<O, N, W> {
     }
 
     /// What it shows is of the store's own history, and leads from the opening to the version. It does nothing.
-    pub fn is_one(&self)
+    pub fn recall(&self)
         ensures { IsMoment O.meaning N.book N.base self.now }
     {
         let _ = &self.rt;

@@ -74,7 +74,7 @@ impl<O: Operator, N: Name> Reader<O, N> {
     }
 
     /// What it has seen of the history, which is legal. It does nothing.
-    pub fn is_one(&self)
+    pub fn recall(&self)
         ensures { MayFollow O.meaning N.base self.now }
     {
         let _ = &self.front;
@@ -95,7 +95,7 @@ impl<O: Operator, N: Name> Reader<O, N> {
         ensures pinned { IfOk result (λ pin. pin ≡ moment N.book (fold after N.base self.new) self.new) }
         ensures refused { OnErr result (self.new ≡ self.old) }
     {
-        self.is_one();
+        self.recall();
         let Some(place) = self.place.take() else {
             unreachable!()
         };
@@ -103,7 +103,7 @@ impl<O: Operator, N: Name> Reader<O, N> {
         self.place = Some(place);
         let pin = pin?;
         let front = pin.front();
-        self.front.begins(&front);
+        self.front.recall_prefix(&front);
         self.front = front;
         Ok(pin)
     }
@@ -115,7 +115,7 @@ impl<O: Operator, N: Name> Reader<O, N> {
         ensures legal { MayFollow O.meaning N.base self.new }
         ensures all { self.new ≡ shown.now }
     {
-        self.is_one();
+        self.recall();
         for _ in rt.forever() {
             if self.pin().is_ok() && self.front.is_same(shown) {
                 return;

@@ -138,12 +138,12 @@ impl<O: Operator, N: Name, W: Wait + Drop> Store<O, N, W> {
             IsClaimRefused pin stretch (fold after N.base reader.new) refused.2) }
         ensures unseen { IfErr result (λ refused. refused.2 ≡ Memory → reader.new ≡ reader.old) }
     {
-        reader.is_one();
+        reader.recall();
         let taken = match Taken::take(&self.words, seat, pin, stretch) {
             Err(refused) => return Err(refused),
             Ok(taken) => taken,
         };
-        taken.is_one();
+        taken.recall();
         match Held::look(taken, reader) {
             Ok(held) => Ok(held),
             Err((taken, error)) => {
@@ -209,7 +209,7 @@ impl<O: Operator, N: Name, W: Wait + Drop> Store<O, N, W> {
         ensures refused { IfErr result (λ error.
             ShowsRefusal (fold after N.base reader.new) (claimed_runs held.now) made.now error) }
     {
-        reader.is_one();
+        reader.recall();
         if !are_inputs(made, held.runs()) {
             return Err(InstallError::WrongInputs);
         }

@@ -45,7 +45,7 @@ impl<O: Operator, N: Name> Taken<O, N> {
         ensures err { IfErr result (λ refused. (refused.0 ≡ seat) × (refused.1 ≡ pin)) }
         ensures refused { IfErr result (λ refused. (v : Stored) → IsClaimRefused pin stretch v refused.2) }
     {
-        pin.version().is_one();
+        pin.version().recall();
         let runs = match runs_of(pin.version().runs(), stretch) {
             Err(error) => return Err((seat, pin, error)),
             Ok(runs) => runs,
@@ -75,7 +75,7 @@ impl<O: Operator, N: Name> Taken<O, N> {
     }
 
     /// The stretch is two runs or more, which the pinned version has. It does nothing.
-    pub(crate) fn is_one(&self)
+    pub(crate) fn recall(&self)
         ensures { IsClaim self.now }
     {
         let _ = &self.stretch;
@@ -108,8 +108,8 @@ impl<O: Operator, N: Name> Taken<O, N> {
         ensures two { 2 ≤ length result.now }
         ensures few { length result.now ≤ MOST_SLOTS }
     {
-        self.is_one();
-        self.pin.version().is_one();
+        self.recall();
+        self.pin.version().recall();
         stretch_runs(self.pin.version(), self.stretch)
     }
 }

@@ -23,7 +23,7 @@ fn a_lone_seat_draws_all(rt: HostRuntime) -> Result<(), Fail> {
     if counter.draw(&mut seat).is_some() {
         panic!(rt; "no piece is left")
     }
-    counter.all_drawn(&mut seat);
+    counter.recall_all_drawn(&mut seat);
     Ok(())
 }
 

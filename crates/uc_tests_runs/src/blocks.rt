@@ -23,7 +23,7 @@ static BLOCKS: [(u8, u64); 7] = [(0, 0), (1, 1), (15, 1), (16, 1), (17, 2), (32,
 /// Whether a run is one of puts of the keys below a byte, which fill so many blocks.
 fn fills_blocks(run: &Run, end: u8, blocks: u64) -> bool {
     let count = u64::from(end);
-    run.is_one();
+    run.recall();
     run.points() == count
         && run.entries().len() as u64 == count
         && run.blocks() == blocks

@@ -55,7 +55,7 @@ fn is_wanted<O: Operator>(
     oldest: bool,
     wanted: &Run,
 ) -> bool {
-    made.stands();
+    made.recall_standing();
     made.stands_for_inputs();
     made.output().same(wanted)
         && made.inputs().len() == runs

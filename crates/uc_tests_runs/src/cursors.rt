@@ -124,7 +124,7 @@ fn wants_walk(
 fn wants_walks(rt: &impl Abort, alloc: Global, run: &Run) -> Result<(), Fail> {
     for low in 0..100 {
         let mut cursor = run.cursor(&[low]);
-        cursor.is_of_run();
+        cursor.recall_run();
         wants_walk(rt, alloc, run, &mut cursor, low)?;
     }
     Ok(())

@@ -33,7 +33,7 @@ fn compact_picked<O: Operator + Sync>(
 ) -> Result<Step, AllocError>
     ensures { IfOk result (λ step. IsStep O.meaning owned.old step owned.new) }
 {
-    owned.is_one();
+    owned.recall();
     picks_can_be_claimed();
     let Some(stretch) = owned.pick() else {
         return Ok(Step::Nothing);

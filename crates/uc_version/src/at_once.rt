@@ -46,7 +46,7 @@ impl<O: Operator> Owned<O> {
         ensures id { result ≡ self.old.version.next_id }
         ensures after { self.new ≡ after_install O.meaning self.old claim made }
     {
-        self.is_one();
+        self.recall();
         claims_can_be_compacted();
         match self.install(claim, made) {
             Ok(id) => id,
@@ -81,7 +81,7 @@ impl<O: Operator> Owned<O> {
             × (self.new ≡ after_compaction O.meaning self.old stretch)) }
         ensures err { IfErr result (λ error. IsNotCompacted self.old stretch error × (self.new ≡ self.old)) }
     {
-        self.is_one();
+        self.recall();
         claims_are_held();
         let claim = match self.claim(stretch) {
             Ok(claim) => claim,

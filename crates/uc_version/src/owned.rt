@@ -54,7 +54,7 @@ impl<O: Operator> Owned<O> {
         requires { are_good options ≡ true }
         ensures { IfOk result (λ owned. owned ≡ unclaimed version options) }
     {
-        version.is_one();
+        version.recall();
         let (table, seat) = ClaimTable::new(alloc, MOST_SLOTS)?;
         let Ok(held) = table.take(seat, &[]) else {
             unreachable!();
@@ -70,7 +70,7 @@ impl<O: Operator> Owned<O> {
     }
 
     /// What holds of every owner. It does nothing.
-    pub fn is_one(&self)
+    pub fn recall(&self)
         ensures { IsOwner self.now }
     {
         let _ = &self.version;
@@ -191,7 +191,7 @@ impl<O: Operator> Owned<O> {
             refused.2
             × (self.new ≡ self.old)) }
     {
-        made.stands();
+        made.recall_standing();
         install_gives_a_version::<O>();
         let held = held_stretch(&self.claims, &claim);
         let runs = held_runs(&self.version, &held);

@@ -41,7 +41,7 @@ fn candidates(runs: &[Placed], busy: &[bool; MOST_SLOTS]) -> [Candidate; MOST_SL
 pub fn pick(version: &Version, options: &Options, busy: &[bool; MOST_SLOTS]) -> Option<Stretch>
     ensures { result ≡ picked options.now (candidates_of version.now (λ slot. slice_index_or busy.now slot false)) }
 {
-    version.is_one();
+    version.recall();
     let runs = version.runs();
     pick_among(options, &candidates(runs, busy)[..runs.len()])
 }

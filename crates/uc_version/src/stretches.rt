@@ -33,7 +33,7 @@ pub fn compact_stretch<O: Operator + Sync>(
     requires within { stretch.first + stretch.count ≤ length version.now.runs }
     ensures { IfOk result (λ made. made ≡ compaction_at version.now stretch) }
 {
-    version.is_one();
+    version.recall();
     let runs = stretch_runs(version, stretch);
     let inputs = shared_runs(alloc, runs)?;
     let oldest = has_oldest(version, stretch);
@@ -60,7 +60,7 @@ pub fn install_event<O: Operator>(
     requires { 2 ≤ length claimed.now }
     ensures { IfOk result (λ made_event. made_event ≡ event.Installed (install_for O.meaning claimed.now made.now)) }
 {
-    made.stands();
+    made.recall_standing();
     let ids = ids_in(alloc, claimed)?;
     let keeps = made.keeps().to_vec(alloc)?;
     let output = made.output().clone()?;

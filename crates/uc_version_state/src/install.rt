@@ -93,7 +93,7 @@ impl Install {
     }
 
     /// What holds of every install: its inputs are two runs or more, and its keeps rise. It does nothing.
-    pub fn is_one(&self)
+    pub fn recall(&self)
         ensures { IsInstall self.now }
     {
         let _ = &self.oldest;

@@ -88,7 +88,7 @@ impl Version {
         ensures some { IfSome result (λ refusal. IsEventRefused self.now event.now refusal) }
     {
         let install = event.install();
-        install.is_one();
+        install.recall();
         self.install_refusal(install)
     }
 }

@@ -120,7 +120,7 @@ impl Version {
         requires { MayHappen O.meaning self.now event.now }
         ensures { IfOk result (λ version. version ≡ histories.after self.now event.now) }
     {
-        self.is_one();
+        self.recall();
         events_give_versions::<O>();
         let install = event.install();
         let first = place_of(self.runs(), newest_id(install.ids()));

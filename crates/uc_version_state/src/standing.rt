@@ -68,7 +68,7 @@ impl Version {
             × (ids_of (part_of first (length ids.now) self.now.runs) ≡ ids.now)) }
         ensures none { IfNone result ((first : ℕ) → ids_of (part_of first (length ids.now) self.now.runs) ≢ ids.now) }
     {
-        self.is_one();
+        self.recall();
         let runs = self.runs();
         if are_in_place(runs, ids) {
             Some(place_of(runs, newest_id(ids)))

@@ -43,9 +43,9 @@ fn three_runs(
           next_id = 8;
         }) }
 {
-    newest.is_one();
-    middle.is_one();
-    oldest.is_one();
+    newest.recall();
+    middle.recall();
+    oldest.recall();
     if newest.high_seq() > 5 {
         return Err(Fail::new("a sequence is above 5"));
     }
@@ -80,12 +80,12 @@ fn with_merged(
     oldest: Arc<Run>,
     merged: Arc<Run>,
 ) -> Result<Version, Fail> {
-    merged.is_one();
+    merged.recall();
     if merged.high_seq() >= newest.low_seq() {
         return Err(Fail::new("the newest run doesn't come first"));
     }
     let mut version = three_runs(alloc, newest, middle, oldest)?;
-    version.is_one();
+    version.recall();
     version.replace(1, 2, merged);
     Ok(version)
 }
@@ -184,7 +184,7 @@ fn events_are_refused_by_a_look_at_ids(rt: HostRuntime) -> Result<(), Fail> {
 fn a_version_may_be_empty(rt: HostRuntime) -> Result<(), Fail> {
     let alloc = rt.alloc();
     let version = Version::new(Vec::new(alloc), Vec::new(alloc), 0, 7);
-    version.is_one();
+    version.recall();
     wants_runs(&rt, &version, &[]);
     wants_numbers(&rt, &version, (&[], 0, 7));
     Ok(())

@@ -70,7 +70,7 @@ impl Version {
 
     /// What holds of every version: its runs are runs and stand newest first, no two have one slot or one id, and its
     /// keeps rise. It does nothing.
-    pub fn is_one(&self)
+    pub fn recall(&self)
         ensures { IsVersion self.now }
     {
         let _ = &self.last;

@@ -7,4 +7,4 @@ use Rattle.uc_compact.proofs.inputs.are_runs.Goals as goal
 pub loop-run-preserved : goal.loop-run-preserved
 loop-run-preserved c =
     one_more arc_value (λ (r : Contents). IsRun r.low r.high r.points r.fragments) c.args.inputs.now c.loop-run.run-index c.run-item.result c.loop-run-test.true c.run-item.is
-    (subst (λ (r : Contents). IsRun r.low r.high r.points r.fragments) c.deref.ensures c.is_one.ensures) c.loop-run.invariant
+    (subst (λ (r : Contents). IsRun r.low r.high r.points r.fragments) c.deref.ensures c.recall.ensures) c.loop-run.invariant

@@ -17,7 +17,7 @@ loop-front-preserved c =
     let here : r ≡ get_or runs i r = c.front-item.is ∙ ap (λ (rs : List Contents). get_or rs i r) c.loop-front.invariant.same in
     let more : take (i + 1) runs ≡ take i runs ++ r ∷ [] = take_more runs i r (search rules) ∙ ap (λ (s : Contents). take i runs ++ s ∷ []) (sym here) in
     let same_over = ap (λ (s : Contents). filter (λ g. covers g key) s.fragments) c.front-item.is in
-    let filled : AllByRecursion IsFilled r.fragments = run_filled r (subst (λ (s : Contents). IsRun s.low s.high s.points s.fragments) (sym c.front-item.is) c.covering.ensures.is_one) in
+    let filled : AllByRecursion IsFilled r.fragments = run_filled r (subst (λ (s : Contents). IsRun s.low s.high s.points s.fragments) (sym c.front-item.is) c.covering.ensures.recall) in
     record {
       same = ap (set c.loop-front.fronts i) c.covering.ensures.same ∙ set-get_or c.loop-front.fronts i r ∙ c.loop-front.invariant.same;
       over = subst (λ (rs : List Contents). AreOver key rs (map (λ seqs. seqs.now) c.match-covering.lists.items)) (sym more) (elim c.match-covering.branch [

@@ -8,10 +8,10 @@ use Rattle.uc_compact_rules.proofs.checking.is_apart.Goals as goal
 pub returns-in-None : goal.returns-in-None
 returns-in-None c =
     subst (λ (seq : ℕ). IsTrue true ↔ AllByRecursion (λ n. n ≢ seq) c.args.seqs.now) c.seq-seq.ensures.value
-    (apart_by c.seq-seq.result c.args.seqs.now false (not_among c.seq-seq.result c.args.seqs.now c.falls.ensures c.in-None.ensures))
+    (apart_by c.seq-seq.result c.args.seqs.now false (not_among c.seq-seq.result c.args.seqs.now c.recall_falling.ensures c.in-None.ensures))
 
 pub returns-in-Some : goal.returns-in-Some
 returns-in-Some c =
     let same = eqb c.in-Some.newest c.seq-seq.result in
     subst (λ (seq : ℕ). IsTrue (not same) ↔ AllByRecursion (λ n. n ≢ seq) c.args.seqs.now) c.seq-seq.ensures.value
-    (apart_by c.seq-seq.result c.args.seqs.now same (among_by c.seq-seq.result c.in-Some.newest c.args.seqs.now same c.falls.ensures c.in-Some.ensures refl))
+    (apart_by c.seq-seq.result c.args.seqs.now same (among_by c.seq-seq.result c.in-Some.newest c.args.seqs.now same c.recall_falling.ensures c.in-Some.ensures refl))

@@ -22,7 +22,7 @@ returns-clause-answered g c = λ h legal version.
     let calls = c.args.calls.now in
     let left : State = record { owner = c.replies_to-replies.new.owned; names = c.replies_to-replies.new.claims } in
     let all = ok_released m o c.release.new.owned c.new-claims.result calls left c.new-claims.ensures c.release.ensures (λ v. v.items) c.replies_to-replies.result c.replies_to-replies.ensures.ok in
-    let answered = c.asks_are_answered_from_plain_writes.ensures h (unnamed o) calls legal c.is_one.ensures (none_held o) version in
+    let answered = c.asks_are_answered_from_plain_writes.ensures h (unnamed o) calls legal c.recall.ensures (none_held o) version in
     new_answers m h o c.release.new.owned calls (λ v. v.items) c.replies_to-replies.result all answered
 
 pub returns-clause-goes_on : goal.returns-clause-goes_on
@@ -34,4 +34,4 @@ returns-clause-goes_on g c = λ h legal version.
     let all = ok_released m o c.release.new.owned c.new-claims.result calls left c.new-claims.ensures c.release.ensures (λ v. v.items) c.replies_to-replies.result c.replies_to-replies.ensures.ok in
     let stopped = err_released m o c.release.new.owned c.new-claims.result calls left c.new-claims.ensures c.release.ensures c.replies_to-replies.result c.replies_to-replies.ensures.err in
     new_version m h o c.release.new.owned calls (λ v. v.items) c.replies_to-replies.result all
-    (λ cs. c.calls_extend_histories.ensures h (unnamed o) cs legal c.is_one.ensures (none_held o) version) stopped
+    (λ cs. c.calls_extend_histories.ensures h (unnamed o) cs legal c.recall.ensures (none_held o) version) stopped

@@ -18,6 +18,6 @@ returns-in-Ok-clause-held g c =
     let room : place < MOST_CLAIMS = let e = c.from-place.ensures in let lt = c.requires.name in omega (arith, e, lt) in
     let empty = none_at names place c.index-claims-place.result (below o names are place room) c.if-is_some.ensures in
     let fine = c.in-Ok.ensures.ok.0 in
-    let more = named_more o names are place room s empty (c.claims_are_held.ensures o s c.is_one.ensures fine) in
+    let more = named_more o names are place room s empty (c.claims_are_held.ensures o s c.recall.ensures fine) in
     subst (λ (p : Owner). AreHeld p (set names place (Some c.in-Ok.claim))) (sym c.in-Ok.ensures.ok.2)
     (subst (λ (d : Claim). AreHeld (with_claim o d s) (set names place (Some d))) (sym c.in-Ok.ensures.ok.1) more)

@@ -25,7 +25,7 @@ one_run run is below = record {
 pub new-requires-2 : goal.new-requires-2
 new-requires-2 c =
     let run = arc_value c.args.run in
-    let is = subst (λ (r : Contents). IsRun r.low r.high r.points r.fragments) c.deref.ensures c.is_one.ensures in
+    let is = subst (λ (r : Contents). IsRun r.low r.high r.points r.fragments) c.deref.ensures c.recall.ensures in
     let same : c.high_seq.result ≡ run.high = c.high_seq.ensures ∙ ap (λ (r : Contents). r.high) c.deref-2.ensures in
     let below : run.high ≤ 5 = grind (arith, nat_tests) in
     subst (λ (keeps : List ℕ). IsVersion (record { runs = c.in_ok-runs.runs.items; keeps = keeps; last = 5; next_id = 1 })) (sym c.in_ok-keeps.ensures.items)

@@ -11,7 +11,7 @@ pub joined-requires-clause-drawn : goal.joined-requires-clause-drawn
 joined-requires-clause-drawn g c =
     let are : HaveDrawn g.O.Operator.meaning g.N.Name.base c.args.batch.now c.args.counter.now.pieces c.in_ok-seat.seat.numbers c.in_ok-seat.draws.items = search rules in
     subst (λ n. AreLeft 0 n c.in_ok-seat.draws.items) (search rules)
-    (all_left g.O.Operator.meaning g.N.Name.base c.args.batch.now c.args.counter.now.pieces c.in_ok-seat.seat.numbers c.in_ok-seat.draws.items are c.all_drawn.ensures.once)
+    (all_left g.O.Operator.meaning g.N.Name.base c.args.batch.now c.args.counter.now.pieces c.in_ok-seat.seat.numbers c.in_ok-seat.draws.items are c.recall_all_drawn.ensures.once)
 
 pub returns : goal.returns
 returns g c =

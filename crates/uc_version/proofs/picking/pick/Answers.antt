@@ -8,7 +8,7 @@ use Rattle.uc_version.proofs.Few.{few_runs}
 use Rattle.uc_version.proofs.picking.pick.Goals as goal
 
 pub candidates-requires-clause-few : goal.candidates-requires-clause-few
-candidates-requires-clause-few c = subst (λ (ps : List PlacedRun). length ps ≤ MOST_SLOTS) (sym c.runs-runs.ensures) (few_runs c.args.version.now c.is_one.ensures)
+candidates-requires-clause-few c = subst (λ (ps : List PlacedRun). length ps ≤ MOST_SLOTS) (sym c.runs-runs.ensures) (few_runs c.args.version.now c.recall.ensures)
 
 pub returns : goal.returns
 returns c =

@@ -13,4 +13,4 @@ compact-requires-after_bounds g c = λ κs a.
     let s = c.args.stretch in
     let inputs = ap (map arc_value) c.deref.ensures.value ∙ c.in_ok-inputs.ensures ∙ ap contents_of c.stretch_runs-runs.ensures in
     subst (λ (keeps : List ℕ). Stand (map arc_value c.deref.result.now) keeps) (sym c.keeps.ensures)
-    (subst (λ (rs : List Contents). Stand rs v.keeps) (sym inputs) (part_stands v c.is_one.ensures s.first s.count c.requires.two c.requires.within))
+    (subst (λ (rs : List Contents). Stand rs v.keeps) (sym inputs) (part_stands v c.recall.ensures s.first s.count c.requires.two c.requires.within))

@@ -47,4 +47,4 @@ new-requires-2 c =
     let second : oldest.high < middle.low = grind (arith, nat_tests) in
     subst (λ (keeps : List ℕ). IsVersion (record { runs = c.in_ok-runs.runs.items; keeps = keeps; last = 5; next_id = 8 })) (sym c.in_ok-keeps.ensures.items)
     (subst (λ (runs : List PlacedRun). IsVersion (record { runs = runs; keeps = 2 ∷ 5 ∷ []; last = 5; next_id = 8 })) (sym c.in_ok-runs.ensures.items)
-    (three newest middle oldest (subst is_run c.deref.ensures c.is_one.ensures) (subst is_run c.deref-2.ensures c.is_one-2.ensures) (subst is_run c.deref-3.ensures c.is_one-3.ensures) below first second))
+    (three newest middle oldest (subst is_run c.deref.ensures c.recall.ensures) (subst is_run c.deref-2.ensures c.recall-2.ensures) (subst is_run c.deref-3.ensures c.recall-3.ensures) below first second))

@@ -11,5 +11,5 @@ returns c =
     let s = c.self.inside in
     c.above.ensures
     ∙ ap (λ (o : Option _). slice_get (filter (λ n. ltb s.above n) (option_to_list o)) 0) c.newest_at_or_below.ensures
-    ∙ newest_in (record { above = s.above; upto = s.upto }) c.args.seqs.now c.falls.ensures
+    ∙ newest_in (record { above = s.above; upto = s.upto }) c.args.seqs.now c.recall_falling.ensures
     ∙ ap (λ (t : Stripe). slice_get (filter (is_in t) c.args.seqs.now) 0) c.self.view_is

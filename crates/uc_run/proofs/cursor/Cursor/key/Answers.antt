@@ -13,7 +13,7 @@ pub returns-in_err-point-clause-next : goal.returns-in_err-point-clause-next
 returns-in_err-point-clause-next c low strict at =
     let place = c.self.inside.place in
     let none = slice_get_past c.entries.result.now place c.in_err-point.ensures.lookup.3 in
-    let sorted = subst (λ (s : Standing). IsStrictlySortedBy entry_cmp s.run.points) c.self.view_is c.is_one.ensures.points_sorted in
+    let sorted = subst (λ (s : Standing). IsStrictlySortedBy entry_cmp s.run.points) c.self.view_is c.recall.ensures.points_sorted in
     let there =
     ap (option_map (λ key. key.now)) c.from_residual.ensures
     ∙ sym (ap (option_map (λ (p : Entry). p.key)) none)
@@ -33,5 +33,5 @@ returns-clause-there c =
 
 pub returns-clause-next : goal.returns-clause-next
 returns-clause-next c low strict at =
-    let sorted = subst (λ (s : Standing). IsStrictlySortedBy entry_cmp s.run.points) c.self.view_is c.is_one.ensures.points_sorted in
+    let sorted = subst (λ (s : Standing). IsStrictlySortedBy entry_cmp s.run.points) c.self.view_is c.recall.ensures.points_sorted in
     found_is_next low strict c.args.self.now.run.points c.args.self.now.place (Some c.key.result.now) sorted at (returns-clause-there c)

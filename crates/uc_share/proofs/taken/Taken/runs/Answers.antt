@@ -9,6 +9,6 @@ pub returns-clause-few : goal.returns-clause-few
 returns-clause-few g c =
     let s = c.self.inside.stretch in
     let v = c.self.inside.pin.version in
-    let is : IsVersion v = subst IsVersion c.version.ensures c.is_one-2.ensures in
+    let is : IsVersion v = subst IsVersion c.version.ensures c.recall-2.ensures in
     let runs = c.stretch_runs.ensures ∙ ap (λ (w : Stored). runs_at w s) c.version-2.ensures in
     subst (λ (ps : List PlacedRun). length ps ≤ MOST_SLOTS) (sym runs) (few_part v is s.first s.count)

@@ -14,9 +14,9 @@ returns-in-Ok-compaction-clause-ok g c =
     let made = c.in-Ok-compaction.ensures.ok in
     let left = subst (λ (p : Owner). IdLeft p.version) claimed.2 made.0 in (
       claimed.0,
-      may m o c.is_one.ensures s claimed.0 left,
+      may m o c.recall.ensures s claimed.0 left,
       c.put_in_place.ensures.id ∙ ap (λ (p : Owner). p.version.next_id) claimed.2,
-      compacted_now m o c.is_one.ensures s claimed.0 left c.in-Ok.claim c.claim.new.self c.put_in_place.new.self c.in-Ok-compaction.made claimed.1 claimed.2 made.1 c.put_in_place.ensures.after,
+      compacted_now m o c.recall.ensures s claimed.0 left c.in-Ok.claim c.claim.new.self c.put_in_place.new.self c.in-Ok-compaction.made claimed.1 claimed.2 made.1 c.put_in_place.ensures.after,
     )
 
 pub returns-in-Err-compaction-clause-err : goal.returns-in-Err-compaction-clause-err

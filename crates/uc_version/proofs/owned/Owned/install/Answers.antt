@@ -54,8 +54,8 @@ replace-requires-clause-version g c =
     let held_is = subst (λ (claim : Claim). held_by c.self.inside.claims claim.number ≡ Some h) (sym c.claim.view_is) c.held_stretch-held.ensures in
     let there = stands (owner c.self.inside) i.owner_is c.self.inside.held.slots i.slots number h held_is in
     let may = subst (λ (ps : List PlacedRun). IsInstallable v ps c.args.made) c.held_runs-runs.ensures c.in_default.ensures.none in
-    let legal = is_legal m v i.owner_is.version h there.0 there.1 c.args.made c.stands.ensures.stand may in
-    let is = is_replaced m v i.owner_is.version h there.0 there.1 c.args.made c.stands.ensures.stand may in
+    let legal = is_legal m v i.owner_is.version h there.0 there.1 c.args.made c.recall_standing.ensures.stand may in
+    let is = is_replaced m v i.owner_is.version h there.0 there.1 c.args.made c.recall_standing.ensures.stand may in
     subst (λ (run : Contents). IsVersion (replaced h.first h.count run v)) (sym c.into_output.ensures)
     (subst IsVersion is (c.install_gives_a_version.ensures v (install_of m v h c.args.made) i.owner_is.version legal))
 
@@ -72,8 +72,8 @@ invariant_of-self g c =
     let held_is = subst (λ (claim : Claim). held_by c.self.inside.claims claim.number ≡ Some h) (sym c.claim.view_is) c.held_stretch-held.ensures in
     let there = stands o i.owner_is slots i.slots number h held_is in
     let may = subst (λ (ps : List PlacedRun). IsInstallable v ps c.args.made) c.held_runs-runs.ensures c.in_default.ensures.none in
-    let legal = is_legal m v i.owner_is.version h there.0 there.1 c.args.made c.stands.ensures.stand may in
-    let is = is_replaced m v i.owner_is.version h there.0 there.1 c.args.made c.stands.ensures.stand may in
+    let legal = is_legal m v i.owner_is.version h there.0 there.1 c.args.made c.recall_standing.ensures.stand may in
+    let is = is_replaced m v i.owner_is.version h there.0 there.1 c.args.made c.recall_standing.ensures.stand may in
     let version = subst (λ (r : Contents). IsVersion (replaced h.first h.count r v)) (sym c.into_output.ensures) (subst IsVersion is (c.install_gives_a_version.ensures v (install_of m v h c.args.made) i.owner_is.version legal)) in
     subst (λ (w : Stored). IsOwned (record c.self.inside { version = w; held = c.give_slots.new.held; claims = c.move_up.new.claims })) (sym c.replace.ensures)
     (subst (λ (x : Holding). IsOwned (record c.self.inside { version = replaced h.first h.count run v; held = x; claims = c.move_up.new.claims })) (sym c.give_slots.ensures)

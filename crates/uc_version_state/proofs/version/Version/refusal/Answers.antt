@@ -14,4 +14,4 @@ returns-clause-some c =
 pub returns-clause-none : goal.returns-clause-none
 returns-clause-none c =
     subst (λ (e : Event). IfNone c.install_refusal.result ((m : Operation) → IsMade m c.args.self.now e → MayHappen m c.args.self.now e)) c.install-install.ensures
-    (may_be c.args.self.now c.install-install.result.now c.is_one.ensures c.install_refusal.result c.install_refusal.ensures.none)
+    (may_be c.args.self.now c.install-install.result.now c.recall.ensures c.install_refusal.result c.install_refusal.ensures.none)

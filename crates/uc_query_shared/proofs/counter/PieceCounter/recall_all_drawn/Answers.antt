@@ -1,7 +1,7 @@
 use Rattle.std.proofs.Common.{ap, sym, ◌∙◌, arith, subst}
 use Rattle.uc_query_shared.specs.Draws.{AreBelow}
 use Rattle.uc_query_shared.proofs.Moves.{looks, below_past}
-use Rattle.uc_query_shared.proofs.counter.PieceCounter.all_drawn.Goals as goal
+use Rattle.uc_query_shared.proofs.counter.PieceCounter.recall_all_drawn.Goals as goal
 
 pub load-requires : goal.load-requires
 load-requires c = (

@@ -2,7 +2,7 @@ use Rattle.std.proofs.Common.{ap, subst, List}
 use mathlib.Core.List.{IsPrefix}
 use Rattle.uc_version_state.specs.declared.event.Event.{Event}
 use Rattle.uc_share.proofs.Prefixes.{prefix_shorter}
-use Rattle.uc_share.proofs.front.Front.begins.Goals as goal
+use Rattle.uc_share.proofs.front.Front.recall_prefix.Goals as goal
 
 pub returns : goal.returns
 returns g c =

@@ -3,7 +3,7 @@ use Rattle.std.specs.Arc.{arc_value}
 use Rattle.std.specs.List.{AllByRecursion}
 use Rattle.uc_run_spans.specs.Spans.{IsFalling}
 use Rattle.uc_run_spans.proofs.Listed.{all_at}
-use Rattle.uc_run_spans.proofs.share.Share.falls.Goals as goal
+use Rattle.uc_run_spans.proofs.share.Share.recall_falling.Goals as goal
 
 pub returns : goal.returns
 returns c =
