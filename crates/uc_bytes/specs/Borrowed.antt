@@ -5,7 +5,7 @@ use Rattle.uc_bytes.specs.declared.op.Op.TheVariants as op
 use Rattle.uc_bytes.specs.declared.op_ref.OpKind.{OpKind}
 use Rattle.uc_bytes.specs.declared.op_ref.OpKind.TheVariants.{Put, Delete, Merge, DeleteRange}
 
--- the change of this kind to these texts: a deletion has one alone
+-- the change of this kind with these texts; a deletion of a key ignores the second
 abbrev pub op_of : OpKind → List ℕ → List ℕ → Op
 op_of Put key value = op.Put key value
 op_of Delete key none = op.Delete key

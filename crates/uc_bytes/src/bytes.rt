@@ -12,8 +12,8 @@ use std::marker::Model;
 
 /// An owned byte string. A contract sees it as the list of its bytes.
 ///
-/// It is made from a `Vec<u8>` and gives it back without taking memory. Strings are ordered byte
-/// by byte, a proper prefix first: the order of LevelDB's `BytewiseComparator`.
+/// It converts from and to a `Vec<u8>` without allocating. Strings are ordered byte by byte, a proper prefix first: the
+/// order of LevelDB's `BytewiseComparator`.
 #[derive(Debug, Drop)]
 pub struct Bytes {
     bytes: Vec<u8>,
@@ -28,7 +28,7 @@ impl Model for Bytes {
 }
 
 impl Bytes {
-    /// A copy of the bytes. It fails only for want of memory.
+    /// A copy of the bytes.
     pub fn from_slice(alloc: Global, bytes: &[u8]) -> Result<Bytes, AllocError>
         ensures { IfOk result (λ copy. copy ≡ bytes.now) }
     {
@@ -37,7 +37,7 @@ impl Bytes {
         })
     }
 
-    /// The bytes as the vector that holds them. It takes no memory.
+    /// The vector that holds the bytes. It doesn't allocate.
     pub fn into_vec(self) -> Vec<u8>
         ensures { result.items ≡ self }
     {
@@ -70,7 +70,7 @@ impl Bytes {
 impl From<Vec<u8>> for Bytes {
     ghost from_gives = { λ bytes b. b ≡ bytes.items };
 
-    /// Takes the vector over, without memory.
+    /// Takes over the vector without allocating.
     fn from(bytes: Vec<u8>) -> Bytes {
         Bytes { bytes }
     }
@@ -79,7 +79,7 @@ impl From<Vec<u8>> for Bytes {
 impl Clone for Bytes {
     ghost is_clone = { λ bytes copy. copy ≡ bytes };
 
-    /// A copy. It fails only for want of memory.
+    /// A copy.
     fn clone(&self) -> Result<Bytes, AllocError>
         ensures { IfOk result (λ copy. copy ≡ self.now) }
     {

@@ -8,9 +8,9 @@ use std::alloc::AllocError;
 use std::marker::Model;
 use std::slice;
 
-/// Items in their order. A contract sees them as the list of what each item is seen as.
+/// A list of items. A contract sees it as a list, with each item as contracts see it.
 ///
-/// It is made from a `Vec` and gives it back without taking memory.
+/// It converts from and to a `Vec` without allocating.
 #[derive(Debug, Drop)]
 pub struct Items<T> {
     items: Vec<T>,
@@ -25,7 +25,7 @@ impl<T> Model for Items<T> {
 }
 
 impl<T> Items<T> {
-    /// The items as the vector that holds them. It takes no memory.
+    /// The vector that holds the items. It doesn't allocate.
     pub fn into_vec(self) -> Vec<T>
         ensures { result.items ≡ self }
     {
@@ -51,7 +51,7 @@ impl<T> Items<T> {
 impl<T> From<Vec<T>> for Items<T> {
     ghost from_gives = { λ items list. list ≡ items.items };
 
-    /// Takes the vector over, without memory.
+    /// Takes over the vector without allocating.
     fn from(items: Vec<T>) -> Items<T> {
         Items { items }
     }
@@ -60,7 +60,7 @@ impl<T> From<Vec<T>> for Items<T> {
 impl<T: Clone> Clone for Items<T> {
     ghost is_clone = { AllZip T.is_clone };
 
-    /// A copy of each item. It fails only where an item's copy does, or for want of memory.
+    /// A copy of each item. It also fails if an item's copy does.
     fn clone(&self) -> Result<Items<T>, AllocError> {
         Ok(Items {
             items: self.items.clone()?,

@@ -1,11 +1,13 @@
 //! Byte strings and lists as contracts see them, and the writes that are made of them.
 //!
-//! Keys, values, operands and payloads are [`Bytes`] wherever a contract compares them, and lists of
-//! them or of other things are [`Items`]: a public field is never a bare `Vec`. Read `bytes.rt` first.
+//! Keys, values, operands and payloads are [`Bytes`] wherever a contract compares them, and lists of them or of other
+//! things are [`Items`]: a public field is never a bare `Vec`. Read `bytes.rt` first.
 //!
 //! A write is what a user asks the store to change, with the sequence number that orders it. Logs, the meaning of
 //! reads, scripts and runs all speak of [`Op`] and [`Write`]; [`OpRef`] and [`WriteRef`] are the same with borrowed
 //! texts. Read `op.rt` first.
+//!
+//! An `Err(AllocError)` comes only if an allocation fails.
 #![tactic(auto)]
 
 mod bytes;

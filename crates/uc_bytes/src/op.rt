@@ -6,9 +6,9 @@ use std::alloc::AllocError;
 
 /// One change to the store, as RocksDB's `WriteBatch` has them.
 ///
-/// Keys are ordered by their bytes. A merge's operand is combined with what stands below it when
-/// the key is read (RocksDB wiki, "Merge Operator"); a range deletion covers the keys from `begin`
-/// to below `end` (RocksDB wiki, "DeleteRange"), and none where `begin` is not below `end`.
+/// Keys are ordered by their bytes. A read of a key combines a merge's operand with the value below it (RocksDB wiki,
+/// "Merge Operator"). A range deletion covers the keys from `begin` to below `end` (RocksDB wiki, "DeleteRange"): none
+/// if `begin` is not below `end`.
 #[derive(Debug, PartialEq, Eq, Drop)]
 pub enum Op {
     /// Sets a key, the first, to a value, the second.
@@ -22,7 +22,7 @@ pub enum Op {
 }
 
 impl Clone for Op {
-    /// A copy. It fails only for want of memory.
+    /// A copy.
     fn clone(&self) -> Result<Op, AllocError>
         ensures { IfOk result (λ copy. copy ≡ self.now) }
     {

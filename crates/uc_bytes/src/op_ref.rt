@@ -21,12 +21,12 @@ pub enum OpKind {
     DeleteRange,
 }
 
-/// An [`Op`] whose texts are borrowed, so that it takes no memory. A contract sees it as the `Op`.
+/// An [`Op`] with borrowed texts, so it takes no memory. A contract sees it as the `Op`.
 #[derive(Debug, Drop)]
 pub struct OpRef<'a> {
     kind: OpKind,
     first: &'a [u8],
-    // Empty where the kind has one text alone.
+    // Empty if the kind has only one text.
     second: &'a [u8],
 }
 
@@ -40,7 +40,7 @@ impl<'a> Model for OpRef<'a> {
 }
 
 impl<'a> OpRef<'a> {
-    /// The same with its texts borrowed.
+    /// Borrows the texts of `op`.
     pub fn of(op: &'a Op) -> OpRef<'a>
         ensures { result ≡ op.now }
     {
@@ -96,14 +96,14 @@ impl<'a> OpRef<'a> {
         }
     }
 
-    /// What it does, and its texts in the order of [`Op`]'s. Where `Op` has one, the second is of no account.
+    /// What it does, and its texts in the order of [`Op`]'s. The second is ignored if `Op` has only one.
     pub fn parts(&self) -> (OpKind, &'a [u8], &'a [u8])
         ensures { op_of result.0 result.1.now result.2.now ≡ self.now }
     {
         (self.kind, self.first, self.second)
     }
 
-    /// A copy that owns its texts. It fails only for want of memory.
+    /// A copy that owns its texts.
     pub fn to_op(&self, alloc: Global) -> Result<Op, AllocError>
         ensures { IfOk result (λ op. op ≡ self.now) }
     {

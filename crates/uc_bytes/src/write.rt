@@ -17,7 +17,7 @@ pub struct Write {
 }
 
 impl Clone for Write {
-    /// A copy. It fails only for want of memory.
+    /// A copy.
     fn clone(&self) -> Result<Write, AllocError>
         ensures { IfOk result (λ copy. copy ≡ self.now) }
     {

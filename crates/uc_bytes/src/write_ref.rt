@@ -6,7 +6,7 @@ use crate::write::Write;
 use std::alloc::{AllocError, Global};
 use std::marker::Model;
 
-/// A [`Write`] whose texts are borrowed, so that it takes no memory. A contract sees it as the `Write`.
+/// A [`Write`] with borrowed texts, so it takes no memory. A contract sees it as the `Write`.
 #[derive(Debug, Drop)]
 pub struct WriteRef<'a> {
     seq: u64,
@@ -29,7 +29,7 @@ impl<'a> WriteRef<'a> {
         WriteRef { seq, op }
     }
 
-    /// The same with its texts borrowed.
+    /// Borrows the texts of `write`.
     pub fn of(write: &'a Write) -> WriteRef<'a>
         ensures { result ≡ write.now }
     {
@@ -50,7 +50,7 @@ impl<'a> WriteRef<'a> {
         &self.op
     }
 
-    /// A copy that owns its texts. It fails only for want of memory.
+    /// A copy that owns its texts.
     pub fn to_write(&self, alloc: Global) -> Result<Write, AllocError>
         ensures { IfOk result (λ write. write ≡ self.now) }
     {
