@@ -24,7 +24,7 @@ composed m older Keep = older
 composed m older (Fold y) = folded m older y
 composed m older (Set v) = Set v
 
--- what two effects do in turn, one effect does
+-- applying a composition of two effects equals applying both in turn
 pub applied-composed : (m : Operation) → IsLawful m → (older newer : Effect) (value : Option (List ℕ)) → applied m (composed m older newer) value ≡ applied m newer (applied m older value)
 applied-composed m laws older Keep value = refl
 applied-composed m laws older (Set v) value = refl
@@ -33,7 +33,7 @@ applied-composed m laws (Set v) (Fold y) value = refl
 applied-composed m laws (Fold x) (Fold y) None = ap Some (laws.first_pair x y)
 applied-composed m laws (Fold x) (Fold y) (Some b) = ap Some (laws.join_pair b x y)
 
--- three effects in turn may be grouped either way
+-- composition of effects is associative
 pub composed_assoc : (m : Operation) → IsLawful m → (a b c : Effect) → composed m (composed m a b) c ≡ composed m a (composed m b c)
 composed_assoc m laws a b Keep = refl
 composed_assoc m laws a b (Set v) = refl
@@ -44,7 +44,7 @@ composed_assoc m laws (Fold x) (Fold y) (Fold z) = ap Fold (laws.pair_assoc x y 
 composed_assoc m laws (Set None) (Fold y) (Fold z) = ap (λ (v : List ℕ). Set (Some v)) (sym (laws.first_pair y z))
 composed_assoc m laws (Set (Some b)) (Fold y) (Fold z) = ap (λ (v : List ℕ). Set (Some v)) (sym (laws.join_pair b y z))
 
--- to keep a value changes no effect
+-- `Keep` before an effect changes nothing
 pub composed-Keep_left : (m : Operation) (e : Effect) → composed m Keep e ≡ e
 composed-Keep_left m Keep = refl
 composed-Keep_left m (Fold y) = refl

@@ -3,11 +3,11 @@ use Rattle.std.specs.Prelude.{◌≡◌, ℕ, List}
 
 -- an operator's three functions, on lists of bytes
 pub record Operation : Type 0 where
-  -- the value that a first operand makes where there is none
+  -- the value that a first operand makes if there is none
   pub first : List ℕ → List ℕ
   -- the value that an operand makes of the one before it
   pub join : List ℕ → List ℕ → List ℕ
-  -- one operand in the place of an older and a newer one
+  -- one operand that replaces an older and a newer one
   pub pair : List ℕ → List ℕ → List ℕ
 
 -- operands may be combined before they meet a value, in any grouping

@@ -19,8 +19,8 @@ pub enum Effect {
 }
 
 impl Effect {
-    /// What both effects do in turn, this one first. Its text is written into and not copied, so many newer
-    /// effects in turn cost the length of their texts and of the last one. Want of memory loses both.
+    /// Composes both effects, this one first. It writes into this effect's text instead of copying it. So composing
+    /// many newer effects in turn costs the length of their texts and of the last one. An `Err` loses both.
     pub fn then<O: Operator>(self, alloc: Global, newer: Effect) -> Result<Effect, AllocError>
         ensures { IfOk result (λ both. both ≡ composition.composed O.meaning self newer) }
     {
@@ -34,8 +34,7 @@ impl Effect {
         }
     }
 
-    /// What this effect and a newer operand do in turn: [`Effect::then`] of an operand that is lent. Want of
-    /// memory loses the effect.
+    /// Composes this effect and a newer operand: [`Effect::then`] for a borrowed operand. An `Err` loses the effect.
     pub fn folded<O: Operator>(self, alloc: Global, operand: &[u8]) -> Result<Effect, AllocError>
         ensures { IfOk result (λ both. both ≡ composition.folded O.meaning self operand.now) }
     {
@@ -49,7 +48,7 @@ impl Effect {
         })
     }
 
-    /// The value that the effect makes of a value, or of none. Want of memory loses both.
+    /// The value that the effect makes of a value, or of none. An `Err` loses both.
     pub fn apply<O: Operator>(
         self,
         alloc: Global,

@@ -1,8 +1,10 @@
 //! Merge operators and effects.
 //!
-//! An operator is a type: it says how an operand of a merge combines with a value, or with an older
-//! operand, and proves the three laws under which operands may be combined in any grouping. An
-//! effect is what some writes together do to one key. Read `operator.rt` first, then `effect.rt`.
+//! An operator is a type: it says how an operand of a merge combines with a value, or with an older operand, and proves
+//! the three laws by which operands may be grouped in any way. An effect is what some writes together do to one key.
+//! Read `operator.rt` first, then `effect.rt`.
+//!
+//! An `Err(AllocError)` comes only if an allocation fails.
 #![tactic(auto)]
 
 mod append;

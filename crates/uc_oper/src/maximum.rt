@@ -48,14 +48,12 @@ impl Operator for Maximum {
         Vec::from_slice(alloc, greater_of(older, newer))
     }
 
-    /// Keeps the value where it is the greater. It takes memory only where the value has no room for the
-    /// operand.
+    /// Keeps the value if it is the greater. It allocates only if the value has no room for the operand.
     fn join_onto(_: Global, base: Vec<u8>, operand: &[u8]) -> Result<Vec<u8>, AllocError> {
         keep_greater(base, operand)
     }
 
-    /// Keeps the older operand where it is the greater. It takes memory only where that has no room for the
-    /// newer one.
+    /// Keeps the older operand if it is the greater. It allocates only if that has no room for the newer one.
     fn pair_onto(_: Global, older: Vec<u8>, newer: &[u8]) -> Result<Vec<u8>, AllocError> {
         keep_greater(older, newer)
     }

@@ -6,7 +6,7 @@ use crate::operator::Operator;
 use std::alloc::{AllocError, Global};
 use uc_bytes::Bytes;
 
-/// What an operand makes of a value, in its memory, or of none. Want of memory loses the value.
+/// Applies an operand to a value, in the value's memory, or to none. An `Err` loses the value.
 pub fn merged<O: Operator>(
     alloc: Global,
     value: Option<Bytes>,

@@ -4,17 +4,17 @@ ghost use Rattle.uc_oper.specs.Operation.{Operation, IsLawful};
 
 use std::alloc::{AllocError, Global};
 
-/// How the operands of merges combine (RocksDB wiki, "Merge Operator": an associative merge with a
-/// partial merge that may always be made).
+/// How the operands of merges combine (RocksDB wiki, "Merge Operator": an associative merge with a partial merge that
+/// may always be made).
 ///
-/// An operator is a type without values, so values of two operators are never mixed. Each function
-/// fails only for want of memory. An implementation gives the first three; the two that take the older
-/// text by value mean the same, and those that write into its memory cost no copy of it.
+/// An operator is a type without values, so values of two operators are never mixed. An implementation provides the
+/// first three functions. The two that take the older text by value mean the same. Those that write into its memory
+/// save a copy of it.
 pub trait Operator {
     /// The three functions, on lists of bytes.
     ghost meaning: { Operation };
 
-    /// The value that a first operand makes where the key has none.
+    /// The value that a first operand makes if the key has none.
     fn first(alloc: Global, operand: &[u8]) -> Result<Vec<u8>, AllocError>
         ensures { IfOk result (λ value. value.items ≡ meaning.first operand.now) };
 
@@ -26,14 +26,14 @@ pub trait Operator {
     fn pair(alloc: Global, older: &[u8], newer: &[u8]) -> Result<Vec<u8>, AllocError>
         ensures { IfOk result (λ operand. operand.items ≡ meaning.pair older.now newer.now) };
 
-    /// [`Operator::join`] into the memory of the value before it, which want of memory loses.
+    /// [`Operator::join`] into the memory of the value before it. An `Err` loses that value.
     fn join_onto(alloc: Global, base: Vec<u8>, operand: &[u8]) -> Result<Vec<u8>, AllocError>
         ensures { IfOk result (λ value. value.items ≡ meaning.join base.items operand.now) }
     {
         Self::join(alloc, base.as_slice(), operand)
     }
 
-    /// [`Operator::pair`] into the memory of the older operand, which want of memory loses.
+    /// [`Operator::pair`] into the memory of the older operand. An `Err` loses that operand.
     fn pair_onto(alloc: Global, older: Vec<u8>, newer: &[u8]) -> Result<Vec<u8>, AllocError>
         ensures { IfOk result (λ operand. operand.items ≡ meaning.pair older.items newer.now) }
     {
