@@ -27,7 +27,7 @@ Gives key (Delete named) = ⊥
 Gives key (Merge named operand) = named ≡ key
 Gives key (DeleteRange begin end) = ⊥
 
--- a read of a key at a sequence sees a write that stands at or below the sequence and touches the key
+-- a read of a key at a sequence sees a write that is at or below the sequence and touches the key
 abbrev pub is_seen : List ℕ → ℕ → Write → Bool
 is_seen key at w = nat_le w.seq at && touches_key key w.op
 
@@ -42,11 +42,11 @@ changed m value (Delete named) = None
 changed m value (Merge named operand) = Some (merged m value operand)
 changed m value (DeleteRange begin end) = None
 
--- what a key's value before the writes, oldest first, has become at a sequence
+-- a key's value at a sequence, folded over the writes, oldest first, from a value before them
 abbrev pub value_from : Operation → Option (List ℕ) → List Write → List ℕ → ℕ → Option (List ℕ)
 value_from m value writes key at = fold (λ v w. changed m v w.op) value (touching writes key at)
 
--- a key's value at a sequence: what no value has become by the writes, oldest first
+-- a key's value at a sequence, folded over the writes, oldest first, from no value
 abbrev pub value_of : Operation → List Write → List ℕ → ℕ → Option (List ℕ)
 value_of m writes key at = value_from m None writes key at
 
@@ -57,11 +57,11 @@ effect_of (Delete named) = Set None
 effect_of (Merge named operand) = Fold operand
 effect_of (DeleteRange begin end) = Set None
 
--- what some writes, oldest first, do in turn to a key that each of them touches
+-- the composed effect of writes, oldest first, on a key that each of them touches
 abbrev pub effect_in_turn : Operation → List Write → Effect
 effect_in_turn m writes = fold (λ effect w. composed m effect (effect_of w.op)) Keep writes
 
--- what the writes, oldest first, at or below a sequence together do to a key
+-- the composed effect on a key of the writes, oldest first, at or below a sequence
 abbrev pub effect_on : Operation → List Write → List ℕ → ℕ → Effect
 effect_on m writes key at = effect_in_turn m (touching writes key at)
 
@@ -69,6 +69,6 @@ effect_on m writes key at = effect_in_turn m (touching writes key at)
 abbrev pub touching_within : List Write → List ℕ → ℕ → ℕ → List Write
 touching_within writes key low high = filter (λ w. nat_lt low w.seq && is_seen key high w) writes
 
--- what the writes of a stripe, oldest first, together do to a key: those above `low`, at or below `high`
+-- the composed effect on a key of a stripe: the writes above `low` and at or below `high`, oldest first
 abbrev pub effect_within : Operation → List Write → List ℕ → ℕ → ℕ → Effect
 effect_within m writes key low high = effect_in_turn m (touching_within writes key low high)

@@ -13,8 +13,8 @@ ghost use Rattle.uc_model.specs.Meaning.{touches_key, Gives, changed, value_from
 
 use uc_oper::Operator;
 
-/// A put, a delete and a merge touch the key that they name and no other. A range deletion touches the keys
-/// that are not below its begin and are below its end, so none where its begin is not below its end.
+/// A put, a delete and a merge touch the key that they name and no other. A range deletion touches the keys at or above
+/// its begin and below its end: none if its begin is not below its end.
 pub fn keys_are_touched_by_name_or_range()
     ensures put { (key named value : List ℕ) → IsTrue (touches_key key (Put named value)) ↔ (named ≡ key) }
     ensures delete { (key named : List ℕ) → IsTrue (touches_key key (Delete named)) ↔ (named ≡ key) }
@@ -25,7 +25,7 @@ pub fn keys_are_touched_by_name_or_range()
         touches_key key (DeleteRange begin end) ≡ false }
 {}
 
-/// The effect of the writes on a key, applied to any value before them, is what they make of it.
+/// Applying the effect of the writes to any value before them gives what the writes make of it.
 pub fn effect_gives_value<O: Operator>()
     ensures from { (value : Option (List ℕ)) (writes : List Write) (key : List ℕ) (at : ℕ) →
         applied O.meaning (effect_on O.meaning writes key at) value ≡ value_from O.meaning value writes key at }
@@ -33,7 +33,7 @@ pub fn effect_gives_value<O: Operator>()
         applied O.meaning (effect_on O.meaning writes key at) None ≡ value_of O.meaning writes key at }
 {}
 
-/// Writes above a sequence do nothing to what is read there, so they change nothing of it.
+/// Writes above a sequence change nothing that is read there.
 pub fn later_writes_change_nothing<O: Operator>()
     ensures alone { (later : List Write) (key : List ℕ) (at : ℕ) → AllByRecursion (λ w. at < w.seq) later →
         effect_on O.meaning later key at ≡ Keep }
@@ -43,7 +43,7 @@ pub fn later_writes_change_nothing<O: Operator>()
         value_of O.meaning (writes ++ later) key at ≡ value_of O.meaning writes key at }
 {}
 
-/// Writes that don't touch a key do nothing to it, so they change nothing of what others do.
+/// Writes that don't touch a key change nothing of it.
 pub fn untouched_key_keeps_its_value<O: Operator>()
     ensures alone { (others : List Write) (key : List ℕ) (at : ℕ) →
         AllByRecursion (λ w. touches_key key w.op ≡ false) others → effect_on O.meaning others key at ≡ Keep }
@@ -55,8 +55,8 @@ pub fn untouched_key_keeps_its_value<O: Operator>()
         value_of O.meaning (writes ++ others) key at ≡ value_of O.meaning writes key at }
 {}
 
-/// Without writes no key has a value, and each further write changes the value of the keys that it
-/// touches, as read at its sequence or above.
+/// Without writes no key has a value. Each further write changes the value of the keys that it touches, as read at its
+/// sequence or above.
 pub fn each_write_changes_what_it_touches<O: Operator>()
     ensures none { (key : List ℕ) (at : ℕ) → value_of O.meaning [] key at ≡ None }
     ensures more { (writes : List Write) (w : Write) (key : List ℕ) (at : ℕ) →
@@ -66,16 +66,15 @@ pub fn each_write_changes_what_it_touches<O: Operator>()
         else value_of O.meaning writes key at) }
 {}
 
-/// The effect of writes is the effect of their first part and then that of the others, wherever they
-/// are parted.
+/// Wherever a list of writes is cut, its effect is the effect of the first part composed with that of the second.
 pub fn effects_of_parts_compose<O: Operator>()
     ensures { (older newer : List Write) (key : List ℕ) (at : ℕ) →
         effect_on O.meaning (older ++ newer) key at ≡
         composed O.meaning (effect_on O.meaning older key at) (effect_on O.meaning newer key at) }
 {}
 
-/// What the first part of the writes makes of a value, changed by the effect of the others, is what all make
-/// of it, wherever they are parted and whatever the value before them.
+/// Wherever a list of writes is cut, the first part makes something of a value, and the second part's effect makes of
+/// that what all writes make of the value.
 pub fn effect_continues_value<O: Operator>()
     ensures from { (value : Option (List ℕ)) (older newer : List Write) (key : List ℕ) (at : ℕ) →
         value_from O.meaning value (older ++ newer) key at ≡
@@ -85,9 +84,9 @@ pub fn effect_continues_value<O: Operator>()
         applied O.meaning (effect_on O.meaning newer key at) (value_of O.meaning older key at) }
 {}
 
-/// Of writes whose sequences don't fall, the effect at a sequence is the effect at a lower one and then that of
-/// the stripe between them; so the value there is what the stripe makes of the value at the lower one. Stripes
-/// that meet compose.
+/// If sequences don't fall, the effect at a sequence is the effect at a lower one composed with that of the stripe
+/// between them. So the stripe turns the value at the lower sequence into the value at the higher one. Stripes that
+/// meet compose.
 pub fn effects_of_stripes_compose<O: Operator>()
     ensures below { (writes : List Write) (key : List ℕ) (low high : ℕ) →
         IsNonDecreasingBy (λ w. w.seq) writes → low ≤ high →
@@ -103,7 +102,7 @@ pub fn effects_of_stripes_compose<O: Operator>()
         (effect_within O.meaning writes key low middle) (effect_within O.meaning writes key middle high) }
 {}
 
-/// A key that has a value at a sequence is named by a put or a merge at or below it.
+/// If a key has a value at a sequence, a put or a merge at or below it names the key.
 pub fn value_is_given<O: Operator>()
     ensures { (writes : List Write) (key value : List ℕ) (at : ℕ) →
         value_of O.meaning writes key at ≡ Some value → Any (λ w. (w.seq ≤ at) × Gives key w.op) writes }

@@ -1,8 +1,9 @@
 //! What a read means, and the plain slow program that computes it.
 //!
 //! The model is one flat list of writes, oldest first, and one left fold for each key. It knows no run, memtable or
-//! compaction: whatever keeps the writes in another way has to answer as this crate does. Read
-//! `specs/Meaning.antt` first.
+//! compaction: any other way to keep the writes must answer as this crate does. Read `specs/Meaning.antt` first.
+//!
+//! An `Err(AllocError)` comes only if an allocation fails.
 #![tactic(auto)]
 
 mod laws;

@@ -6,8 +6,8 @@ use std::alloc::{AllocError, Global};
 use uc_bytes::{Bytes, Op, Write};
 use uc_oper::{Effect, Operator, merged};
 
-/// Whether an operation touches a key: it names the key, or it deletes a range from `begin` to below
-/// `end` that holds it (RocksDB wiki, "DeleteRange").
+/// Whether an operation touches a key: it names the key, or it deletes a range that holds it, from `begin` to below
+/// `end` (RocksDB wiki, "DeleteRange").
 pub fn touches_key(op: &Op, key: &[u8]) -> bool
     ensures { result ≡ meaning.touches_key key.now op.now }
 {
@@ -21,8 +21,7 @@ pub fn touches_key(op: &Op, key: &[u8]) -> bool
     }
 }
 
-/// Whether a read of a key at a sequence sees a write: it stands at or below the sequence, and touches
-/// the key.
+/// Whether a read of a key at a sequence sees a write: the write is at or below the sequence and touches the key.
 fn is_seen(write: &Write, key: &[u8], at: u64) -> bool
     ensures { result ≡ meaning.is_seen key.now at write.now }
 {
@@ -44,8 +43,8 @@ fn changed<O: Operator>(
     }
 }
 
-/// A key's value at a sequence: the writes at or below it that touch the key, folded from no value. The list
-/// stands oldest first. It looks at every write, and fails only for want of memory.
+/// A key's value at a sequence: the writes at or below it that touch the key, folded from no value. The list stands
+/// oldest first. It looks at every write.
 pub fn value_at<O: Operator>(
     alloc: Global,
     writes: &[Write],
@@ -63,8 +62,8 @@ pub fn value_at<O: Operator>(
     Ok(value)
 }
 
-/// What the writes at or below a sequence together do to a key: their single effects, composed. The list
-/// stands oldest first. It looks at every write, and fails only for want of memory.
+/// What the writes at or below a sequence together do to a key: their single effects, composed. The list stands oldest
+/// first. It looks at every write.
 pub fn effect_at<O: Operator>(
     alloc: Global,
     writes: &[Write],
