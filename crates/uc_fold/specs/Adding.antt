@@ -1,10 +1,10 @@
--- Totals, added place by place. A sum that 64 bits don't hold stays at the greatest number they do.
+-- Totals, added field by field. Each sum is at most 2^64 - 1.
 use Rattle.std.specs.Prelude.{◌≡◌, ℕ, ◌+◌, ◌-◌, ◌^◌, ◌<◌, min}
 use Rattle.std.proofs.Common.{arith}
 use Rattle.uc_fold.specs.declared.totals.Totals.{Totals}
 use Rattle.uc_fold.specs.Joining.{IsLawful}
 
--- a sum, held at 2^64 - 1
+-- a sum, at most 2^64 - 1
 abbrev pub held_sum : ℕ → ℕ → ℕ
 held_sum a b = min (a + b) (2 ^ 64 - 1)
 
@@ -28,7 +28,7 @@ IsHeld t = (t.points < 2 ^ 64) × (t.fragments < 2 ^ 64) × (t.size < 2 ^ 64)
 abbrev totals : ℕ → ℕ → ℕ → Totals
 totals p f s = record { points = p; fragments = f; size = s }
 
--- equal place by place
+-- equal field by field
 same : (p q f g s t : ℕ) → p ≡ q → f ≡ g → s ≡ t → totals p f s ≡ totals q g t
 same p q f g s t a b c = λ i. totals (a i) (b i) (c i)
 

@@ -30,7 +30,7 @@ impl<O: Operator> Joins for Effects<O> {
         Effect::Keep
     }
 
-    /// What both do in turn.
+    /// Both effects, composed.
     fn join(alloc: Global, older: Effect, newer: Effect) -> Result<Effect, AllocError> {
         older.then::<O>(alloc, newer)
     }

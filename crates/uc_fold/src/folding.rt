@@ -7,11 +7,10 @@ use std::alloc::{AllocError, Global};
 use std::marker::Sync;
 use std::thread::Threads;
 
-/// All parts joined from left to right, from the unit on.
+/// Joins all parts from left to right, starting from the unit.
 ///
-/// A long list is cut into pieces that threads fold side by side; wherever it is cut, an `Ok` is
-/// what one thread would make of the whole. Want of memory is the only error: a join that is
-/// refused makes the whole fold fail, and the parts are lost.
+/// A long list is cut into pieces that threads fold side by side. Wherever it is cut, an `Ok` is what one thread would
+/// make of the whole. If a join fails, the whole fold fails, and the parts are lost.
 pub fn fold_all<J: Joins + Sync>(
     rt: &(impl Threads + Sync),
     alloc: Global,

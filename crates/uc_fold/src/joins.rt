@@ -5,11 +5,11 @@ ghost use Rattle.uc_fold.specs.Joining.{IsLawful};
 use std::alloc::{AllocError, Global};
 use std::marker::Send;
 
-/// How an older part and the newer one behind it become one part.
+/// How an older part and the newer one after it become one part.
 ///
-/// An implementation is a type of which no value is needed, so parts that are joined in two ways
-/// are never mixed. Neighbours may be joined in any grouping, but in no other order (RocksDB wiki,
-/// "Merge Operator": an associative merge).
+/// An implementation is a type of which no value is needed, so parts that are joined in two ways are never mixed.
+/// Neighbours may be joined in any grouping, but in no other order (RocksDB wiki, "Merge Operator": an associative
+/// merge).
 pub trait Joins {
     /// What is joined.
     type Part: Send + Drop;
@@ -17,7 +17,7 @@ pub trait Joins {
     /// Which values a part can have. A `u64` has no greatest value in proofs, so it is said here.
     ghost fits: { Self.Part → Type 0 };
 
-    /// What [`Joins::unit`] gives.
+    /// What [`Joins::unit`] returns.
     ghost unit: { Self.Part };
 
     /// What [`Joins::join`] makes of an older and a newer part.
@@ -27,7 +27,7 @@ pub trait Joins {
     fn unit() -> Self::Part
         ensures { result ≡ unit };
 
-    /// Both parts as one, the older first. Want of memory is its only error, and loses both.
+    /// Both parts as one, the older first. An `Err` loses both.
     fn join(alloc: Global, older: Self::Part, newer: Self::Part) -> Result<Self::Part, AllocError>
         ensures { IfOk result (λ both. both ≡ join older newer) };
 

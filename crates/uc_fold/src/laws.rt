@@ -14,7 +14,7 @@ pub fn joins_are_associative<J: Joins>()
     ensures { (a b c : J.Part) → J.join (J.join a b) c ≡ J.join a (J.join b c) }
 {}
 
-/// The unit changes no part, before it and behind it.
+/// The unit changes no part, before it or after it.
 pub fn unit_changes_nothing<J: Joins>()
     ensures left { (part : J.Part) → J.fits part → J.join J.unit part ≡ part }
     ensures right { (part : J.Part) → J.fits part → J.join part J.unit ≡ part }
@@ -26,13 +26,13 @@ pub fn folds_may_be_cut<J: Joins>()
         ≡ J.join (fold J.join J.unit front) (fold J.join J.unit back) }
 {}
 
-/// A fold of effects does to a value what the effects do one after the other.
+/// Applying a fold of effects equals applying the effects one after the other.
 pub fn effects_act_in_turn<O: Operator>()
     ensures { (effects : List EffectOf) (value : Option (List ℕ)) →
         applied O.meaning (fold (composed O.meaning) EffectOf.Keep effects) value ≡ applied_in_turn O.meaning value effects }
 {}
 
-/// Each total is the sum over all parts, or 2^64 - 1 where that is less.
+/// Each total is the sum over all parts, but at most 2^64 - 1.
 pub fn sums_are_held()
     ensures points { (parts : List TotalsOf) →
         (fold added nothing parts).points ≡ min (sum_by (λ t. t.points) parts) (2 ^ 64 - 1) }

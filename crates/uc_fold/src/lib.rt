@@ -1,10 +1,11 @@
 //! Folds of many parts in several threads.
 //!
-//! What writes do to a key, and what runs hold in all, is known part by part, and the parts are put
-//! together in order. [`Joins`] says how two neighbours become one; since grouping doesn't matter,
-//! [`fold_all`] may cut a list anywhere, fold the pieces in threads of their own, and still give
-//! what one thread gives that goes from left to right. [`Effects`] joins effects on one key, and
-//! [`Sums`] adds totals. Read `joins.rt` first, then `folding.rt`.
+//! Effects of writes on a key, and totals of runs, are known part by part, and the parts are joined in order. [`Joins`]
+//! says how two neighbours become one. Since grouping doesn't matter, [`fold_all`] may cut a list anywhere and fold the
+//! pieces in threads of their own. Its result is that of one thread that goes from left to right. [`Effects`] joins
+//! effects on one key, and [`Sums`] adds totals. Read `joins.rt` first, then `folding.rt`.
+//!
+//! An `Err(AllocError)` comes only if an allocation fails.
 #![tactic(auto)]
 
 mod effects;

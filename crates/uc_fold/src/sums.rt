@@ -6,7 +6,7 @@ use crate::joins::Joins;
 use crate::totals::Totals;
 use std::alloc::{AllocError, Global};
 
-/// Adds totals. Each sum is held at 2^64 - 1, and none is refused.
+/// Adds totals. Each sum is at most 2^64 - 1, and none is refused.
 pub enum Sums {}
 
 impl Joins for Sums {
@@ -29,7 +29,7 @@ impl Joins for Sums {
         }
     }
 
-    /// The sums of both. It takes no memory, so it never fails.
+    /// The sums of both. It doesn't allocate, so it never fails.
     fn join(_: Global, older: Totals, newer: Totals) -> Result<Totals, AllocError>
         ensures { result ≡ Ok (added older newer) }
     {
