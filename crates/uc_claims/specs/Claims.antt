@@ -39,7 +39,8 @@ AreApart seats =
 abbrev pub Sitting : Type 0
 Sitting = Me (Unit {0}) Claimant
 
--- where 0 was found, the slot goes behind the list, in which it did not stand. Else the list stays, and where the seat is whole, it is the list that has the slot
+-- if 0 was found, the slot is appended to the list, which did not have it. Otherwise the list stays, and a whole seat's
+-- list has the slot
 abbrev pub Exchanged : Step (Unit {0}) → Sitting → ℕ → Sitting → Type 0
 Exchanged at before found after =
     (after.1 ≡ before.1)
@@ -59,12 +60,14 @@ Looked at before found after = (after.1 ≡ before.1) × (after.0 ≡ before.0) 
 abbrev pub slot_bit : List ℕ → ℕ → ℕ
 slot_bit groups slot = bit_at (slice_index groups (slot / 64)) (slot % 64)
 
--- What a seat remembers at run time: a bit for each slot, which is how often the slot stands in its list. There none stands that the table has not
+-- What a seat remembers at run time: a bit for each slot, which is how often the slot is in its list. The list has no
+-- slot that the table doesn't have
 pub record Recorded (count : ℕ) (groups : List ℕ) (slots : List ℕ) : Type 0 where
   pub bits : (slot : ℕ) → slot_bit groups slot ≡ times slot slots
   pub inside : (slot : ℕ) → count ≤ slot → times slot slots ≡ 0
 
--- What the flags of a closed table show: with the seats' lists at the end, by the rule, which slots stand in one of them still. One of the seats is that which closed it
+-- What the flags of a closed table show: for some final lists of the seats that keep the rule, which slots are still in
+-- one of them. One of the seats is that which closed it
 pub record ShowsTaken (count : ℕ) (whole : Bool) (flags : List Bool) : Type 0 where
   pub words : List ℕ
   pub seats : List Claimant

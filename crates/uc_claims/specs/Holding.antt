@@ -24,7 +24,7 @@ abbrev pub AreDistinct : List ℕ → Type 0
 AreDistinct [] = ⊤
 AreDistinct (slot ∷ slots) = (list_any (λ x. x == slot) slots ≡ false) × AreDistinct slots
 
--- the slots that stay, in their order, where those of `gone` are given back
+-- the slots that stay, in their order, after those of `gone` are given back
 abbrev pub without : List ℕ → List ℕ → List ℕ
 without gone slots = filter (λ slot. not (list_any (λ x. x == slot) gone)) slots
 
@@ -36,7 +36,7 @@ NoneHeld asked held = All (λ slot. ¬ Contains held slot) asked
 abbrev pub IsFirstHeld : List ℕ → List ℕ → ℕ → Type 0
 IsFirstHeld asked held slot = (before : List ℕ) × (rest : List ℕ) × (asked ≡ before ++ slot ∷ rest) × NoneHeld before held × Contains held slot
 
--- a table of words alone, of which its rule was told the number
+-- a table of words alone; its rule was told their number
 pub record IsLaid (key : ℕ) (table : TableId) : Type 0 where
   pub keyed : key ≡ table.words
   pub some : 0 < table.words

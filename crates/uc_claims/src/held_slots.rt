@@ -10,12 +10,12 @@ use std::marker::Model;
 
 /// A seat and the slots that it holds. While it lives, no other seat of its table gets one of them.
 ///
-/// Contracts see it as a `Holding`, whose list has the slots in the order in which they were taken.
-/// Give it back by [`ClaimTable::give`](crate::ClaimTable::give): dropped, it leaves its slots taken for good.
+/// Contracts see it as a `Holding`, whose list has the slots in the order in which they were taken. Give it back by
+/// [`ClaimTable::give`](crate::ClaimTable::give): if it is dropped, its slots stay taken for good.
 #[derive(Drop)]
 pub struct HeldSlots {
     pub(crate) token: Token<(), Claimant>,
-    // Which slots stand in the list, which itself exists in proofs alone.
+    // The slots of the list; the list itself exists in proofs alone.
     pub(crate) set: SlotSet,
 }
 
@@ -45,7 +45,7 @@ impl HeldSlots {
         }
     }
 
-    /// The seat alone, where it holds nothing any more.
+    /// The seat alone, once it holds nothing.
     pub(crate) fn into_seat(self) -> Seat
         requires { self.slots ≡ [] }
         ensures seat { result ≡ free_seat self.table self.whole }
@@ -63,7 +63,7 @@ impl HeldSlots {
         self.set.any()
     }
 
-    /// Whether the slot is among those held here. A slot that the table has not is never.
+    /// Whether the slot is among those held here. It is `false` for a slot that the table doesn't have.
     pub fn has(&self, slot: usize) -> bool
         ensures { IsTrue result ↔ Contains self.now.slots slot }
     {

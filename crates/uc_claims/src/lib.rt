@@ -1,13 +1,14 @@
 //! Slots that threads claim for a compaction, by one atomic word for each slot.
 //!
-//! A [`ClaimTable`] has a word for each of its slots: 0 while the slot is free, 1 while somebody has it.
-//! A thread acts through a [`Seat`], a token without bytes: it takes slots, which turns the seat into
-//! [`HeldSlots`], and gives them back. No call takes a lock or waits for another thread.
-//! What is proved over every interleaving of any number of seats: a word is how often its slot stands in
-//! the lists of all seats together, and that is never more than once.
-//! So no slot is ever in the lists of two seats, which [`laws::no_slot_in_two_lists`] states.
+//! A [`ClaimTable`] has a word for each of its slots: 0 while the slot is free, 1 while somebody has it. A thread acts
+//! through a [`Seat`], a token without bytes: it takes slots, which turns the seat into [`HeldSlots`], and gives them
+//! back. No call takes a lock or waits for another thread. Proved for every interleaving of any number of seats: a word
+//! counts how often its slot is in the lists of all seats, which is at most once. So no slot is ever in two seats'
+//! lists ([`laws::no_slot_in_two_lists`]).
 //!
-//! Begin with `rule.rt`, which has the rule and the kinds of step that keep it, then `table.rt`.
+//! Read `rule.rt` first, for the rule and the kinds of step that keep it, then `table.rt`.
+//!
+//! An `Err(AllocError)` comes only if an allocation fails.
 #![tactic(auto)]
 
 mod busy;

@@ -11,7 +11,7 @@ const BITS: usize = 64;
 /// How many groups there are.
 const GROUPS: usize = MOST_SLOTS / BITS;
 
-/// A set of slots. It is moved with each take and give, so it is a few numbers at the most.
+/// A set of slots. Each take and give moves it, so it is only a few numbers.
 #[derive(Drop)]
 pub(crate) struct SlotSet {
     groups: [u64; GROUPS],
@@ -27,7 +27,7 @@ impl SlotSet {
         }
     }
 
-    /// Whether the slot is in the set. A slot that no table has is never.
+    /// Whether the slot is in the set. It is `false` for a slot that no table has.
     pub(crate) fn has(&self, slot: usize) -> bool
         ensures { IsTrue result ↔ (slot_bit self.now.groups slot ≡ 1) }
     {

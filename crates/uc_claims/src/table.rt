@@ -42,8 +42,7 @@ impl Model for ClaimTable {
 }
 
 impl ClaimTable {
-    /// A table of `count` free slots, numbered from 0, with a whole seat. `Err` where memory runs out: no
-    /// other call takes any.
+    /// A table of `count` free slots, numbered from 0, with a whole seat. No other call allocates.
     pub fn new(alloc: Global, count: usize) -> Result<(ClaimTable, Seat), AllocError>
         requires some { 0 < count }
         requires few { count ≤ MOST_SLOTS }
@@ -55,7 +54,7 @@ impl ClaimTable {
         Ok((ClaimTable { table }, Seat { token }))
     }
 
-    /// Two seats in place of one, neither of them whole.
+    /// Splits a seat in two, neither of them whole.
     pub fn split(&self, mut seat: Seat) -> (Seat, Seat)
         requires { seat.table ≡ self.now.table }
         ensures left { result.0 ≡ free_seat self.now.table false }
@@ -65,7 +64,7 @@ impl ClaimTable {
         (seat, Seat { token })
     }
 
-    /// One seat in place of two. It is not whole, since slots may have been dropped in between.
+    /// Joins two seats into one. It is not whole, since slots may have been dropped in between.
     pub fn join(&self, mut seat: Seat, other: Seat) -> Seat
         requires seat { seat.table ≡ self.now.table }
         requires other { other.table ≡ self.now.table }
@@ -78,13 +77,13 @@ impl ClaimTable {
         seat
     }
 
-    /// Takes the slots, in the order of the list, all of them or none.
+    /// Takes the slots in the order of the list: all of them or none.
     ///
-    /// At the first one that is taken already it gives those before it back, and the answer is that slot
-    /// with the seat as it was. A whole seat gets what it asks for.
+    /// At the first slot that is already taken it gives the earlier ones back, and returns that slot with the seat as
+    /// it was. A whole seat is never refused.
     ///
-    /// Of a refusal the contract says that the slot was asked for, and not that it is taken: the other seats'
-    /// lists are known to nobody. That it is, the tests of two seats and of four threads hold.
+    /// For a refusal the contract says only that the slot was asked for, since it knows nothing of other seats' lists.
+    /// The tests of two seats and of four threads check that the slot is taken.
     pub fn take(&self, seat: Seat, slots: &[usize]) -> Result<HeldSlots, (Seat, Busy)>
         requires table { seat.table ≡ self.now.table }
         requires below { All (λ slot. slot < self.now.count) slots.now }
@@ -101,11 +100,11 @@ impl ClaimTable {
         }
     }
 
-    /// Takes further slots in the same way, behind those that are held.
+    /// Takes further slots in the same way, after those that are held.
     ///
-    /// At the first one that is taken already, by whomever, it gives those before it back, and the answer is
-    /// that slot with what was held before. A whole seat is refused exactly where it holds a slot that it
-    /// asks for, and the first such slot is named.
+    /// At the first slot that is already taken, by whomever, it gives the earlier ones back, and returns that slot with
+    /// what was held before. A whole seat is refused exactly if it holds a slot that it asks for; the first such slot
+    /// is named.
     pub fn take_more(
         &self,
         mut held: HeldSlots,
@@ -125,8 +124,8 @@ impl ClaimTable {
         }
     }
 
-    /// Takes further slots as [`take_more`](ClaimTable::take_more) does, for an owner who can't give the held
-    /// ones out of its hands. A refusal leaves what is held as it was.
+    /// [`take_more`](ClaimTable::take_more) in place, for an owner that can't move out what it holds. A refusal changes
+    /// nothing.
     pub fn take_more_in_place(&self, held: &mut HeldSlots, slots: &[usize]) -> Result<(), Busy>
         requires table { held.old.table ≡ self.now.table }
         requires below { All (λ slot. slot < self.now.count) slots.now }
@@ -156,8 +155,7 @@ impl ClaimTable {
         held
     }
 
-    /// Gives some of the slots back as [`give_some`](ClaimTable::give_some) does, for an owner who can't give
-    /// the held ones out of its hands.
+    /// [`give_some`](ClaimTable::give_some) in place, for an owner that can't move out what it holds.
     pub fn give_some_in_place(&self, held: &mut HeldSlots, slots: &[usize])
         requires table { held.old.table ≡ self.now.table }
         requires distinct { AreDistinct slots.now }
@@ -182,8 +180,8 @@ impl ClaimTable {
 
     /// Whether the slot is taken, at one moment during the call. The seat stays as it was.
     ///
-    /// To a whole seat the answer is `false`: there is no other seat, and it holds no slot itself. To another
-    /// seat the answer may be out of date once it is there.
+    /// For a whole seat the answer is `false`: there is no other seat, and it holds no slot itself. For another seat
+    /// the answer may be out of date when it arrives.
     pub fn busy(&self, seat: &mut Seat, slot: usize) -> bool
         requires table { seat.old.table ≡ self.now.table }
         requires below { slot < self.now.count }
@@ -193,12 +191,12 @@ impl ClaimTable {
         self.table.shared.load::<Look>(&mut seat.token, slot) != FREE
     }
 
-    /// Ends the table, and says which slots stand in the list of some seat still: of one that was dropped with
-    /// its slots, or that is left over. Past the last slot of the table the flags are false.
+    /// Ends the table, and returns which slots are still in some seat's list: that of a seat dropped with its slots, or
+    /// left over. Flags past the table's last slot are false.
     ///
-    /// To a whole seat all are false. For another seat any flags of the table's slots meet the contract, since
-    /// nothing is known of the lists of other seats: that a flag is true exactly where the slot's word is 1, the
-    /// test `dropped_slots_stay_taken` holds.
+    /// For a whole seat all are false. For another seat the contract allows any flags for the table's slots, since it
+    /// knows nothing of other seats' lists. The test `dropped_slots_stay_taken` checks that a flag is true exactly if
+    /// the slot's word is 1.
     pub fn close(self, seat: Seat) -> [bool; MOST_SLOTS]
         requires { seat.table ≡ self.table }
         ensures flags { ShowsTaken self.count seat.whole result }
