@@ -1,7 +1,7 @@
 -- Lists of bits, and the numbers that they write.
 use Rattle.std.specs.Prelude.{ℕ, zero, suc, ◌+◌, ◌*◌, ◌/◌, ◌%◌, Bool, false, not, List, [], ◌∷◌, map, flat_map, replicate, ◌==◌, if◌then◌else◌}
 
--- the lowest bits of a number, as many as count says, the lowest first
+-- the lowest `count` bits of a number, the lowest first
 unfoldable pub lowest_first : ℕ → ℕ → List Bool
 lowest_first zero n = []
 lowest_first (suc count) n = (n % 2 == 1) ∷ lowest_first count (n / 2)
@@ -11,12 +11,12 @@ unfoldable pub number_of : List Bool → ℕ
 number_of [] = 0
 number_of (bit ∷ bits) = (if bit then 1 else 0) + 2 * number_of bits
 
--- the bits of a message in the order of the reflected CRCs: byte by byte, the lowest bit of each
--- first. Of an element that is no byte the low eight bits count
+-- the bits of a message in the order of the reflected CRCs: byte by byte, the lowest bit of each first. If an element
+-- is no byte, its low eight bits count
 unfoldable pub bits_of : List ℕ → List Bool
 bits_of bytes = flat_map (lowest_first 8) bytes
 
--- each bit turned over
+-- each bit flipped
 unfoldable pub inverted : List Bool → List Bool
 inverted bits = map not bits
 

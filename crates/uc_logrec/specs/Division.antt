@@ -4,8 +4,8 @@ use Rattle.std.specs.Prelude.{◌≡◌, ℕ, zero, suc, ◌+◌, ◌-◌, Bool,
 use Rattle.std.specs.Bool.{xor}
 use Rattle.uc_logrec.specs.Bits.{lowest_first, zeros}
 
--- the sum, and so the difference, of two polynomials whose lists begin at one power: bit by bit, with
--- no carry. What one list has beyond the other stays
+-- the sum, and so the difference, of two polynomials whose lists begin at one power: bit by bit, without carry. What
+-- one list has beyond the other stays
 unfoldable pub xor_bits : List Bool → List Bool → List Bool
 xor_bits [] ys = ys
 xor_bits (x ∷ xs) [] = x ∷ xs
@@ -20,8 +20,8 @@ polynomial = reverse (lowest_first 32 0x1edc6f41)
 unfoldable pub divisor : List Bool
 divisor = true ∷ polynomial
 
--- one step of long division: where the leading bit is set, the divisor is taken away from the front;
--- the leading bit, which is 0 by then, is dropped
+-- one step of long division: if the leading bit is set, the divisor is subtracted from the front; the leading bit, 0 by
+-- then, is dropped
 unfoldable pub divide_step : List Bool → List Bool
 divide_step [] = []
 divide_step (bit ∷ bits) = drop 1 (xor_bits (if bit then divisor else []) (bit ∷ bits))
@@ -30,14 +30,13 @@ unfoldable pub divide_steps : ℕ → List Bool → List Bool
 divide_steps zero bits = bits
 divide_steps (suc count) bits = divide_steps count (divide_step bits)
 
--- what long division by the divisor leaves: a step for each bit before the last 32
+-- the remainder of long division by the divisor: a step for each bit before the last 32
 unfoldable pub remainder : List Bool → List Bool
 remainder bits = divide_steps (length bits - 32) bits
 
 -- ---- that this is division
 
--- the product of two polynomials as on paper: for each 1 of the first the second, in its place, all of
--- them summed
+-- the product of two polynomials as on paper: the sum of the second, shifted, for each 1 of the first
 unfoldable pub product : List Bool → List Bool → List Bool
 product [] ys = zeros (length ys - 1)
 product (x ∷ xs) ys = xor_bits (if x then ys else []) (false ∷ product xs ys)

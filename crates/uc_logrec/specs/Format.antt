@@ -14,7 +14,7 @@ use Rattle.uc_logrec.specs.declared.log_record.Stop.TheVariants.{End, Cut, Bad}
 abbrev pub room : ℕ → ℕ
 room offset = 32768 - offset % 32768
 
--- where the next header may begin: a header has seven bytes, and where fewer are left in the block, they are a trailer
+-- where the next header may begin: a header has seven bytes, and if fewer are left in the block, they are a trailer
 abbrev pub header_place : ℕ → ℕ
 header_place offset = if nat_lt (room offset) 7 then offset + room offset else offset
 
@@ -51,8 +51,8 @@ stored_length rest = from_le_bytes w16 (slice_index rest 4 ∷ slice_index rest 
 abbrev pub stored_code : List ℕ → ℕ
 stored_code rest = slice_index rest 6
 
--- What stands at a header place, where the block has so many bytes left and the log has the rest: a
--- record of this kind with so many bytes of data, or the first reason why there is none.
+-- What is at a header place, if the block has `space` bytes left and the log has the rest: a record of this kind with
+-- this number of data bytes, or the first reason why there is none.
 unfoldable pub record_of : ℕ → List ℕ → Result (Kind × ℕ) Stop
 record_of space rest =
     let len = stored_length rest in

@@ -5,13 +5,13 @@ use Rattle.uc_logrec.specs.Format.{room}
 use Rattle.uc_logrec.specs.Log.{log_text}
 use Rattle.uc_logrec.specs.Grammar.{Stand, place_behind, Group, Whole, Pieces, group_records, payload_of, sentence}
 
--- The records of a payload, of which the first stands at this place: each but the last fills its block, and the last
--- has data, unless it is the only one, as that of an empty payload is. No FIRST without data is dropped.
+-- A payload's records, the first at this place. Each but the last fills its block, and the last has data, unless it is
+-- the only one (as for an empty payload). No FIRST without data is dropped.
 abbrev pub FillsBlocks : ℕ → Group → Type 0
 FillsBlocks place (Whole dropped payload) = dropped ≡ 0
 FillsBlocks place (Pieces dropped first middles last) = (dropped ≡ 0) × (7 + length first ≡ room place) × AllByRecursion (λ middle. 7 + length middle ≡ 32768) middles × (0 < length last)
 
--- and so do those of payloads one after the other
+-- the same for payloads one after the other
 abbrev pub AllFillBlocks : ℕ → List Group → Type 0
 AllFillBlocks place [] = Unit {0}
 AllFillBlocks place (group ∷ groups) = FillsBlocks place group × AllFillBlocks (place_behind place (group_records group)) groups

@@ -10,15 +10,15 @@ use Rattle.uc_logrec.specs.declared.log_record.Stop.TheVariants.{End, Cut, Bad}
 use Rattle.uc_logrec.specs.Steps.{Fragments, StepWithData, Complete, Open, Refused}
 use Rattle.uc_logrec.specs.Format.{room, header_place, record_text, record_of}
 
--- where no payload is open, a FULL is one and a FIRST begins one
+-- if no payload is open, a FULL is one and a FIRST begins one
 abbrev pub step_outside : ℕ → Kind → List ℕ → StepWithData
 step_outside offset Full fragment = Complete fragment
 step_outside offset First fragment = Open (record { start = offset; payload = fragment; is_empty_first = length fragment == 0 })
 step_outside offset Middle fragment = Refused MiddleAlone
 step_outside offset Last fragment = Refused LastAlone
 
--- where a payload is open, a MIDDLE goes on and a LAST completes it. Another one may begin only where the
--- open one is nothing but a FIRST without data, which is dropped
+-- if a payload is open, a MIDDLE continues it and a LAST completes it. Another may begin only if the open one is
+-- nothing but a FIRST without data, which is dropped
 abbrev pub step_inside : Fragments → ℕ → Kind → List ℕ → StepWithData
 step_inside unfinished offset Full fragment = if unfinished.is_empty_first then step_outside offset Full fragment else Refused FullInside
 step_inside unfinished offset First fragment = if unfinished.is_empty_first then step_outside offset First fragment else Refused FirstInside
@@ -29,7 +29,7 @@ abbrev pub step_at : Option Fragments → ℕ → Kind → List ℕ → StepWith
 step_at None offset kind fragment = step_outside offset kind fragment
 step_at (Some unfinished) offset kind fragment = step_inside unfinished offset kind fragment
 
--- how a log ends where no record stands: a payload that is open is torn at its first fragment
+-- how a log ends if no record is there: an open payload is torn at its first fragment
 abbrev pub ending_at : Stop → Option Fragments → ℕ → Ending
 ending_at End None offset = Clean
 ending_at End (Some unfinished) offset = Torn unfinished.start
@@ -48,7 +48,7 @@ ended ending = record { payloads = []; ending = ending }
 abbrev pub with_payload : List ℕ → Reading → Reading
 with_payload payload reading = record { payloads = payload ∷ reading.payloads; ending = reading.ending }
 
--- what is read from a record on, where go reads what stands behind it
+-- what is read from a record on; go reads what follows it
 abbrev pub after_step : (Option Fragments → Reading) → ℕ → StepWithData → Reading
 after_step go offset (Complete payload) = with_payload payload (go None)
 after_step go offset (Open fragments) = go (Some fragments)
@@ -59,7 +59,7 @@ after_record go unfinished offset rest (Ok found) =
     after_step (λ still_open. go still_open (offset + 7 + found.1) (drop found.1 (drop 7 rest))) offset (step_at unfinished offset found.0 (take found.1 (drop 7 rest)))
 after_record go unfinished offset rest (Err stop) = ended (ending_at stop unfinished offset)
 
--- what is read from an offset on, with no more than so many places
+-- what is read from an offset on, in at most this number of places
 unfoldable pub reading_from : ℕ → Option Fragments → ℕ → List ℕ → Reading
 reading_from zero unfinished offset rest = ended Clean
 reading_from (suc places) unfinished offset rest =
@@ -85,7 +85,7 @@ ending_of bytes = (reading_of bytes).ending
 abbrev pub trailer : ℕ → List ℕ
 trailer offset = replicate (header_place offset - offset) 0
 
--- what stands behind a FIRST, in no more than so many blocks: MIDDLEs that fill theirs, and a LAST
+-- what follows a FIRST, in at most `blocks` blocks: MIDDLEs that fill theirs, and a LAST
 unfoldable pub blocks_text : ℕ → List ℕ → List ℕ
 blocks_text zero payload = []
 blocks_text (suc blocks) payload =
@@ -118,11 +118,11 @@ text_from offset (payload ∷ payloads) =
 abbrev pub log_text : List (List ℕ) → List ℕ
 log_text payloads = text_from 0 payloads
 
--- what was added stands behind what was there
+-- what was added follows what was there
 abbrev pub Extends : List ℕ → List ℕ → Type 0
 Extends old new = (more : List ℕ) × (new ≡ old ++ more)
 
--- what is read of a written log is what was written, and it ends clean
+-- reading a written log returns what was written, and it ends clean
 pub record IsReadAgain (payloads : List (List ℕ)) : Type 0 where
   pub same : payloads_of (log_text payloads) ≡ payloads
   pub clean : ending_of (log_text payloads) ≡ Clean

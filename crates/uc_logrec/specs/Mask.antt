@@ -5,11 +5,11 @@ use Rattle.std.specs.Prelude.{ℕ, ◌+◌, ◌-◌, ◌*◌, ◌/◌, ◌%◌, 
 abbrev pub mask_delta : ℕ
 mask_delta = 0xa282ead8
 
--- the low 15 bits change places with the 17 above them, and the delta is added modulo 2^32
+-- swaps the low 15 bits with the 17 above them, then adds the delta modulo 2^32
 unfoldable pub masked : ℕ → ℕ
 masked crc = (crc % 2 ^ 15 * 2 ^ 17 + crc / 2 ^ 15 + mask_delta) % 2 ^ 32
 
--- the delta is taken away modulo 2^32, and the low 17 bits change places with the 15 above them
+-- subtracts the delta modulo 2^32, then swaps the low 17 bits with the 15 above them
 unfoldable pub unmasked : ℕ → ℕ
 unmasked stored =
     let turned = (stored + (2 ^ 32 - mask_delta)) % 2 ^ 32 in

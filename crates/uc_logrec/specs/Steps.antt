@@ -12,7 +12,7 @@ pub record Fragments : Type 0 where
   pub payload : List ℕ
   pub is_empty_first : Bool
 
--- a payload is complete and none is open now, this one is open now, or the record can't stand there
+-- a payload is complete and none is open now; or this one is open now; or the record can't be there
 pub data StepWithData : Type 0 where
   Complete : List ℕ → StepWithData
   Open : Fragments → StepWithData
@@ -28,7 +28,7 @@ abbrev pub open_in : Option Unfinished → List ℕ → Option Fragments
 open_in None joined = None
 open_in (Some unfinished) joined = Some (fragments_of unfinished joined)
 
--- what a step means, where the buffer has this behind it and the record is of this fragment
+-- what a step means, if the buffer has `joined` after it and the record has this fragment
 abbrev pub step_with_data : Step → List ℕ → List ℕ → StepWithData
 step_with_data step.Whole joined fragment = Complete fragment
 step_with_data step.Joined joined fragment = Complete joined

@@ -13,13 +13,12 @@ pub fn crc32c(bytes: &[u8]) -> u32
     extend(0, bytes)
 }
 
-/// The CRC-32C of a message whose front has the checksum `crc` and whose other bytes are `bytes`, so
-/// that a message can be summed piece by piece (LevelDB's `crc32c::Extend`). The first piece extends
-/// the checksum 0.
+/// The CRC-32C of a message, whose front has the checksum `crc`, and whose other bytes are `bytes`. So a message can be
+/// summed piece by piece (LevelDB's `crc32c::Extend`). The first piece extends the checksum 0.
 pub fn extend(crc: u32, bytes: &[u8]) -> u32
     ensures continues { (front : List ℕ) → crc ≡ crc_of front
         → result ≡ crc_of (front ++ bytes.now) }
-    // The result for each `crc`, whether a front of it is known or not.
+    // The result for each `crc`, even if no front with that checksum is known.
     ensures exact { result ≡ extended crc bytes.now }
 {
     let (words, rest) = bytes.as_chunks::<8>();

@@ -2,9 +2,10 @@
 ghost use Rattle.std.specs.Prelude.{◌≡◌, ◌≤◌, Bool, List, length};
 ghost use Rattle.uc_logrec.specs.Division.{IsDivision, remainder};
 
-/// The division by which a checksum is defined is division: a polynomial over GF(2) of 32
-/// coefficients or more is a multiple of the divisor plus its remainder, and no other remainder will
-/// do. The contract is the law, and a call does nothing.
+/// The division that defines a checksum is division. A polynomial over GF(2) of 32 coefficients or more is a multiple
+/// of the divisor plus its remainder, and no other remainder will do.
+///
+/// Proof step: does nothing when it runs.
 pub fn division()
     ensures exists { (bits : List Bool) → 32 ≤ length bits
         → (quotient : List Bool) × IsDivision bits quotient (remainder bits) }

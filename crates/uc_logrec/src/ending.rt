@@ -4,10 +4,10 @@ use crate::fault::LogFault;
 /// How a log ends. Offsets are in bytes from the log's start.
 #[derive(Clone, Copy, Debug, PartialEq, Eq)]
 pub enum Ending {
-    /// Behind a complete payload. Zero bytes to the log's end may follow.
+    /// After a complete payload. Zero bytes to the log's end may follow.
     Clean,
-    /// Inside a payload, as when the writer was stopped. The offset is that of the payload's first
-    /// record, or of the record that is cut off where none of its records is whole.
+    /// Inside a payload, as when the writer was stopped. The offset is that of the payload's first record, or of the
+    /// record that is cut off if none of its records is whole.
     Torn(u64),
     /// At a record that can't stand there, and its offset.
     Fault(LogFault, u64),

@@ -3,8 +3,7 @@ use thiserror::Error;
 
 /// What is wrong with a record of a log.
 ///
-/// The first fault is where the reading ends. The types and the order of fragments are those of
-/// LevelDB's `log_format.md`.
+/// Reading ends at the first fault. The types and the order of fragments are those of LevelDB's `log_format.md`.
 #[derive(Clone, Copy, Debug, PartialEq, Eq, Error)]
 pub enum LogFault {
     /// The length passes the end of the block.
@@ -17,16 +16,16 @@ pub enum LogFault {
     /// whose types are above 4, are not read.
     #[error("the record's type is not 1 to 4 (recycled and compressed logs are not read)")]
     UnsupportedType,
-    /// A MIDDLE comes where no payload was begun.
+    /// A MIDDLE, but no payload was begun.
     #[error("a MIDDLE record comes without a FIRST before it")]
     MiddleAlone,
-    /// A LAST comes where no payload was begun.
+    /// A LAST, but no payload was begun.
     #[error("a LAST record comes without a FIRST before it")]
     LastAlone,
-    /// A FULL comes before the payload that was begun is complete.
+    /// A FULL, before the payload that was begun is complete.
     #[error("a FULL record comes before the LAST of an unfinished payload")]
     FullInside,
-    /// A FIRST comes before the payload that was begun is complete.
+    /// A FIRST, before the payload that was begun is complete.
     #[error("a FIRST record comes before the LAST of an unfinished payload")]
     FirstInside,
 }

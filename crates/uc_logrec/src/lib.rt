@@ -1,21 +1,22 @@
 //! The records of a write-ahead log, read and written: LevelDB's `log_format.md`.
 //!
-//! A log is a row of blocks of 32,768 bytes. A record has a header of seven bytes (a masked CRC-32C, a
-//! length, a type) and its data; a payload that does not fit its block is cut into a FIRST, MIDDLEs and
-//! a LAST. [`LogReader`] gives the payloads of a log one at a time and says how it ends, [`read_log`] all of
-//! them at once; [`LogWriter`] writes a log.
+//! A log is a sequence of blocks of 32,768 bytes. A record has a header of seven bytes (a masked CRC-32C, a length, a
+//! type) and its data. A payload that does not fit its block is cut into a FIRST, MIDDLEs and a LAST. [`LogReader`]
+//! returns the payloads of a log one at a time and how it ends; [`read_log`] returns all of them at once; [`LogWriter`]
+//! writes a log.
 //!
-//! Read `kind.rt` and `log_record.rt` first: what a record is. `step.rt` has the payload that is not
-//! complete yet, and `log_reader.rt` and `log_writer.rt` the two directions. What a log means is said in
-//! `specs/Grammar.antt`, by the grammar of its records; [`log_is_read_by_grammar`] is the law that the reader
-//! keeps to it, and [`written_log_is_read`] the law that what is written is read again.
+//! Read `kind.rt` and `log_record.rt` first: what a record is. `step.rt` has the payload that is not complete yet;
+//! `log_reader.rt` and `log_writer.rt` have the two directions. `specs/Grammar.antt` defines what a log means by the
+//! grammar of its records. By the law [`log_is_read_by_grammar`] the reader keeps to it; by [`written_log_is_read`] it
+//! reads again what was written.
 //!
-//! The checksum is [`crc32c`], and [`mask`] the form in which a log stores it. What a checksum is stands in
-//! `specs/`: `Bits` (the bits of bytes and numbers), `Division` (long division of polynomials over GF(2)), `Crc` (a
-//! message's remainder, inverted at both ends) and `Mask` (the masked form). None of it knows of the tables by
-//! which the code goes. Read `checksum.rt` first, then `register.rt`, which takes eight bytes at a time from the
-//! tables of `table.rt`. [`division`] is the law that the division of `specs/` is division. No call of the checksum
-//! takes memory or fails.
+//! The checksum is [`crc32c`], and [`mask`] the form in which a log stores it. `specs/` defines the checksum: `Bits`
+//! (the bits of bytes and numbers), `Division` (long division of polynomials over GF(2)), `Crc` (a message's remainder,
+//! inverted at both ends) and `Mask` (the masked form). None of it mentions the code's tables. Read `checksum.rt`
+//! first, then `register.rt`, which takes eight bytes at a time from the tables of `table.rt`. [`division`] is the law
+//! that the division of `specs/` is division. The checksum never allocates or fails.
+//!
+//! An `Err(AllocError)` comes only if an allocation fails.
 #![tactic(auto)]
 
 mod checksum;

@@ -20,10 +20,9 @@ pub struct LogRead {
     pub ending: Ending,
 }
 
-/// Reads a log: its complete payloads, up to the first place where it ends, is torn or has a fault.
+/// Reads a log: its complete payloads, up to where it ends, is torn or has its first fault.
 ///
-/// The bytes are read once, front to back. It fails only for want of memory, and takes memory for data
-/// that is there, whatever a length field says.
+/// The bytes are read once, front to back. It allocates only for data that is there, whatever a length field says.
 pub fn read_log(alloc: Global, bytes: &[u8]) -> Result<LogRead, AllocError>
     ensures payloads { IfOk result (λ read. read.payloads ≡ payloads_of bytes.now) }
     ensures ending { IfOk result (λ read. read.ending ≡ ending_of bytes.now) }

@@ -22,12 +22,12 @@ pub enum Next<'a> {
     Ended(Ending),
 }
 
-/// Goes through a log, front to back, and gives its complete payloads one at a time.
+/// Returns a log's complete payloads one at a time, front to back.
 ///
-/// Contracts see how many it has given, and what is ahead of it: the payloads to come and the ending.
+/// Contracts see how many it has returned, and what is ahead of it: the payloads to come and the ending.
 #[derive(Debug, Drop)]
 pub struct LogReader<'a> {
-    // Where the last payload ended, and the bytes from there.
+    // The end of the last payload, and the bytes from there.
     place: usize,
     left: &'a [u8],
     payloads_read: u64,
@@ -56,18 +56,18 @@ impl<'a> LogReader<'a> {
         }
     }
 
-    /// How many payloads it has given.
+    /// How many payloads it has returned.
     pub fn payloads_read(&self) -> u64
         ensures { result ≡ self.now.payloads_read }
     {
         self.payloads_read
     }
 
-    /// The next payload or, behind the last one, the ending, which is given again if it is asked for again.
+    /// The next payload or, after the last one, the ending, again at each further call.
     ///
-    /// The buffer is for a payload that stands there in several pieces; what was in it before is of no
-    /// use, and one buffer serves for all payloads. It fails only for want of memory, and then nothing is passed
-    /// over. It takes memory for data that is there, whatever a length field says.
+    /// The buffer is for a payload of several pieces. Its former content is ignored, and one buffer serves for all
+    /// payloads. After an `Err` nothing is passed over. It allocates only for data that is there, whatever a length
+    /// field says.
     pub fn next(&mut self, joined: &mut Vec<u8>) -> Result<Next<'a>, AllocError>
         ensures ok { IfOk result (λ next. Comes next joined.new.items self.old self.new) }
         ensures err { OnErr result (self.new ≡ self.old) }
@@ -82,7 +82,7 @@ impl<'a> LogReader<'a> {
     }
 }
 
-/// What comes next at a place, and then the place behind a payload and the bytes from there.
+/// What comes next at a place; then the place after that payload, and the bytes from there.
 fn next_at<'a>(
     joined: &mut Vec<u8>,
     mut place: usize,
@@ -115,7 +115,7 @@ fn next_at<'a>(
     }
 }
 
-/// How the log ends at an offset where no record stands. The open payload's data is of no account.
+/// How the log ends at an offset where no record is. The open payload's data is ignored.
 fn ending_at(stop: Stop, unfinished: &Option<Unfinished>, offset: u64) -> Ending
     ensures { (joined : List ℕ) → result ≡ definitions.ending_at stop (open_in unfinished.now joined) offset }
 {

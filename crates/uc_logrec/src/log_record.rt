@@ -15,7 +15,7 @@ pub(crate) const BLOCK_SIZE: usize = 32768;
 /// The bytes of a header: checksum 4, length 2, type 1.
 pub(crate) const HEADER_SIZE: usize = 7;
 
-/// The most data that a record has: what a block has room for behind a header.
+/// The most data that a record has: what a block has room for after a header.
 pub(crate) const MAX_FRAGMENT: usize = BLOCK_SIZE - HEADER_SIZE;
 
 /// A record: a part of a payload.
@@ -27,7 +27,7 @@ pub(crate) struct Record<'a> {
     pub(crate) fragment: &'a [u8],
 }
 
-/// Why no record stands at a place.
+/// Why there is no record at a place.
 #[derive(Clone, Copy)]
 pub(crate) enum Stop {
     /// The log is over: nothing but zero bytes follows.
@@ -45,7 +45,7 @@ pub(crate) fn room(offset: usize) -> usize
     BLOCK_SIZE - offset % BLOCK_SIZE
 }
 
-/// The most data that a record at a header place has: what its block has room for behind the header.
+/// The most data for a record at a header place: what its block has room for after the header.
 pub(crate) fn fragment_room(place: usize) -> usize
     requires { 7 ≤ format.room place }
     ensures { result ≡ format.room place - 7 }
@@ -60,8 +60,8 @@ pub(crate) fn checksum_of(code: u8, fragment: &[u8]) -> u32
     mask(extend(crc32c(&[code]), fragment))
 }
 
-/// The place at or behind an offset where a header may begin, and the bytes from there. Where no header
-/// fits the block, the rest of the block is a trailer, which is skipped unread.
+/// The first place at or after an offset where a header may begin, and the bytes from there. If no header fits the
+/// block, the rest of the block is a trailer, which is skipped unread.
 pub(crate) fn skip_trailer(offset: usize, rest: &[u8]) -> (usize, &[u8])
     requires { offset + length rest.now < 2 ^ 63 }
     ensures place { result.0 ≡ header_place offset }
@@ -82,7 +82,7 @@ fn is_zero(bytes: &[u8]) -> bool
     bytes.iter().all(|byte| *byte == 0)
 }
 
-/// Reads the record at a header place, of the bytes from there, and gives what stands behind it.
+/// Reads the record at a header place, from the bytes there, and returns the bytes after it too.
 #[tactic(auto, unfolding(crate::specs::Format::record_of))]
 pub(crate) fn read_record(place: usize, rest: &[u8]) -> Result<(Record<'_>, &[u8]), Stop>
     requires { 7 ≤ format.room place }

@@ -29,7 +29,7 @@ impl Model for LogWriter {
 }
 
 impl LogWriter {
-    /// A writer of a log without payloads. It takes no memory.
+    /// A writer of a log without payloads. It doesn't allocate.
     pub fn new(alloc: Global) -> LogWriter
         ensures { result ≡ [] }
     {
@@ -38,9 +38,9 @@ impl LogWriter {
         }
     }
 
-    /// Adds a payload: one record where it fits the rest of the block, else a FIRST, MIDDLEs and a LAST.
+    /// Adds a payload: one record if it fits the rest of the block, else a FIRST, MIDDLEs and a LAST.
     ///
-    /// It fails only for want of memory, and then adds nothing.
+    /// An `Err` adds nothing.
     pub fn add(&mut self, payload: &[u8]) -> Result<(), AllocError>
         ensures ok { OnOk result (self.new ≡ self.old ++ payload.now ∷ []) }
         ensures err { OnErr result (self.new ≡ self.old) }
@@ -53,7 +53,7 @@ impl LogWriter {
         Ok(())
     }
 
-    /// The bytes of the log. It takes no memory.
+    /// The bytes of the log. It doesn't allocate.
     pub fn finish(self) -> Vec<u8>
         ensures { result.items ≡ log_text self }
     {
@@ -76,7 +76,7 @@ fn push_record(text: &mut Vec<u8>, part: Record<'_>) -> Result<(), AllocError>
     Ok(())
 }
 
-/// Writes the trailer that stands before the next header place.
+/// Writes the trailer before the next header place.
 fn push_trailer(text: &mut Vec<u8>) -> Result<(), AllocError>
     ensures ok { OnOk result (text.new.items ≡ text.old.items ++ trailer (length text.old.items)) }
     ensures kept { Extends text.old.items text.new.items }
@@ -88,7 +88,7 @@ fn push_trailer(text: &mut Vec<u8>) -> Result<(), AllocError>
     Ok(())
 }
 
-/// Writes what is left of a payload behind its FIRST, from a block's start on.
+/// Writes what is left of a payload after its FIRST, from a block's start on.
 fn push_rest(text: &mut Vec<u8>, payload: &[u8]) -> Result<(), AllocError>
     ensures ok { OnOk result (text.new.items ≡ text.old.items ++ rest_text payload.now) }
     ensures kept { Extends text.old.items text.new.items }

@@ -5,9 +5,9 @@ ghost use Rattle.uc_logrec.specs.Mask.{masked, unmasked};
 /// LevelDB's `kMaskDelta`.
 const MASK_DELTA: u32 = 0xa282_ead8;
 
-/// The masked form of a checksum: rotated right by 15 bits, plus 0xa282ead8 modulo 2^32 (LevelDB's
-/// `util/crc32c.h`). A log stores this form because it may itself be summed, and the checksum of
-/// bytes that hold their own checksum says little about them.
+/// The masked form of a checksum: rotated right by 15 bits, plus 0xa282ead8 modulo 2^32 (LevelDB's `util/crc32c.h`). A
+/// log stores this form because the log may itself be summed: a checksum of bytes that hold their own checksum says
+/// little about them.
 pub fn mask(crc: u32) -> u32
     ensures value { result ≡ masked crc }
     ensures undone { unmasked result ≡ crc }

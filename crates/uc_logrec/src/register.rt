@@ -1,5 +1,4 @@
-//! The register of a checksum that is being made: what remains of the bytes so far, 32 bits of which
-//! the first is the lowest.
+//! The register of a checksum in progress: the remainder of the bytes so far, 32 bits of which the first is the lowest.
 ghost use Rattle.std.specs.Prelude.{◌≡◌, [], ◌∷◌};
 ghost use Rattle.std.specs.List.{concat};
 ghost use Rattle.uc_logrec.specs.Bits.{lowest_first};
@@ -28,9 +27,9 @@ pub(crate) fn shift_in_bytes(mut register: u32, bytes: &[u8]) -> u32
     register
 }
 
-/// The remainder of a sum is the sum of the remainders. So each byte is looked up by itself, as if
-/// zeros stood in place of the others; the register is added to the first four. Those stand last in the
-/// sum, since they alone wait for the word before.
+/// The remainder of a sum is the sum of the remainders. So each byte is looked up by itself, as if the others were
+/// zeros, and the register is added to the first four bytes. Those four come last in the sum, since they alone wait for
+/// the word before.
 fn shift_in_word(register: u32, word: &[u8; 8]) -> u32
     ensures { lowest_first 32 result ≡ register_after (lowest_first 32 register) word.now }
 {
@@ -45,8 +44,8 @@ fn shift_in_word(register: u32, word: &[u8; 8]) -> u32
         ^ remainder_of(7, bytes[0])
 }
 
-/// The byte pushes the register's low byte out. What remains of the two together is added to the
-/// register's other bytes.
+/// The byte pushes out the register's low byte. The remainder of the two together is added to the register's other
+/// bytes.
 fn shift_in_byte(register: u32, byte: u8) -> u32
     ensures { lowest_first 32 result ≡ register_after (lowest_first 32 register) (byte ∷ []) }
 {

@@ -8,13 +8,13 @@ use crate::kind::Kind;
 use crate::log_record::Record;
 use std::alloc::AllocError;
 
-/// A payload whose LAST has not come yet. The data of its fragments, joined, stands in a buffer beside it.
+/// A payload whose LAST has not come yet. A buffer beside it has the joined data of its fragments.
 #[derive(Clone, Copy)]
 pub(crate) struct Unfinished {
     /// The offset of its FIRST in the log.
     pub(crate) start: u64,
-    /// Whether there is nothing but a FIRST without data. Old writers left such a one at the end of a block,
-    /// so it is dropped where another payload begins behind it.
+    /// Whether there is nothing but a FIRST without data. Old writers left one at the end of a block, so it is dropped
+    /// if another payload begins after it.
     pub(crate) is_empty_first: bool,
 }
 
@@ -27,7 +27,7 @@ pub(crate) enum Step {
     Joined,
     /// This payload is open now, with the buffer's data.
     Open(Unfinished),
-    /// The record can't stand there.
+    /// The record can't be there.
     Refused(LogFault),
 }
 
@@ -47,7 +47,7 @@ pub(crate) fn step_at(
     }
 }
 
-/// What a record does where no payload is open.
+/// What a record does if no payload is open.
 fn step_outside(joined: &mut Vec<u8>, offset: u64, found: Record<'_>) -> Result<Step, AllocError>
     ensures { IfOk result (λ step. step_with_data step joined.new.items found.entry.fragment.now ≡
         log.step_outside offset found.entry.kind found.entry.fragment.now) }

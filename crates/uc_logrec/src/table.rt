@@ -1,10 +1,9 @@
-//! What single bytes leave when they are divided, tabulated.
+//! The remainders of single bytes, tabulated.
 ghost use Rattle.std.specs.Prelude.{◌≡◌, ◌<◌, ◌∷◌, replicate};
 ghost use Rattle.uc_logrec.specs.Bits.{lowest_first, zeros};
 ghost use Rattle.uc_logrec.specs.Crc.{register_after};
 
-/// The register to which a byte leads, and then as many zero bytes as `behind` says, from a register
-/// of zeros.
+/// The register after a byte and then `behind` zero bytes, starting from a register of zeros.
 pub(crate) fn remainder_of(behind: usize, byte: u8) -> u32
     requires { behind < 8 }
     ensures { lowest_first 32 result ≡ register_after (zeros 32) (byte ∷ replicate behind 0) }
