@@ -13,29 +13,29 @@ abbrev pub numbered : ℕ → List Op → List Write
 numbered seq [] = []
 numbered seq (op ∷ ops) = record { seq = seq; op = op } ∷ numbered (seq + 1) ops
 
--- the operations that were read, and none where a fault was met
+-- the operations that were read; none after a fault
 abbrev pub read_ops : Result (List Op) BatchError → List Op
 read_ops (Ok ops) = ops
 read_ops (Err e) = []
 
--- the operations of records, the last bytes of a batch of `total` bytes; none where one of them is faulty
+-- the operations of records, the last bytes of a batch of `total` bytes; none if one of them is faulty
 abbrev pub ops_in : ℕ → List ℕ → List Op
 ops_in total rest = read_ops (operations total rest)
 
--- the last sequence of so many operations of which the first has this one, or `last` where there is none
+-- the last sequence of `count` operations of which the first has this one, or `last` if there is none
 abbrev pub last_numbered : ℕ → ℕ → ℕ → ℕ
 last_numbered last seq count = if count == 0 then last else seq + (count - 1)
 
--- the writes of a batch whose records are judged, where the first has this sequence
+-- the writes of a batch whose records are judged, if the first has this sequence
 abbrev pub writes_in : ℕ → List ℕ → List Write
 writes_in seq bytes = numbered seq (ops_in (length bytes) (drop 12 bytes))
 
--- the records have no fault, and as many of them are counted
+-- the records have no fault, and `count` of them are counted
 pub record AreCounted (count total : ℕ) (rest : List ℕ) : Type 0 where
   pub fine : operations total rest ≡ Ok (ops_in total rest)
   pub counted : count ≡ length (ops_in total rest)
 
--- the operations of the body, which are to be `count`
+-- the operations of the body, which must be `count`
 unfoldable pub counted_of : ℕ → ℕ → ℕ → List ℕ → Result (List Write) BatchError
 counted_of seq count total body = do
   ops ← operations total body

@@ -1,5 +1,5 @@
--- Which bytes are a batch of which operations: a relation, since a number may be spelled in several ways
--- and some records aren't counted (RocksDB, `write_batch.cc`, and `coding.h` for the numbers).
+-- Which bytes are a batch of which operations. It is a relation, since a number may be spelled in several ways and some
+-- records aren't counted (RocksDB, `write_batch.cc`, and `coding.h` for the numbers).
 use Rattle.std.specs.Prelude.{◌≡◌, ℕ, zero, suc, ◌+◌, ◌*◌, ◌^◌, ◌<◌, ◌≤◌, ◌⊎◌, Bool, true, false, List, [], ◌∷◌, ◌++◌, length, Option, Some, None, option_to_list}
 use Rattle.std.specs.List.{flat_map, AllByRecursion}
 use Rattle.std.specs.Int.{w32, w64, to_le_bytes}
@@ -27,12 +27,12 @@ IsString bytes text = (size : List ℕ) × Spells 4 size (length text) × (bytes
 abbrev pub AreStrings : List ℕ → List ℕ → List ℕ → Type 0
 AreStrings bytes a b = (x y : List ℕ) × IsString x a × IsString y b × (bytes ≡ x ++ y)
 
--- the default family's number, where there is a family, in any spelling
+-- the default family's number in any spelling, or nothing if there is no family
 abbrev pub IsFamily : Bool → List ℕ → Type 0
 IsFamily true bytes = Spells 4 bytes 0
 IsFamily false bytes = bytes ≡ []
 
--- what stands behind the tag and the family, and the operation that it counts as, if any
+-- what follows the tag and the family, and the operation that it counts as, if any
 abbrev pub IsBody : Form → List ℕ → Option Op → Type 0
 IsBody form.Deletion bytes o = (key : List ℕ) × IsString bytes key × (o ≡ Some (op.Delete key))
 IsBody form.Value bytes o = (key value : List ℕ) × AreStrings bytes key value × (o ≡ Some (op.Put key value))
@@ -41,7 +41,7 @@ IsBody form.LogData bytes o = (text : List ℕ) × IsString bytes text × (o ≡
 IsBody form.Noop bytes o = (bytes ≡ []) × (o ≡ None)
 IsBody form.RangeDeletion bytes o = (begin end : List ℕ) × AreStrings bytes begin end × (o ≡ Some (op.DeleteRange begin end))
 
--- the parts of a record behind a tag
+-- the parts of a record after a tag
 pub record HasParts (tag : ℕ) (bytes : List ℕ) (o : Option Op) : Type 0 where
   pub layout : Layout
   pub family : List ℕ
@@ -71,8 +71,8 @@ pub record IsBatch (bytes : List ℕ) (seq count : ℕ) (ops : List Op) : Type 0
   pub whole : bytes ≡ to_le_bytes w64 seq ++ (to_le_bytes w32 count ++ body)
   pub records : AreRecords body ops
 
--- The batch is accepted after the sequence `last`, with these writes: its count is right, and where it
--- has operations its sequence is above `last` and that of the last one below 2^56.
+-- The batch is accepted after the sequence `last`, with these writes. Its count is right. If it has operations, its
+-- sequence is above `last` and that of the last one is below 2^56.
 pub record Accepts (last : ℕ) (bytes : List ℕ) (writes : List Write) : Type 0 where
   pub seq : ℕ
   pub count : ℕ

@@ -20,38 +20,38 @@ pub record Batches : Type 0 where
   pub writes : List Write
   pub refused : Option (ℕ × BatchError)
 
--- the writes of a payload, and those behind it
+-- the writes of a payload, and those after it
 abbrev pub after_batch : (ℕ → Batches) → ℕ → ℕ → Result (List Write) BatchError → Batches
 after_batch go last number (Ok writes) =
     let others = go (last_of last writes) in
     record { writes = writes ++ others.writes; refused = others.refused }
 after_batch go last number (Err e) = record { writes = []; refused = Some (number, e) }
 
--- payloads in turn, of which the first has this number: each comes after the last sequence used before it
+-- payloads in turn, of which the first has this number; each comes after the last sequence used before it
 abbrev pub batches_of : ℕ → ℕ → List (List ℕ) → Batches
 batches_of last number [] = record { writes = []; refused = None }
 batches_of last number (payload ∷ payloads) = after_batch (λ used. batches_of used (number + 1) payloads) last number (batch_of last payload)
 
--- how far a log was read, where no payload is refused
+-- how far a log was read, if no payload is refused
 abbrev pub ended_by : Ending → Ended
 ended_by ending.Clean = ended.Clean
 ended_by (ending.Torn offset) = ended.Torn offset
 ended_by (ending.Fault fault offset) = ended.LogFault fault offset
 
--- it is read to the first refused payload or, failing that, to its ending
+-- it is read to the first refused payload, or else to its ending
 abbrev pub ended_at : Option (ℕ × BatchError) → Ending → Ended
 ended_at None ending = ended_by ending
 ended_at (Some refused) ending = ended.BatchFault refused.0 refused.1
 
--- what stands before that
+-- what comes before that
 abbrev pub kept : Batches → Ending → WriteLog
 kept batches ending = record { list = batches.writes; ended = ended_at batches.refused ending }
 
--- what stands in a log before its first fault, as point-in-time recovery keeps it
+-- what comes before the first fault of a log, as point-in-time recovery keeps it
 abbrev pub log_writes : List ℕ → WriteLog
 log_writes log = kept (batches_of 0 1 (payloads_of log)) (ending_of log)
 
--- a torn tail is accepted, and no fault
+-- a torn tail is accepted, a fault is not
 abbrev pub unless_faulty : Batches → Ending → Option (ℕ × BatchError) → Result WriteLog ReadError
 unless_faulty batches ending (Some refused) = Err (errors.Batch refused.0 refused.1)
 unless_faulty batches (ending.Fault fault offset) None = Err (errors.Log fault offset)
@@ -66,7 +66,7 @@ accepted TornTail batches ending = unless_faulty batches ending batches.refused
 abbrev pub writes_of : Mode → List ℕ → Result WriteLog ReadError
 writes_of mode log = accepted mode (batches_of 0 1 (payloads_of log)) (ending_of log)
 
--- an error is the refusal that stands there, unless memory ran out
+-- an error is the refusal that is there, unless memory ran out
 abbrev pub Refuses : ReadError → Result WriteLog ReadError → Type 0
 Refuses errors.Memory read = Unit {0}
 Refuses (errors.Batch number fault) read = read ≡ Err (errors.Batch number fault)

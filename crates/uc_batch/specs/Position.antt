@@ -1,4 +1,4 @@
--- Where a reader of a log's batches stands, seen by what is ahead of it.
+-- Where a reader is in a log's batches, seen by what is ahead of it.
 use Rattle.std.specs.Prelude.{◌≡◌, ℕ, ◌+◌, ◌<◌, ◌≤◌, ◌^◌, List, [], ◌++◌, length, drop, Option, Some, None, Ok}
 use Rattle.uc_bytes.specs.declared.write.Write.{Write}
 use Rattle.uc_logrec.specs.Log.{Reading}
@@ -16,16 +16,16 @@ use Rattle.uc_batch.specs.Log.{batches_of, kept}
 use Rattle.uc_batch.specs.Rising.{IsRising, last_of}
 use Rattle.uc_batch.specs.WriteLog.{WriteLog}
 
--- the last sequence used, the writes of the batch where it stands, what is ahead behind that batch (the writes to
--- come, and how far the log is read), and how many batches are ahead at the most
+-- the last sequence used, the writes of the current batch, what is ahead after it (the writes to come, and how far the
+-- log is read), and an upper bound on the number of batches ahead
 pub record BatchPosition : Type 0 where
   pub last : ℕ
   pub batch : List Write
   pub ahead : WriteLog
   pub left : ℕ
 
--- what stands in a log before its first fault, where these payloads are ahead, the first has this number and this is
--- the last sequence used
+-- what comes before the first fault of a log, if these payloads are ahead, the first has this number and this is the
+-- last sequence used
 abbrev pub log_ahead : ℕ → ℕ → Reading → WriteLog
 log_ahead last number ahead = kept (batches_of last number ahead.payloads) ahead.ending
 
@@ -37,20 +37,20 @@ nothing_ahead ended = record { list = []; ended = ended }
 abbrev pub with_batch : List Write → WriteLog → WriteLog
 with_batch batch ahead = record { list = batch ++ ahead.list; ended = ahead.ended }
 
--- The writes of this batch are the first of those ahead, they rise from the last sequence used, and the others are
--- ahead behind it.
+-- The writes of this batch are the first of those ahead and rise from the last sequence used. The others stay ahead
+-- after it.
 pub record BatchComesFirst (old new : BatchPosition) : Type 0 where
   pub first : old.ahead ≡ with_batch new.batch new.ahead
   pub rising : IsRising old.last new.batch
   pub last : new.last ≡ last_of old.last new.batch
   pub fewer : new.left < old.left
 
--- What comes next at a position, and the position behind it: a batch, or where none is ahead how far the log was read.
+-- What comes next at a position, and the position after it: a batch, or if none is ahead, how far the log was read.
 abbrev pub Advances : Advance → BatchPosition → BatchPosition → Type 0
 Advances advance.Batch old new = BatchComesFirst old new
 Advances (advance.Ended ended) old new = (old.ahead ≡ nothing_ahead ended) × (new.ahead ≡ old.ahead) × (new.last ≡ old.last)
 
--- Nothing was passed over, and no batch is lent.
+-- Nothing was passed over, and the current batch is empty.
 pub record StaysAt (old new : BatchPosition) : Type 0 where
   pub ahead : new.ahead ≡ old.ahead
   pub last : new.last ≡ old.last
@@ -58,7 +58,7 @@ pub record StaysAt (old new : BatchPosition) : Type 0 where
 
 -- ---- as the reader keeps it
 
--- the bytes of a payload, where this is in the buffer
+-- the bytes of a payload; `joined` is the buffer
 abbrev pub payload_bytes : Payload → List ℕ → List ℕ
 payload_bytes (payload.Whole bytes) joined = bytes.now
 payload_bytes payload.Joined joined = joined

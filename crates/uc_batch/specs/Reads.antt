@@ -1,4 +1,4 @@
--- What a reader of part of a batch answers: a value, or the first fault.
+-- What a reader of part of a batch returns: a value, or the first fault.
 use Rattle.std.specs.Prelude.{◌≡◌, Result, Ok, Err}
 use Rattle.uc_batch.specs.declared.error.BatchError.{BatchError}
 use Rattle.uc_batch.specs.declared.error.BatchError.TheVariants as faults
@@ -14,12 +14,12 @@ abbrev pub Fails : {Y : Type 0} → BatchError → Result Y BatchError → Type 
 Fails faults.Memory read = Unit {0}
 Fails e read = read ≡ Err e
 
--- What a function returned, seen by view, is what reading gives, unless memory ran out.
+-- What a function returned, seen by view, is what reading returns, unless memory ran out.
 abbrev pub Gives : {X Y : Type 0} → (X → Y) → Result X BatchError → Result Y BatchError → Type 0
 Gives view (Ok x) read = read ≡ Ok (view x)
 Gives view (Err e) read = Fails e read
 
--- What a function that takes no memory returned, seen by view, is what reading gives.
+-- What a function that doesn't allocate returned, seen by view, is what reading returns.
 abbrev pub Exactly : {X Y : Type 0} → (X → Y) → Result X BatchError → Result Y BatchError → Type 0
 Exactly view (Ok x) read = read ≡ Ok (view x)
 Exactly view (Err e) read = read ≡ Err e

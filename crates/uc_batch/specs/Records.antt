@@ -11,8 +11,8 @@ use Rattle.uc_batch.specs.Tag.{layout_at}
 use Rattle.uc_batch.specs.Reads.{◌>>=◌}
 use Rattle.uc_batch.specs.Varint.{varint_from}
 
--- Everywhere `total` is the length of the batch and `start` the offset of the record's tag; so what is
--- left of the batch stands at the offset `total - length rest`.
+-- Everywhere `total` is the length of the batch and `start` the offset of the record's tag. So the rest of the batch is
+-- at the offset `total - length rest`.
 
 -- a length and that many bytes
 unfoldable pub string_at : ℕ → ℕ → List ℕ → Result (List ℕ × List ℕ) BatchError
@@ -33,7 +33,7 @@ strings_at total start bytes = do
   second ← string_at total start first.1
   Ok ((first.0, second.0), second.1)
 
--- what stands behind the tag and the family, and the operation that is counted, if it is one
+-- what follows the tag and the family, and the operation, if it is counted
 unfoldable pub body_at : Form → ℕ → ℕ → List ℕ → Result (Option Op × List ℕ) BatchError
 body_at form.Deletion total start bytes = do
   key ← string_at total start bytes
@@ -52,7 +52,7 @@ body_at form.RangeDeletion total start bytes = do
   two ← strings_at total start bytes
   Ok (Some (op.DeleteRange two.0.0 two.0.1), two.1)
 
--- the family, where the layout has one
+-- the family, if the layout has one
 unfoldable pub after_family : Bool → ℕ → ℕ → List ℕ → Result (List ℕ) BatchError
 after_family has_family total start bytes = if has_family then family_at total start bytes else Ok bytes
 
@@ -63,12 +63,12 @@ laid_out (Some layout) tag total start bytes = do
   rest ← after_family layout.has_family total start bytes
   body_at layout.form total start rest
 
--- the record at the front, whose tag is there, and what is behind it
+-- the record at the front, whose tag is there, and what follows it
 unfoldable pub record_at : ℕ → List ℕ → Result (Option Op × List ℕ) BatchError
 record_at total [] = Ok (None, [])
 record_at total (tag ∷ rest) = laid_out (layout_at tag) tag total (total - length (tag ∷ rest)) rest
 
--- the operations of all the records; `most` is at least as large as there are records
+-- the operations of all the records; `most` is at least the number of records
 unfoldable pub records_from : ℕ → ℕ → List ℕ → Result (List Op) BatchError
 records_from most total [] = Ok []
 records_from zero total (b ∷ bytes) = Ok []

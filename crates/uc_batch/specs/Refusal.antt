@@ -10,8 +10,7 @@ use Rattle.uc_batch.specs.declared.tag.Layout.{Layout}
 use Rattle.uc_batch.specs.Tag.{layout_at}
 use Rattle.uc_batch.specs.Grammar.{Spells, IsString, AreRecords}
 
--- The bytes are the beginning of a number of one byte and at most `more` others, and no more: each says that another
--- follows.
+-- The bytes are only the beginning of a number of one byte and at most `more` others: each says that another follows.
 abbrev pub NumberIsCut : ℕ → List ℕ → Type 0
 NumberIsCut more [] = Unit {0}
 NumberIsCut zero (b ∷ bs) = ⊥
@@ -56,19 +55,18 @@ abbrev pub AreFields : List Field → List ℕ → Type 0
 AreFields [] bytes = bytes ≡ []
 AreFields (field ∷ fields) bytes = (front others : List ℕ) × IsField field front × AreFields fields others × (bytes ≡ front ++ others)
 
--- What is wrong with a field that begins at a place, where the batch has these bytes left. The tag of its record is
--- at `start`.
+-- What is wrong with a field at `place`, if the batch has these bytes left. The tag of its record is at `start`.
 pub data FieldFault : ℕ → ℕ → List ℕ → Field → BatchError → Type 0 where
   -- the batch ends within its number
   number_cut : (start place : ℕ) (bytes : List ℕ) (field : Field) → NumberIsCut 4 bytes → FieldFault start place bytes field (faults.Cut start)
-  -- or within the text, of which it says that it has more bytes
+  -- or within the text, whose number announces more bytes
   text_cut : (start place : ℕ) (bytes size behind : List ℕ) (n : ℕ) → Spells 4 size n → bytes ≡ size ++ behind → length behind < n → FieldFault start place bytes Text (faults.Cut start)
   -- its number doesn't fit 32 bits
   number_long : (start place : ℕ) (bytes : List ℕ) (field : Field) → NumberIsLong 4 bytes → FieldFault start place bytes field (faults.BadVarint place)
   -- it is the number of another family
   other_family : (start place : ℕ) (bytes number behind : List ℕ) (id : ℕ) → Spells 4 number id → bytes ≡ number ++ behind → id ≢ 0 → FieldFault start place bytes Family (faults.OtherFamily id)
 
--- The first field of these that has a fault, which is this one. Those before it are fields.
+-- The first faulty field of these, with this fault. Those before it are right.
 pub record FaultAmong (start place : ℕ) (fields : List Field) (bytes : List ℕ) (fault : BatchError) : Type 0 where
   pub before : List Field
   pub field : Field
@@ -80,14 +78,14 @@ pub record FaultAmong (start place : ℕ) (fields : List Field) (bytes : List �
   pub whole : bytes ≡ front ++ left
   pub there : FieldFault start (place + length front) left field fault
 
--- What is wrong with a record whose tag is at `start`, where the batch has these bytes left.
+-- What is wrong with a record whose tag is at `start`, if the batch has these bytes left.
 pub data RecordFault : ℕ → List ℕ → BatchError → Type 0 where
   -- no record begins with the tag
   bad_tag : (start tag : ℕ) (rest : List ℕ) → layout_at tag ≡ None → RecordFault start (tag ∷ rest) (faults.BadTag tag start)
   -- one of its fields has a fault
   bad_field : (start tag : ℕ) (rest : List ℕ) (layout : Layout) (fault : BatchError) → layout_at tag ≡ Some layout → FaultAmong start (start + 1) (fields_of layout) rest fault → RecordFault start (tag ∷ rest) fault
 
--- Of bytes that begin at a place of a batch, some first ones are records, and the next record has this fault.
+-- Of bytes at a place of a batch, the first are records, and the next record has this fault.
 pub record StopsAt (place : ℕ) (bytes : List ℕ) (fault : BatchError) : Type 0 where
   pub front : List ℕ
   pub ops : List Op
@@ -98,7 +96,7 @@ pub record StopsAt (place : ℕ) (bytes : List ℕ) (fault : BatchError) : Type 
 
 -- ---- a batch
 
--- the sequence and the count of a batch's header, and what is behind it
+-- the sequence and the count of a batch's header, and what follows it
 pub record HasHeader (bytes : List ℕ) (seq count : ℕ) (body : List ℕ) : Type 0 where
   pub seq_fits : seq < 2 ^ 64
   pub count_fits : count < 2 ^ 32
@@ -109,8 +107,8 @@ pub record MayFollow (last seq count : ℕ) : Type 0 where
   pub above : 0 < count → last < seq
   pub below : 0 < count → seq + count ≤ 2 ^ 56
 
--- Why a batch that comes after the sequence `last` is refused: in this order, the records' first fault from the left
--- before their count.
+-- Why a batch that comes after the sequence `last` is refused, in this order. The records' first fault from the left
+-- comes before their count.
 pub data IsRefused : ℕ → List ℕ → BatchError → Type 0 where
   too_short : (last : ℕ) (bytes : List ℕ) → length bytes < 12 → IsRefused last bytes faults.TooShort
   sequence_back : (last seq count : ℕ) (bytes body : List ℕ) → HasHeader bytes seq count body → 0 < count → seq ≤ last → IsRefused last bytes (faults.SequenceBack last)

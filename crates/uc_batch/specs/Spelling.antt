@@ -7,7 +7,7 @@ use Rattle.uc_batch.specs.declared.tag.Tag.TheVariants as tag
 use Rattle.uc_batch.specs.Tag.{byte_of}
 use Rattle.uc_bytes.specs.declared.op.Op.TheVariants.{Put, Delete, Merge, DeleteRange}
 
--- a number in one byte and at most `more` others, as few as will do
+-- a number in one byte and at most `more` others, as few as possible
 unfoldable pub varint_text : ℕ → ℕ → List ℕ
 varint_text zero n = n ∷ []
 varint_text (suc more) n = if nat_lt n 128 then n ∷ [] else (n % 128 + 128) ∷ varint_text more (n / 128)

@@ -1,4 +1,4 @@
--- The tags of records (RocksDB, `dbformat.h`, `ValueType`), and what stands behind them (`write_batch.cc`).
+-- The tags of records (RocksDB, `dbformat.h`, `ValueType`), and what follows them (`write_batch.cc`).
 use Rattle.std.specs.Prelude.{ℕ, ◌==◌, true, false, Option, Some, None, if◌then◌else◌}
 use Rattle.uc_batch.specs.declared.tag.Form.{Form}
 use Rattle.uc_batch.specs.declared.tag.Form.TheVariants as form
@@ -21,7 +21,7 @@ byte_of Noop = 0x0D
 byte_of ColumnFamilyRangeDeletion = 0x0E
 byte_of RangeDeletion = 0x0F
 
--- the tag of a byte, and nothing for one that no record begins with
+-- the tag of a byte; none if no record begins with it
 abbrev pub tag_of : ℕ → Option Tag
 tag_of byte =
     if byte == 0x00 then Some Deletion

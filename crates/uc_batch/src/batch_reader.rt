@@ -1,4 +1,4 @@
-//! [`BatchReader`]: a log's batches, lent one at a time.
+//! [`BatchReader`]: a log's batches, one at a time, borrowed.
 ghost use Rattle.std.specs.Prelude.{◌≡◌, ℕ, ◌≢◌, Ok, length, IfOk, OnErr};
 ghost use Rattle.uc_batch.specs.declared.ended.Ended.TheVariants as ends;
 ghost use Rattle.uc_batch.specs.declared.error.BatchError.TheVariants as faults;
@@ -14,12 +14,12 @@ use std::alloc::{AllocError, Global};
 use std::marker::Model;
 use uc_logrec::{LogReader, Next};
 
-/// What a step to the next batch came to.
+/// The outcome of a step to the next batch.
 #[derive(Clone, Copy, Debug)]
 pub enum Advance {
-    /// A batch, whose writes [`BatchReader::writes`] lends.
+    /// A batch; [`BatchReader::writes`] returns its writes.
     Batch,
-    /// Behind the last batch that can be read, how far the log was read.
+    /// No further batch can be read: how far the log was read.
     Ended(Ended),
 }
 
@@ -39,19 +39,18 @@ pub(crate) enum Found<'a> {
     Ended(Ended),
 }
 
-/// Goes through a log's batches, front to back, and lends the writes of one at a time.
+/// Goes through a log's batches, front to back, and returns borrowed writes of one at a time.
 ///
-/// A batch is judged whole, by its header, its records and its count, before its first write is lent. Batches
-/// end at the first fault of the log or of a batch. What it takes memory for is one buffer, for a payload
-/// that stands in the log in several pieces.
+/// A batch is judged whole, by its header, its records and its count, before it returns the first write. Batches end at
+/// the first fault of the log or of a batch. It allocates only one buffer, for a payload of several pieces in the log.
 ///
-/// Contracts see the last sequence used, the batch where it stands, and what is ahead: the writes of the other
-/// batches, and how far the log is read.
+/// Contracts see the last sequence used, the current batch, and what is ahead: the writes of the other batches, and how
+/// far the log is read.
 #[derive(Debug, Drop)]
 pub struct BatchReader<'a> {
     log: LogReader<'a>,
     joined: Vec<u8>,
-    // The batch where it stands.
+    // The current batch.
     payload: Payload<'a>,
     header: Header,
     last: u64,
@@ -76,7 +75,7 @@ impl<'a> Model for BatchReader<'a> {
 }
 
 impl<'a> BatchReader<'a> {
-    /// A reader at the start of a log. It takes no memory.
+    /// A reader at the start of a log. It doesn't allocate.
     pub fn new(alloc: Global, log: &'a [u8]) -> BatchReader<'a>
         ensures ahead { result.ahead ≡ log_writes log.now }
         ensures last { result.last ≡ 0 }
@@ -91,10 +90,9 @@ impl<'a> BatchReader<'a> {
         }
     }
 
-    /// Goes to the next batch or, behind the last one, says how far the log was read, and says so again if it
-    /// is asked again.
+    /// Goes to the next batch. After the last one it returns how far the log was read, again at each further call.
     ///
-    /// It fails only for want of memory, and then nothing is passed over.
+    /// After an `Err` nothing is passed over.
     pub fn advance(&mut self) -> Result<Advance, AllocError>
         ensures ok { IfOk result (λ advance. Advances advance self.old self.new) }
         ensures err { OnErr result (StaysAt self.old self.new) }
@@ -118,14 +116,14 @@ impl<'a> BatchReader<'a> {
         }
     }
 
-    /// The writes of the batch where it stands: none before the first batch and behind the last one.
+    /// The writes of the current batch: none before the first batch and after the last.
     pub fn writes(&self) -> BatchWrites<'_>
         ensures { result ≡ self.now.batch }
     {
         BatchWrites::judged(self.header, bytes_of(self.payload, &self.joined))
     }
 
-    /// The last sequence used, or 0 where none was.
+    /// The last sequence used, or 0 if none was.
     pub fn last(&self) -> u64
         ensures { result ≡ self.now.last }
     {
@@ -133,7 +131,7 @@ impl<'a> BatchReader<'a> {
     }
 }
 
-/// The bytes of a payload, where these are in the buffer.
+/// The bytes of a payload; `joined` is the buffer.
 fn bytes_of<'a>(payload: Payload<'a>, joined: &'a [u8]) -> &'a [u8]
     ensures { result.now ≡ payload_bytes payload.entry joined.now }
 {

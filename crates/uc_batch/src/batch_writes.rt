@@ -1,4 +1,4 @@
-//! [`BatchWrites`]: the writes of a batch, lent one at a time.
+//! [`BatchWrites`]: the writes of a batch, one at a time, borrowed.
 ghost use Rattle.std.specs.Prelude.{◌≡◌, ◌<◌, ◌≤◌, ◌+◌, ◌^◌, ◌++◌, [], ℕ, length, drop, option_to_list, Ok};
 ghost use Rattle.std.specs.Prelude.{Err, OnOk, IfOk, IfErr, IfNone};
 ghost use Rattle.std.specs.Iterator.{YieldsFirst, item_count};
@@ -13,9 +13,9 @@ use crate::records::read_record;
 use std::marker::Model;
 use uc_bytes::{OpRef, WriteRef};
 
-/// The writes of a batch that are still to be lent, the first one first. The batch was judged whole before.
+/// The remaining writes of a batch that was judged whole before, the first one first.
 ///
-/// A contract sees them as a list. It takes no memory: each write's texts are those in the batch.
+/// A contract sees them as a list. It doesn't allocate: each write borrows its texts from the batch.
 #[derive(Debug, Drop)]
 pub struct BatchWrites<'a> {
     // The sequence of the next one, and how many there are.
@@ -73,7 +73,7 @@ fn next_op<'a>(batch: &mut Cursor<'a>) -> Option<OpRef<'a>>
     None
 }
 
-/// Judges a batch that comes after the sequence `last`, and gives its header.
+/// Judges a batch that comes after the sequence `last`, and returns its header.
 #[tactic(auto, unfolding(crate::specs::Batch::batch_of))]
 pub(crate) fn judge_batch(bytes: &[u8], last: u64) -> Result<Header, BatchError>
     ensures value { Exactly (λ header. writes_in header.sequence bytes.now) result (batch_of last bytes.now) }
@@ -89,9 +89,8 @@ pub(crate) fn judge_batch(bytes: &[u8], last: u64) -> Result<Header, BatchError>
 }
 
 impl<'a> BatchWrites<'a> {
-    /// Judges a batch that comes after the sequence `last` (0 where no sequence was used before), and lends
-    /// its writes with their sequences. See [`BatchError`] for the refusals and their order; none of them is
-    /// `Memory`.
+    /// Judges a batch that comes after the sequence `last` (0 if no sequence was used before), and returns its borrowed
+    /// writes with their sequences. See [`BatchError`] for the refusals and their order; none of them is `Memory`.
     pub fn read(bytes: &'a [u8], last: u64) -> Result<BatchWrites<'a>, BatchError>
         ensures { Exactly (λ writes. writes) result (batch_of last bytes.now) }
     {

@@ -7,7 +7,7 @@ ghost use Rattle.uc_batch.specs.Records.{string_at};
 use crate::error::BatchError;
 use crate::varint::{MORE_BYTES, read_varint};
 
-/// What is left of a batch, which readers shorten from the front: LevelDB's `Slice` with `remove_prefix`.
+/// The rest of a batch, which readers shorten from the front: LevelDB's `Slice` with `remove_prefix`.
 #[derive(Debug, Drop)]
 pub(crate) struct Cursor<'a> {
     // The bytes of the whole batch.
@@ -26,7 +26,7 @@ impl<'a> Cursor<'a> {
         Cursor { total, rest }
     }
 
-    /// How many bytes of the batch stand before it.
+    /// How many bytes of the batch come before it.
     pub(crate) fn offset(&self) -> u64
         ensures { result ≡ self.now.total - length self.now.rest.now }
     {

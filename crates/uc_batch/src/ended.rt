@@ -19,7 +19,7 @@ pub enum Ended {
     BatchFault(u64, BatchError),
 }
 
-/// How far a log was read, none of whose payloads is refused.
+/// How far a log was read, if none of its payloads is refused.
 impl From<Ending> for Ended {
     ghost from_gives = { λ ending ended. ended ≡ ended_by ending };
 

@@ -10,7 +10,7 @@ use uc_bytes::MAX_SEQUENCE;
 /// The bytes of a batch's sequence and count.
 pub(crate) const HEADER_SIZE: usize = 12;
 
-/// What stands in front of a batch's records.
+/// What comes before a batch's records.
 #[derive(Clone, Copy, Debug)]
 pub(crate) struct Header {
     /// The sequence of the first operation.
@@ -26,7 +26,7 @@ impl Header {
         count: 0,
     };
 
-    /// The header at the front, and the bytes behind it; nothing where there are fewer than its 12 bytes.
+    /// The header at the front, and the bytes after it; `None` if there are fewer than its 12 bytes.
     pub(crate) fn split(bytes: &[u8]) -> Option<(Header, &[u8])>
         ensures long { MatchOption result (length bytes.now < 12) (λ found. 12 ≤ length bytes.now) }
         ensures sequence { MatchOption result (length bytes.now < 12) (λ found.
@@ -42,8 +42,8 @@ impl Header {
         Some((Header { sequence, count }, body))
     }
 
-    /// Refuses a sequence that isn't above the last one used, or that has too little room above it for
-    /// the operations. The sequence of a batch without operations isn't looked at.
+    /// Refuses a sequence that isn't above the last one used, or that has too little room above it for the operations.
+    /// The sequence of a batch without operations is ignored.
     #[tactic(auto, unfolding(crate::specs::Batch::judged))]
     pub(crate) fn judge(self, last: u64) -> Result<(), BatchError>
         ensures value { Exactly (λ _. self.sequence) result (judged last self.sequence self.count) }
@@ -64,7 +64,7 @@ impl Header {
         Ok(())
     }
 
-    /// The last sequence used behind the batch, where `last` was the last one before it.
+    /// The last sequence used after the batch, if `last` was the last one before it.
     pub(crate) fn last_used(self, last: u64) -> u64
         requires { 0 < self.count → self.sequence + self.count ≤ 2 ^ 56 }
         ensures { result ≡ last_numbered last self.sequence self.count }

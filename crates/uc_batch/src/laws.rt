@@ -8,20 +8,19 @@ ghost use Rattle.uc_batch.specs.Grammar.{IsBatch};
 ghost use Rattle.uc_batch.specs.Refusal.{IsRefused};
 ghost use Rattle.uc_batch.specs.Spelling.{batch_text, FitsBatch};
 
-/// What the writer writes is read again as the same operations, after every sequence that is below the
-/// batch's own.
+/// Reading what the writer wrote returns the same operations, after every sequence below the batch's own.
 pub fn written_batch_is_read()
     ensures { (last seq : ℕ) (ops : List Operation) → FitsBatch seq ops → (0 < length ops → last < seq) →
         batch_of last (batch_text seq ops) ≡ Ok (numbered seq ops) }
 {}
 
-/// The text that the writer gives a batch is one of these operations by the grammar.
+/// The text that the writer writes for operations is a batch of them by the grammar.
 pub fn written_batch_is_spelled()
     ensures { (seq : ℕ) (ops : List Operation) → FitsBatch seq ops → IsBatch (batch_text seq ops) seq (length ops) ops }
 {}
 
-/// What a batch is refused for stands there: the sequence, the first record from the left that has a fault, behind
-/// records without one, or, where all are records, their number.
+/// A refused batch has the fault it is refused for. It is in the sequence, or in the first faulty record from the left;
+/// if all records are right, in their number.
 pub fn refusal_stands_in_batch()
     ensures { (last : ℕ) (bytes : List ℕ) (fault : Fault) → AreBytes bytes →
         batch_of last bytes ≡ Err fault → IsRefused last bytes fault }

@@ -1,8 +1,10 @@
 //! Write batches, and the plain writes of a log.
 //!
-//! A batch is the payload of one log record: a sequence number, a count, and that many operations
-//! (RocksDB, `write_batch.cc`). Read `error.rt` and `tag.rt` for what a batch may hold, then `records.rt`,
-//! `batch_writes.rt` and `writing.rt`. [`BatchReader`] goes through a log batch by batch and lends its writes.
+//! A batch is the payload of one log record: a sequence number, a count, and that many operations (RocksDB,
+//! `write_batch.cc`). Read `error.rt` and `tag.rt` for what a batch may hold, then `records.rt`, `batch_writes.rt` and
+//! `writing.rt`. [`BatchReader`] goes through a log batch by batch and returns borrowed writes.
+//!
+//! An `Err(AllocError)`, or a variant `Memory`, comes only if an allocation fails.
 #![tactic(auto)]
 
 mod batch_reader;

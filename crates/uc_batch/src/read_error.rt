@@ -1,4 +1,4 @@
-//! Why a log has no writes to give.
+//! Why a log returns no writes.
 ghost use Rattle.std.specs.Prelude.{◌≡◌};
 ghost use Rattle.uc_batch.specs.declared.read_error.ReadError.TheVariants.{Memory};
 
@@ -7,13 +7,13 @@ use std::alloc::{AllocError, AllocFailed};
 use thiserror::Error;
 use uc_logrec::LogFault;
 
-/// Why a log has no writes to give.
+/// Why a log returns no writes.
 #[derive(Clone, Copy, Debug, PartialEq, Eq, Error)]
 pub enum ReadError {
     /// The first refused payload, by its number from 1. It never says that memory ran out.
     #[error("payload {0}: {1}")]
     Batch(u64, BatchError),
-    /// A fault at this offset in the log, behind payloads that are all accepted.
+    /// A fault at this offset in the log, after payloads that are all accepted.
     #[error("byte {1} of the log: {0}")]
     Log(LogFault, u64),
     /// Memory ran out.

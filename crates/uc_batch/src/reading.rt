@@ -34,20 +34,20 @@ fn copy_batch(alloc: Global, bytes: &[u8], last: u64) -> Result<Vec<Write>, Batc
     Ok(list)
 }
 
-/// Reads a batch that comes after the sequence `last` (0 where no sequence was used before), and gives
-/// its writes with their sequences.
+/// Reads a batch that comes after the sequence `last` (0 if no sequence was used before), and returns its writes with
+/// their sequences.
 ///
-/// Every spelling of a number is accepted (RocksDB, `write_batch.cc`). See [`BatchError`] for the
-/// refusals and their order.
+/// Every spelling of a number is accepted (RocksDB, `write_batch.cc`). See [`BatchError`] for the refusals and their
+/// order.
 pub fn read_batch(alloc: Global, bytes: &[u8], last: u64) -> Result<Vec<Write>, BatchError>
-    // What is accepted is a batch of these writes.
+    // An accepted batch is a batch of these writes.
     ensures sound { IfOk result (λ writes. Accepts last bytes.now writes.items) }
 
     // A batch of these writes is accepted, unless memory runs out.
     ensures complete { (writes : List WriteOf) → Accepts last bytes.now writes →
         Gives (λ read. read.items) result (Ok writes) }
 
-    // Which fault it is.
+    // Which fault is returned.
     ensures exact { Gives (λ writes. writes.items) result (batch_of last bytes.now) }
 {
     copy_batch(alloc, bytes, last)

@@ -8,7 +8,7 @@ use crate::error::BatchError;
 use crate::tag::{Form, Tag};
 use uc_bytes::OpRef;
 
-/// Reads the number of a column family, which has to be 0, the default one's.
+/// Reads the number of a column family, which must be 0, the default one's.
 #[tactic(auto, unfolding(crate::specs::Records::family_at))]
 fn read_family(batch: &mut Cursor<'_>, start: u64) -> Result<(), BatchError>
     ensures value { Exactly (λ _. batch.new.rest.now) result (family_at batch.old.total start batch.old.rest.now) }
@@ -22,7 +22,7 @@ fn read_family(batch: &mut Cursor<'_>, start: u64) -> Result<(), BatchError>
     Ok(())
 }
 
-/// Passes over the family's number, where there is one.
+/// Skips the family's number, if there is one.
 #[tactic(auto, unfolding(crate::specs::Records::after_family))]
 fn skip_family(batch: &mut Cursor<'_>, has_family: bool, start: u64) -> Result<(), BatchError>
     ensures value { Exactly (λ _. batch.new.rest.now) result
@@ -49,7 +49,7 @@ fn read_strings<'a>(batch: &mut Cursor<'a>, start: u64) -> Result<(&'a [u8], &'a
     Ok((first, second))
 }
 
-/// Reads what stands behind the tag and the family, and gives the operation, if it is counted.
+/// Reads what follows the tag and the family, and returns the operation if it is counted.
 #[tactic(auto, unfolding(crate::specs::Records::body_at))]
 fn read_body<'a>(
     batch: &mut Cursor<'a>,
@@ -86,7 +86,7 @@ fn read_body<'a>(
     }
 }
 
-/// Reads the record at the front, and gives the operation, if it is counted.
+/// Reads the record at the front, and returns the operation if it is counted.
 #[tactic(auto, unfolding(crate::specs::Records::record_at, crate::specs::Records::laid_out))]
 pub(crate) fn read_record<'a>(batch: &mut Cursor<'a>) -> Result<Option<OpRef<'a>>, BatchError>
     requires some { 0 < length batch.old.rest.now }

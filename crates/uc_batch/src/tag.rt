@@ -1,8 +1,8 @@
-//! The tags of records, and what stands behind them.
+//! The tags of records, and what follows them.
 ghost use Rattle.std.specs.Prelude.{◌≡◌};
 ghost use Rattle.uc_batch.specs.Tag as tag;
 
-/// The tag of a record (RocksDB, `dbformat.h`, `ValueType`: a name here is there with `kType` before it).
+/// The tag of a record (RocksDB, `dbformat.h`, `ValueType`: there each name begins with `kType`).
 #[derive(Clone, Copy, Debug, PartialEq, Eq)]
 pub(crate) enum Tag {
     Deletion = 0x00,
@@ -19,7 +19,7 @@ pub(crate) enum Tag {
     RangeDeletion = 0x0F,
 }
 
-/// What stands behind a record's tag, a column family's number aside.
+/// What follows a record's tag, apart from a column family's number.
 #[derive(Clone, Copy, Debug, PartialEq, Eq)]
 pub(crate) enum Form {
     /// A key to delete.
@@ -36,7 +36,7 @@ pub(crate) enum Form {
     RangeDeletion,
 }
 
-/// A tag's form, and whether the number of a column family stands before it.
+/// A tag's form, and whether the number of a column family comes before it.
 #[derive(Clone, Copy, Debug, PartialEq, Eq)]
 pub(crate) struct Layout {
     pub(crate) form: Form,
@@ -44,7 +44,7 @@ pub(crate) struct Layout {
 }
 
 impl Tag {
-    /// The byte that stands in the batch.
+    /// The byte in the batch.
     pub(crate) fn byte(self) -> u8
         ensures { result ≡ tag.byte_of self }
     {

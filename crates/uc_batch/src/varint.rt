@@ -5,15 +5,13 @@ ghost use Rattle.uc_batch.specs.Varint.{varint_from, room_for};
 
 use crate::error::BatchError;
 
-/// How many bytes a number may have behind its first: five hold any of 32 bits.
+/// How many bytes a number may have after its first: five hold any of 32 bits.
 pub(crate) const MORE_BYTES: u32 = 4;
 
-/// Reads a number of one byte and at most `more` others, low seven bits first, and gives what is
-/// behind it.
+/// Reads a number of one byte and at most `more` others, low seven bits first, and returns the bytes after it too.
 ///
-/// The high bit of a byte says that another follows; the last of five bytes has room for four bits
-/// (RocksDB, `coding.h`, `GetVarint32`). `start` is the offset of the record's tag and `here` that
-/// of the number, for the faults.
+/// The high bit of a byte says that another follows; the last of five bytes has room for four bits (RocksDB,
+/// `coding.h`, `GetVarint32`). For the faults, `start` is the offset of the record's tag and `here` that of the number.
 #[tactic(auto, unfolding(crate::specs::Varint::varint_from))]
 pub(crate) fn read_varint(
     bytes: &[u8],

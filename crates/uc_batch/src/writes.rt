@@ -7,7 +7,7 @@ use crate::ended::Ended;
 use std::marker::Model;
 use uc_bytes::{MAX_SEQUENCE, Write};
 
-/// Writes whose sequences rise, and how far the log that they come from was read.
+/// Writes whose sequences rise, and how far their log was read.
 ///
 /// Sequences are from 1 to 2^56 - 1. There may be gaps.
 #[derive(Debug, Drop)]
@@ -42,8 +42,8 @@ fn is_rising(list: &[Write]) -> bool
 }
 
 impl Writes {
-    /// The writes, where their sequences rise from 1 on and stay below 2^56. Else there are none, and
-    /// the list is lost. They count as a log that was read to its end.
+    /// The writes, if their sequences rise from 1 on and stay below 2^56. Otherwise `None`, and the list is lost. They
+    /// count as a log that was read to its end.
     pub fn of(list: Vec<Write>) -> Option<Writes>
         ensures rising { IsSome result ↔ IsRising 0 list.items }
         ensures list { IfSome result (λ writes. writes.list ≡ list.items) }
@@ -76,7 +76,7 @@ impl Writes {
         self.list.as_slice()
     }
 
-    /// The last sequence, or 0 where there is no write.
+    /// The last sequence, or 0 if there is no write.
     pub fn last(&self) -> u64
         ensures { result ≡ last_of 0 self.now.list }
     {

@@ -8,10 +8,10 @@ use crate::varint::MORE_BYTES;
 use std::alloc::{AllocError, Global};
 use uc_bytes::{MAX_SEQUENCE, Op};
 
-/// Above every length and every count.
+/// Greater than every length and every count.
 const LENGTHS: usize = 1 << 32;
 
-/// Writes a number at the end, in as few bytes as will do, at most `1 + more`.
+/// Writes a number at the end in the fewest bytes, at most `1 + more`.
 #[tactic(auto, unfolding(crate::specs::Spelling::varint_text))]
 fn push_varint(out: &mut Vec<u8>, number: u32, more: u32) -> Result<(), AllocError>
     requires few { more ≤ 4 }
@@ -75,9 +75,8 @@ fn fits_op(op: &Op) -> bool
     }
 }
 
-/// Whether the operations fit one batch whose first has the sequence `seq`: the sequence is from 1 on
-/// and the last one used below 2^56, there are fewer than 2^32 operations, and each string is shorter
-/// than 2^32 bytes.
+/// Whether the operations fit one batch whose first has the sequence `seq`. The sequence is at least 1 and the last one
+/// used below 2^56, there are fewer than 2^32 operations, and each string is shorter than 2^32 bytes.
 pub fn fits_batch(seq: u64, ops: &[Op]) -> bool
     ensures { IsTrue result ↔ FitsBatch seq ops.now }
 {
@@ -85,8 +84,8 @@ pub fn fits_batch(seq: u64, ops: &[Op]) -> bool
     in_range && ops.len() as u64 <= MAX_SEQUENCE - seq + 1 && ops.iter().all(|op| fits_op(op))
 }
 
-/// The text of a batch: the sequence of its first operation, how many there are, and each one's
-/// record, with plain tags and the shortest numbers. It fails only for want of memory.
+/// The text of a batch: the sequence of its first operation, how many there are, and each one's record, with plain tags
+/// and the shortest numbers.
 pub fn write_batch(alloc: Global, seq: u64, ops: &[Op]) -> Result<Vec<u8>, AllocError>
     requires { FitsBatch seq ops.now }
     ensures { IfOk result (λ text. text.items ≡ batch_text seq ops.now) }
