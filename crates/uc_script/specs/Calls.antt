@@ -1,4 +1,4 @@
--- The calls of a script, apart from what stands in front of them.
+-- The calls of a script, apart from what comes before them.
 use Rattle.std.specs.Prelude.{◌≡◌, ℕ, List, [], ◌∷◌, Option, Some, None, filter_map}
 use Rattle.uc_script.specs.Lines.{lines_of}
 use Rattle.uc_script.specs.Script.{call_in}
@@ -6,15 +6,15 @@ use Rattle.uc_script.specs.declared.call.Call.{Call}
 use Rattle.uc_script.specs.declared.script.Preamble.{Preamble}
 use Rattle.uc_script.specs.declared.script.Script.{Script}
 
--- What the lines of a text ask, in order, where they stand behind `open`.
+-- What the lines of a text ask, in order, if they follow `open`.
 abbrev pub calls_in : List ℕ → List Call
 calls_in text = filter_map call_in (lines_of text)
 
--- Of these calls the first comes, if there is one, and the others are left.
+-- The first of these calls comes, if there is one, and the others are left.
 abbrev pub Comes : List Call → Option Call → List Call → Type 0
 Comes calls None others = (calls ≡ []) × (others ≡ [])
 Comes calls (Some call) others = calls ≡ call ∷ others
 
--- The script that begins so, and has these lines behind its `open`.
+-- The script that begins like this and has these lines after its `open`.
 abbrev pub script_with : Preamble → List ℕ → Script
 script_with preamble lines = record { ops = preamble.ops; keeps = preamble.keeps; calls = calls_in lines }

@@ -1,4 +1,4 @@
--- What is said of the line at fault.
+-- What is said of the faulty line.
 use Rattle.std.specs.Prelude.{ℕ, ◌-◌, ◌==◌, length, Bool, true, false, not, ◌&&◌, List, [], ◌∷◌, take, drop, codes, nat_eq, Option, Some, None, string_bytes, if◌then◌else◌}
 use Rattle.std.specs.List.{list_any, ends_with}
 use Rattle.std.specs.Option.{option_map}
@@ -25,19 +25,19 @@ explanation_text (Missing number word) = missing_text number (form_of word)
 abbrev pub says_open : List ℕ → Bool
 says_open line = says line (codes "open")
 
--- What is said where the line of this number is missing: nothing behind an `open`.
+-- What is said if the line of this number is missing: nothing after an `open`.
 abbrev pub missing : Part → ℕ → Option (List ℕ)
 missing Setup number = Some (missing_text number (codes "open"))
 missing Calls number = None
 missing Head number = Some (missing_text number (codes "log"))
 
--- Whether the part is what stands in front of a log.
+-- Whether the part is the head before a log.
 abbrev is_head : Part → Bool
 is_head Setup = false
 is_head Calls = false
 is_head Head = true
 
--- Whether a line, with these behind it, is the end of a head but for its LF.
+-- Whether a line that these follow is the end of a head but for its LF.
 abbrev pub lacks_its_end : Part → List ℕ → List (List ℕ) → Bool → Bool
 lacks_its_end part line others ended = is_head part && (says line (codes "log") && (length others == 0 && not ended))
 
@@ -50,7 +50,7 @@ abbrev pub said_of : Part → ℕ → List (List ℕ) → Bool → Option (List 
 said_of part number [] ended = missing part number
 said_of part number (line ∷ others) ended = option_map (line_text number (shortened line)) (fault_before part line others ended)
 
--- What is said of the line of this number, from 1, in a text of this kind, where there is a fault in it or it is missing.
+-- What is said of the line of this number, from 1, in a text of this kind, if it is faulty or missing.
 unfoldable pub explanation_of : Source → List ℕ → ℕ → Option (List ℕ)
 explanation_of source text number =
     said_of (part_of source (list_any says_open (take (number - 1) (lines_of text)))) number (drop (number - 1) (lines_of text)) (ends_with nat_eq text (10 ∷ []))

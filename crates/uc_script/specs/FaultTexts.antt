@@ -17,10 +17,10 @@ fault_text (BadField word field kind) =
     codes "field " ++ (decimal field ++ (codes " of `" ++ (form_of word ++ (codes "` has to be " ++ kind_text kind))))
 fault_text NoLineFeed = codes "its line feed is missing, behind which the log begins"
 
--- What is printed where a line of this number, which is shown so, has a fault.
+-- What is printed if a line of this number, shown like this, has a fault.
 abbrev pub line_text : ℕ → List ℕ → LineFault → List ℕ
 line_text number line fault = codes "line " ++ (decimal number ++ (codes ", `" ++ (line ++ (codes "`: " ++ fault_text fault))))
 
--- What is printed where a line of this number is missing, which has to be this word.
+-- What is printed if a line of this number is missing, which must be this word.
 abbrev pub missing_text : ℕ → List ℕ → List ℕ
 missing_text number word = codes "line " ++ (decimal number ++ (codes " is missing: it has to be `" ++ (word ++ codes "`")))

@@ -9,7 +9,7 @@ use Rattle.uc_script.specs.declared.field_kind.FieldKind.{FieldKind}
 use Rattle.uc_script.specs.declared.part.Part.{Part}
 use Rattle.uc_script.specs.declared.word.Word.{Word}
 
--- What is wrong with fields, from the one of this number on, where fields of these kinds have to stand there.
+-- What is wrong with fields, from the one of this number on, if they must be of these kinds.
 abbrev pub arguments_fault : Word → ℕ → List FieldKind → List (List ℕ) → Option LineFault
 arguments_fault word number [] [] = None
 arguments_fault word number [] (field ∷ fields) = Some (TooMany word)
@@ -17,7 +17,7 @@ arguments_fault word number (kind ∷ kinds) [] = Some (TooFew word)
 arguments_fault word number (kind ∷ kinds) (field ∷ fields) =
     if reads kind field then arguments_fault word (number + 1) kinds fields else Some (BadField word number kind)
 
--- What is wrong with a line whose first field is this word, and with the fields behind it.
+-- What is wrong with a line whose first field is this word, and with the fields after it.
 abbrev pub word_fault : Part → Option Word → List (List ℕ) → Option LineFault
 word_fault part None fields = Some (UnknownWord part)
 word_fault part (Some word) fields = if stands_in word part then arguments_fault word 2 (kinds word) fields else Some (Misplaced part)
@@ -30,7 +30,7 @@ fields_fault part (word ∷ fields) = word_fault part (named word) fields
 unfoldable pub line_fault : Part → List ℕ → Option LineFault
 line_fault part line = if is_skipped line then None else fields_fault part (fields_of line)
 
--- The fields of what stands behind a space, where there is one.
+-- The fields of what follows a space, if there is one.
 abbrev pub fields_after : Option (List ℕ) → List (List ℕ)
 fields_after None = []
 fields_after (Some text) = fields_of text

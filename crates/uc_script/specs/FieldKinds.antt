@@ -1,4 +1,4 @@
--- What a field behind a line's word may be.
+-- What a field after a line's word may be.
 use Rattle.std.specs.Prelude.{ℕ, List, codes, Bool, is_some}
 use Rattle.uc_script.specs.Texts.{number_of, name_of, text_of, seq_of, high_of}
 use Rattle.uc_script.specs.declared.field_kind.FieldKind.{FieldKind}

@@ -3,7 +3,7 @@ use Rattle.std.specs.Prelude.{◌≡◌, ℕ, ◌<◌, List, [], ◌∷◌, leng
 use Rattle.uc_script.specs.declared.lines.Fields.{Fields}
 use Rattle.uc_script.specs.declared.lines.Fields.TheVariants.{One, Two, Three, Four, Five, More}
 
--- What is held are these fields, or there are more than five.
+-- Holds these fields, or there are more than five.
 abbrev pub Holds : Fields → List (List ℕ) → Type 0
 Holds (One a) fields = fields ≡ a.now ∷ []
 Holds (Two a b) fields = fields ≡ a.now ∷ b.now ∷ []

@@ -1,4 +1,4 @@
--- What stands in front of a log: lines that keep and ask, and a `log` line. What is behind that is the log, and no lines.
+-- The head before a log: lines that keep and ask, and a `log` line. What follows is the log, and no lines.
 use Rattle.std.specs.Prelude.{ℕ, ◌+◌, nat_lt, Bool, List, [], ◌∷◌, ◌++◌, length, position, codes, Option, Some, None, is_none, Result, if◌then◌else◌}
 use Rattle.std.specs.List.{before_first, filter_map}
 use Rattle.std.specs.Option.{option_map, option_or}
@@ -22,7 +22,7 @@ said_by (word ∷ key ∷ at ∷ []) = option_map saying.Ask (get_of word key at
 said_by (word ∷ low ∷ high ∷ limit ∷ at ∷ []) = option_map saying.Ask (scan_of word low high limit at)
 said_by _ = None
 
--- What a line of a head says, or None where it is not as it should be.
+-- What a line of a head says, or None if it is faulty.
 unfoldable pub head_line : List ℕ → Option HeadLine
 head_line line =
     if is_skipped line then Some saying.Skipped
@@ -50,7 +50,7 @@ queries_in text = filter_map query_in (lines_of text)
 
 -- ---- the whole head
 
--- The lines in front of the first `log` line.
+-- The lines before the first `log` line.
 abbrev pub lines_before : List (List ℕ) → List (List ℕ)
 lines_before lines = before_first says_log lines
 
@@ -60,7 +60,7 @@ bytes_of [] = []
 bytes_of (line ∷ lines) = line ++ 10 ∷ bytes_of lines
 
 -- What a head says: the numbers of its `keep` lines and its queries, in order, and how many bytes it has, its `log`
--- line with its LF too.
+-- line with its LF included.
 pub record Head : Type 0 where
   pub keeps : List ℕ
   pub queries : List Query
@@ -74,14 +74,14 @@ said_in lines = record {
   size = length (bytes_of (lines_before lines)) + 4;
 }
 
--- How many lines stand before the first line at fault, if there is one, where these are the lines of a text of so many
--- bytes: the first line that may not stand in front of a `log` line. Where there is none, but the text ends before
--- the LF of a `log` line, it is the line behind those: a `log` without its LF, or the line that is missing.
+-- How many lines come before the first faulty line, if there is one, of a text with this number of bytes and these
+-- lines. Faulty is the first line that may not come before a `log` line. If there is none, but the text ends before the
+-- LF of a `log` line, it is the line after those: a `log` without its LF, or the missing line.
 abbrev pub fault_at : ℕ → List (List ℕ) → Option ℕ
 fault_at size lines =
     option_or (position (λ line. is_none (head_line line)) (lines_before lines))
     (if nat_lt size (length (bytes_of (lines_before lines)) + 4) then Some (length (lines_before lines)) else None)
 
--- What the head of a text says, or the number of its first line at fault, from 1.
+-- What the head of a text says, or the number of its first faulty line, from 1.
 unfoldable pub head_of : List ℕ → Result Head ℕ
 head_of text = unless_fault (fault_at (length text) (lines_of text)) (said_in (lines_of text))

@@ -1,4 +1,4 @@
--- What may stand in front of a log, by cases, and what each case comes to.
+-- What may come before a log, by cases, and what each case comes to.
 use Rattle.std.specs.Prelude.{◌≡◌, ◌≢◌, ℕ, ◌+◌, List, ◌∷◌, ◌++◌, length, codes, None, IsSome, IsFalse, Result, Ok, Err, filter_map}
 use Rattle.std.specs.List.{AllByRecursion}
 use Rattle.uc_script.specs.Lines.{lines_of}
@@ -8,13 +8,13 @@ use Rattle.uc_script.specs.Head.{Head, head_line, says_log, keep_in, query_in, b
 abbrev pub IsLine : List ℕ → Type 0
 IsLine line = AllByRecursion (λ byte. byte ≢ 10) line
 
--- Each line may stand in front of `log`, and is no `log` itself.
+-- Each line may come before `log`, and is no `log` itself.
 abbrev pub AreHead : List (List ℕ) → Type 0
 AreHead lines = AllByRecursion (λ line. IsLine line × IsSome (head_line line) × IsFalse (says_log line)) lines
 
--- A head is such lines and a `log` line, each with its LF, and says what they name in order; behind it stand any bytes.
--- Else the fault is the first line that doesn't fit, or the one past the last where the `log` doesn't come, or a `log`
--- whose LF doesn't.
+-- A head is such lines and a `log` line, each with its LF, and says what they name in order; any bytes follow.
+-- Otherwise the fault is the first line that doesn't fit, or the one past the last if no `log` comes, or a `log`
+-- without its LF.
 pub data ComesTo : List ℕ → Result Head ℕ → Type 0 where
   asks : (before : List (List ℕ)) (log : List ℕ) → AreHead before
       → ComesTo (bytes_of before ++ (codes "log" ++ 10 ∷ log)) (Ok (record { keeps = filter_map keep_in before; queries = filter_map query_in before; size = length (bytes_of before) + 4 }))

@@ -4,7 +4,7 @@ use Rattle.uc_script.specs.Head.{Head, head_line, queries_in}
 use Rattle.uc_script.specs.declared.head.Head.{Head as Found}
 use Rattle.uc_script.specs.declared.head_line.HeadLine.TheVariants as saying
 
--- Lines from the one of this number on, after these keeps, where so many bytes of all are left.
+-- Lines from the one of this number on, after these keeps, if this number of bytes is left.
 abbrev pub head_after : List ℕ → ℕ → ℕ → ℕ → List (List ℕ) → Result Found ℕ
 head_after keeps number all left [] = Err number
 head_after keeps number all left (line ∷ lines) = elim (head_line line) [
@@ -17,6 +17,6 @@ head_after keeps number all left (line ∷ lines) = elim (head_line line) [
   ]
 ]
 
--- What was found in front of a text's log, with the queries that stand in its bytes.
+-- What was found before a text's log, with the queries in its bytes.
 abbrev pub seen : List ℕ → Found → Head
 seen text found = record { keeps = found.keeps; queries = queries_in (take found.size text); size = found.size }

@@ -1,11 +1,11 @@
--- Which part of a text a line stands in.
+-- In which part of a text a line is.
 use Rattle.std.specs.Prelude.{ℕ, List, codes, Bool, true, false}
 use Rattle.uc_script.specs.declared.part.Source.{Source}
 use Rattle.uc_script.specs.declared.part.Source.TheVariants as source
 use Rattle.uc_script.specs.declared.part.Part.{Part}
 use Rattle.uc_script.specs.declared.part.Part.TheVariants.{Setup, Calls, Head}
 
--- The part of a line, by whether an `open` stands before it.
+-- The part of a line, by whether an `open` comes before it.
 abbrev pub part_of : Source → Bool → Part
 part_of source.Script false = Setup
 part_of source.Script true = Calls

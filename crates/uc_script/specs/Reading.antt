@@ -15,12 +15,12 @@ abbrev pub Fails : {Y : Type 0} → ScriptError → Result Y ℕ → Type 0
 Fails errors.Memory read = Unit {0}
 Fails (errors.Fault line) read = read ≡ Err line
 
--- What a function returned, seen by view, is what reading gives, unless memory ran out.
+-- What a function returned, seen by view, is what reading returns, unless memory ran out.
 abbrev pub Gives : {X Y : Type 0} → (X → Y) → Result X ScriptError → Result Y ℕ → Type 0
 Gives view (Ok x) read = read ≡ Ok (view x)
 Gives view (Err e) read = Fails e read
 
--- What is left of a text, behind as many bytes as it is shorter.
+-- The rest of a text, after as many bytes as it is shorter.
 unfoldable pub IsRest : List ℕ → List ℕ → Type 0
 IsRest text rest = rest ≡ drop (length text - length rest) text
 

@@ -39,14 +39,14 @@ with_two word first second = do
       else if says word (codes "range") then Some (setup.Change (DeleteRange key value))
       else None
 
--- What a line before the first `open` says by its fields, that line too.
+-- What a line before the first `open` says by its fields, that line included.
 unfoldable pub setup_of : List (List ℕ) → Option SetupLine
 setup_of (word ∷ []) = if says word (codes "open") then Some setup.Open else None
 setup_of (word ∷ argument ∷ []) = with_one word argument
 setup_of (word ∷ first ∷ second ∷ []) = with_two word first second
 setup_of _ = None
 
--- What such a line says, or None where it is not as it should be.
+-- What such a line says, or None if it is faulty.
 unfoldable pub setup_line : List ℕ → Option SetupLine
 setup_line line = if is_skipped line then Some setup.Skipped else setup_of (fields_of line)
 
@@ -97,7 +97,7 @@ call_of (word ∷ name ∷ first ∷ count ∷ []) = if says word (codes "claim"
 call_of (word ∷ low ∷ high ∷ limit ∷ at ∷ []) = option_map Read (scan_of word low high limit at)
 call_of _ = None
 
--- What a line after the first `open` says, or None where it is not as it should be.
+-- What a line after the first `open` says, or None if it is faulty.
 unfoldable pub call_line : List ℕ → Option CallLine
 call_line line = if is_skipped line then Some asking.Skipped else option_map asking.Ask (call_of (fields_of line))
 
@@ -140,9 +140,8 @@ keep_in line = kept (setup_line line)
 unfoldable pub call_in : List ℕ → Option Call
 call_in line = asked (call_line line)
 
--- How many lines stand before the first line at fault, if there is one. Before the first `open` that is
--- a line that is no setup line, after it one that is no call. Where no line is `open`, it is the line that
--- is missing behind the last.
+-- How many lines come before the first faulty line, if there is one. Before the first `open` that is a line that is no
+-- setup line, after it one that is no call. If no line is `open`, it is the line that is missing after the last.
 abbrev pub fault_at : List (List ℕ) → Option ℕ
 fault_at lines =
     option_or (position (λ line. is_none (setup_line line)) (lines_before lines))
@@ -157,7 +156,7 @@ asked_by lines = record {
   calls = filter_map call_in (lines_after lines);
 }
 
--- What was read, unless there is a fault behind so many lines: then its number, from 1.
+-- What was read, unless there is a fault after this number of lines: then its number, from 1.
 abbrev pub unless_fault : {A : Type 0} → Option ℕ → A → Result A ℕ
 unless_fault (Some k) read = Err (k + 1)
 unless_fault None read = Ok read

@@ -11,11 +11,11 @@ is_printable byte = nat_le 32 byte && nat_le byte 126
 abbrev pub hex_digit : ℕ → ℕ
 hex_digit n = if nat_lt n 10 then 48 + n else 87 + n
 
--- A byte as it is shown: itself where it is printable, else `\x` and its two digits.
+-- A byte as it is shown: itself if it is printable, else `\x` and its two digits.
 abbrev pub shown : ℕ → List ℕ
 shown byte = if is_printable byte then byte ∷ [] else 92 ∷ 120 ∷ hex_digit (byte / 16 % 16) ∷ hex_digit (byte % 16) ∷ []
 
--- A line as it is shown: its first bytes, and `...` where it has more.
+-- A line as it is shown: its first bytes, and `...` if it has more.
 unfoldable pub shortened : List ℕ → List ℕ
 shortened line =
     if nat_le (length line) MOST_SHOWN then flat_map shown line

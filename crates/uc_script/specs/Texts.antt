@@ -14,7 +14,7 @@ infixl 10 ◌>>=◌
 abbrev pub ◌>>=◌ : {A B : Type 0} → Option A → (A → Option B) → Option B
 o >>= f = option_and_then f o
 
--- One decimal digit or more, and no zero in front of another digit.
+-- One decimal digit or more, and no zero before another digit.
 abbrev pub is_numeral : List ℕ → Bool
 is_numeral [] = false
 is_numeral (digit ∷ []) = is_ascii_digit digit

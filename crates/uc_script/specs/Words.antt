@@ -1,4 +1,4 @@
--- The words that lines begin with, and what stands behind each.
+-- The words that lines begin with, and what follows each.
 use Rattle.std.specs.Prelude.{ℕ, List, [], ◌∷◌, Option, codes, find, Bool, true, false}
 use Rattle.std.specs.Str.{bytes_eq}
 use Rattle.uc_script.specs.declared.field_kind.FieldKind.{FieldKind}
@@ -56,7 +56,7 @@ stands_in Scan Head = true
 stands_in Log Head = true
 stands_in _ _ = false
 
--- What stands behind it, in order.
+-- What follows it, in order.
 abbrev pub kinds : Word → List FieldKind
 kinds Put = Text ∷ Text ∷ []
 kinds Delete = Text ∷ []

@@ -18,7 +18,7 @@ pub(crate) enum CallLine {
     Ask(Call),
 }
 
-/// What a line says, or `None` where it is not as it should be.
+/// What a line says, or `None` if it is faulty.
 #[tactic(auto, unfolding(crate::specs::Script::call_line, crate::specs::Script::call_of))]
 pub(crate) fn read_call_line(alloc: Global, line: &[u8]) -> Result<Option<CallLine>, AllocError>
     ensures { IfOk result (λ said. said ≡ script.call_line line.now) }

@@ -10,8 +10,8 @@ use crate::lines::next_line;
 use std::alloc::{AllocError, Global};
 use std::marker::Model;
 
-/// Goes through the lines behind the `open` of a script that was judged before, front to back, and gives its calls one at a
-/// time.
+/// Goes through the lines after the `open` of a script that was judged before, front to back, and returns its calls one
+/// at a time.
 ///
 /// Contracts see it as the calls that are ahead of it.
 #[derive(Debug, Drop)]
@@ -31,17 +31,16 @@ impl<'a> Model for CallReader<'a> {
 }
 
 impl<'a> CallReader<'a> {
-    /// A reader in front of the first call of a script, whose bytes behind `open` these are. A line that is no call is passed
-    /// over.
+    /// A reader before the first call of a script, whose bytes after `open` these are. It skips lines that are no call.
     pub fn new(lines: &'a [u8]) -> CallReader<'a>
         ensures { result ≡ calls_in lines.now }
     {
         CallReader { lines }
     }
 
-    /// The next call, or `None` where none is left.
+    /// The next call, or `None` if none is left.
     ///
-    /// It fails only for want of memory, and then nothing is passed over.
+    /// After an `Err` nothing is passed over.
     pub fn next_call(&mut self, alloc: Global) -> Result<Option<Call>, AllocError>
         ensures next { IfOk result (λ next. Comes self.old next self.new) }
         ensures err { OnErr result (self.new ≡ self.old) }
@@ -63,7 +62,7 @@ fn read_call(alloc: Global, line: &[u8]) -> Result<Option<Call>, AllocError>
     }
 }
 
-/// The first call of lines, if they have one, and the lines behind it.
+/// The first call of lines, if they have one, and the lines after it.
 fn read_next(alloc: Global, lines: &[u8]) -> Result<(Option<Call>, &[u8]), AllocError>
     ensures { IfOk result (λ found. Comes (calls_in lines.now) found.0 (calls_in found.1.now)) }
 {

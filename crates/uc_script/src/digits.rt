@@ -10,8 +10,8 @@ use std::alloc::AllocError;
 
 /// The two hexadecimal digits of each byte, in the order of the bytes.
 ///
-/// The crate `hex` writes a text digit by digit. With these at hand it is written byte by byte, in half the
-/// time, which is felt where all the bytes of a log are printed.
+/// The crate `hex` writes a text digit by digit. This table writes it byte by byte in half the time, which matters when
+/// all the bytes of a log are printed.
 static PAIRS: [u8; 512] = *b"\
     000102030405060708090a0b0c0d0e0f\
     101112131415161718191a1b1c1d1e1f\
@@ -30,8 +30,8 @@ static PAIRS: [u8; 512] = *b"\
     e0e1e2e3e4e5e6e7e8e9eaebecedeeef\
     f0f1f2f3f4f5f6f7f8f9fafbfcfdfeff";
 
-/// Appends bytes: two hexadecimal digits in lower case for each byte, and `.` for no bytes. Where memory is
-/// wanting, `out` stays as it was.
+/// Appends bytes: two hexadecimal digits in lower case for each byte, and `.` for no bytes. An `Err` leaves `out` as it
+/// was.
 pub fn push_hex(out: &mut Vec<u8>, bytes: &[u8]) -> Result<(), AllocError>
     ensures ok { OnOk result (out.new.items ≡ out.old.items ++ hex_text bytes.now) }
     ensures err { OnErr result (out.new.items ≡ out.old.items) }
@@ -69,7 +69,7 @@ fn write_pairs(bytes: &[u8], out: &mut [u8])
     }
 }
 
-/// Appends a number in decimal. Where memory is wanting, `out` stays as it was.
+/// Appends a number in decimal. An `Err` leaves `out` as it was.
 pub fn push_number(out: &mut Vec<u8>, number: u64) -> Result<(), AllocError>
     ensures ok { OnOk result (out.new.items ≡ out.old.items ++ decimal number) }
     ensures err { OnErr result (out.new.items ≡ out.old.items) }

@@ -1,4 +1,4 @@
-//! [`ScriptError`]: why a script, or what stands in front of a log, could not be read.
+//! [`ScriptError`]: why a script, or the head of a log, could not be read.
 
 ghost use Rattle.std.specs.Prelude.{◌≡◌};
 ghost use Rattle.uc_script.specs.declared.error.ScriptError.TheVariants.{Memory};
@@ -6,11 +6,11 @@ ghost use Rattle.uc_script.specs.declared.error.ScriptError.TheVariants.{Memory}
 use std::alloc::{AllocError, AllocFailed};
 use thiserror::Error;
 
-/// Why a script, or what stands in front of a log, could not be read.
+/// Why a script, or the head of a log, could not be read.
 #[derive(Debug, Drop, Error)]
 pub enum ScriptError {
-    /// The number, from 1, of the first line that is not as it should be. Where only `open`, or only `log`, is
-    /// missing, that is the line behind the last.
+    /// The number, from 1, of the first faulty line. If only `open`, or only `log`, is missing, that is the line after
+    /// the last.
     #[error("line {0} is not as it should be")]
     Fault(u64),
     /// There was no memory for what the lines say.

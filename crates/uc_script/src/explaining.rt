@@ -1,4 +1,4 @@
-//! From the number of the line at fault to what is said of it.
+//! From the number of the faulty line to what is said of it.
 
 ghost use Rattle.std.specs.Prelude.{◌≡◌, ◌-◌, take, drop, [], length, nat_eq, codes, ◌∷◌, IfOk};
 ghost use Rattle.std.specs.List.{list_any, ends_with};
@@ -16,7 +16,7 @@ use crate::shortening::shortened;
 use crate::word::Word;
 use std::alloc::{AllocError, Global};
 
-/// The text behind so many lines, and whether one of those is `open`.
+/// The text after `count` lines, and whether one of those is `open`.
 fn skip_lines(text: &[u8], count: u64) -> (&[u8], bool)
     ensures rest { lines_of result.0.now ≡ drop count (lines_of text.now) }
     ensures opened { result.1 ≡ list_any says_open (take count (lines_of text.now)) }
@@ -34,7 +34,7 @@ fn skip_lines(text: &[u8], count: u64) -> (&[u8], bool)
     (rest, is_opened)
 }
 
-/// What is said where the line of this number is missing: nothing behind an `open`.
+/// What is said if the line of this number is missing: nothing after an `open`.
 fn missing(part: Part, number: u64) -> Option<Explanation>
     ensures { option_map explanation_text result ≡ explanations.missing part number }
 {
@@ -51,7 +51,7 @@ fn missing(part: Part, number: u64) -> Option<Explanation>
     }
 }
 
-/// Whether a line, with these others behind it, is the end of a head but for its line feed.
+/// Whether a line that these others follow is the end of a head but for its line feed.
 #[tactic(auto, using(crate::proofs::Passing::same_emptiness))]
 fn lacks_its_end(part: Part, line: &[u8], others: &[u8], is_ended: bool) -> bool
     ensures { result ≡ explanations.lacks_its_end part line.now (lines_of others.now) is_ended }
@@ -76,11 +76,11 @@ fn fault_before(
     line_fault(alloc, part, line)
 }
 
-/// What is said of the line of this number, from 1, in a text of this kind: what stands there, what is wrong with it and what
-/// may stand there; or that it is missing. It is `None` where nothing is wrong with that line, which is never so where
-/// [`read_script`](crate::read_script) or [`read_head`](crate::read_head) told its number.
+/// What is said of the line of this number, from 1, in a text of this kind: what is there, what is wrong with it and
+/// what may be there, or that it is missing. It is `None` if nothing is wrong with that line, which is never so for a
+/// number from [`read_script`](crate::read_script) or [`read_head`](crate::read_head).
 ///
-/// It goes through the lines up to that one once, and fails for want of memory alone.
+/// It goes once through the lines up to that one.
 #[tactic(auto, unfolding(crate::specs::Explanations::explanation_of))]
 pub fn explain(
     alloc: Global,

@@ -1,4 +1,4 @@
-//! [`Explanation`]: what is said of the line at fault.
+//! [`Explanation`]: what is said of the faulty line.
 
 ghost use Rattle.std.specs.Prelude.{Some};
 ghost use Rattle.uc_script.specs.Explanations.{explanation_text};
@@ -7,7 +7,7 @@ use crate::fault::LineFault;
 use crate::word::Word;
 use std::fmt;
 
-/// What is said of the line at fault. It prints as one line, without a line break.
+/// What is said of the faulty line. It prints as one line, without a line break.
 #[derive(Debug, Drop, PartialEq, Eq)]
 pub enum Explanation {
     /// What is wrong with a line that is there.
@@ -19,11 +19,11 @@ pub enum Explanation {
         /// What is wrong with it.
         fault: LineFault,
     },
-    /// A line is missing behind the last.
+    /// A line is missing after the last.
     Missing {
-        /// The number that it has to have, from 1.
+        /// The number that it must have, from 1.
         number: u64,
-        /// What it has to be, and all of it.
+        /// What it must be, and all of it.
         word: Word,
     },
 }

@@ -15,20 +15,20 @@ pub enum LineFault {
     UnknownWord(Part),
     /// No line of this part begins with its first word, but one of another does.
     Misplaced(Part),
-    /// Fields are missing behind the word.
+    /// Fields are missing after the word.
     TooFew(Word),
     /// There are more fields than the word takes.
     TooMany(Word),
-    /// A field isn't of the kind that stands there.
+    /// A field is of the wrong kind.
     BadField {
         /// The line's first word.
         word: Word,
         /// The number of the field.
         field: usize,
-        /// What the field has to be.
+        /// What the field must be.
         kind: FieldKind,
     },
-    /// It is the line `log` without its line feed, so that no log stands behind it.
+    /// It is the line `log` without its line feed, so no log follows it.
     NoLineFeed,
 }
 

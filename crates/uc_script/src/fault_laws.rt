@@ -1,4 +1,4 @@
-//! What is shown and printed, as laws. Each is a contract, and its function does nothing.
+//! What is shown and printed, as laws. Each is a contract; its function is a proof step that does nothing when it runs.
 
 ghost use Rattle.std.specs.Prelude.{◌≡◌, ℕ, ◌<◌, ◌≤◌, ◌^◌, List, length, IsTrue, IfSome};
 ghost use Rattle.std.specs.List.{list_all};

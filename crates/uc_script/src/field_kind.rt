@@ -1,4 +1,4 @@
-//! [`FieldKind`]: what a field behind a line's word may be.
+//! [`FieldKind`]: what a field after a line's word may be.
 
 ghost use Rattle.std.specs.Prelude.{◌≡◌, Some, IfOk};
 ghost use Rattle.uc_script.specs.FieldKinds as kinds;
@@ -8,7 +8,7 @@ use crate::field;
 use std::alloc::{AllocError, Global};
 use std::fmt;
 
-/// What a field behind a line's word may be.
+/// What a field after a line's word may be.
 #[derive(Clone, Copy, Debug, PartialEq, Eq)]
 pub enum FieldKind {
     /// A key or a value.
@@ -24,7 +24,7 @@ pub enum FieldKind {
 }
 
 impl FieldKind {
-    /// Whether a field is of this kind. It takes memory for the bytes of a key or a value.
+    /// Whether a field is of this kind. It allocates for the bytes of a key or a value.
     pub fn reads(self, alloc: Global, field: &[u8]) -> Result<bool, AllocError>
         ensures { IfOk result (λ reads. reads ≡ kinds.reads self field.now) }
     {

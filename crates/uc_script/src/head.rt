@@ -1,4 +1,4 @@
-//! [`Head`]: what stands in front of a log.
+//! [`Head`]: the lines before a log.
 
 ghost use Rattle.std.specs.Prelude.{◌≡◌, ◌≤◌, [], length, IfOk};
 ghost use Rattle.uc_script.specs.Head.{head_of};
@@ -13,7 +13,7 @@ use crate::script::Keeps;
 use std::alloc::Global;
 use uc_bytes::Items;
 
-/// What stands in front of a log, but for its queries: a [`QueryReader`](crate::QueryReader) over its bytes lends those.
+/// The lines before a log, without their queries: a [`QueryReader`](crate::QueryReader) over its bytes returns those.
 #[derive(Debug, Drop)]
 pub struct Head {
     /// The numbers of the `keep` lines in order.
@@ -22,15 +22,14 @@ pub struct Head {
     pub size: usize,
 }
 
-/// What stands in front of a log.
+/// Reads the lines before a log.
 ///
-/// Its lines are `keep S`, where S is a number, `get K S` and `scan LOW HIGH LIMIT S`, in any order, as they are in a
-/// script ([`read_script`](crate::read_script)); empty lines and lines that begin with `#` are skipped and counted. The
-/// first line `log` ends them. What stands behind its LF is the log, any bytes, and isn't looked at.
+/// Its lines are `keep S`, where S is a number, `get K S` and `scan LOW HIGH LIMIT S`, in any order, as in a script
+/// ([`read_script`](crate::read_script)). Empty lines and lines that begin with `#` are skipped and counted. The first
+/// line `log` ends them. What follows its LF is the log: any bytes, which are not looked at.
 ///
-/// It fails with the number of the first line that is not so, from 1: a `log` whose LF is missing is one, and where
-/// only `log` is missing it is one past the last line. It also fails for want of memory. It takes memory for the keeps,
-/// and for one query at a time.
+/// An `Err` has the number of the first faulty line, from 1. A `log` without its LF is faulty. If only `log` is
+/// missing, the number is one past the last line. It allocates for the keeps, and for one query at a time.
 pub fn read_head(alloc: Global, text: &[u8]) -> Result<Head, ScriptError>
     ensures read { Gives (seen text.now) result (head_of text.now) }
     ensures within { IfOk result (λ head. head.size ≤ length text.now) }

@@ -1,4 +1,4 @@
-//! Lines in front of a log, the `log` line too.
+//! Lines before a log, the `log` line included.
 
 ghost use Rattle.std.specs.Prelude.{◌≡◌, IfOk};
 ghost use Rattle.uc_script.specs.Head as heads;
@@ -9,7 +9,7 @@ use crate::query_line::{read_get, read_scan};
 use crate::setup_line::read_keep;
 use std::alloc::{AllocError, Global};
 
-/// What a line in front of a log says, the `log` line too.
+/// What a line before a log says, the `log` line included.
 #[derive(Drop)]
 pub(crate) enum HeadLine {
     /// Nothing: the line is empty or a comment.
@@ -18,11 +18,11 @@ pub(crate) enum HeadLine {
     Keep(u64),
     /// What is asked.
     Ask(Query),
-    /// The end of the head: the log stands behind this line's LF.
+    /// The end of the head: the log follows this line's LF.
     Log,
 }
 
-/// What a line says, or `None` where it is not as it should be.
+/// What a line says, or `None` if it is faulty.
 #[tactic(auto, unfolding(crate::specs::Head::head_line, crate::specs::Head::says_log, crate::specs::Head::said_by))]
 pub(crate) fn read_head_line(alloc: Global, line: &[u8]) -> Result<Option<HeadLine>, AllocError>
     ensures { IfOk result (λ said. said ≡ heads.head_line line.now) }

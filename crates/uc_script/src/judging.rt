@@ -12,7 +12,7 @@ use crate::part::Part;
 use crate::word::Word;
 use std::alloc::{AllocError, Global};
 
-/// What is wrong with the fields behind a line's word, where anything stands behind its space.
+/// What is wrong with the fields after a line's word, if anything follows its space.
 fn arguments_fault(
     alloc: Global,
     word: Word,
@@ -38,8 +38,8 @@ fn arguments_fault(
     Ok(rest.map(|_| LineFault::TooMany(word)))
 }
 
-/// What is wrong with a line of a part, or `None` where it is read right there. It takes memory for the bytes of one key or
-/// value at a time.
+/// What is wrong with a line of a part, or `None` if it is right there. It allocates for the bytes of one key or value
+/// at a time.
 #[tactic(auto, unfolding(crate::specs::Faults::line_fault))]
 pub(crate) fn line_fault(
     alloc: Global,

@@ -1,5 +1,5 @@
-//! What the definitions of this crate mean, as laws. Each is a contract, and its function does
-//! nothing.
+//! What the definitions of this crate mean, as laws. Each is a contract; its function is a proof step that does nothing
+//! when it runs.
 
 ghost use Rattle.std.specs.Prelude.{◌≡◌, ℕ, ◌<◌, ◌^◌, List, length, Ok, Some, Result, All};
 ghost use Rattle.std.specs.Fmt.{decimal};
@@ -13,19 +13,18 @@ ghost use Rattle.uc_script.specs.Short.{AreNoLonger};
 ghost use Rattle.uc_script.specs.Texts.{number_of, text_of, hex_text};
 ghost use Rattle.uc_script.specs.declared.script.Script.{Script};
 
-/// A script is setup lines, one `open` and calls, and asks what they name in the order of the lines.
-/// Any other text has its fault at the first line that does not fit, or one past the last line
-/// where the `open` does not come. There is no other outcome, and no two of them.
+/// A script is setup lines, one `open` and calls, and asks what they name in the order of the lines. Any other text has
+/// its fault at the first line that does not fit, or one past the last line if no `open` comes. There is no other
+/// outcome, and no two of them.
 pub fn a_script_is_its_lines()
     ensures comes { (text : List ℕ) → ComesTo (lines_of text) (script_of text) }
     ensures alone { (text : List ℕ) (outcome : Result Script ℕ)
         → ComesTo (lines_of text) outcome → outcome ≡ script_of text }
 {}
 
-/// What stands in front of a log is lines that keep and ask and a `log` line, each with its LF, and says what they name in
-/// order; behind it may stand any bytes. Any other text has its fault at the first line that does not fit, at a `log`
-/// whose LF is missing, or one past the last line where the `log` does not come. There is no other outcome, and no two
-/// of them.
+/// A head is lines that keep and ask and a `log` line, each with its LF, and says what they name in order. Any bytes
+/// may follow it. Any other text has its fault at the first line that does not fit, at a `log` without its LF, or one
+/// past the last line if no `log` comes. There is no other outcome, and no two of them.
 pub fn a_head_is_its_lines()
     ensures comes { (text : List ℕ) → heads.ComesTo text (head_of text) }
     ensures alone { (text : List ℕ) (outcome : Result Head ℕ) → heads.ComesTo text outcome → outcome ≡ head_of text }
@@ -43,13 +42,13 @@ pub fn names_are_in_range()
         → All NameIsGood script.calls }
 {}
 
-/// What is printed for bytes is read as these bytes.
+/// Reading what is printed for bytes returns these bytes.
 pub fn printed_bytes_are_read()
     ensures { (bytes : List ℕ) → All (λ byte. byte < 256) bytes
         → text_of (hex_text bytes) ≡ Some bytes }
 {}
 
-/// What is printed for a number is read as this number.
+/// Reading what is printed for a number returns this number.
 pub fn printed_numbers_are_read()
     ensures { (number : ℕ) → number < 2 ^ 64 → number_of (decimal number) ≡ Some number }
 {}

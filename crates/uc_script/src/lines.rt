@@ -5,14 +5,14 @@ ghost use Rattle.uc_script.specs.Lines as lines;
 ghost use Rattle.uc_script.specs.Lines.{lines_of, fields_of};
 ghost use Rattle.uc_script.specs.Fields.{Holds};
 
-/// Where a byte first stands, if it does.
+/// The first place of a byte, if there is one.
 fn find(bytes: &[u8], wanted: u8) -> Option<usize>
     ensures { result ≡ position (λ byte. byte == wanted) bytes.now }
 {
     bytes.iter().position(|byte| *byte == wanted)
 }
 
-/// The first line without its LF, and what stands behind that LF.
+/// The first line without its LF, and what follows that LF.
 pub fn next_line(text: &[u8]) -> (&[u8], &[u8])
     requires { 0 < length text.now }
     ensures cut { lines_of text.now ≡ result.0.now ∷ lines_of result.1.now }
@@ -32,7 +32,7 @@ pub fn is_skipped(line: &[u8]) -> bool
     matches!(line, [] | [b'#', ..])
 }
 
-/// The first field, and what stands behind its space where there is one.
+/// The first field, and what follows its space if there is one.
 pub fn next_field(line: &[u8]) -> (&[u8], Option<&[u8]>)
     ensures { MatchOption result.1
         (fields_of line.now ≡ result.0.now ∷ [])
@@ -44,7 +44,7 @@ pub fn next_field(line: &[u8]) -> (&[u8], Option<&[u8]>)
     }
 }
 
-/// The fields of a line, of which no line that says something has more than five.
+/// The fields of a line. No line that says something has more than five.
 #[derive(Clone, Copy)]
 pub(crate) enum Fields<'a> {
     /// One field: the line has no space.

@@ -1,4 +1,4 @@
-//! [`Part`]: which part of a text a line stands in; [`Source`]: what the text is.
+//! [`Part`]: in which part of a text a line is; [`Source`]: what the text is.
 
 ghost use Rattle.std.specs.Prelude.{◌≡◌, Some};
 ghost use Rattle.uc_script.specs.Parts as parts;
@@ -6,28 +6,28 @@ ghost use Rattle.uc_script.specs.Parts.{first_words};
 
 use std::fmt;
 
-/// What a text is that has lines at fault.
+/// What a text with faulty lines is.
 #[derive(Clone, Copy, Debug, PartialEq, Eq)]
 pub enum Source {
     /// A script, as [`read_script`](crate::read_script) reads it.
     Script,
-    /// What stands in front of a log, as [`read_head`](crate::read_head) reads it.
+    /// The lines before a log, as [`read_head`](crate::read_head) reads them.
     Head,
 }
 
-/// Which part of a text a line stands in. It says which words the line may begin with.
+/// In which part of a text a line is. It says which words the line may begin with.
 #[derive(Clone, Copy, Debug, PartialEq, Eq)]
 pub enum Part {
     /// A script before its `open`.
     Setup,
     /// A script after its `open`.
     Calls,
-    /// What stands in front of a log.
+    /// The lines before a log.
     Head,
 }
 
 impl Part {
-    /// The part of a line, where it is known whether an `open` stands before it.
+    /// The part of a line, given whether an `open` comes before it.
     pub fn of(source: Source, is_opened: bool) -> Part
         ensures { result ≡ parts.part_of source is_opened }
     {

@@ -3,7 +3,7 @@
 use crate::seq::Seq;
 use uc_bytes::Bytes;
 
-/// What a line asks to read, in a script after its `open` and in the head in front of a log.
+/// What a line asks to read, in a script after its `open` and in the head before a log.
 #[derive(Debug, Drop, PartialEq, Eq)]
 pub enum Query {
     /// The value of a key. A line writes `get K S`.
@@ -17,7 +17,7 @@ pub enum Query {
     Scan {
         /// The first key that may be a row's.
         low: Bytes,
-        /// The rows are below this key; no end where there is none. A line writes `-` for none.
+        /// The rows are below this key; `None` means no end. A line writes `-` for none.
         high: Option<Bytes>,
         /// How many rows there are at most.
         limit: u64,

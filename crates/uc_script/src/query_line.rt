@@ -1,4 +1,4 @@
-//! Lines that ask to read, by their fields: the same in a script and in front of a log.
+//! Lines that ask to read, by their fields: the same in a script and before a log.
 
 ghost use Rattle.std.specs.Prelude.{◌≡◌, IfOk};
 ghost use Rattle.uc_script.specs.Queries.{get_of, scan_of};

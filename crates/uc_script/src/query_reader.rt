@@ -1,4 +1,4 @@
-//! [`QueryReader`]: the queries of a head, some at a time.
+//! [`QueryReader`]: the queries of a head, a few at a time.
 
 ghost use Rattle.std.specs.Prelude.{◌≡◌, ◌≤◌, take, drop, length, IfOk, OnOk, OnErr};
 ghost use Rattle.uc_script.specs.Head.{query_in, queries_in};
@@ -9,7 +9,7 @@ use crate::query::Query;
 use std::alloc::{AllocError, Global};
 use std::marker::Model;
 
-/// Goes through the bytes of a head that was read before, front to back, and gives its queries, some at a time.
+/// Goes through the bytes of a head that was read before, front to back, and returns its queries, a few at a time.
 ///
 /// Contracts see it as the queries that are ahead of it.
 #[derive(Debug, Drop)]
@@ -29,16 +29,16 @@ impl<'a> Model for QueryReader<'a> {
 }
 
 impl<'a> QueryReader<'a> {
-    /// A reader in front of the first query of a head, whose bytes these are. A line that is no query is passed over.
+    /// A reader before the first query of a head, whose bytes these are. It skips lines that are no query.
     pub fn new(head: &'a [u8]) -> QueryReader<'a>
         ensures { result ≡ queries_in head.now }
     {
         QueryReader { lines: head }
     }
 
-    /// The next queries, as many as are asked for where so many are left, and else all that are left.
+    /// The next `count` queries, or all that are left if there are fewer.
     ///
-    /// It fails only for want of memory, and then nothing is passed over.
+    /// After an `Err` nothing is passed over.
     pub fn next_queries(&mut self, alloc: Global, count: usize) -> Result<Vec<Query>, AllocError>
         ensures given { IfOk result (λ queries. queries.items ≡ take count self.old) }
         ensures left { OnOk result (self.new ≡ drop count self.old) }
@@ -61,7 +61,7 @@ fn read_query(alloc: Global, line: &[u8]) -> Result<Option<Query>, AllocError>
     }
 }
 
-/// The first queries of lines, as many as are asked for where there are so many, and the lines behind them.
+/// The first `count` queries of lines, or all if there are fewer, and the lines after them.
 fn read_queries(
     alloc: Global,
     lines: &[u8],

@@ -20,24 +20,22 @@ use uc_bytes::{Items, Op};
 struct Opened<'a> {
     ops: Vec<Op>,
     keeps: Vec<u64>,
-    /// The number of the line behind `open`, from 1.
+    /// The number of the line after `open`, from 1.
     number: u64,
-    /// The lines behind `open`.
+    /// The lines after `open`.
     rest: &'a [u8],
 }
 
 /// What a script asks.
 ///
-/// Its lines end with LF, and the last may lack it. Fields are separated by one space. Empty lines
-/// and lines that begin with `#` are skipped and counted. Before the one `open` stand `put K V`,
-/// `delete K`, `merge K V`, `range B E` and `keep S`, where S is a number. After it stand `get K S`
-/// and `scan LOW HIGH LIMIT S`, where S may be `last` and HIGH may be `-`; `claim N FIRST COUNT`,
-/// `install N` and `abandon N`, where the name N is below [`NAMES`](crate::NAMES); and
-/// `compact FIRST COUNT`, `pick` and `report`. Keys and values are hexadecimal in either case, or
-/// `.` for no bytes. Numbers are decimal without sign or needless zeros, at most 2^64 - 1.
+/// Its lines end with LF, and the last may lack it. Fields are separated by one space. Empty lines and lines that begin
+/// with `#` are skipped and counted. Before the one `open` come `put K V`, `delete K`, `merge K V`, `range B E` and
+/// `keep S`, where S is a number. After it come `get K S` and `scan LOW HIGH LIMIT S`, where S may be `last` and HIGH
+/// may be `-`; `claim N FIRST COUNT`, `install N` and `abandon N`, where the name N is below [`NAMES`](crate::NAMES);
+/// and `compact FIRST COUNT`, `pick` and `report`. Keys and values are hexadecimal in either case, or `.` for no bytes.
+/// Numbers are decimal without sign or needless zeros, at most 2^64 - 1.
 ///
-/// It fails with the number of the first line that is not so, from 1, which is one past the last
-/// line where only `open` is missing; and for want of memory.
+/// An `Err` has the number of the first faulty line, from 1, which is one past the last line if only `open` is missing.
 pub fn read_script(alloc: Global, text: &[u8]) -> Result<Script, ScriptError>
     ensures { Gives (λ script. script) result (script_of text.now) }
 {
@@ -50,11 +48,11 @@ pub fn read_script(alloc: Global, text: &[u8]) -> Result<Script, ScriptError>
     })
 }
 
-/// What a script says up to its `open`, whose calls are judged and let go of. Which scripts are at fault, and in which line,
-/// is as [`read_script`] says.
+/// What a script says up to its `open`. The calls are judged and freed. [`read_script`] says which scripts are faulty,
+/// and in which line.
 ///
-/// A [`CallReader`](crate::CallReader) over the bytes behind `open` lends the calls. It takes memory for the changes and the
-/// keeps, and for one call at a time.
+/// A [`CallReader`](crate::CallReader) over the bytes after `open` returns the calls. It allocates for the changes and
+/// the keeps, and for one call at a time.
 pub fn judge_script(alloc: Global, text: &[u8]) -> Result<Preamble, ScriptError>
     ensures read { Gives (λ preamble. script_with preamble (drop preamble.size text.now)) result (script_of text.now) }
     ensures within { IfOk result (λ preamble. preamble.size ≤ length text.now) }

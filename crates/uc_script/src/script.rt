@@ -1,4 +1,4 @@
-//! [`Script`]: what a script asks, and [`Preamble`]: what stands up to its `open`.
+//! [`Script`]: what a script asks, and [`Preamble`]: its part up to `open`.
 use crate::call::Call;
 use uc_bytes::{Items, Op};
 
@@ -22,13 +22,14 @@ pub struct Script {
     pub calls: Calls,
 }
 
-/// What stands in a script up to its `open`: a [`CallReader`](crate::CallReader) over the bytes behind that lends its calls.
+/// The part of a script up to its `open`. A [`CallReader`](crate::CallReader) over the bytes after it returns its
+/// calls.
 #[derive(Debug, Drop)]
 pub struct Preamble {
     /// The changes in order. The first has the sequence 1, the next 2, and so on.
     pub ops: Ops,
     /// The numbers of the `keep` lines in order.
     pub keeps: Keeps,
-    /// How many bytes the lines up to `open` have, that line with its LF too. What is asked begins at this offset.
+    /// How many bytes the lines up to `open` have, that line with its LF included. The calls begin at this offset.
     pub size: usize,
 }

@@ -1,4 +1,4 @@
-//! Lines before `open`, that line too.
+//! Lines before `open`, that line included.
 
 ghost use Rattle.std.specs.Prelude.{◌≡◌, IfOk};
 ghost use Rattle.uc_script.specs.Script as script;
@@ -8,7 +8,7 @@ use crate::lines::{Fields, is_skipped, split_line};
 use std::alloc::{AllocError, Global};
 use uc_bytes::Op;
 
-/// What a line before `open` says, that line too.
+/// What a line before `open` says, that line included.
 #[derive(Drop)]
 pub(crate) enum SetupLine {
     /// Nothing: the line is empty or a comment.
@@ -21,7 +21,7 @@ pub(crate) enum SetupLine {
     Open,
 }
 
-/// What a line says, or `None` where it is not as it should be.
+/// What a line says, or `None` if it is faulty.
 #[tactic(auto, unfolding(crate::specs::Script::setup_line, crate::specs::Script::setup_of))]
 pub(crate) fn read_setup_line(alloc: Global, line: &[u8]) -> Result<Option<SetupLine>, AllocError>
     ensures { IfOk result (λ said. said ≡ script.setup_line line.now) }

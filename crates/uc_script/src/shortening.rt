@@ -7,7 +7,7 @@ ghost use Rattle.uc_script.specs.Shortened.{shown};
 
 use std::alloc::{AllocError, Global};
 
-/// How many bytes of a line are shown at the most.
+/// How many bytes of a line are shown at most.
 pub const MOST_SHOWN: usize = 60;
 
 /// The hexadecimal digit of a number below 16.
@@ -22,7 +22,7 @@ fn hex_digit(number: u8) -> char
     }
 }
 
-/// Appends a byte: itself where it is a printable character of ASCII, else `\x` and two hexadecimal digits.
+/// Appends a byte: itself if it is a printable character of ASCII, else `\x` and two hexadecimal digits.
 fn push_byte(text: &mut String, byte: u8) -> Result<(), AllocError>
     ensures { OnOk result (string_bytes text.new ≡ string_bytes text.old ++ shown byte) }
 {
@@ -44,7 +44,7 @@ fn push_bytes(text: &mut String, bytes: &[u8]) -> Result<(), AllocError>
     Ok(())
 }
 
-/// Appends the first bytes of a line, so many of them.
+/// Appends the first `count` bytes of a line.
 fn push_front(text: &mut String, line: &[u8], count: usize) -> Result<(), AllocError>
     requires { count ≤ length line.now }
     ensures { OnOk result
@@ -54,7 +54,7 @@ fn push_front(text: &mut String, line: &[u8], count: usize) -> Result<(), AllocE
 }
 
 /// A line as it is shown: at most [`MOST_SHOWN`] of its bytes, each a printable character of ASCII or `\x` with its two
-/// hexadecimal digits, and `...` behind them where the line is longer.
+/// hexadecimal digits, then `...` if the line is longer.
 #[tactic(auto, unfolding(crate::specs::Shortened::shortened))]
 pub fn shortened(alloc: Global, line: &[u8]) -> Result<String, AllocError>
     ensures { IfOk result (λ text. string_bytes text ≡ lines.shortened line.now) }

@@ -1,4 +1,4 @@
-//! [`Word`]: the words that lines begin with, and what stands behind each.
+//! [`Word`]: the words that lines begin with, and what follows each.
 
 ghost use Rattle.std.specs.Prelude.{◌≡◌, Some};
 ghost use Rattle.uc_script.specs.Words as words;
@@ -114,8 +114,8 @@ impl Word {
         }
     }
 
-    /// What stands behind it, in order. In front of a log and before `open` the sequence of a `keep` is a number; a
-    /// `keep` stands nowhere else.
+    /// What follows it, in order. Before a log and before `open` the sequence of a `keep` is a number; there is no
+    /// `keep` elsewhere.
     pub fn kinds(self) -> &'static [FieldKind]
         ensures { result.now ≡ words.kinds self }
     {
