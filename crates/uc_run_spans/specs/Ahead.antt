@@ -6,7 +6,7 @@ abbrev pub ahead : Option ℕ → List ℕ → List ℕ
 ahead None seqs = []
 ahead (Some at) seqs = filter (λ seq. nat_le seq at) seqs
 
--- behind a sequence that was found, what may be ahead
+-- what may be ahead after a sequence that was found
 abbrev pub after : Option ℕ → Option ℕ
 after None = None
 after (Some seq) = if seq == 0 then None else Some (seq - 1)

@@ -1,7 +1,7 @@
--- Lists that lie behind one another in one list of items.
+-- Lists that follow one another in one list of items.
 use Rattle.std.specs.Prelude.{◌≡◌, ℕ, ◌-◌, ◌≤◌, List, [], ◌∷◌, take, drop}
 
--- items cut at places, where the first of them is at a place
+-- items cut at places, if the first of them is at `from`
 abbrev pub cut_from : ℕ → List ℕ → List ℕ → List (List ℕ)
 cut_from from [] items = []
 cut_from from (end ∷ ends) items = take (end - from) items ∷ cut_from end ends (drop (end - from) items)

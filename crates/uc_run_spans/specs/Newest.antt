@@ -11,7 +11,7 @@ Descends (seq ∷ seqs) = AllByRecursion (λ other. other ≤ seq) seqs × Desce
 abbrev pub newest_at_or_below : ℕ → List ℕ → Option ℕ
 newest_at_or_below at seqs = slice_get (filter (λ seq. nat_le seq at) seqs) 0
 
--- the greater of two sequences, where there are some
+-- the greater of two sequences, if there are two; else the one there is
 abbrev pub newer : Option ℕ → Option ℕ → Option ℕ
 newer None b = b
 newer (Some x) None = Some x

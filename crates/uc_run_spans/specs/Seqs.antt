@@ -1,4 +1,4 @@
--- The sequences of a fragment, its own or shared.
+-- The sequences of a fragment, owned or shared.
 use Rattle.std.specs.Prelude.{ℕ, Bool, List, nat_eq}
 use lib.Pointwise.{pointwise}
 use Rattle.uc_run_spans.specs.declared.seqs.Kind.{Kind}

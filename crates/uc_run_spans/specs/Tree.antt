@@ -1,4 +1,4 @@
--- A binary tree over fragments. A span stands in as few nodes as lie within it, and they lie side by side.
+-- A binary tree over fragments. A span is held by the fewest nodes that lie within it, side by side.
 use Rattle.std.specs.Prelude.{ℕ, zero, suc, ◌+◌, ◌-◌, ◌*◌, ◌/◌, Bool, ◌&&◌, not, List, [], ◌∷◌, ◌++◌, map, filter, if◌then◌else◌, nat_lt, nat_le}
 use Rattle.std.specs.List.{slice_index_or}
 use Rattle.uc_run_spans.specs.declared.span.Span.{Span}
@@ -12,11 +12,11 @@ middle low high = low + (high - low) / 2
 abbrev pub is_leaf : ℕ → ℕ → Bool
 is_leaf low high = nat_le (high - low) 1
 
--- whether a span stands in each fragment from `low` to below `high`
+-- whether a span covers each fragment from `low` to below `high`
 abbrev pub spans_all : ℕ → ℕ → Span → Bool
 spans_all low high s = nat_le s.first low && nat_le high s.end
 
--- whether a span stands in a fragment from `low` to below `high`
+-- whether a span covers any fragment from `low` to below `high`
 abbrev pub meets : ℕ → ℕ → Span → Bool
 meets low high s = nat_lt s.first high && nat_lt low s.end
 
@@ -38,7 +38,7 @@ nodes (suc depth) low high spans =
     else nodes depth low (middle low high) (filter (meets low (middle low high)) (left_over low high spans))
     ++ nodes depth (middle low high) high (filter (meets (middle low high) high) (left_over low high spans)))
 
--- the node that stands for all of so many fragments
+-- the node of all fragments, `fragments` of them
 abbrev pub root : ℕ → Node
 root fragments = record { number = 0; low = 0; high = fragments }
 

@@ -27,7 +27,7 @@ impl<'a> Model for SeqsAhead<'a> {
     ghost invariant = { λ s. s.fragment < length s.spans.now };
 }
 
-/// Behind a sequence that was found, the number that those ahead aren't above.
+/// After a sequence that was found, the bound at or below which the rest are.
 fn after(found: Option<u64>) -> Option<u64>
     ensures { result ≡ standing.after found }
 {
@@ -73,7 +73,7 @@ impl<'a> SeqsAhead<'a> {
         found
     }
 
-    /// The sequences as a vector. It fails only for want of memory.
+    /// The sequences as a vector.
     pub fn to_vec(self, alloc: Global) -> Result<Vec<u64>, AllocError>
         ensures { IfOk result (λ seqs. seqs.items ≡ self.entry) }
     {

@@ -1,4 +1,4 @@
-//! Whether sequences that are kept in different ways are equal.
+//! Whether sequences that are stored in different ways are equal.
 ghost use Rattle.std.specs.Prelude.{◌≡◌, ◌↔◌, Some, drop, IsTrue};
 ghost use Rattle.std.specs.List.{slice_get};
 

@@ -1,4 +1,4 @@
-//! Spans made as few and as long as can be.
+//! Spans made as few and as long as possible.
 ghost use Rattle.std.specs.Prelude.{◌≡◌, ◌&&◌, ◌==◌, nat_le, IfOk};
 ghost use Rattle.std.specs.List.{AllByRecursion};
 ghost use Rattle.std.specs.List.Sorted.{IsPermutation};
@@ -48,8 +48,8 @@ fn joined(alloc: Global, spans: &[Span]) -> Result<Vec<Span>, AllocError>
     Ok(made)
 }
 
-/// Spans that say the same as others, as few and as long as can be: the newest first, and those of one sequence with
-/// gaps between them. It fails only for want of memory.
+/// Spans that say the same as others, as few and as long as possible: the newest first, and those of one sequence with
+/// gaps between them.
 pub(crate) fn in_few(
     alloc: Global,
     fragments: usize,

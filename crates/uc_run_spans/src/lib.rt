@@ -1,10 +1,12 @@
 //! Sequences over neighbouring fragments, and an index of them.
 //!
-//! A run has fragments, by number from 0, and each has falling sequences. A range deletion stands in all
-//! fragments between its ends, so many that overlap have as many numbers as the square of their count. A [`Span`]
-//! says in which fragments a sequence stands; [`Spans`] holds them and answers as the lists would, in the time and the
-//! memory of n log n. [`Seqs`] are the sequences of one fragment, a list of its own or a share of such spans.
-//! `specs/Spans.antt` defines the lists; read `spans.rt` first.
+//! A run has fragments, numbered from 0, and each has falling sequences. A range deletion is in all fragments between
+//! its ends, so n overlapping ranges give up to n^2 sequences. A [`Span`] says in which fragments a sequence is.
+//! [`Spans`] holds spans and answers as the lists would, in the time and memory of n log n. [`Seqs`] are the sequences
+//! of one fragment: a list of its own or a share of such spans. `specs/Spans.antt` defines the lists; read `spans.rt`
+//! first.
+//!
+//! An `Err(AllocError)` comes only if an allocation fails.
 #![tactic(auto)]
 
 mod ahead;

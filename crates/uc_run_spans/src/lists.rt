@@ -1,4 +1,4 @@
-//! [`Lists`]: lists of sequences that lie behind one another.
+//! [`Lists`]: lists of sequences in one vector.
 ghost use Rattle.std.specs.Prelude.{◌≡◌, ◌<◌, ◌≤◌, ◌+◌, ◌-◌, ◌^◌, ◌++◌, [], ◌∷◌, length, take, drop, slice_index, IfOk, OnOk, OnErr};
 ghost use Rattle.std.specs.List.{slice_index_or};
 
@@ -38,7 +38,7 @@ impl Model for Lists {
 }
 
 impl Lists {
-    /// No lists. It fails only for want of memory.
+    /// No lists.
     pub(crate) fn new(alloc: Global) -> Result<Lists, AllocError>
         ensures { IfOk result (λ lists. lists ≡ []) }
     {
@@ -48,7 +48,7 @@ impl Lists {
         Ok(Lists { starts, items })
     }
 
-    /// Pushes a list. It fails only for want of memory, and leaves the lists as they were then.
+    /// Pushes a list. An `Err` leaves the lists as they were.
     pub(crate) fn push(&mut self, list: &[u64]) -> Result<(), AllocError>
         ensures pushed { OnOk result (self.new ≡ self.old ++ list.now ∷ []) }
         ensures as_it_was { OnErr result (self.new ≡ self.old) }

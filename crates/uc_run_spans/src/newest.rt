@@ -12,7 +12,7 @@ pub(crate) fn newest_at_or_below(seqs: &[u64], at: u64) -> Option<u64>
     seqs[above..].first().copied()
 }
 
-/// The greater of two sequences, where there are some.
+/// The greater of two sequences, if there are two; else the one there is.
 pub fn newer(a: Option<u64>, b: Option<u64>) -> Option<u64>
     ensures { result ≡ newest.newer a b }
 {

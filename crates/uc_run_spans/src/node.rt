@@ -2,8 +2,8 @@
 ghost use Rattle.std.specs.Prelude.{◌≡◌, ◌<◌, ◌≤◌, ◌+◌, ◌-◌, ◌*◌, ◌^◌, nat_le};
 ghost use Rattle.uc_run_spans.specs.Tree as tree;
 
-/// A node of the tree over fragments: its number, and the fragments that it stands for, from `low` to below `high`.
-/// The nodes of its first half have the numbers behind its own, and those of its second half the numbers behind these.
+/// A node of the tree over fragments: its number, and its fragments, from `low` to below `high`. Numbers are in
+/// preorder: the node, the nodes of its first half, then those of its second half.
 #[derive(Clone, Copy, Debug)]
 pub(crate) struct Node {
     pub(crate) number: usize,
@@ -20,7 +20,7 @@ pub(crate) fn middle(low: usize, high: usize) -> usize
 }
 
 impl Node {
-    /// The node that stands for all of so many fragments.
+    /// The node of all fragments, `fragments` of them.
     pub(crate) fn root(fragments: usize) -> Node
         ensures { result ≡ tree.root fragments }
     {
@@ -31,7 +31,7 @@ impl Node {
         }
     }
 
-    /// Whether it has no halves: it stands for one fragment at the most.
+    /// Whether it has no halves: it has at most one fragment.
     pub(crate) fn is_leaf(&self) -> bool
         requires { self.now.low ≤ self.now.high }
         ensures { result ≡ tree.is_leaf self.now.low self.now.high }
@@ -39,7 +39,7 @@ impl Node {
         self.high - self.low <= 1
     }
 
-    /// Its half with a fragment of its own.
+    /// Its half that has a given fragment.
     pub(crate) fn half(&self, fragment: usize) -> Node
         requires halves { 1 < self.now.high - self.now.low }
         requires fits { self.now.number + 2 * (self.now.high - self.now.low) ≤ 2 ^ 64 }

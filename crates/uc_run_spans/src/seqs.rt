@@ -1,4 +1,4 @@
-//! [`Seqs`]: the sequences of a fragment, its own or shared.
+//! [`Seqs`]: the sequences of a fragment, owned or shared.
 ghost use Rattle.std.specs.Prelude.{◌≡◌, ◌↔◌, ◌<◌, ◌-◌, ◌^◌, ◌==◌, [], length, min, IsTrue, IfOk};
 ghost use Rattle.std.specs.Arc.{arc_value};
 ghost use Rattle.std.specs.List.{slice_get, slice_index_or};
@@ -28,8 +28,8 @@ enum Kind {
 
 /// The sequences of a fragment. A contract sees their list.
 ///
-/// They are numbers of their own, or they are shared: many fragments then have one [`Spans`], and each takes no more than
-/// its place there, however many sequences it has.
+/// They are owned, or shared: then many fragments share one [`Spans`], and each takes only its place there, however
+/// many sequences it has.
 #[derive(Debug, Drop)]
 pub struct Seqs {
     kind: Kind,
@@ -45,7 +45,7 @@ impl Model for Seqs {
 }
 
 impl Seqs {
-    /// The sequences of a fragment of shared spans. It takes no memory.
+    /// The sequences of a fragment of shared spans. It doesn't allocate.
     pub fn shared(spans: Arc<Spans>, fragment: usize) -> Seqs
         requires { fragment < length (arc_value spans) }
         ensures { result ≡ slice_index_or (arc_value spans) fragment [] }
@@ -55,7 +55,7 @@ impl Seqs {
         }
     }
 
-    /// How many there are, held at the greatest number.
+    /// How many there are, at most 2^64 - 1.
     pub fn len(&self) -> u64
         ensures { result ≡ min (length self.now) (2 ^ 64 - 1) }
     {
@@ -84,7 +84,7 @@ impl Seqs {
 
     /// The newest of falling sequences at or below a number, if there is one.
     ///
-    /// Of shared ones it looks at as many lists as the logarithm of the number of fragments, and searches each.
+    /// If they are shared, it searches a number of lists logarithmic in the number of fragments.
     pub fn newest_at_or_below(&self, at: u64) -> Option<u64>
         requires { IsFalling self.now }
         ensures { result ≡ newest.newest_at_or_below at self.now }
@@ -108,7 +108,7 @@ impl Seqs {
         }
     }
 
-    /// The sequences as a vector. It fails only for want of memory.
+    /// The sequences as a vector.
     pub fn to_vec(&self, alloc: Global) -> Result<Vec<u64>, AllocError>
         ensures { IfOk result (λ seqs. seqs.items ≡ self.now) }
     {
@@ -138,7 +138,7 @@ impl Seqs {
 impl From<Vec<u64>> for Seqs {
     ghost from_gives = { λ items seqs. seqs ≡ items.items };
 
-    /// Takes the vector over, without memory.
+    /// Takes over the vector without allocating.
     fn from(items: Vec<u64>) -> Seqs {
         Seqs {
             kind: Kind::Own(items),
@@ -149,7 +149,7 @@ impl From<Vec<u64>> for Seqs {
 impl Clone for Seqs {
     ghost is_clone = { λ seqs copy. copy ≡ seqs };
 
-    /// The same sequences again; shared ones stay shared. It fails only for want of memory.
+    /// The same sequences again; shared ones stay shared.
     fn clone(&self) -> Result<Seqs, AllocError>
         ensures { IfOk result (λ copy. copy ≡ self.now) }
     {

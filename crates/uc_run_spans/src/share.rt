@@ -1,4 +1,4 @@
-//! [`Share`]: the sequences of a fragment, which stand among others' spans.
+//! [`Share`]: the sequences of a fragment, among shared spans.
 ghost use Rattle.std.specs.Prelude.{◌≡◌, ◌↔◌, ◌<◌, ◌-◌, ◌^◌, [], length, min, IsTrue, IfOk};
 ghost use Rattle.std.specs.Arc.{arc_value};
 ghost use Rattle.std.specs.List.{slice_index_or};
@@ -39,14 +39,14 @@ impl Share {
         Share { spans, fragment }
     }
 
-    /// What holds of every value: the sequences fall. It does nothing.
+    /// What holds of every value: the sequences fall. Proof step: does nothing when it runs.
     pub(crate) fn recall_falling(&self)
         ensures { IsFalling self.now }
     {
         self.spans.fragments();
     }
 
-    /// How many there are, held at the greatest number.
+    /// How many there are, at most 2^64 - 1.
     pub(crate) fn len(&self) -> u64
         ensures { result ≡ min (length self.now) (2 ^ 64 - 1) }
     {

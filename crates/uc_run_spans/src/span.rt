@@ -1,12 +1,12 @@
 //! [`Span`]: a sequence over neighbouring fragments.
 
-/// A sequence that stands in each fragment from `first` to below `end`.
+/// A sequence in each fragment from `first` to below `end`.
 #[derive(Clone, Copy, Debug, PartialEq, Eq)]
 pub struct Span {
     /// The sequence.
     pub seq: u64,
-    /// The first fragment in which it stands.
+    /// The first fragment that has it.
     pub first: usize,
-    /// The fragment behind the last one in which it stands.
+    /// The fragment after the last one that has it.
     pub end: usize,
 }

@@ -32,8 +32,8 @@ fn first_seq(spans: &[Span]) -> Option<u64>
     }
 }
 
-/// The sequences of each of some fragments, by the spans over which they stand. A contract sees the list of the
-/// fragments' sequences, each of them falling.
+/// The sequences of each of some fragments, by the spans that they cover. A contract sees the list of the fragments'
+/// sequences, each of them falling.
 ///
 /// For n spans over m fragments it takes memory for m and for n log m numbers.
 #[derive(Debug, Drop)]
@@ -57,8 +57,7 @@ impl Model for Spans {
 }
 
 impl Spans {
-    /// The spans over so many fragments. Spans of one sequence may overlap: it stands once in each fragment. It fails
-    /// only for want of memory.
+    /// The spans over `fragments` fragments. Spans of one sequence may overlap: each fragment has it once.
     ///
     /// For n spans over m fragments it takes n log n and n log m steps, and one for each fragment.
     pub fn new(alloc: Global, fragments: usize, spans: Vec<Span>) -> Result<Spans, AllocError>
@@ -82,9 +81,9 @@ impl Spans {
         self.fragments
     }
 
-    /// The newest sequence at or below a number that stands in a fragment, if one does.
+    /// The newest sequence of a fragment at or below a number, if there is one.
     ///
-    /// It looks at as many lists as the logarithm of the number of fragments, and searches each.
+    /// It searches a number of lists logarithmic in the number of fragments.
     pub fn newest_at_or_below(&self, fragment: usize, at: u64) -> Option<u64>
         requires { fragment < length self.now }
         ensures { result ≡ newest.newest_at_or_below at (slice_index_or self.now fragment []) }
@@ -92,9 +91,9 @@ impl Spans {
         newest_over(&self.nodes, self.fragments, fragment, at)
     }
 
-    /// How many sequences stand in a fragment, held at the greatest number.
+    /// How many sequences a fragment has, at most 2^64 - 1.
     ///
-    /// It looks at as many lists as the logarithm of the number of fragments.
+    /// It looks at a number of lists logarithmic in the number of fragments.
     pub fn count(&self, fragment: usize) -> u64
         requires { fragment < length self.now }
         ensures { result ≡ min (length (slice_index_or self.now fragment [])) (2 ^ 64 - 1) }

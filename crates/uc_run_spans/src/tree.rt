@@ -1,4 +1,4 @@
-//! The tree over fragments: which node holds which sequences.
+//! The tree over fragments: which node has which sequences.
 ghost use Rattle.std.specs.Prelude.{◌≡◌, ℕ, ◌<◌, ◌≤◌, ◌-◌, ◌++◌, filter, IfOk, OnOk};
 ghost use Rattle.uc_run_spans.specs.Tree as tree;
 
@@ -7,14 +7,14 @@ use crate::node::middle;
 use crate::span::Span;
 use std::alloc::{AllocError, Global};
 
-/// Whether a span stands in each fragment from `low` to below `high`.
+/// Whether a span covers each fragment from `low` to below `high`.
 fn spans_all(low: usize, high: usize, span: &Span) -> bool
     ensures { result ≡ tree.spans_all low high span.now }
 {
     span.first <= low && high <= span.end
 }
 
-/// Whether a span stands in a fragment from `low` to below `high`.
+/// Whether a span covers any fragment from `low` to below `high`.
 fn meets(low: usize, high: usize, span: &Span) -> bool
     ensures { result ≡ tree.meets low high span.now }
 {
@@ -52,7 +52,7 @@ fn passed_on(
         .collect(alloc)
 }
 
-/// The spans that the halves of the node from `low` to below `high` have. It lets go of those that it was given.
+/// The spans for the two halves of the node from `low` to below `high`. It frees those that it was given.
 fn halved(
     alloc: Global,
     low: usize,
@@ -73,7 +73,7 @@ fn halved(
 
 /// Pushes what each node of the tree over the fragments from `low` to below `high` holds.
 ///
-/// A span is looked at in four nodes of each level at the most, and held in two.
+/// At each level, at most four nodes look at a span and at most two hold it.
 fn push_nodes(
     alloc: Global,
     lists: &mut Lists,
@@ -94,7 +94,7 @@ fn push_nodes(
     push_nodes(alloc, lists, middle, high, second)
 }
 
-/// What each node of the tree over so many fragments holds.
+/// What each node of the tree over `fragments` fragments holds.
 pub(crate) fn nodes(alloc: Global, fragments: usize, spans: &[Span]) -> Result<Lists, AllocError>
     ensures { IfOk result (λ lists. lists ≡ tree.nodes fragments 0 fragments spans.now) }
 {

@@ -25,7 +25,7 @@ pub(crate) fn newest_over(nodes: &Lists, fragments: usize, fragment: usize, at: 
     best
 }
 
-/// How many sequences the nodes over a fragment hold together, held at the greatest number.
+/// How many sequences the nodes over a fragment hold together, at most 2^64 - 1.
 pub(crate) fn count_over(nodes: &Lists, fragments: usize, fragment: usize) -> u64
     requires all { length nodes.now + 1 ≡ 2 * fragments }
     requires within { fragment < fragments }

@@ -1,4 +1,4 @@
-//! Whether spans lie among so many fragments.
+//! Whether spans lie among `fragments` fragments.
 ghost use Rattle.std.specs.Prelude.{◌↔◌, IsTrue};
 ghost use Rattle.std.specs.List.{AllByRecursion};
 ghost use Rattle.uc_run_spans.specs.Spans.{IsWithin};
