@@ -46,7 +46,7 @@ falling seqs = fold (insert_key (flip_args nat_cmp)) [] seqs
 abbrev pub fragment_over : List RangeOf → Piece → Fragment
 fragment_over ranges piece = record { begin = piece.0; end = piece.1; seqs = falling (map (λ r. r.seq) (filter (spans piece) ranges)) }
 
--- The fragments of some ranges: each piece between neighbouring cut points that some range covers. Fragments with
--- equal sequences aren't joined again.
+-- The fragments of some ranges: each piece between neighbouring cut points that some range covers. Neighbours with
+-- equal sequences aren't joined.
 abbrev pub fragments_of : List RangeOf → List Fragment
 fragments_of ranges = filter (λ f. nat_lt 0 (length f.seqs)) (map (fragment_over ranges) (pieces (cut_points ranges)))

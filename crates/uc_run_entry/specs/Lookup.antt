@@ -17,7 +17,7 @@ what_effect (Put value) = Set (Some value)
 what_effect Delete = Set None
 what_effect (Merge operand) = Fold operand
 
--- what points of one key, the newest first, do in turn to what an effect before them leaves
+-- what points of one key, the newest first, make of an effect before them
 abbrev pub points_effect : Operation → Effect → List Entry → Effect
 points_effect m before [] = before
 points_effect m before (newest ∷ older) = composed m (points_effect m before older) (what_effect newest.what)
@@ -46,12 +46,12 @@ points_on run key at = passing_points run key (λ seq. nat_le seq at)
 abbrev pub seqs_over : Contents → List ℕ → ℕ → List ℕ
 seqs_over run key at = passing_seqs run key (λ seq. nat_le seq at)
 
--- the points above the newest range deletion, on no value where there is one
+-- the points above the newest range deletion, on no value if there is one
 abbrev pub above_newest : Operation → List Entry → List ℕ → Effect
 above_newest m points [] = points_effect m Keep points
 above_newest m points (newest ∷ older) = points_effect m (Set None) (filter (λ p. nat_lt newest p.seq) points)
 
--- what the points and range deletions do to the key whose sequences pass
+-- what the points and range deletions with passing sequences do to the key
 abbrev pub passing_effect : Operation → Contents → List ℕ → (ℕ → Bool) → Effect
 passing_effect m run key test = above_newest m (passing_points run key test) (passing_seqs run key test)
 

@@ -8,7 +8,7 @@ use Rattle.uc_bytes.specs.Bytes.{bytes_cmp}
 use Rattle.uc_run_entry.specs.declared.entry.Entry.{Entry}
 use Rattle.uc_run_entry.specs.declared.fragment.Fragment.{Fragment}
 
--- points by key, and of one key the newest first
+-- points by key, the newest of a key first
 abbrev pub entry_cmp : Entry → Entry → Ordering
 entry_cmp a b = ordering_then (bytes_cmp a.key b.key) (nat_cmp b.seq a.seq)
 
@@ -21,7 +21,7 @@ abbrev pub AreInOrder : List Fragment → Type 0
 AreInOrder [] = ⊤
 AreInOrder (f ∷ fs) = (is_lt (bytes_cmp f.begin f.end) ≡ true) × AllByRecursion (λ g. is_le (bytes_cmp f.end g.begin) ≡ true) fs × AreInOrder fs
 
--- the first fragment, where there is one, has keys
+-- the first fragment, if there is one, has keys
 abbrev pub FirstHasKeys : List Fragment → Type 0
 FirstHasKeys [] = ⊤
 FirstHasKeys (f ∷ fs) = is_lt (bytes_cmp f.begin f.end) ≡ true

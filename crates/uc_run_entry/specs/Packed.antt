@@ -1,4 +1,5 @@
--- An entry in three parts: a trailer with its sequence and a tag, how long its key is, and its texts behind each other.
+-- An entry in three parts: a trailer with its sequence and a tag, how long its key is, and its key followed by its
+-- text.
 use Rattle.std.specs.Prelude.{◌≡◌, ℕ, suc, zero, ◌<◌, ◌≤◌, ◌/◌, ◌%◌, ◌^◌, List, length, take, drop}
 use Rattle.uc_run_entry.specs.declared.entry.Entry.{Entry}
 use Rattle.uc_run_entry.specs.declared.entry.What.{What}
@@ -6,19 +7,19 @@ use Rattle.uc_run_entry.specs.declared.entry.What.TheVariants as what
 use Rattle.uc_run_entry.specs.declared.what_ref.WhatRef.{WhatRef}
 use Rattle.uc_run_entry.specs.declared.what_ref.WhatRef.TheVariants.{Put, Delete, Merge}
 
--- what is said with a borrowed text
+-- what a borrowed text says
 abbrev pub what_of : WhatRef → What
 what_of (Put value) = what.Put value.now
 what_of Delete = what.Delete
 what_of (Merge operand) = what.Merge operand.now
 
--- what a tag says with the text behind the key (RocksDB, `dbformat.h`, `ValueType`)
+-- what a tag says with the text after the key (RocksDB, `dbformat.h`, `ValueType`)
 abbrev pub tagged : ℕ → List ℕ → What
 tagged zero text = what.Delete
 tagged (suc zero) text = what.Put text
 tagged (suc (suc n)) text = what.Merge text
 
--- the entry whose texts these are, where the first so many bytes are its key
+-- the entry of these texts, whose first `key_len` bytes are its key
 abbrev pub unpacked : ℕ → ℕ → List ℕ → Entry
 unpacked trailer key_len texts =
     record { key = take key_len texts; seq = trailer / 256; what = tagged (trailer % 256) (drop key_len texts) }

@@ -27,7 +27,7 @@ fragment_writes f = map (λ seq. record { seq = seq; op = op.DeleteRange f.begin
 abbrev pub writes_of : Contents → List Write
 writes_of run = map point_write run.points ++ flat_map fragment_writes run.fragments
 
--- a write behind those of a list by sequence that aren't newer
+-- inserts a write after those of a list by sequence that aren't newer
 abbrev pub insert_by_seq : List Write → Write → List Write
 insert_by_seq [] w = w ∷ []
 insert_by_seq (x ∷ xs) w = if nat_lt w.seq x.seq then w ∷ x ∷ xs else x ∷ insert_by_seq xs w

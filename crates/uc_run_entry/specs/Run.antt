@@ -37,7 +37,7 @@ pub record IsRun (low high : ℕ) (points : List Entry) (fragments : List Fragme
   pub from_one : 1 ≤ low
   pub range : low ≤ high
   pub below : high < 2 ^ 56
-  -- points by key, of one key the newest first, no two of one key with one sequence
+  -- points by key, the newest of a key first, no two of one key with one sequence
   pub points_sorted : IsStrictlySortedBy entry_cmp points
   -- fragments by key, with keys, which don't overlap; each has sequences of the range, the newest first
   pub fragments_sorted : AreInOrder fragments

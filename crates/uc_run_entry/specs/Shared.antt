@@ -9,11 +9,11 @@ use Rattle.uc_run_entry.specs.Spanning.{some_of}
 abbrev pub ends_of : Fragment → List ℕ × List ℕ
 ends_of f = (f.begin, f.end)
 
--- where there are spans, the fragments' sequences are those of the spans' lists that have some
+-- if there are spans, the fragments' sequences are those of the spans' lists that have some
 abbrev pub AreShared : Inside → Type 0
 AreShared f = MatchOption f.spans ⊤ (λ spans. map (λ g. g.seqs) f.list.items ≡ some_of (arc_value spans))
 
--- there are spans of both, and their lists are the same
+-- both have spans, and their lists are the same
 abbrev pub AreOfSame : Option (List (List ℕ)) → Option (List (List ℕ)) → Type 0
 AreOfSame (Some spans) (Some others) = spans ≡ others
 AreOfSame (Some spans) None = ⊥

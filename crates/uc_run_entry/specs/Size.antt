@@ -20,6 +20,6 @@ entry_size p = length p.key + what_size p.what + 8
 abbrev pub fragment_size : Fragment → ℕ
 fragment_size f = length f.begin + length f.end + 8 * length f.seqs
 
--- the sum, held at the greatest number of 64 bits
+-- the sum, at most 2^64 - 1
 abbrev pub size_of : Contents → ℕ
 size_of run = min (sum_by entry_size run.points + sum_by fragment_size run.fragments) (2 ^ 64 - 1)

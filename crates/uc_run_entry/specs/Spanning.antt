@@ -1,4 +1,4 @@
--- Ranges seen as spans: over which of the pieces between cut points each of them lies.
+-- Ranges as spans: which of the pieces between cut points each covers.
 use Rattle.std.specs.Prelude.{ℕ, ◌-◌, Bool, List, [], ◌∷◌, length, map, filter, nat_lt}
 use Rattle.std.specs.List.{count_by}
 use Rattle.std.specs.Ordering.{is_lt, is_le}
@@ -7,8 +7,8 @@ use Rattle.uc_run_entry.specs.declared.fragment.Fragment.{Fragment}
 use Rattle.uc_run_entry.specs.Cutting.{RangeOf, Piece}
 use Rattle.uc_run_spans.specs.declared.span.Span.{Span}
 
--- The pieces that a range lies over, by their numbers: from as many as cut points are below its begin, to below the one
--- whose begin is the last cut point up to its end.
+-- The pieces that a range covers, by number. The first is the number of cut points below its begin. The last ends at
+-- the last cut point up to its end.
 abbrev pub span_of : List (List ℕ) → RangeOf → Span
 span_of cuts r = record {
   seq = r.seq;
@@ -16,11 +16,11 @@ span_of cuts r = record {
   end = count_by (λ cut. is_le (bytes_cmp cut r.end)) cuts - 1;
 }
 
--- whether it lies over any piece
+-- whether it covers any piece
 abbrev pub has_pieces : Span → Bool
 has_pieces s = nat_lt s.first s.end
 
--- the spans of the ranges that lie over pieces
+-- the spans of the ranges that cover pieces
 abbrev pub spans_of : List (List ℕ) → List RangeOf → List Span
 spans_of cuts ranges = filter has_pieces (map (span_of cuts) ranges)
 

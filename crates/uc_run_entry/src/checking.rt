@@ -22,7 +22,7 @@ fn is_within(low: u64, high: u64, seq: u64) -> bool
     low <= seq && seq <= high
 }
 
-/// Whether a point stands before another: its key is less, or equal and the point newer.
+/// Whether a point comes before another: its key is less, or equal and the point newer.
 fn is_before(point: &Entry, other: &Entry) -> bool
     ensures { result ≡ is_lt (entry_cmp point.now other.now) }
 {
@@ -33,7 +33,7 @@ fn is_before(point: &Entry, other: &Entry) -> bool
     }
 }
 
-/// Whether points stand in order of key, and those of one key with falling sequences.
+/// Whether points are in order of key, and those of one key have falling sequences.
 fn are_sorted(points: &[Entry]) -> bool
     ensures { IsTrue result ↔ IsStrictlySortedBy entry_cmp points.now }
 {
@@ -56,7 +56,7 @@ fn is_followed_by(fragment: &Fragment, next: &Fragment) -> bool
     fragment.end <= next.begin && has_keys(next)
 }
 
-/// Whether the first fragment, where there is one, has keys.
+/// Whether the first fragment, if there is one, has keys.
 fn first_has_keys(fragments: &[Fragment]) -> bool
     ensures { IsTrue result ↔ FirstHasKeys fragments.now }
 {
@@ -66,7 +66,7 @@ fn first_has_keys(fragments: &[Fragment]) -> bool
     }
 }
 
-/// Whether fragments have keys, stand in order and don't overlap.
+/// Whether fragments have keys, are in order and don't overlap.
 fn are_in_order(fragments: &[Fragment]) -> bool
     ensures { IsTrue result ↔ AreInOrder fragments.now }
 {
@@ -134,7 +134,7 @@ fn first_above<'a>(fragments: &'a [Fragment], key: &[u8]) -> Option<&'a Fragment
 
 /// The fragment that covers a key, if one does. Fragments in order don't overlap, so there is no other.
 ///
-/// It looks at as many fragments as the logarithm of their number.
+/// It is a binary search.
 pub fn covering_fragment<'a>(fragments: &'a [Fragment], key: &[u8]) -> Option<&'a Fragment>
     requires { AreInOrder fragments.now }
     ensures some { IfSome result (λ f. filter (λ g. run.covers g key.now) fragments.now ≡ f.now ∷ []) }
@@ -200,11 +200,11 @@ fn are_apart(points: &[Entry], fragments: &[Fragment]) -> bool
     points.iter().all(|point| is_apart(point, fragments))
 }
 
-/// Whether these sequences, points and fragments make a run: sequences from 1 to 2^56 - 1, points in order of key and
-/// of one key the newest first, fragments in order that don't overlap, each with sequences that fall, all sequences
-/// between `low` and `high`, and no point with a sequence of a fragment that covers its key.
+/// Whether these sequences, points and fragments make a run. Sequences are from 1 to 2^56 - 1, all between `low` and
+/// `high`. Points are in order of key, the newest of a key first. Fragments are in order, don't overlap, and have
+/// falling sequences. No point has a sequence of a fragment that covers its key.
 ///
-/// It goes over the points and the fragments once, and looks for the fragment over a point by a binary search.
+/// It goes over the points and the fragments once, and finds the fragment over a point by a binary search.
 pub fn is_run(low: u64, high: u64, points: &[Entry], fragments: &[Fragment]) -> bool
     ensures { IsTrue result ↔ IsRun low high points.now fragments.now }
 {

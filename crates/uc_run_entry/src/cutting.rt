@@ -38,7 +38,7 @@ fn in_order<'a>(alloc: Global, cuts: BTreeSet<&'a [u8]>) -> Result<Vec<&'a [u8]>
     cuts.into_iter().collect(alloc)
 }
 
-/// The sequences of a piece: its own numbers where they are few, and otherwise a share of the spans.
+/// The sequences of a piece: owned numbers if they are few, else a share of the spans.
 fn seqs_over(alloc: Global, spans: &Arc<Spans>, piece: usize) -> Result<Seqs, AllocError>
     requires { piece < length (arc_value spans.now) }
     ensures { IfOk result (λ seqs. seqs ≡ slice_index_or (arc_value spans.now) piece []) }
@@ -50,7 +50,7 @@ fn seqs_over(alloc: Global, spans: &Arc<Spans>, piece: usize) -> Result<Seqs, Al
     }
 }
 
-/// The fragment that a piece becomes, with copies of the cut points on both sides.
+/// The fragment of a piece, with copies of the cut points on both sides.
 fn fragment_at(
     alloc: Global,
     cuts: &[&[u8]],
@@ -72,7 +72,7 @@ fn fragment_at(
     })
 }
 
-/// The fragments that the pieces between cut points become which some span lies over.
+/// One fragment for each piece that a range covers.
 fn covered(alloc: Global, cuts: &[&[u8]], spans: &Arc<Spans>) -> Result<Vec<Fragment>, AllocError>
     requires { length (arc_value spans.now) ≡ length cuts.now - 1 }
     ensures { IfOk result (λ fragments. fragments.items ≡
@@ -88,8 +88,8 @@ fn covered(alloc: Global, cuts: &[&[u8]], spans: &Arc<Spans>) -> Result<Vec<Frag
     Ok(fragments)
 }
 
-/// The fragments of some ranges: the pieces between neighbouring ends of them that some range covers, in order,
-/// each with the sequences of the ranges over it, the newest first and each once. It fails only for want of memory.
+/// The fragments of some ranges: the pieces between neighbouring ends that some range covers, in order. Each has the
+/// sequences of the ranges over it, the newest first and each once.
 ///
 /// For n ranges it takes n log n steps and numbers, however they overlap.
 pub fn cut_ranges(alloc: Global, ranges: &[Range<'_>]) -> Result<Fragments, AllocError>

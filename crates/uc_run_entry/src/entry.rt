@@ -18,7 +18,7 @@ pub enum What {
 impl Clone for What {
     ghost is_clone = { λ what copy. copy ≡ what };
 
-    /// A copy. It fails only for want of memory.
+    /// A copy.
     fn clone(&self) -> Result<What, AllocError>
         ensures { IfOk result (λ copy. copy ≡ self.now) }
     {
@@ -44,7 +44,7 @@ pub struct Entry {
 impl Clone for Entry {
     ghost is_clone = { λ point copy. copy ≡ point };
 
-    /// A copy. It fails only for want of memory.
+    /// A copy.
     fn clone(&self) -> Result<Entry, AllocError>
         ensures { IfOk result (λ copy. copy ≡ self.now) }
     {

@@ -5,13 +5,13 @@ use std::alloc::AllocError;
 use uc_bytes::Bytes;
 use uc_run_spans::Seqs;
 
-/// The range deletions over the keys from `begin` to below `end`, each of which covers all of these keys
-/// (RocksDB's fragmented range tombstones: RocksDB wiki, "DeleteRange").
+/// The range deletions over the keys from `begin` to below `end`: each covers all of these keys (RocksDB's fragmented
+/// range tombstones: RocksDB wiki, "DeleteRange").
 #[derive(Debug, PartialEq, Eq, Drop)]
 pub struct Fragment {
     /// The least key that is covered.
     pub begin: Bytes,
-    /// The least key behind those that are covered.
+    /// The least key after those that are covered.
     pub end: Bytes,
     /// The sequences of the range deletions, the newest first.
     pub seqs: Seqs,
@@ -20,7 +20,7 @@ pub struct Fragment {
 impl Clone for Fragment {
     ghost is_clone = { λ fragment copy. copy ≡ fragment };
 
-    /// A copy. It fails only for want of memory.
+    /// A copy.
     fn clone(&self) -> Result<Fragment, AllocError>
         ensures { IfOk result (λ copy. copy ≡ self.now) }
     {

@@ -9,8 +9,8 @@ use std::marker::Model;
 use std::sync::Arc;
 use uc_run_spans::Spans;
 
-/// Up to so many sequences a fragment has numbers of its own: they take no more memory than a share of spans, and are
-/// looked through faster.
+/// A fragment with at most this many sequences owns them: they take no more memory than a share of spans, and are
+/// searched faster.
 pub(crate) const FEW: u64 = 8;
 
 /// Fragments, and the spans that those with many sequences share. A contract sees the list of the fragments.
@@ -50,7 +50,7 @@ fn same_ends(fragments: &[Fragment], others: &[Fragment]) -> bool
             .all(|(fragment, other)| has_ends_of(fragment, other))
 }
 
-/// Whether there are spans of both, and their lists are the same.
+/// Whether both have spans, and their lists are the same.
 fn have_same(spans: &Option<Arc<Spans>>, others: &Option<Arc<Spans>>) -> bool
     ensures { IsTrue result → AreOfSame (option_map arc_value spans.now) (option_map arc_value others.now) }
 {
@@ -67,9 +67,9 @@ fn same_one_by_one(fragments: &[Fragment], others: &[Fragment]) -> bool
 }
 
 impl Fragments {
-    /// Fragments whose sequences are those of the spans, where there are any.
+    /// Fragments whose sequences are those of the pieces of the spans that have some.
     ///
-    /// The spans are kept only where a fragment shares them.
+    /// The spans are kept only if a fragment shares them.
     pub(crate) fn with_spans(list: Vec<Fragment>, spans: Arc<Spans>) -> Fragments
         requires { map (λ f. f.seqs) list.items ≡ some_of (arc_value spans) }
         ensures { result ≡ list.items }
@@ -90,8 +90,8 @@ impl Fragments {
 
     /// Whether the fragments are equal.
     ///
-    /// Where both share spans it goes over the fragments' ends and the spans. Otherwise, and where their spans aren't
-    /// the same, it compares fragment by fragment, up to the first that differs.
+    /// If both share spans, it compares the fragments' ends and the spans. Otherwise, or if the spans differ, it
+    /// compares fragment by fragment, up to the first that differs.
     pub fn same(&self, other: &Fragments) -> bool
         ensures { IsTrue result ↔ (self.now ≡ other.now) }
     {
@@ -106,7 +106,7 @@ impl Fragments {
 impl From<Vec<Fragment>> for Fragments {
     ghost from_gives = { λ list fragments. fragments ≡ list.items };
 
-    /// Takes the fragments over as they are, without memory.
+    /// Takes over the fragments as they are, without allocating.
     fn from(list: Vec<Fragment>) -> Fragments {
         Fragments { list, spans: None }
     }

@@ -15,14 +15,14 @@ pub fn plain_list_is_in_order()
     ensures ascends { (run : Contents) → IsNonDecreasingBy (λ (w : Write). w.seq) (plain_list run) }
 {}
 
-/// What the plain list of a run does to a key at a sequence is what its points do that stand above the newest
-/// range deletion over the key, on no value where there is such a deletion: what a lookup finds.
+/// What a lookup finds is what the plain list of a run does to a key at a sequence. The lookup takes the points above
+/// the newest range deletion over the key, applied to no value if there is such a deletion.
 pub fn plain_list_does_what_is_found<O: Operator>()
     ensures { (run : Contents) (key : List ℕ) (at : ℕ) → IsRun run.low run.high run.points run.fragments →
         effect_on O.meaning (plain_list run) key at ≡ effect_found O.meaning run key at }
 {}
 
-/// The same within a stripe: of the points and range deletions above `low`, at or below `high`.
+/// The same within a stripe: the points and range deletions above `low`, at or below `high`.
 pub fn stripes_of_plain_list_do_what_is_found<O: Operator>()
     ensures { (run : Contents) (key : List ℕ) (low high : ℕ) → IsRun run.low run.high run.points run.fragments →
         effect_within O.meaning (plain_list run) key low high ≡

@@ -1,15 +1,17 @@
 //! What a run is made of, and what it means.
 //!
-//! A run has points in order of key, of one key the newest first; fragments, which are pieces of the key space
-//! with the range deletions over them; and a range of sequences. [`is_run`] says which of these make a run.
-//! Read `specs/Run.antt` first, then `specs/PlainList.antt`: a run means a plain list of writes.
+//! A run has points in order of key, the newest of a key first. It has fragments: pieces of the key space with the
+//! range deletions over them. And it has a range of sequences. [`is_run`] says which of these make a run. Read
+//! `specs/Run.antt` first, then `specs/PlainList.antt`: a run stands for a plain list of writes.
 //!
-//! A run has many points, so each is small: a [`Point`] says what an [`Entry`] says, in 56 bytes, and takes an
-//! allocation only if its texts are longer than [`INLINE_BYTES`]. `specs/Packed.antt` says how.
+//! A run has many points, so each is small: a [`Point`] says what an [`Entry`] says in 56 bytes, and allocates only if
+//! its texts are longer than [`INLINE_BYTES`]. `specs/Packed.antt` says how.
 //!
-//! Range deletions overlap as they were written. A lookup wants the ones over a key at once, so [`cut_ranges`] cuts them
-//! at all their ends into [`Fragments`], each with the sequences of the ranges over it (RocksDB's fragmented range
-//! tombstones). `specs/Cutting.antt` defines them, and `fragment_laws.rt` says what holds of them. Read `cutting.rt` first.
+//! Range deletions may overlap. A lookup needs all those over a key at once, so [`cut_ranges`] cuts them at all their
+//! ends into [`Fragments`], each with the sequences of the ranges over it (RocksDB's fragmented range tombstones).
+//! `specs/Cutting.antt` defines them, and `fragment_laws.rt` has their laws. Read `cutting.rt` first.
+//!
+//! An `Err(AllocError)` comes only if an allocation fails.
 #![tactic(auto)]
 
 mod checking;

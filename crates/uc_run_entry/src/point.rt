@@ -11,7 +11,7 @@ use std::alloc::{AllocError, Global};
 use std::marker::Model;
 use uc_bytes::Bytes;
 
-/// How many bytes a point's key and its value or operand may have together, before they take an allocation.
+/// How many bytes a point's key and its value or operand may have together before they are allocated.
 pub const INLINE_BYTES: usize = 24;
 
 /// The tag of a deletion in a trailer (RocksDB, `dbformat.h`, `kTypeDeletion`).
@@ -29,7 +29,7 @@ pub struct Point {
     /// The sequence in the upper 56 bits and the tag in the lower 8, as RocksDB packs them
     /// (`dbformat.h`, `PackSequenceAndType`).
     trailer: u64,
-    /// How many of the bytes are the key's. The value or operand is behind it.
+    /// How many of the bytes are the key's. The value or operand follows it.
     key_len: usize,
     texts: SmallVec<u8, INLINE_BYTES>,
 }
@@ -57,7 +57,7 @@ fn tagged(what: WhatRef<'_>) -> (u64, &[u8])
     }
 }
 
-/// Both texts behind each other.
+/// The key, then the text.
 fn joined(alloc: Global, key: &[u8], text: &[u8]) -> Result<SmallVec<u8, INLINE_BYTES>, AllocError>
     ensures { IfOk result (λ texts. texts.items ≡ key.now ++ text.now) }
 {
@@ -68,7 +68,7 @@ fn joined(alloc: Global, key: &[u8], text: &[u8]) -> Result<SmallVec<u8, INLINE_
 }
 
 impl Point {
-    /// A point that says this of a key, with a sequence of at most 2^56 - 1. It fails only for want of memory.
+    /// A point that says this of a key, with a sequence of at most 2^56 - 1.
     pub fn new(alloc: Global, key: &[u8], seq: u64, what: WhatRef<'_>) -> Result<Point, AllocError>
         requires { seq < 2 ^ 56 }
         ensures { IfOk result (λ point. point ≡ record { key = key.now; seq = seq; what = packed.what_of what.entry }) }
@@ -81,7 +81,7 @@ impl Point {
         })
     }
 
-    /// An entry, packed. Its sequence is at most 2^56 - 1. It fails only for want of memory.
+    /// An entry, packed. Its sequence is at most 2^56 - 1.
     pub fn of(alloc: Global, entry: &Entry) -> Result<Point, AllocError>
         requires { entry.now.seq < 2 ^ 56 }
         ensures { IfOk result (λ point. point ≡ entry.now) }
@@ -135,7 +135,7 @@ impl Point {
         }
     }
 
-    /// The entry, with texts of its own. It fails only for want of memory.
+    /// The entry, with texts of its own.
     pub fn to_entry(&self, alloc: Global) -> Result<Entry, AllocError>
         ensures { IfOk result (λ entry. entry ≡ self.now) }
     {
@@ -146,8 +146,8 @@ impl Point {
         })
     }
 
-    /// Whether both say the same. Points that do are packed alike unless a deletion has a text, so that is looked at first: it is
-    /// one comparison of bytes.
+    /// Whether both say the same. Equal points are packed alike unless a deletion has a text, so that is checked first:
+    /// it is one comparison of bytes.
     pub fn same(&self, other: &Point) -> bool
         ensures { IsTrue result ↔ (self.now ≡ other.now) }
     {
@@ -172,7 +172,7 @@ impl Point {
     }
 }
 
-/// Entries, packed. It fails only for want of memory.
+/// Entries, packed.
 pub fn points_of(alloc: Global, entries: &[Entry]) -> Result<Vec<Point>, AllocError>
     requires { AllByRecursion (λ e. e.seq < 2 ^ 56) entries.now }
     ensures { IfOk result (λ points. points.items ≡ entries.now) }

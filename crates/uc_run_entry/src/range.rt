@@ -4,8 +4,8 @@ ghost use Rattle.uc_run_entry.specs.Cutting as cutting;
 
 use std::marker::Model;
 
-/// A range deletion: it covers the keys from a begin to below an end, and none where the begin is not below
-/// the end. A contract sees it as a `RangeOf`.
+/// A range deletion: it covers the keys from a begin to below an end, and none if the begin is not below the end. A
+/// contract sees it as a `RangeOf`.
 #[derive(Debug, Drop)]
 pub struct Range<'a> {
     begin: &'a [u8],
@@ -29,14 +29,14 @@ impl<'a> Range<'a> {
         Range { begin, end, seq }
     }
 
-    /// The least key that it covers, where it covers any.
+    /// The least key that it covers, if it covers any.
     pub fn begin(&self) -> &'a [u8]
         ensures { result.now ≡ self.now.begin }
     {
         self.begin
     }
 
-    /// The least key behind those that it covers.
+    /// The least key after those that it covers.
     pub fn end(&self) -> &'a [u8]
         ensures { result.now ≡ self.now.end }
     {

@@ -1,4 +1,4 @@
-//! Over which pieces a range lies.
+//! Which pieces a range covers.
 ghost use Rattle.std.specs.Prelude.{◌≡◌, ◌≤◌, length, map, IfOk};
 ghost use Rattle.std.specs.List.{count_by};
 ghost use Rattle.std.specs.List.Sorted.{IsStrictlySortedBy};
@@ -41,9 +41,9 @@ fn count_up_to(cuts: &[&[u8]], key: &[u8]) -> usize
     cuts.partition_point(|cut| is_at_or_below(cut, key))
 }
 
-/// The pieces that a range lies over.
+/// The pieces that a range covers.
 ///
-/// It looks at as many cut points as the logarithm of their number.
+/// It is a binary search of the cut points.
 fn span_of(cuts: &[&[u8]], range: &Range<'_>) -> Span
     requires { IsStrictlySortedBy bytes_cmp (map (λ cut. cut.now) cuts.now) }
     ensures { result ≡ spanning.span_of (map (λ cut. cut.now) cuts.now) range.now }
@@ -55,14 +55,14 @@ fn span_of(cuts: &[&[u8]], range: &Range<'_>) -> Span
     }
 }
 
-/// Whether a span lies over any piece.
+/// Whether a span covers any piece.
 fn has_pieces(span: &Span) -> bool
     ensures { result ≡ spanning.has_pieces span.now }
 {
     span.first < span.end
 }
 
-/// The spans of the ranges that lie over pieces.
+/// The spans of the ranges that cover pieces.
 pub(crate) fn spans_of(
     alloc: Global,
     cuts: &[&[u8]],

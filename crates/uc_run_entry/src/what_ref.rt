@@ -9,7 +9,7 @@ use std::alloc::{AllocError, Global};
 use uc_bytes::Bytes;
 use uc_oper::{Effect, Operator};
 
-/// What a point says of its key: a [`What`] whose text is borrowed, so that it takes no memory.
+/// What a point says of its key: a [`What`] with a borrowed text, so it takes no memory.
 #[derive(Clone, Copy, Debug, PartialEq, Eq)]
 pub enum WhatRef<'a> {
     /// The key has this value.
@@ -21,7 +21,7 @@ pub enum WhatRef<'a> {
 }
 
 impl<'a> WhatRef<'a> {
-    /// The same with its text borrowed.
+    /// Borrows the text of `what`.
     pub fn of(what: &'a What) -> WhatRef<'a>
         ensures { packed.what_of result ≡ what.now }
     {
@@ -32,7 +32,7 @@ impl<'a> WhatRef<'a> {
         }
     }
 
-    /// A copy that owns its text. It fails only for want of memory.
+    /// A copy that owns its text.
     pub fn to_what(self, alloc: Global) -> Result<What, AllocError>
         ensures { IfOk result (λ what. what ≡ packed.what_of self.entry) }
     {
@@ -43,8 +43,8 @@ impl<'a> WhatRef<'a> {
         })
     }
 
-    /// What an effect and then this do in turn. An operand is written into the effect's text, and only a text that is kept is
-    /// copied. Want of memory loses the effect.
+    /// What an effect and then this do in turn. An operand is appended to the effect's text, and only a text that is
+    /// kept is copied. An `Err` loses the effect.
     pub fn after<O: Operator>(self, alloc: Global, before: Effect) -> Result<Effect, AllocError>
         ensures { IfOk result (λ both. both ≡ composed O.meaning before (what_effect (packed.what_of self.entry))) }
     {
