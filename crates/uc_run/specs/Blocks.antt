@@ -3,7 +3,7 @@ use Rattle.std.specs.Prelude.{ℕ, ◌+◌, ◌*◌, ◌-◌, ◌/◌, List, Opt
 use Rattle.std.specs.List.{slice_get}
 use Rattle.uc_run_entry.specs.declared.entry.Entry.{Entry}
 
--- how many points a block has, but the last one, which may have fewer
+-- how many points each block has; the last may have fewer
 abbrev pub block_points : ℕ
 block_points = 16
 

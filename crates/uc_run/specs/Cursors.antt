@@ -1,4 +1,4 @@
--- Where a walk over the points of a run stands.
+-- The place of a walk over the points of a run.
 use Rattle.std.specs.Prelude.{ℕ, Bool, List, ◌≤◌, length}
 use Rattle.std.specs.Ordering.{is_le}
 use Rattle.uc_bytes.specs.Bytes.{bytes_cmp}

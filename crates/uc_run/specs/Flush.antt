@@ -1,4 +1,4 @@
--- What the writes of a memtable are as a run.
+-- The run that a memtable's writes become.
 use Rattle.std.specs.Prelude.{ℕ, List, [], ◌∷◌, Option, Some, None, fold, if◌then◌else◌}
 use Rattle.std.specs.List.{filter_map}
 use Rattle.std.specs.Ordering.{is_lt}
@@ -34,21 +34,21 @@ points_in writes = filter_map (λ w. point_of w.seq w.op) writes
 abbrev pub ranges_in : List Write → List RangeOf
 ranges_in writes = filter_map (λ w. range_of w.seq w.op) writes
 
--- a point in front of the first that stands behind it in the order of keys
+-- inserts a point before the first that follows it in the order of keys
 abbrev pub insert_point : List Entry → Entry → List Entry
 insert_point [] p = p ∷ []
 insert_point (q ∷ qs) p = if is_lt (entry_cmp p q) then p ∷ q ∷ qs else q ∷ insert_point qs p
 
--- points by key, and of one key the newest first
+-- points by key, the newest of a key first
 abbrev pub by_key : List Entry → List Entry
 by_key points = fold insert_point [] points
 
--- the first sequence, or 0 where there is no write
+-- the first sequence, or 0 if there is no write
 abbrev pub first_of : List Write → ℕ
 first_of [] = 0
 first_of (w ∷ ws) = w.seq
 
--- The run of some writes, whose sequences rise: their points by key, their range deletions cut into fragments, and the
--- range from the first sequence to the last, ranges that cover no key among them.
+-- The run of writes whose sequences rise: their points by key, their range deletions cut into fragments, and the range
+-- from the first sequence to the last. That range includes ranges that cover no key.
 abbrev pub flushed : List Write → Contents
 flushed writes = record { low = first_of writes; high = last_of 0 writes; points = by_key (points_in writes); fragments = fragments_of (ranges_in writes) }

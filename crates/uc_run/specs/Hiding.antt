@@ -4,10 +4,10 @@ use Rattle.std.specs.List.{list_any, find}
 use Rattle.uc_run_entry.specs.declared.fragment.Fragment.{Fragment}
 use Rattle.uc_run_entry.specs.Run.{Contents, covers}
 
--- a fragment is over the key, with a range deletion at or below the sequence
+-- a fragment covers the key and has a range deletion at or below the sequence
 abbrev pub hides : ℕ → List ℕ → Fragment → Bool
 hides at key f = covers f key && list_any (λ seq. nat_le seq at) f.seqs
 
--- where the first of a run's fragments that hides a key ends; none where none of them does
+-- the end of the first of a run's fragments that hides a key; none if none does
 abbrev pub hidden_to : Contents → List ℕ → ℕ → Option (List ℕ)
 hidden_to run key at = option_map (λ f. f.end) (find (hides at key) run.fragments)

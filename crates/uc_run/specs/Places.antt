@@ -14,6 +14,6 @@ newest_first p q = nat_cmp q.seq p.seq
 abbrev pub PointsFall : List Entry → Type 0
 PointsFall points = IsStrictlySortedBy newest_first points
 
--- a point stands before those of the key at or below the sequence
+-- a point comes before those of the key at or below the sequence
 abbrev pub is_newer : List ℕ → ℕ → Entry → Bool
 is_newer key at p = is_lt (ordering_then (bytes_cmp p.key key) (nat_cmp at p.seq))

@@ -17,6 +17,6 @@ op_size (DeleteRange begin end) = if is_lt (bytes_cmp begin end) then length beg
 abbrev pub write_size : Write → ℕ
 write_size w = op_size w.op
 
--- the sum, held at the greatest number of 64 bits
+-- the sum, at most 2^64 - 1
 abbrev pub memtable_size : List Write → ℕ
 memtable_size writes = min (sum_by write_size writes) (2 ^ 64 - 1)

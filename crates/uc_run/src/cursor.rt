@@ -1,4 +1,4 @@
-//! [`Cursor`]: where a walk over a run's points in order of key stands.
+//! [`Cursor`]: a walk over a run's points in order of key.
 ghost use Rattle.std.specs.Prelude.{◌≡◌, ◌↔◌, ℕ, Bool, List, true, false, max, option_map, IfOk, IsTrue};
 ghost use Rattle.std.specs.List.{slice_get};
 ghost use Rattle.uc_run_entry.specs.Run.{IsRun};
@@ -18,13 +18,13 @@ use std::marker::Model;
 use uc_oper::{Effect, Operator};
 use uc_run_entry::plain_list_does_what_is_found;
 
-/// Where a walk in order of key stands in a run. A contract sees it as the run's contents and how many of its points
-/// it passed.
+/// A place in a run, on a walk in order of key. A contract sees it as the run's contents and how many of its points it
+/// passed.
 #[derive(Debug, Drop)]
 pub struct Cursor<'a> {
     run: &'a Run,
     place: usize,
-    /// The place among the fragments where the one over the next key is looked for first.
+    /// The fragment at which the search for the one over the next key begins.
     fragment: usize,
 }
 
@@ -50,15 +50,15 @@ impl<'a> Cursor<'a> {
         }
     }
 
-    /// What holds of every run: its contents make one. It does nothing.
+    /// What holds of every run: its contents make one. Proof step: does nothing when it runs.
     pub fn recall_run(&self)
         ensures { IsRun self.now.run.low self.now.run.high self.now.run.points self.now.run.fragments }
     {
         self.run.recall();
     }
 
-    /// The key of the first point that isn't passed, without a search. Where those points are passed that who looks for the
-    /// keys from a bound on passes over, it is the next key from there.
+    /// The key of the first point that isn't passed, without a search. After `seek(low)` it is the least key at or
+    /// above `low`.
     pub fn key(&self) -> Option<&'a [u8]>
         ensures there { option_map (λ key. key.now) result ≡
             option_map (λ p. p.key) (slice_get self.now.run.points self.now.place) }
@@ -70,16 +70,16 @@ impl<'a> Cursor<'a> {
         Some(point.key())
     }
 
-    /// Whether the points before the key are passed and its own aren't. It costs a search by the fences.
+    /// Whether the cursor is just before the key's points. It costs a search by the fences.
     pub fn is_before(&self, key: &[u8]) -> bool
         ensures { IsTrue result ↔ (self.now.place ≡ seek_place self.now.run.points key.now false) }
     {
         self.run.place_of(key) == self.place
     }
 
-    /// What the run's writes at or below a sequence together do to a key, where the points before the key are passed and
-    /// its own aren't. A key with few points costs a step for each; one with many, or behind the end of the fragment where
-    /// the cursor stands, a search. It fails only for want of memory.
+    /// What the run's writes at or below a sequence together do to a key, if the cursor is just before the key's
+    /// points. A key with few points costs a step for each. A key with many, or past the end of the cursor's fragment,
+    /// costs a search.
     pub fn effect<O: Operator>(
         &self,
         alloc: Global,
@@ -98,9 +98,9 @@ impl<'a> Cursor<'a> {
         effect_found::<O>(alloc, on, over, key, at)
     }
 
-    /// Where the first of the run's fragments ends that is over the key with a range deletion at or below the sequence, if one
-    /// is: from the key to below that end the sequence sees nothing of older runs. It costs a search among the fragments where
-    /// the one at which the cursor stands isn't it.
+    /// The end of the fragment over the key, if that has a range deletion at or below the sequence. From the key to
+    /// below that end the sequence sees nothing of older runs. It costs a search among the fragments unless it is the
+    /// one at which the cursor is.
     pub fn hidden_to(&self, key: &[u8], at: u64) -> Option<&'a [u8]>
         ensures { option_map (λ end. end.now) result ≡ hidden_to self.now.run key.now at }
     {
@@ -109,8 +109,8 @@ impl<'a> Cursor<'a> {
         end_of_hiding(over, key, at)
     }
 
-    /// Passes the points that who looks for the keys from `low` on or, where strict, behind `low`, passes over: a few of them
-    /// one by one, and more by a search by the fences.
+    /// Moves to the first key at or above `low` (above it if `strict`), never back: a few points one by one, more by a
+    /// search by the fences.
     fn pass_to(&mut self, low: &[u8], strict: bool)
         ensures { self.new ≡
             record {
@@ -130,7 +130,7 @@ impl<'a> Cursor<'a> {
         self.fragment = fragments_ended(self.run.fragments(), self.fragment, low);
     }
 
-    /// Passes the points at and below a key: a few of them one by one, and more by a search by the fences.
+    /// Moves to the first key above `key`, never back: a few points one by one, more by a search by the fences.
     pub fn pass(&mut self, key: &[u8])
         ensures { self.new ≡
             record {
@@ -142,8 +142,8 @@ impl<'a> Cursor<'a> {
         self.pass_to(key, true);
     }
 
-    /// Passes the points below a key: a few of them one by one, and more by a search by the fences. Where the next key is at or
-    /// above it, that costs one comparison.
+    /// Moves to the first key at or above `low`, never back: a few points one by one, more by a search by the fences.
+    /// If the next key is at or above it, that costs one comparison.
     pub fn seek(&mut self, low: &[u8])
         ensures { self.new ≡
             record {

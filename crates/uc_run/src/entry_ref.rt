@@ -1,4 +1,4 @@
-//! [`EntryRef`]: a point whose texts are borrowed.
+//! [`EntryRef`]: a point with borrowed texts.
 ghost use Rattle.std.specs.Prelude.{◌≡◌, ◌<◌, ◌^◌, IfOk};
 ghost use Rattle.uc_run_entry.specs.Order.{entry_cmp};
 ghost use Rattle.uc_run_entry.specs.Packed as packed;
@@ -8,7 +8,7 @@ use std::cmp::Ordering;
 use std::marker::Model;
 use uc_run_entry::{Point, WhatRef};
 
-/// A point whose texts are borrowed, so that it is moved cheaply. A contract sees it as the `Entry`.
+/// A point with borrowed texts, so moves are cheap. A contract sees it as the `Entry`.
 #[derive(Debug, Drop)]
 pub(crate) struct EntryRef<'a> {
     key: &'a [u8],
@@ -34,7 +34,7 @@ impl<'a> EntryRef<'a> {
         EntryRef { key, seq, what }
     }
 
-    /// How it stands to another: by key, and of one key the newest first.
+    /// Its order to another: by key, the newest of a key first.
     #[inline]
     pub(crate) fn order(&self, other: &EntryRef<'_>) -> Ordering
         ensures { result ≡ entry_cmp self.now other.now }
@@ -42,7 +42,7 @@ impl<'a> EntryRef<'a> {
         self.key.cmp(&other.key).then(other.seq.cmp(&self.seq))
     }
 
-    /// The point, packed, with a copy of its texts. It fails only for want of memory.
+    /// The point, packed, with a copy of its texts.
     #[inline]
     pub(crate) fn to_point(&self, alloc: Global) -> Result<Point, AllocError>
         requires { self.now.seq < 2 ^ 56 }

@@ -13,20 +13,20 @@ use std::marker::Model;
 use uc_bytes::Bytes;
 use uc_run_entry::Point;
 
-/// How many points a block has, but the last one, which may have fewer.
+/// How many points each block has; the last may have fewer.
 const BLOCK_POINTS: usize = 16;
 
 /// How many points are passed one by one before the fences are searched.
 const FEW_POINTS: usize = 8;
 
-/// The key of the first point of each block, apart from the points, so that few lines of memory are looked at.
-/// A contract sees it as these keys.
+/// The key of the first point of each block, apart from the points, so that a search touches few cache lines. A
+/// contract sees it as these keys.
 #[derive(Debug, Drop)]
 pub(crate) struct Fences {
     keys: Vec<Bytes>,
     /// How many bytes all keys have in common at their front.
     shared: usize,
-    /// The prefix of each key behind these, in one piece: most steps of a search look at no key.
+    /// The prefix of each key after these bytes, in one piece: most steps of a search look at no key.
     prefixes: Vec<u64>,
 }
 
@@ -79,7 +79,7 @@ pub(crate) fn fences_of(alloc: Global, points: &[Point]) -> Result<Fences, Alloc
     })
 }
 
-/// How many of the keys are passed over, where those that are stand first.
+/// How many of the keys lie before the search, if those that do come first.
 fn keys_passed(keys: &[Bytes], low: &[u8], strict: bool) -> usize
     requires { IsPartitionedBy (seek.is_passed low.now strict) keys.now }
     ensures bound { result ≤ length keys.now }
@@ -89,7 +89,7 @@ fn keys_passed(keys: &[Bytes], low: &[u8], strict: bool) -> usize
     keys.partition_point(|key| is_passed(low, strict, key.as_slice()))
 }
 
-/// How many of the points are passed over, where those that are stand first.
+/// How many of the points lie before the search, if those that do come first.
 fn place_in(points: &[Point], low: &[u8], strict: bool) -> usize
     requires { IsPartitionedBy (λ p. seek.is_passed low.now strict p.key) points.now }
     ensures bound { result ≤ length points.now }
@@ -99,7 +99,7 @@ fn place_in(points: &[Point], low: &[u8], strict: bool) -> usize
     points.partition_point(|point| is_passed(low, strict, point.key()))
 }
 
-/// The place of the first of the points that isn't passed over.
+/// The place of the first of the points that the search finds.
 fn first_behind(points: &[Point], low: &[u8], strict: bool) -> Option<usize>
     ensures { IfSome result (λ n. (n < length points.now)
         × AllWithin (λ p. seek.is_passed low.now strict p.key ≡ true) points.now 0 n
@@ -110,7 +110,7 @@ fn first_behind(points: &[Point], low: &[u8], strict: bool) -> Option<usize>
         .position(|point| !is_passed(low, strict, point.key()))
 }
 
-/// How many fences are passed over.
+/// How many fences lie before the search.
 fn fences_passed(points: &[Point], fences: &Fences, low: &[u8], strict: bool) -> usize
     requires sorted { IsStrictlySortedBy entry_cmp points.now }
     requires fenced { IsFenced points.now fences.now }
@@ -124,7 +124,7 @@ fn fences_passed(points: &[Point], fences: &Fences, low: &[u8], strict: bool) ->
     begin + keys_passed(&keys[begin..end], low, strict)
 }
 
-/// How many points are passed over: all before the last block whose fence is, and some of that block.
+/// How many points lie before the search: all before the last block whose fence does, and some of that block.
 pub(crate) fn seek_by_fences(points: &[Point], fences: &Fences, low: &[u8], strict: bool) -> usize
     requires sorted { IsStrictlySortedBy entry_cmp points.now }
     requires fenced { IsFenced points.now fences.now }
@@ -142,8 +142,8 @@ pub(crate) fn seek_by_fences(points: &[Point], fences: &Fences, low: &[u8], stri
     begin + place_in(&points[begin..end], low, strict)
 }
 
-/// The place, from one on, of the first point that isn't passed over. A few points are looked at one by one; the fences are
-/// searched where none of them is it.
+/// The place, from `place` on, of the first point that the search finds. A few points are looked at one by one; if none
+/// of them is it, the fences are searched.
 pub(crate) fn passed_from(
     points: &[Point],
     fences: &Fences,

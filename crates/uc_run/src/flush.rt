@@ -1,4 +1,4 @@
-//! The points and range deletions of a memtable's slots, as a run wants them.
+//! The points and range deletions of a memtable's slots, as a run needs them.
 ghost use Rattle.std.specs.Prelude.{◌≡◌, ℕ, ◌<◌, ◌^◌, List, length, IfOk};
 ghost use Rattle.std.specs.List.{AllByRecursion};
 ghost use Rattle.uc_bytes.specs.Borrowed.{op_of};
@@ -48,7 +48,7 @@ fn range_at<'a>(text: &'a [u8], slot: &Slot) -> Option<Range<'a>>
     }
 }
 
-/// The points among the slots' writes, in their order. Want of memory loses them.
+/// The points among the slots' writes, in their order. An `Err` loses them.
 fn points_in<'a>(
     alloc: Global,
     text: &'a [u8],
@@ -66,7 +66,7 @@ fn points_in<'a>(
     Ok(points)
 }
 
-/// The range deletions among the slots' writes, in their order. Want of memory loses them.
+/// The range deletions among the slots' writes, in their order. An `Err` loses them.
 pub(crate) fn ranges_in<'a>(
     alloc: Global,
     text: &'a [u8],
@@ -84,7 +84,7 @@ pub(crate) fn ranges_in<'a>(
     Ok(ranges)
 }
 
-/// Puts points in order of key, and those of one key the newest first.
+/// Sorts points by key, the newest of a key first.
 fn sort_points(points: &mut [EntryRef<'_>])
     requires { HaveOwnSeqs points.old }
     ensures { points.new ≡ flush.by_key points.old }
@@ -92,7 +92,7 @@ fn sort_points(points: &mut [EntryRef<'_>])
     points.sort_unstable_by(|point, other| point.order(other));
 }
 
-/// Points, packed, with copies of their texts. Want of memory loses them.
+/// Points, packed, with copies of their texts. An `Err` loses them.
 fn pack_points(alloc: Global, points: &[EntryRef<'_>]) -> Result<Vec<Point>, AllocError>
     requires { AllByRecursion (λ p. p.seq < 2 ^ 56) points.now }
     ensures { IfOk result (λ packed. packed.items ≡ points.now) }
@@ -104,8 +104,8 @@ fn pack_points(alloc: Global, points: &[EntryRef<'_>]) -> Result<Vec<Point>, All
     Ok(packed)
 }
 
-/// The points among the slots' writes, by key, and of one key the newest first. The texts are copied in this order.
-/// Want of memory loses them.
+/// The points among the slots' writes, by key, the newest of a key first. The texts are copied in this order. An `Err`
+/// loses them.
 pub(crate) fn points_by_key(
     alloc: Global,
     text: &[u8],
@@ -122,7 +122,7 @@ pub(crate) fn points_by_key(
     pack_points(alloc, &points)
 }
 
-/// The sequence of the first slot, or 0 where there is none.
+/// The sequence of the first slot, or 0 if there is none.
 pub(crate) fn first_seq(slots: &[Slot]) -> u64
     ensures { (text : List ℕ) → result ≡ flush.first_of (slot_writes text slots.now) }
 {

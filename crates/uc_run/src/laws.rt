@@ -9,14 +9,13 @@ ghost use Rattle.uc_run.specs.Flush.{flushed};
 
 use uc_oper::Operator;
 
-/// Writes whose sequences rise are flushed to a run, if there is one.
+/// Writes with rising sequences are flushed to a run, if there are any.
 pub fn flushed_writes_are_a_run()
     ensures { (writes : List Write) → IsRising 0 writes → writes ≢ [] →
         IsRun (flushed writes).low (flushed writes).high (flushed writes).points (flushed writes).fragments }
 {}
 
-/// What writes whose sequences rise together do to a key at a sequence is what the plain list of their run does:
-/// the flush changes no answer.
+/// The plain list of the flushed run does to a key at a sequence what the writes do: the flush changes no answer.
 pub fn flush_keeps_every_effect<O: Operator>()
     ensures { (writes : List Write) (key : List ℕ) (at : ℕ) → IsRising 0 writes → writes ≢ [] →
         effect_on O.meaning (plain_list (flushed writes)) key at ≡ effect_on O.meaning writes key at }

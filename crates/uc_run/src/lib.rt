@@ -1,14 +1,16 @@
 //! Memtables and runs: where writes are inserted, and the sorted tables that they become.
 //!
-//! A [`Memtable`] keeps the texts of its writes behind each other in one arena, and beside it a slot of a few numbers
-//! for each write. A contract sees it as the list of the writes that were inserted. [`Memtable::flush`] makes a
-//! [`Run`] of it. Read `specs/Flush.antt` and `memtable.rt`.
+//! A [`Memtable`] keeps the texts of its writes one after the other in one arena, and a small slot for each write. A
+//! contract sees it as the list of the writes that were inserted. [`Memtable::flush`] makes a [`Run`] of it. Read
+//! `specs/Flush.antt` and `memtable.rt`.
 //!
-//! A [`Run`] is immutable. It keeps its points, packed, in blocks of 16 in order of key. A contract sees it as its contents
-//! (`uc_run_entry`'s `specs/Run.antt`): none but those of [`Run::blocks`] and [`Run::fence`] speaks of blocks. A [`Cursor`]
-//! walks over a run in order of key. Read `run.rt`, then `lookup.rt` and `cursor.rt`.
+//! A [`Run`] is immutable. It keeps its points, packed, in blocks of 16 in order of key. A contract sees it as its
+//! contents (`uc_run_entry`'s `specs/Run.antt`); only the contracts of [`Run::blocks`] and [`Run::fence`] speak of
+//! blocks. A [`Cursor`] walks over a run in order of key. Read `run.rt`, then `lookup.rt` and `cursor.rt`.
 //!
-//! The public items of `uc_run_entry` that runs are made of are given out here too.
+//! This crate re-exports the public items of `uc_run_entry` that runs are made of.
+//!
+//! An `Err(AllocError)` comes only if an allocation fails.
 #![tactic(auto)]
 
 mod cursor;

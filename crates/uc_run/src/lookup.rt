@@ -13,7 +13,7 @@ use std::alloc::{AllocError, Global};
 use uc_oper::{Effect, Operator};
 use uc_run_entry::{Fragment, Point, covering_fragment};
 
-/// The points, the newest first, but those that a newer one overwrites.
+/// The points, the newest first, without those that a newer one overwrites.
 fn lasting(points: &[Point]) -> &[Point]
     ensures { (m : Operation) (before : EffectOf) →
         lookup.points_effect m before result.now ≡ lookup.points_effect m before points.now }
@@ -24,8 +24,7 @@ fn lasting(points: &[Point]) -> &[Point]
     }
 }
 
-/// What points of one key, the newest first, do in turn to what an effect before them leaves. Want of memory
-/// loses that effect.
+/// What points of one key, the newest first, make of an effect before them. An `Err` loses that effect.
 fn points_effect<O: Operator>(
     alloc: Global,
     before: Effect,
@@ -54,8 +53,8 @@ fn newest_over(fragments: &[Fragment], key: &[u8], at: u64) -> Option<u64>
     fragment.seqs.newest_at_or_below(at)
 }
 
-/// What the key's points at or below the sequence do above the newest range deletion over it, which is that of one of the
-/// fragments: what a lookup of the key at the sequence finds.
+/// What a lookup of the key at the sequence finds: what the key's points at or below the sequence do above the newest
+/// range deletion over it. That deletion is one of the fragments' sequences.
 pub(crate) fn effect_found<O: Operator>(
     alloc: Global,
     on: &[Point],

@@ -19,7 +19,7 @@ use uc_run_entry::cut_ranges;
 /// writes that were inserted, in order.
 #[derive(Debug, Drop)]
 pub struct Memtable {
-    /// The arena: the texts of all writes behind each other.
+    /// The arena: the texts of all writes, one after the other.
     text: Vec<u8>,
     slots: Vec<Slot>,
     size: u64,
@@ -38,7 +38,7 @@ impl Model for Memtable {
     ghost invariant = { IsHeld };
 }
 
-/// Writes both texts at the end. It fails only for want of memory, and then writes nothing.
+/// Writes both texts at the end. An `Err` writes nothing.
 fn push_texts(text: &mut Vec<u8>, first: &[u8], second: &[u8]) -> Result<(), AllocError>
     ensures ok { OnOk result (text.new.items ≡ text.old.items ++ (first.now ++ second.now)) }
     ensures err { OnErr result (text.new.items ≡ text.old.items) }
@@ -52,8 +52,7 @@ fn push_texts(text: &mut Vec<u8>, first: &[u8], second: &[u8]) -> Result<(), All
     Ok(())
 }
 
-/// Puts a write behind the others: a copy of its texts, and its slot. It fails only for want of memory, and then
-/// changes nothing.
+/// Appends a write: a copy of its texts, and its slot. An `Err` changes nothing.
 fn push_write(
     text: &mut Vec<u8>,
     slots: &mut Vec<Slot>,
@@ -79,7 +78,7 @@ fn push_write(
 }
 
 impl Memtable {
-    /// A memtable without writes. It takes no memory.
+    /// A memtable without writes. It doesn't allocate.
     pub fn new(alloc: Global) -> Memtable
         ensures { result ≡ [] }
     {
@@ -98,24 +97,23 @@ impl Memtable {
         self.slots.is_empty()
     }
 
-    /// How many bytes its writes have: of each the lengths of its texts, and 8; nothing of a range whose begin isn't
-    /// below its end. It is held at 2^64 - 1.
+    /// How many bytes its writes have: for each the lengths of its texts, and 8; nothing for a range whose begin isn't
+    /// below its end. At most 2^64 - 1.
     pub fn size(&self) -> u64
         ensures { result ≡ memtable_size self.now }
     {
         self.size
     }
 
-    /// The last sequence, or 0 where there is no write.
+    /// The last sequence, or 0 if there is no write.
     pub fn last(&self) -> u64
         ensures { result ≡ last_of 0 self.now }
     {
         self.last
     }
 
-    /// Inserts a write, whose sequence is above all before it and at most
-    /// [`MAX_SEQUENCE`](uc_bytes::MAX_SEQUENCE). It costs a copy of the texts, amortized. It fails only for want of
-    /// memory, and then inserts nothing.
+    /// Inserts a write. Its sequence is above all before it and at most [`MAX_SEQUENCE`](uc_bytes::MAX_SEQUENCE). It
+    /// costs a copy of the texts, amortized. An `Err` inserts nothing.
     pub fn insert(&mut self, write: &Write) -> Result<(), AllocError>
         requires above { last_of 0 self.old < write.now.seq }
         requires below { write.now.seq < 2 ^ 56 }
@@ -125,7 +123,7 @@ impl Memtable {
         self.insert_ref(&WriteRef::of(write))
     }
 
-    /// Inserts a write whose texts are borrowed, as [`insert`](Memtable::insert) does.
+    /// Inserts a write with borrowed texts, as [`insert`](Memtable::insert) does.
     pub fn insert_ref(&mut self, write: &WriteRef<'_>) -> Result<(), AllocError>
         requires above { last_of 0 self.old < write.now.seq }
         requires below { write.now.seq < 2 ^ 56 }
@@ -138,7 +136,7 @@ impl Memtable {
         Ok(())
     }
 
-    /// The run of its writes. Want of memory loses it, and changes nothing here.
+    /// The run of its writes. An `Err` changes nothing here.
     fn to_run(&self, alloc: Global) -> Result<Run, AllocError>
         requires { self.now ≢ [] }
         ensures { IfOk result (λ run. run ≡ flushed self.now) }
@@ -150,9 +148,9 @@ impl Memtable {
         Run::from_points(alloc, first_seq(&self.slots), self.last, points, fragments)
     }
 
-    /// The run of its writes: the points in order of key, and the range deletions cut into fragments. It costs a sort of
-    /// the points by comparisons, a copy of the texts, and the fragments. It fails only for want of memory, and then
-    /// hands the memtable back with all its writes.
+    /// The run of its writes: the points in order of key, and the range deletions cut into fragments. It costs a sort
+    /// of the points by comparisons, a copy of the texts, and the fragments. An `Err` hands the memtable back with all
+    /// its writes.
     pub fn flush(self, alloc: Global) -> Result<Run, (Memtable, AllocError)>
         requires { self ≢ [] }
         ensures run { IfOk result (λ run. run ≡ flushed self) }

@@ -1,4 +1,4 @@
-//! The fragment over a key, looked for from a place on.
+//! The fragment over a key, searched from a place on.
 ghost use Rattle.std.specs.Prelude.{◌≡◌, ◌≤◌, filter, nat_le, option_map};
 ghost use Rattle.std.specs.List.{AllByRecursion, find, list_any};
 ghost use Rattle.uc_run_entry.specs.Order.{IsFalling, AreInOrder};
@@ -16,7 +16,7 @@ fn ends_by(fragment: &Fragment, key: &[u8]) -> bool
     fragment.end.as_slice().cmp(&key).is_le()
 }
 
-/// The fragments from a place on, where those before it end by the key, and otherwise all.
+/// The fragments from a place on, if those before it end by the key; otherwise all.
 fn from_place<'a>(fragments: &'a [Fragment], place: usize, key: &[u8]) -> &'a [Fragment]
     requires order { AreInOrder fragments.now }
     requires falling { AllByRecursion (λ f. IsFalling f.seqs) fragments.now }
@@ -31,7 +31,7 @@ fn from_place<'a>(fragments: &'a [Fragment], place: usize, key: &[u8]) -> &'a [F
     }
 }
 
-/// The first of the fragments alone, where it ends above the key, and otherwise all.
+/// The first of the fragments alone, if it ends above the key; otherwise all.
 fn first_or_all<'a>(fragments: &'a [Fragment], key: &[u8]) -> &'a [Fragment]
     requires order { AreInOrder fragments.now }
     requires falling { AllByRecursion (λ f. IsFalling f.seqs) fragments.now }
@@ -49,7 +49,8 @@ fn first_or_all<'a>(fragments: &'a [Fragment], key: &[u8]) -> &'a [Fragment]
     }
 }
 
-/// Some of the fragments, among them that which covers the key, if one does: the one at the place alone where that is enough.
+/// Some of the fragments, among them the one that covers the key, if one does: only the one at the place if that is
+/// enough.
 pub(crate) fn fragments_near<'a>(
     fragments: &'a [Fragment],
     place: usize,
@@ -64,7 +65,7 @@ pub(crate) fn fragments_near<'a>(
     first_or_all(from_place(fragments, place, key), key)
 }
 
-/// A place among the fragments, moved forward behind those that end by the key.
+/// A place among the fragments, moved forward past those that end by the key.
 pub(crate) fn fragments_ended(fragments: &[Fragment], place: usize, key: &[u8]) -> usize
     ensures { place ≤ result }
 {
@@ -83,7 +84,7 @@ fn is_any_by(seqs: &Seqs, at: u64) -> bool
     seqs.newest_at_or_below(at).is_some()
 }
 
-/// Where the fragment over the key ends, if it has a range deletion at or below the sequence.
+/// The end of the fragment over the key, if that has a range deletion at or below the sequence.
 pub(crate) fn end_of_hiding<'a>(fragments: &'a [Fragment], key: &[u8], at: u64) -> Option<&'a [u8]>
     requires order { AreInOrder fragments.now }
     requires falling { AllByRecursion (λ f. IsFalling f.seqs) fragments.now }

@@ -13,7 +13,7 @@ use crate::fences::{Fences, seek_by_fences};
 use std::cmp::Ordering;
 use uc_run_entry::Point;
 
-/// Whether who looks for the keys from `low` on or, where strict, behind `low`, passes over a key.
+/// Whether `key` lies before a search that starts at `low` (just above it if `strict`).
 #[inline]
 pub(crate) fn is_passed(low: &[u8], strict: bool, key: &[u8]) -> bool
     ensures { result ≡ seek.is_passed low.now strict key.now }
@@ -25,7 +25,7 @@ pub(crate) fn is_passed(low: &[u8], strict: bool, key: &[u8]) -> bool
     }
 }
 
-/// Whether a point stands before those of the key at or below the sequence.
+/// Whether a point comes before those of the key at or below the sequence.
 #[inline]
 fn is_newer(point: &Point, key: &[u8], at: u64) -> bool
     ensures { result ≡ places.is_newer key.now at point.now }
@@ -37,7 +37,7 @@ fn is_newer(point: &Point, key: &[u8], at: u64) -> bool
     }
 }
 
-/// How many of the points stand before those of the key at or below the sequence, where those that do stand first.
+/// How many of the points come before those of the key at or below the sequence, if those that do come first.
 fn newer_in(points: &[Point], key: &[u8], at: u64) -> usize
     requires { IsPartitionedBy (places.is_newer key.now at) points.now }
     ensures bound { result ≤ length points.now }
@@ -47,7 +47,7 @@ fn newer_in(points: &[Point], key: &[u8], at: u64) -> usize
     points.partition_point(|point| is_newer(point, key, at))
 }
 
-/// Of the points of the key, which stand between two places, those at or below the sequence, the newest first.
+/// Of the key's points, which lie between two places, those at or below the sequence, the newest first.
 pub(crate) fn points_between<'a>(
     points: &'a [Point],
     begin: usize,

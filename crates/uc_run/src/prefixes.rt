@@ -1,4 +1,4 @@
-//! Prefixes of keys: numbers that order as the keys do, of the bytes behind those that all keys share.
+//! Prefixes of keys: numbers that order as the keys do, made of the bytes after those that all keys share.
 ghost use Rattle.std.specs.Prelude.{◌≡◌, ◌<◌, ◌≤◌, true, false, length, map, drop, slice_index, nat_eq, IfOk};
 ghost use Rattle.std.specs.List as list;
 ghost use Rattle.std.specs.List.{AllWithin};
@@ -11,7 +11,7 @@ use crate::places::is_passed;
 use std::alloc::{AllocError, Global};
 use uc_bytes::Bytes;
 
-/// The byte at a place, or 0 where there is none.
+/// The byte at a place, or 0 if there is none.
 #[inline]
 fn byte_or_zero(bytes: &[u8], place: usize) -> u8
     ensures { result ≡ slice_index bytes.now place }
@@ -38,7 +38,7 @@ fn padded_prefix(bytes: &[u8]) -> u64
     ])
 }
 
-/// The first eight bytes as a number: read at once where there are eight.
+/// The first eight bytes as a number: read at once if there are eight.
 #[inline]
 fn prefix_of(bytes: &[u8]) -> u64
     ensures prefix { result ≡ prefixes.prefix_of bytes.now }
@@ -73,7 +73,7 @@ pub(crate) fn shared_front(keys: &[Bytes]) -> usize
     common_prefix_len(keys[0].as_slice(), keys[keys.len() - 1].as_slice())
 }
 
-/// The prefix of each key, behind as many bytes as the keys share.
+/// The prefix of each key, after the bytes that the keys share.
 pub(crate) fn prefixes_of(
     alloc: Global,
     keys: &[Bytes],
@@ -104,7 +104,7 @@ fn equal_range(prefixes: &[u64], wanted: u64) -> (usize, usize)
     (below, up_to)
 }
 
-/// Between which keys the prefixes don't decide: those before are passed over, and those behind aren't.
+/// The range of keys that the prefixes don't decide: those before it lie before the search, and those after it don't.
 pub(crate) fn undecided(
     keys: &[Bytes],
     shared: usize,

@@ -49,7 +49,7 @@ impl Model for Run {
 }
 
 impl Run {
-    /// The run of these points, which are packed, and fragments. Want of memory loses them.
+    /// The run of these points, which it packs, and fragments. An `Err` loses them.
     pub fn build(
         alloc: Global,
         low: u64,
@@ -72,7 +72,7 @@ impl Run {
         Run::from_points(alloc, low, high, points, Fragments::from(fragments))
     }
 
-    /// The run of points that are packed already, and fragments. Want of memory loses them.
+    /// The run of points that are packed already, and fragments. An `Err` loses them.
     pub fn from_points(
         alloc: Global,
         low: u64,
@@ -117,7 +117,7 @@ impl Run {
         self.points.len() as u64
     }
 
-    /// What holds of every run: its contents make one. It does nothing.
+    /// What holds of every run: its contents make one. Proof step: does nothing when it runs.
     pub fn recall(&self)
         ensures { IsRun self.now.low self.now.high self.now.points self.now.fragments }
     {
@@ -163,7 +163,7 @@ impl Run {
         Some(fence.as_slice())
     }
 
-    /// The place of the first point whose key is at or above `low` or, where strict, above it: how many stand before.
+    /// The place of the first point whose key is at or above `low` (above it if `strict`): how many come before.
     pub fn seek(&self, low: &[u8], strict: bool) -> u64
         ensures { result ≡ seek.seek_place self.now.points low.now strict }
     {
@@ -193,7 +193,7 @@ impl Run {
         Cursor::before(self, low)
     }
 
-    /// The least key of a point that is at or above `low` or, where strict, above it.
+    /// The least key of a point that is at or above `low` (above it if `strict`).
     pub fn next_key(&self, low: &[u8], strict: bool) -> Option<&[u8]>
         ensures { IsNextKey self.now.points low.now strict (option_map (λ key. key.now) result) }
     {
@@ -204,7 +204,7 @@ impl Run {
     }
 
     /// What the run's writes at or below a sequence together do to a key. It costs the logarithms of the numbers of
-    /// points and fragments and, from the key's last put or delete on, its points. It fails only for want of memory.
+    /// points and fragments, and a step for each of the key's points from its last put or delete on.
     pub fn effect<O: Operator>(
         &self,
         alloc: Global,
@@ -228,7 +228,7 @@ impl Run {
             && self.fragments.same(&other.fragments)
     }
 
-    /// How many bytes its points and fragments have, with 8 for each sequence, held at 2^64 - 1.
+    /// How many bytes its points and fragments have, with 8 for each sequence, at most 2^64 - 1.
     pub fn size(&self) -> u64
         ensures { result ≡ size.size_of self.now }
     {

@@ -18,7 +18,7 @@ fn what_size(what: WhatRef<'_>) -> u64
     }
 }
 
-/// The length of a point's key and of its value or operand, and 8, held at the greatest number.
+/// The length of a point's key and of its value or operand, and 8; at most 2^64 - 1.
 #[inline]
 fn entry_size(point: &Point) -> u64
     ensures { result ≡ min (size.entry_size point.now) (2 ^ 64 - 1) }
@@ -28,7 +28,7 @@ fn entry_size(point: &Point) -> u64
         .saturating_add(8)
 }
 
-/// The lengths of a fragment's ends, and 8 for each sequence, held at the greatest number.
+/// The lengths of a fragment's ends, and 8 for each sequence; at most 2^64 - 1.
 fn fragment_size(fragment: &Fragment) -> u64
     ensures { result ≡ min (size.fragment_size fragment.now) (2 ^ 64 - 1) }
 {
@@ -36,7 +36,7 @@ fn fragment_size(fragment: &Fragment) -> u64
     ends.saturating_add(fragment.seqs.len().saturating_mul(8))
 }
 
-/// The size of all points, held at the greatest number.
+/// The size of all points, at most 2^64 - 1.
 fn points_size(points: &[Point]) -> u64
     ensures { result ≡ min (sum_by size.entry_size points.now) (2 ^ 64 - 1) }
 {
@@ -47,7 +47,7 @@ fn points_size(points: &[Point]) -> u64
     sum
 }
 
-/// The size of all fragments, held at the greatest number.
+/// The size of all fragments, at most 2^64 - 1.
 fn fragments_size(fragments: &[Fragment]) -> u64
     ensures { result ≡ min (sum_by size.fragment_size fragments.now) (2 ^ 64 - 1) }
 {
@@ -58,7 +58,7 @@ fn fragments_size(fragments: &[Fragment]) -> u64
     sum
 }
 
-/// The size of points and fragments, held at the greatest number.
+/// The size of points and fragments, at most 2^64 - 1.
 pub(crate) fn size_of(points: &[Point], fragments: &[Fragment]) -> u64
     ensures { result ≡ min (sum_by size.entry_size points.now + sum_by size.fragment_size fragments.now) (2 ^ 64 - 1) }
 {

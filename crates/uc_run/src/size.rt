@@ -8,7 +8,7 @@ ghost use Rattle.uc_run.specs.Size as size;
 
 use uc_bytes::{OpKind, OpRef};
 
-/// The lengths of both texts, and 8, held at the greatest number.
+/// The lengths of both texts, and 8; at most 2^64 - 1.
 fn sum_of(first: usize, second: usize) -> u64
     ensures { result ≡ min (first + second + 8) (2 ^ 64 - 1) }
 {
@@ -24,7 +24,7 @@ fn has_keys(begin: &[u8], end: &[u8]) -> bool
     begin.cmp(end).is_lt()
 }
 
-/// The lengths of a range's ends, and 8, held at the greatest number; 0 where it has no keys.
+/// The lengths of a range's ends, and 8; at most 2^64 - 1; 0 if it has no keys.
 fn range_size(begin: &[u8], end: &[u8]) -> u64
     ensures { result ≡ min (size.op_size (changes.DeleteRange begin.now end.now)) (2 ^ 64 - 1) }
 {
@@ -46,7 +46,7 @@ fn parts_size(kind: OpKind, first: &[u8], second: &[u8]) -> u64
     }
 }
 
-/// The lengths of a change's texts, and 8, held at the greatest number; 0 for a range without keys.
+/// The lengths of a change's texts, and 8; at most 2^64 - 1; 0 for a range without keys.
 pub(crate) fn op_size(op: &OpRef<'_>) -> u64
     ensures { result ≡ min (size.op_size op.now) (2 ^ 64 - 1) }
 {
