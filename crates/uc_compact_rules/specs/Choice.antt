@@ -1,4 +1,4 @@
--- What comes of one key, by its points and the range deletions over it, both the newest first.
+-- The output for one key, by its points and the range deletions over it, both the newest first.
 use Rattle.std.specs.Prelude.{◌≢◌, ℕ, ◌<◌, Bool, List, Option, None, option_map, map, filter, filter_map, nat_lt, if◌then◌else◌}
 use Rattle.std.specs.List.{AllByRecursion, flat_map}
 use Rattle.std.specs.List.Sorted.{IsStrictlySortedBy}
@@ -13,7 +13,7 @@ use Rattle.uc_run_entry.specs.Run.{covers}
 use Rattle.uc_compact_rules.specs.Stripes.{is_in, stripes, Keeping, is_bottom}
 use Rattle.uc_compact_rules.specs.Output.{greatest, what_kept}
 
--- the point that stands for points of the key, and sequences of range deletions over it, of one stripe
+-- the point that replaces points of the key in one stripe, given the sequences of that stripe's range deletions over it
 abbrev pub point_for : Operation → Bool → List ℕ → List Entry → List ℕ → Option Entry
 point_for m bottom key points seqs =
     if nat_lt 0 (greatest (map (λ p. p.seq) points))
@@ -37,8 +37,8 @@ seqs_over key fragments = flat_map (λ f. f.seqs) (filter (λ f. covers f key) f
 abbrev pub PointsFall : List Entry → Type 0
 PointsFall points = IsStrictlySortedBy (λ p q. nat_cmp q.seq p.seq) points
 
--- what the points of one key and the range deletions over it are like: both the newest first, from sequence 1 on, and no
--- sequence is in both
+-- the points of one key and the range deletions over it: both the newest first, from sequence 1 on, and no sequence is
+-- in both
 pub record AreOfOneKey (points : List Entry) (seqs : List ℕ) : Type 0 where
   pub points_fall : PointsFall points
   pub seqs_fall : IsFalling seqs

@@ -11,7 +11,7 @@ use Rattle.uc_run_entry.specs.PlainList.{plain_list}
 use Rattle.uc_run_entry.specs.Cutting.{RangeOf}
 use Rattle.uc_compact_rules.specs.Stripes.{Keeping}
 
--- runs, the newest first; the kept sequences; and whether the last run is the oldest of all, so that nothing stands below
+-- runs, the newest first; the kept sequences; and whether the last run is the oldest of all, so that nothing lies below
 pub record Compaction : Type 0 where
   pub inputs : List Contents
   pub keeps : List ℕ
@@ -20,7 +20,7 @@ pub record Compaction : Type 0 where
 abbrev pub AreRuns : List Contents → Type 0
 AreRuns runs = AllByRecursion (λ r. IsRun r.low r.high r.points r.fragments) runs
 
--- all sequences of a run are above those of the runs behind it
+-- all sequences of a run are above those of the runs after it
 abbrev pub AreNewestFirst : List Contents → Type 0
 AreNewestFirst [] = ⊤
 AreNewestFirst (newest ∷ older) = AllByRecursion (λ r. r.high < newest.low) older × AreNewestFirst older
@@ -58,6 +58,6 @@ ranges_over f = map (λ seq. record { begin = f.begin; end = f.end; seq = seq })
 abbrev pub ranges_of : List Contents → List RangeOf
 ranges_of runs = flat_map ranges_over (flat_map (λ r. r.fragments) runs)
 
--- what it keeps: with the oldest run the stripe of the inputs' least sequence is at the bottom
+-- what it keeps: with the oldest run, the stripe of the inputs' least sequence is the bottom one
 abbrev pub keeping_of : Compaction → Keeping
 keeping_of c = record { keeps = c.keeps; bottom = if c.oldest then Some (low_of c.inputs) else None }

@@ -18,7 +18,7 @@ use Rattle.uc_run_entry.specs.Cutting.{range_covers, fragments_of}
 use Rattle.uc_compact_rules.specs.Stripes.{Stripe, is_in, stripes, Keeping, is_bottom}
 use Rattle.uc_compact_rules.specs.Inputs.{Compaction, high_of, low_of, writes_of, points_of, ranges_of, keeping_of}
 
--- the greatest of some sequences, or 0 where there is none
+-- the greatest of some sequences, or 0 if there is none
 abbrev pub greatest : List ℕ → ℕ
 greatest seqs = fold max 0 seqs
 
@@ -34,19 +34,19 @@ newest_range c key s = greatest (map (λ r. r.seq) (filter (λ r. is_in s r.seq 
 abbrev pub effect_in : Operation → Compaction → List ℕ → Stripe → Effect
 effect_in m c key s = effect_within m (writes_of c.inputs) key s.above s.upto
 
--- What a point says that stands for an effect. No value needs no point where something else clears the key.
+-- What a point says that replaces an effect. No value needs no point if something else clears the key.
 abbrev pub what_of : Effect → Bool → Option What
 what_of Keep cleared = None
 what_of (Fold operand) cleared = Some (Merge operand)
 what_of (Set (Some value)) cleared = Some (Put value)
 what_of (Set None) cleared = if cleared then None else Some Delete
 
--- What stands for a stripe's effect: a range deletion above the newest point clears the key by itself. In the bottom
+-- What replaces a stripe's effect. A range deletion above the newest point clears the key by itself. In the bottom
 -- stripe, below which there is nothing, the effect becomes the value that it makes of none.
 abbrev pub what_kept : Operation → Bool → Effect → Bool → Option What
 what_kept m bottom effect cleared = if bottom then what_of (Set (applied m effect None)) true else what_of effect cleared
 
--- a key's point of a stripe, which has the sequence of the newest; none where the stripe has no point of the key
+-- a key's point of a stripe, with the sequence of the newest; none if the stripe has no point of the key
 abbrev pub point_kept : Operation → Compaction → List ℕ → Stripe → Option Entry
 point_kept m c key s =
     if nat_lt 0 (newest_point c key s)
@@ -62,7 +62,7 @@ keys_of c = fold (insert_key bytes_cmp) [] (map (λ p. p.key) (points_of c.input
 abbrev pub points_kept : Operation → Compaction → List Entry
 points_kept m c = flat_map (λ key. filter_map (point_kept m c key) (stripes c.keeps)) (keys_of c)
 
--- the greatest of some sequences that the stripe has; none of the bottom stripe, where nothing is left to clear
+-- the greatest of some sequences that is in the stripe; none for the bottom stripe, where nothing is left to clear
 abbrev pub seq_kept : Keeping → List ℕ → Stripe → Option ℕ
 seq_kept k seqs s =
     if is_bottom k s then None
@@ -75,8 +75,8 @@ seqs_kept k seqs = filter_map (seq_kept k seqs) (stripes k.keeps)
 abbrev pub fragment_kept : Keeping → Fragment → Fragment
 fragment_kept k f = record { begin = f.begin; end = f.end; seqs = seqs_kept k f.seqs }
 
--- the pieces between neighbouring ends of all the inputs' range deletions, with the sequences that are kept of each; a
--- piece without any is left out, and pieces with equal sequences aren't joined
+-- the pieces between neighbouring ends of all the inputs' range deletions, each with its kept sequences; a piece
+-- without any is left out, and pieces with equal sequences aren't joined
 abbrev pub fragments_kept : Compaction → List Fragment
 fragments_kept c = filter (λ f. nat_lt 0 (length f.seqs)) (map (fragment_kept (keeping_of c)) (fragments_of (ranges_of c.inputs)))
 

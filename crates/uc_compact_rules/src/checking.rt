@@ -1,4 +1,4 @@
-//! Which keeps, points and sequences may be given to this crate.
+//! Which keeps, points and sequences this crate accepts.
 ghost use Rattle.std.specs.Prelude.{◌≡◌, ◌≢◌, ◌<◌, ◌↔◌, IsTrue, map};
 ghost use Rattle.std.specs.List.{AllByRecursion};
 ghost use Rattle.std.specs.List.Sorted.{IsStrictlySortedBy};
@@ -57,8 +57,8 @@ fn are_apart(points: &[&Point], seqs: &Over<'_>) -> bool
     points.iter().all(|point| is_apart(point, seqs))
 }
 
-/// Whether points and sequences are like those of one key: the points from 1 on and the newest first, the sequences from 1
-/// on, and no sequence is in both. [`push_kept_points`](crate::push_kept_points) takes these.
+/// Whether points and sequences are like those of one key: both from 1 on, the points newest first, and no sequence in
+/// both. [`push_kept_points`](crate::push_kept_points) takes these.
 pub fn are_of_one_key(points: &[&Point], seqs: &Over<'_>) -> bool
     ensures { IsTrue result ↔ AreOfOneKey (map (λ p. p.now) points.now) seqs.now }
 {

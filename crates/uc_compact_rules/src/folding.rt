@@ -16,7 +16,7 @@ use uc_run_entry::Point;
 /// More points than this are folded in two threads.
 const MANY: usize = 5_000;
 
-/// The points, the newest first, but those that a newer one overwrites.
+/// The points, the newest first, without those that a newer one overwrites.
 fn lasting<'b, 'a>(points: &'b [&'a Point]) -> &'b [&'a Point]
     ensures { (m : Operation) (before : EffectOf) →
         lookup.points_effect m before (map (λ p. p.now) result.now) ≡
@@ -28,7 +28,7 @@ fn lasting<'b, 'a>(points: &'b [&'a Point]) -> &'b [&'a Point]
     }
 }
 
-/// An effect, and then the points, the newest first, in one thread. Want of memory loses the effect.
+/// An effect, and then the points, the newest first, in one thread. An `Err` loses the effect.
 fn folded_onto<O: Operator>(
     alloc: Global,
     before: Effect,
@@ -43,8 +43,8 @@ fn folded_onto<O: Operator>(
     Ok(effect)
 }
 
-/// An effect, and then the points, the newest first; the older and the newer half of them are folded side by side.
-/// Want of memory loses the effect.
+/// An effect, and then the points, the newest first. Their older and newer halves are folded side by side. An `Err`
+/// loses the effect.
 fn folded_by_halves<O: Operator + Sync>(
     rt: &(impl Threads + Sync),
     alloc: Global,
@@ -62,8 +62,7 @@ fn folded_by_halves<O: Operator + Sync>(
     older?.then::<O>(alloc, newer?)
 }
 
-/// What points of one key, the newest first, do in turn to what an effect before them leaves. Want of memory
-/// loses that effect.
+/// What points of one key, the newest first, make of an effect before them. An `Err` loses that effect.
 fn points_effect<O: Operator + Sync>(
     rt: &(impl Threads + Sync),
     alloc: Global,
@@ -80,7 +79,8 @@ fn points_effect<O: Operator + Sync>(
     }
 }
 
-/// What a key's points, the newest first, and the range deletions over it do, of which the newest is given, if there is one.
+/// What a key's points, the newest first, and the range deletions over it do. `newest` is the newest of those
+/// deletions, if there is one.
 pub(crate) fn effect_above_newest<O: Operator + Sync>(
     rt: &(impl Threads + Sync),
     alloc: Global,

@@ -12,7 +12,8 @@ use crate::over::Over;
 use crate::stripe::Stripe;
 use std::alloc::{AllocError, Global};
 
-/// The sequence that is kept of a stripe's, where one is. The stripe is that of `newest`, the newest that isn't above it.
+/// The sequence that is kept of a stripe, if any. It is the stripe of `newest`, and `newest` is the newest of the
+/// sequences that isn't above the stripe.
 fn newest_kept(keeping: &Keeping<'_>, stripe: &Stripe, newest: u64, seqs: &Over<'_>) -> Option<u64>
     ensures { (rest : List ℕ) → IsFalling rest → AllByRecursion (λ n. 0 < n) rest → slice_get rest 0 ≡ Some newest →
         stripe.now ≡ stripe_of keeping.now.keeps newest →
@@ -28,9 +29,9 @@ fn newest_kept(keeping: &Keeping<'_>, stripe: &Stripe, newest: u64, seqs: &Over<
     }
 }
 
-/// Of each stripe but the bottom one, the greatest of a fragment's sequences. They come the newest first.
+/// For each stripe but the bottom one, the greatest of a fragment's sequences, the newest first.
 ///
-/// It takes time for the stripes that have sequences, and not for the others, nor for the sequences that aren't kept.
+/// It takes time only for the stripes that have sequences, and none for the sequences that aren't kept.
 pub fn kept_seqs(
     alloc: Global,
     seqs: &Over<'_>,

@@ -7,8 +7,8 @@ ghost use Rattle.uc_compact_rules.specs.Stripes as stripes;
 use crate::stripe::Stripe;
 use std::marker::Model;
 
-/// What a compaction keeps: the sequences that reads are made at, which rise; and where nothing stands below its
-/// inputs, a sequence of the stripe at the bottom. A contract sees it as these.
+/// What a compaction keeps: the sequences of reads, which rise, and a sequence of the bottom stripe if nothing lies
+/// below its inputs. A contract sees it as these.
 #[derive(Debug, Drop)]
 pub struct Keeping<'a> {
     keeps: &'a [u64],
@@ -24,7 +24,7 @@ impl<'a> Model for Keeping<'a> {
 }
 
 impl<'a> Keeping<'a> {
-    /// Keeps these sequences; nothing stands below the stripe of `bottom`, where it is given.
+    /// Keeps these sequences. If `bottom` is given, nothing lies below its stripe.
     pub fn new(keeps: &'a [u64], bottom: Option<u64>) -> Keeping<'a>
         ensures { result ≡ record { keeps = keeps.now; bottom = bottom } }
     {
@@ -39,7 +39,7 @@ impl<'a> Keeping<'a> {
         Stripe::of(self.keeps, seq)
     }
 
-    /// Whether a stripe is at the bottom, and nothing stands below it.
+    /// Whether a stripe is the bottom one, with nothing below it.
     pub(crate) fn is_bottom(&self, stripe: &Stripe) -> bool
         ensures { result ≡ stripes.is_bottom self.now stripe.now }
     {

@@ -18,7 +18,7 @@ use std::thread::Threads;
 use uc_oper::{Effect, Operator};
 use uc_run_entry::{Point, What, WhatRef};
 
-/// What a point says that stands for an effect. No value needs no point where something else clears the key.
+/// What a point says that replaces an effect. No value needs no point if something else clears the key.
 fn what_of(effect: Effect, cleared: bool) -> Option<What>
     ensures { result ≡ output.what_of effect cleared }
 {
@@ -31,7 +31,7 @@ fn what_of(effect: Effect, cleared: bool) -> Option<What>
     }
 }
 
-/// What stands for a stripe's effect. In the bottom stripe it is the value that the effect makes of none.
+/// What replaces a stripe's effect. In the bottom stripe it is the value that the effect makes of none.
 fn what_kept<O: Operator>(
     alloc: Global,
     bottom: bool,
@@ -48,7 +48,7 @@ fn what_kept<O: Operator>(
     }
 }
 
-/// Whether a range deletion is above a sequence, where there is one.
+/// Whether there is a range deletion above a sequence.
 fn is_cleared(seq: u64, newest: Option<u64>) -> bool
     ensures { result ≡ nat_lt seq (output.greatest (option_to_list newest)) }
 {
@@ -58,7 +58,7 @@ fn is_cleared(seq: u64, newest: Option<u64>) -> bool
     }
 }
 
-/// Whether a range deletion is below a sequence, where there is one.
+/// Whether the range deletion, if there is one, is below a sequence.
 fn is_below(newest: Option<u64>, seq: u64) -> bool
     ensures { IsTrue result ↔ AllByRecursion (λ n. n < seq) (option_to_list newest) }
 {
@@ -68,8 +68,8 @@ fn is_below(newest: Option<u64>, seq: u64) -> bool
     }
 }
 
-/// The point that stands for a stripe's points of a key, where they need one. Of the range deletions of the stripe over
-/// the key it takes the newest, if there is one.
+/// The point that replaces a stripe's points of a key, if they need one. `range` is the newest range deletion of the
+/// stripe over the key, if there is one.
 fn point_for<O: Operator + Sync>(
     rt: &(impl Threads + Sync),
     alloc: Global,
@@ -87,7 +87,7 @@ fn point_for<O: Operator + Sync>(
         return Ok(None);
     };
     let seq = newest.seq();
-    // A put that nothing hides stands as it is, so its value is copied once.
+    // A put that nothing hides stays as it is, so its value is copied once.
     if let WhatRef::Put(value) = newest.what()
         && is_below(range, seq)
     {
@@ -101,7 +101,7 @@ fn point_for<O: Operator + Sync>(
     }
 }
 
-/// Pushes a point where there is one. It fails only for want of memory, and pushes nothing then.
+/// Pushes a point if there is one. An `Err` pushes nothing.
 fn push_some(kept: &mut Vec<Point>, point: Option<Point>) -> Result<(), AllocError>
     ensures pushed { OnOk result (kept.new.items ≡ kept.old.items ++ cons_option point []) }
     ensures as_it_was { OnErr result (kept.new.items ≡ kept.old.items) }
@@ -112,8 +112,7 @@ fn push_some(kept: &mut Vec<Point>, point: Option<Point>) -> Result<(), AllocErr
     Ok(())
 }
 
-/// Pushes the points that stand for a key's points, stripe by stripe. Where memory is wanting, some of them stand behind
-/// what there was.
+/// Pushes the points that replace a key's points, stripe by stripe. An `Err` may leave some of them pushed.
 fn push_each_stripe<O: Operator + Sync>(
     rt: &(impl Threads + Sync),
     alloc: Global,
@@ -144,12 +143,11 @@ fn push_each_stripe<O: Operator + Sync>(
     Ok(())
 }
 
-/// Pushes the points that stand for a key's points: at most one for each stripe, which has the sequence of the newest
-/// point there. The key's points and the sequences of the range deletions over it come the newest first.
+/// Pushes the points that replace a key's points: at most one for each stripe, with the sequence of the newest point
+/// there. The key's points and the sequences of the range deletions over it come newest first.
 ///
-/// It takes time for the stripes that have points, and not for the others. Of the points of a stripe it reads those
-/// that no newer put, delete or range deletion hides; many of them are folded by halves in two threads. It fails only
-/// for want of memory, and pushes nothing then.
+/// It takes time only for the stripes that have points. In a stripe it reads the points that no newer put, delete or
+/// range deletion hides; many of them are folded by halves in two threads. An `Err` pushes nothing.
 pub fn push_kept_points<O: Operator + Sync>(
     rt: &(impl Threads + Sync),
     alloc: Global,
@@ -170,7 +168,7 @@ pub fn push_kept_points<O: Operator + Sync>(
 {
     let before = kept.len();
     if let Err(error) = push_each_stripe::<O>(rt, alloc, kept, key, points, seqs, keeping) {
-        // Points of some stripes alone stand for no key.
+        // Points of only some stripes are no answer for the key.
         kept.truncate(before);
         return Err(error);
     }

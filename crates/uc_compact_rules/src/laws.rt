@@ -19,8 +19,8 @@ ghost use Rattle.uc_compact_rules.specs.OneOfEach.{HasOneOfEach, HasValuesAlone}
 
 use uc_oper::Operator;
 
-/// The writes of runs that stand newest first are in order of sequence, and what they do to a key is what the older
-/// runs' writes do and then those of the newest.
+/// The writes of runs, newest first, are in order of sequence. They do to a key what the older runs' writes do and then
+/// those of the newest.
 pub fn runs_compose<O: Operator>()
     ensures order { (runs : List Contents) → AreRuns runs → AreNewestFirst runs →
         IsNonDecreasingBy (λ (w : Write). w.seq) (writes_of runs) }
@@ -29,29 +29,29 @@ pub fn runs_compose<O: Operator>()
         (effect_on O.meaning (writes_of older) key at) (effect_on O.meaning (plain_list newest) key at) }
 {}
 
-/// Where keeps rise, each sequence that a write may have is in one stripe.
+/// If keeps rise, each sequence that a write may have is in one stripe.
 pub fn sequences_have_one_stripe()
     ensures { (keeps : List ℕ) (seq : ℕ) → IsStrictlySortedBy nat_cmp keeps → 0 < seq → seq < 2 ^ 56 →
         length (filter (λ s. is_in s seq) (stripes keeps)) ≡ 1 }
 {}
 
-/// The output is a run, whose range of sequences goes from the oldest input's least to the newest input's greatest.
+/// The output is a run. Its range goes from the oldest input's least sequence to the newest input's greatest.
 pub fn compaction_gives_a_run<O: Operator>()
     ensures { (c : Compaction) → AreRuns c.inputs → Stand c.inputs c.keeps →
         IsRun (output_of O.meaning c).low (output_of O.meaning c).high
         (output_of O.meaning c).points (output_of O.meaning c).fragments }
 {}
 
-/// At each kept sequence, and at and above the greatest of the inputs, the output's writes do to every key what the
-/// inputs' writes do. With the oldest run among the inputs, nothing stands below, and they give every key the value
-/// that the inputs' writes give it.
+/// At each keep, and at and above the greatest sequence of the inputs, the output's writes do to every key what the
+/// inputs' writes do. If the oldest run is among the inputs, nothing lies below, and they give every key the value that
+/// the inputs' writes give it.
 pub fn compaction_keeps_what_is_read<O: Operator>()
     ensures { (c : Compaction) → AreRuns c.inputs → Stand c.inputs c.keeps →
         KeepsReads O.meaning c (output_of O.meaning c) }
 {}
 
-/// What the output's writes of a stripe do to a key is what the inputs' writes of that stripe do, wherever something may
-/// stand below. In the bottom stripe of a compaction with the oldest run nothing does: there they give the same value.
+/// The output's writes of a stripe do to a key what the inputs' writes of that stripe do, if something may lie below.
+/// In the bottom stripe of a compaction with the oldest run nothing does: there they give the same value.
 pub fn compaction_keeps_each_stripe<O: Operator>()
     ensures { (c : Compaction) → AreRuns c.inputs → Stand c.inputs c.keeps →
         KeepsStripes O.meaning c (output_of O.meaning c) }
@@ -70,8 +70,8 @@ pub fn compaction_of_the_oldest_leaves_values<O: Operator>()
         HasValuesAlone (keeping_of c) (output_of O.meaning c) }
 {}
 
-/// What a compaction keeps of the points, key by key: it depends on no more than the key's points, the newest first, and
-/// on the sequences over the key in the pieces that all range deletions are cut into. These fall, and none is in both.
+/// What a compaction keeps of the points, key by key. It depends only on the key's points, the newest first, and on the
+/// sequences over the key in the pieces of all range deletions. Both fall, and no sequence is in both.
 pub fn points_are_chosen_key_by_key<O: Operator>()
     ensures points { (c : Compaction) → AreRuns c.inputs → Stand c.inputs c.keeps →
         (output_of O.meaning c).points ≡ flat_map (λ key. points_for O.meaning (keeping_of c) key

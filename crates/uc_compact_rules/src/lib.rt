@@ -1,8 +1,10 @@
 //! What a compaction makes of runs: definitions, and the laws that make them right.
 //!
-//! A compaction folds what happened to each key between two neighbouring kept sequences, a *stripe*. Read
-//! `specs/Stripes.antt` first, then `specs/Inputs.antt` and `specs/Output.antt`, which says what comes of each key and
-//! stripe, and `specs/Reading.antt` with `laws.rt`, which say that reads see no difference.
+//! A compaction folds what happened to each key between two neighbouring keeps (snapshots' sequences), a *stripe*. Read
+//! `specs/Stripes.antt` first, then `specs/Inputs.antt` and `specs/Output.antt`, which defines the output for each key
+//! and stripe. `specs/Reading.antt` and `laws.rt` say that reads see no difference.
+//!
+//! An `Err(AllocError)` comes only if an allocation fails.
 #![tactic(auto)]
 
 mod checking;

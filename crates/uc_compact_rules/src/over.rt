@@ -9,10 +9,11 @@ use std::marker::Model;
 use uc_run_entry::Seqs;
 use uc_run_spans::newer;
 
-/// The sequences of several lists together, the newest first and each once. A contract sees that list, which is never made.
+/// The sequences of several lists together, the newest first and each once. A contract sees that list, which is never
+/// built.
 ///
-/// Fragments of several runs over a key may have very many sequences; of these a compaction asks for the newest of a
-/// stripe alone.
+/// Fragments of several runs over a key may have very many sequences; a compaction asks only for the newest of a
+/// stripe.
 #[derive(Debug, Drop)]
 pub struct Over<'a> {
     lists: &'a [&'a Seqs],
@@ -31,7 +32,7 @@ impl<'a> Model for Over<'a> {
     ghost invariant = { λ o. AllByRecursion IsFalling (map (λ seqs. seqs.now) o.lists.now) };
 }
 
-/// The newest at or below a number of all that the lists have.
+/// The newest sequence of all lists at or below a number.
 fn newest_of_all(lists: &[&Seqs], at: u64) -> Option<u64>
     requires { AllByRecursion IsFalling (map (λ seqs. seqs.now) lists.now) }
     ensures { result ≡ newest.newest_at_or_below at (together (map (λ seqs. seqs.now) lists.now)) }
@@ -43,7 +44,7 @@ fn newest_of_all(lists: &[&Seqs], at: u64) -> Option<u64>
     newest
 }
 
-/// The newest of all that the lists have.
+/// The newest sequence of all lists.
 fn first_of_all(lists: &[&Seqs]) -> Option<u64>
     requires { AllByRecursion IsFalling (map (λ seqs. seqs.now) lists.now) }
     ensures { result ≡ slice_get (together (map (λ seqs. seqs.now) lists.now)) 0 }
@@ -56,7 +57,7 @@ fn first_of_all(lists: &[&Seqs]) -> Option<u64>
 }
 
 impl<'a> Over<'a> {
-    /// The sequences of these lists, each of which falls. It takes no memory.
+    /// The sequences of these lists, each of which falls. It doesn't allocate.
     pub fn new(lists: &'a [&'a Seqs]) -> Over<'a>
         requires { AllByRecursion IsFalling (map (λ seqs. seqs.now) lists.now) }
         ensures { result ≡ together (map (λ seqs. seqs.now) lists.now) }
@@ -78,7 +79,7 @@ impl<'a> Over<'a> {
         newest_of_all(self.lists, at)
     }
 
-    /// What holds of every value: the sequences fall. It does nothing.
+    /// What holds of every value: the sequences fall. Proof step: does nothing when it runs.
     pub fn recall_falling(&self)
         ensures { IsFalling self.now }
     {

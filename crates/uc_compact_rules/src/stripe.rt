@@ -13,7 +13,7 @@ use std::marker::Model;
 use uc_bytes::MAX_SEQUENCE;
 use uc_run_entry::Point;
 
-/// The sequences above one, up to another and with it.
+/// The sequences above `above`, up to and including `upto`.
 #[derive(Debug, Drop)]
 pub(crate) struct Stripe {
     above: u64,
@@ -36,7 +36,7 @@ fn keep_before(keeps: &[u64], place: usize) -> u64
     if place == 0 { 0 } else { keeps[place - 1] }
 }
 
-/// The keep at a place, or the greatest sequence of all behind the last one.
+/// The keep at a place, or the greatest sequence of all after the last one.
 fn keep_at(keeps: &[u64], place: usize) -> u64
     ensures { result ≡ slice_index_or keeps.now place (2 ^ 56 - 1) }
 {
@@ -46,7 +46,7 @@ fn keep_at(keeps: &[u64], place: usize) -> u64
     }
 }
 
-/// A sequence, where there is one above a number.
+/// A sequence, if there is one and it is above a number.
 fn above(number: u64, seq: Option<u64>) -> Option<u64>
     ensures { result ≡ slice_get (filter (λ n. nat_lt number n) (option_to_list seq)) 0 }
 {
@@ -57,7 +57,7 @@ fn above(number: u64, seq: Option<u64>) -> Option<u64>
 }
 
 impl Stripe {
-    /// The stripe of a sequence. It looks at as many keeps as the logarithm of their number.
+    /// The stripe of a sequence. It is a binary search of the keeps.
     pub(crate) fn of(keeps: &[u64], seq: u64) -> Stripe
         requires { IsStrictlySortedBy nat_cmp keeps.now }
         ensures { result ≡ stripes.stripe_of keeps.now seq }
