@@ -10,6 +10,6 @@ use Rattle.uc_compact.specs.declared.groups.Groups.TheInside.{Inside}
 abbrev pub ahead : Inside → List Group
 ahead g = groups_of (flat_map (λ points. points) g.cursors.items)
 
--- each cursor's points stand in order
+-- each cursor's points are in order
 abbrev pub AreSorted : Inside → Type 0
 AreSorted g = AllByRecursion (IsStrictlySortedBy entry_cmp) g.cursors.items

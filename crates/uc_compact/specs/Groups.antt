@@ -21,7 +21,7 @@ group_of points key = record { key = key; points = filter (λ p. same_bytes p.ke
 abbrev pub groups_of : List Entry → List Group
 groups_of points = map (group_of points) (keys_of points)
 
--- what comes first of some groups: nothing, with no points, where there is none, else the key and the points of the first
+-- what comes first of some groups: the key and the points of the first, or nothing and no points if there is none
 abbrev pub Comes : List Group → Option (List ℕ) → List Entry → List Group → Type 0
 Comes groups None points others = (groups ≡ []) × (points ≡ []) × (others ≡ [])
 Comes groups (Some key) points others = groups ≡ (record { key = key; points = points }) ∷ others

@@ -15,7 +15,7 @@ abbrev pub first_named : List ℕ → List Entry → ℕ
 first_named key [] = 0
 first_named key (p ∷ ps) = if same_bytes p.key key then suc (first_named key ps) else 0
 
--- the lesser of two keys, where there are two
+-- the lesser of two keys, if there are two; else the one there is
 abbrev pub lesser_of : Option (List ℕ) → Option (List ℕ) → Option (List ℕ)
 lesser_of None other = other
 lesser_of (Some key) None = Some key
@@ -31,7 +31,7 @@ abbrev pub IsOther : List ℕ → List Entry → Type 0
 IsOther key [] = ⊤
 IsOther key (p ∷ ps) = p.key ≡ key → ⊥
 
--- the least key of the lists' first points: none where no list has a point
+-- the least key of the lists' first points; none if no list has a point
 abbrev pub IsLeast : List (List Entry) → Option (List ℕ) → Type 0
 IsLeast lists None = AllByRecursion (λ ps. ps ≡ []) lists
 IsLeast lists (Some key) = AllByRecursion (IsFrom key) lists × (AllByRecursion (IsOther key) lists → ⊥)

@@ -1,4 +1,4 @@
--- What a compaction keeps of what it was asked for, and what it made.
+-- What a compaction was asked for, and what it made.
 use Rattle.std.specs.Prelude.{◌≡◌, map}
 use Rattle.std.specs.Arc.{arc_value}
 use Rattle.uc_oper.specs.Operation.{Operation}

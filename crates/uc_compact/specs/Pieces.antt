@@ -20,12 +20,12 @@ pub record IsList (seqs : List ℕ) : Type 0 where
   pub falls : IsFalling seqs
   pub some : seqs ≢ []
 
--- the lists are those over a key of the runs' fragments, and each is one
+-- the lists are those of the runs' fragments over a key, and each falls and isn't empty
 pub record AreOver (key : List ℕ) (runs : List Contents) (lists : List (List ℕ)) : Type 0 where
   pub are : lists ≡ lists_over key (fragments_in runs)
   pub each : AllByRecursion IsList lists
 
--- a piece with the sequences over its first key, which are those over all of its keys where no fragment ends within it
+-- a piece with the sequences over its first key; these are over all of its keys if no fragment ends within it
 abbrev pub piece_over : List Contents → Piece → Fragment
 piece_over runs piece = record { begin = piece.0; end = piece.1; seqs = together (lists_over piece.0 (fragments_in runs)) }
 

@@ -1,4 +1,4 @@
-//! [`Compacted`]: what a compaction made.
+//! [`Compacted`]: a compaction with its result.
 ghost use Rattle.std.specs.Prelude.{◌≡◌, map};
 ghost use Rattle.std.specs.Arc.{arc_value};
 ghost use Rattle.uc_compact_rules.specs.Inputs.{AreRuns, Stand};
@@ -11,8 +11,8 @@ use uc_compact_rules::compaction_keeps_what_is_read;
 use uc_oper::Operator;
 use uc_run::Run;
 
-/// Runs that were compacted, and the run that was made of them. A contract sees it as what was asked for: the runs,
-/// the keeps, and whether the oldest run of all was among them; its output is what these definitely become.
+/// Runs that were compacted, and the run that was made of them. A contract sees it as what was asked for: the runs, the
+/// keeps, and whether the oldest run of all was among them. These determine its output.
 #[derive(Drop)]
 pub struct Compacted<O: Operator> {
     pub(crate) inputs: Vec<Arc<Run>>,
@@ -48,14 +48,14 @@ impl<O: Operator> Compacted<O> {
         &self.keeps
     }
 
-    /// Whether it stands for the oldest run too, so that nothing may stand below it.
+    /// Whether the oldest run is among its inputs, so that nothing may lie below the output.
     pub fn oldest(&self) -> bool
         ensures { result ≡ self.now.oldest }
     {
         self.oldest
     }
 
-    /// The run that stands for the inputs.
+    /// The run that replaces the inputs.
     pub fn output(&self) -> &Arc<Run>
         ensures { arc_value result.now ≡ output_of O.meaning self.now }
     {
@@ -69,7 +69,8 @@ impl<O: Operator> Compacted<O> {
         self.output
     }
 
-    /// What holds of every value: the runs are runs, and they and the keeps may be compacted together. It does nothing.
+    /// What holds of every value: the runs are runs, and they and the keeps may be compacted together. Proof step: does
+    /// nothing when it runs.
     pub fn recall_standing(&self)
         ensures runs { AreRuns self.now.inputs }
         ensures stand { Stand self.now.inputs self.now.keeps }
@@ -77,9 +78,9 @@ impl<O: Operator> Compacted<O> {
         let _ = &self.oldest;
     }
 
-    /// The output stands for its inputs: at each of its keeps, and at and above the greatest sequence of the inputs, its
-    /// writes do to every key what theirs do; with the oldest run among them they give the values that theirs give. It
-    /// does nothing.
+    /// The output replaces its inputs. At each of its keeps, and at and above the greatest sequence of the inputs, its
+    /// writes do to every key what theirs do. If the oldest run is among them, they give the values that theirs give.
+    /// Proof step: does nothing when it runs.
     pub fn stands_for_inputs(&self)
         ensures { KeepsReads O.meaning self.now (output_of O.meaning self.now) }
     {

@@ -18,7 +18,7 @@ use uc_oper::Operator;
 use uc_run::Run;
 use uc_run_entry::Fragments;
 
-/// Where the last run is the oldest of all, a sequence of the stripe below which nothing stands.
+/// If the last run is the oldest of all, a sequence of the stripe with nothing below it.
 fn bottom_of(inputs: &[Arc<Run>], oldest: bool) -> Option<u64>
     ensures { result ≡ (if oldest then Some (low_of (map arc_value inputs.now)) else None) }
 {
@@ -55,14 +55,13 @@ fn output_of<O: Operator + Sync>(
     )
 }
 
-/// Several runs, the newest first, made into one that reads as they do at every kept sequence, and at and above the
-/// greatest of theirs (RocksDB wiki, "Universal Compaction"). `oldest` says that the last of them is the oldest run of
-/// all, so that nothing stands below it: then no delete, merge or range deletion is left in the stripe of its first
-/// sequence. It fails only for want of memory.
+/// Several runs, the newest first, made into one. It reads as they do at every keep, and at and above their greatest
+/// sequence (RocksDB wiki, "Universal Compaction"). `oldest` says that the last of them is the oldest run of all, so
+/// nothing lies below it. Then no delete, merge or range deletion is left in the stripe of its first sequence.
 ///
-/// It goes once over the points. Of a key's points between two neighbouring keeps at most one is left, and many
-/// operands of one key are folded in two threads. Of the range deletions over a key it looks for the newest between two
-/// neighbouring keeps, and for no other.
+/// It goes once over the points. It leaves at most one of a key's points between two neighbouring keeps, and folds many
+/// operands of one key in two threads. Of the range deletions over a key it searches only for the newest between two
+/// neighbouring keeps.
 pub fn compact<O: Operator + Sync>(
     rt: &(impl Threads + Sync),
     alloc: Global,

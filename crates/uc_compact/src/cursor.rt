@@ -1,4 +1,4 @@
-//! [`Cursor`]: where a merge stands in one run.
+//! [`Cursor`]: the place of a merge in one run.
 ghost use Rattle.std.specs.Prelude.{◌≡◌, ◌≤◌, ◌++◌, length, map, option_map, take, drop, OnOk};
 ghost use Rattle.uc_compact.specs.Heads as heads;
 
@@ -61,8 +61,8 @@ impl<'a> Cursor<'a> {
         }
     }
 
-    /// Pushes the next points as long as they are of the key, and stands behind them then. Where memory is wanting it
-    /// stands where it stood.
+    /// Pushes the next points as long as they are of the key, and moves past them. After an `Err` it stays where it
+    /// was.
     pub(crate) fn take_named(
         &mut self,
         key: &[u8],

@@ -12,7 +12,7 @@ use uc_bytes::Bytes;
 use uc_compact_rules::{Keeping, kept_seqs};
 use uc_run_entry::{Fragment, Seqs};
 
-/// Pushes the fragment that is kept of a piece, where some of its sequences are kept.
+/// Pushes the fragment that is kept of a piece, if some of its sequences are kept.
 fn push_kept(
     alloc: Global,
     kept: &mut Vec<Fragment>,

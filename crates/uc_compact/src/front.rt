@@ -11,8 +11,8 @@ use std::marker::Model;
 use uc_run::Run;
 use uc_run_entry::Fragment;
 
-/// A run, and the place among its fragments that a walk over rising keys has come to. A contract sees the run alone:
-/// wherever the place is, what is found is the same, and what it saves is time.
+/// A run, and the place among its fragments that a walk over rising keys has come to. A contract sees only the run: the
+/// place changes no result and only saves time.
 #[derive(Debug, Drop)]
 pub(crate) struct Front<'a> {
     run: &'a Run,
@@ -41,8 +41,8 @@ fn ends_by(fragment: &Fragment, key: &[u8]) -> bool
     fragment.end.as_slice().cmp(&key).is_le()
 }
 
-/// A place before which each fragment ends at or before a key: `from` where it is one, which the fragment before it
-/// tells, and the first otherwise.
+/// A place before which each fragment ends at or before a key: `from` if the fragment before it shows that, otherwise
+/// 0.
 fn start_at(fragments: &[Fragment], from: usize, key: &[u8]) -> usize
     requires { AreInOrder fragments.now }
     ensures bound { result ≤ length fragments.now }
@@ -100,7 +100,8 @@ impl<'a> Front<'a> {
 
     /// The fragment that covers a key, if one does.
     ///
-    /// Where no key is below the one before it, all calls together look at each fragment once, and at two more for each key.
+    /// If no key is below the one before it, all calls together look at each fragment once, and at two more for each
+    /// key.
     pub(crate) fn covering(&mut self, key: &[u8]) -> Option<&'a Fragment>
         ensures same { self.new ≡ self.old }
         ensures recall { IsRun self.old.low self.old.high self.old.points self.old.fragments }

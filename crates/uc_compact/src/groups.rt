@@ -12,8 +12,8 @@ use std::alloc::{AllocError, Global};
 use std::marker::Model;
 use uc_run_entry::Point;
 
-/// Where a merge stands in several runs. A contract sees it as the groups that are still ahead: for each key its points,
-/// those of the first run first.
+/// The place of a merge in several runs. A contract sees it as the groups that are still ahead: for each key its
+/// points, those of the first run first.
 #[derive(Debug, Drop)]
 pub struct Groups<'a> {
     cursors: Vec<Cursor<'a>>,
@@ -31,7 +31,7 @@ impl<'a> Model for Groups<'a> {
     ghost invariant = { AreSorted };
 }
 
-/// The lesser of two keys, where there are two.
+/// The lesser of two keys, if there are two; else the one there is.
 fn lesser<'a>(key: Option<&'a [u8]>, other: Option<&'a [u8]>) -> Option<&'a [u8]>
     ensures { option_map (λ k. k.now) result ≡
         heads.lesser_of (option_map (λ k. k.now) key.entry) (option_map (λ k. k.now) other.entry) }
@@ -91,8 +91,8 @@ impl<'a> Groups<'a> {
         Ok(Groups { cursors })
     }
 
-    /// The next key. Its points take the place of those in `points`, none where there is no key. Where memory is wanting
-    /// `points` is empty, and nothing is ahead any more.
+    /// The next key. Its points replace those in `points`; there are none if there is no key. After an `Err` `points`
+    /// is empty, and nothing is ahead any more.
     pub fn next_into(&mut self, points: &mut Vec<&'a Point>) -> Result<Option<&'a [u8]>, AllocError>
         ensures comes { IfOk result (λ key.
             Comes self.old (option_map (λ k. k.now) key) (map (λ p. p.now) points.new.items)

@@ -8,7 +8,7 @@ use std::sync::Arc;
 use uc_compact_rules::keeps_rise;
 use uc_run::Run;
 
-/// Each is a run: a fact that costs a look at each.
+/// Each is a run. This fact costs a look at each.
 pub(crate) fn are_runs(inputs: &[Arc<Run>])
     ensures { AreRuns (map arc_value inputs.now) }
 {
@@ -17,7 +17,7 @@ pub(crate) fn are_runs(inputs: &[Arc<Run>])
     }
 }
 
-/// Whether the sequences of each run are all above those of the runs behind it.
+/// Whether the sequences of each run are all above those of the runs after it.
 fn are_newest_first(inputs: &[Arc<Run>]) -> bool
     ensures { IsTrue result ↔ AreNewestFirst (map arc_value inputs.now) }
 {
@@ -25,15 +25,15 @@ fn are_newest_first(inputs: &[Arc<Run>]) -> bool
     inputs.is_sorted_by(|newer, older| newer.low_seq() > older.high_seq())
 }
 
-/// Whether runs may be compacted together: there is one or more, they stand newest first, the sequences of each are all
-/// above those of the runs behind it, and the keeps rise.
+/// Whether runs may be compacted together: there is at least one, the sequences of each are all above those of the runs
+/// after it, and the keeps rise.
 pub fn inputs_stand(inputs: &[Arc<Run>], keeps: &[u64]) -> bool
     ensures { IsTrue result ↔ Stand (map arc_value inputs.now) keeps.now }
 {
     !inputs.is_empty() && are_newest_first(inputs) && keeps_rise(keeps)
 }
 
-/// The least sequence of the runs' range; 0 where there is no run.
+/// The least sequence of the runs' range; 0 if there is no run.
 pub(crate) fn low_seq(inputs: &[Arc<Run>]) -> u64
     ensures { result ≡ low_of (map arc_value inputs.now) }
 {
@@ -43,7 +43,7 @@ pub(crate) fn low_seq(inputs: &[Arc<Run>]) -> u64
     }
 }
 
-/// The greatest sequence of the runs' range; 0 where there is no run.
+/// The greatest sequence of the runs' range; 0 if there is no run.
 pub(crate) fn high_seq(inputs: &[Arc<Run>]) -> u64
     ensures { result ≡ high_of (map arc_value inputs.now) }
 {
@@ -53,7 +53,7 @@ pub(crate) fn high_seq(inputs: &[Arc<Run>]) -> u64
     }
 }
 
-/// The runs again, shared.
+/// Shares of the runs.
 pub(crate) fn shared(alloc: Global, inputs: &[Arc<Run>]) -> Result<Vec<Arc<Run>>, AllocError>
     ensures { IfOk result (λ copies. map arc_value copies.items ≡ map arc_value inputs.now) }
 {

@@ -1,11 +1,13 @@
 //! Compaction: several runs made into one that reads as they do (RocksDB wiki, "Universal Compaction").
 //!
-//! [`compact`] goes over its inputs' points key by key and keeps of each stripe, between two neighbouring kept
-//! sequences, at most one point. What it makes is defined in `uc_compact_rules`, whose laws say that no read sees a
+//! [`compact`] goes over its inputs' points key by key. Of each stripe, between two neighbouring keeps (snapshots'
+//! sequences), it keeps at most one point. `uc_compact_rules` defines its output; by that crate's laws no read sees a
 //! difference. Read `compacting.rt` first.
 //!
-//! [`Groups`] merges the inputs' points: it stands in each run at the points that are still ahead, and gives the least
-//! key's points next, those of the newest run first. Read `specs/Groups.antt` first.
+//! [`Groups`] merges the inputs' points. It has a cursor in each run, and returns the least key's points next, those of
+//! the newest run first. Read `specs/Groups.antt` first.
+//!
+//! An `Err(AllocError)` comes only if an allocation fails.
 #![tactic(auto)]
 
 mod compacted;

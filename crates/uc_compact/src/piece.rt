@@ -11,8 +11,8 @@ use std::marker::Model;
 use uc_compact_rules::Over;
 use uc_run_entry::Seqs;
 
-/// The keys from a cut point to below the next one, with the sequences of the inputs' fragments over them, each list where
-/// it stands. A contract sees it as the fragment that has all of these sequences.
+/// The keys from a cut point to below the next one, with borrowed lists of the sequences of the inputs' fragments over
+/// them. A contract sees it as the fragment that has all of these sequences.
 #[derive(Debug, Drop)]
 pub(crate) struct Piece<'a> {
     begin: &'a [u8],
@@ -40,8 +40,8 @@ impl<'a> Model for Piece<'a> {
 }
 
 impl<'a> Piece<'a> {
-    /// The keys from `begin` to below `end` with these lists of sequences over them, each of which falls. It takes no
-    /// memory.
+    /// The keys from `begin` to below `end` with these lists of sequences over them, each of which falls. It doesn't
+    /// allocate.
     pub(crate) fn new(begin: &'a [u8], end: &'a [u8], lists: Vec<&'a Seqs>) -> Piece<'a>
         requires { AllByRecursion IsFalling (map (λ seqs. seqs.now) lists.items) }
         ensures { result ≡
@@ -61,7 +61,7 @@ impl<'a> Piece<'a> {
         self.begin
     }
 
-    /// The least key behind it.
+    /// The least key after it.
     pub(crate) fn end(&self) -> &'a [u8]
         ensures { result.now ≡ self.now.end }
     {

@@ -19,7 +19,7 @@ use std::sync::Arc;
 use uc_run::Run;
 use uc_run_entry::{Fragment, Seqs};
 
-/// Puts both ends of each fragment among the cut points.
+/// Adds both ends of each fragment to the cut points.
 fn insert_ends<'a>(
     cuts: &mut BTreeSet<&'a [u8]>,
     fragments: &'a [Fragment],
@@ -61,7 +61,7 @@ fn fronts_of<'a>(alloc: Global, inputs: &'a [Arc<Run>]) -> Result<Vec<Front<'a>>
     Ok(fronts)
 }
 
-/// The sequences of each run's fragment over a key, where it has one.
+/// The sequences of each run's fragment over a key, if it has one.
 fn lists_over<'a>(
     alloc: Global,
     fronts: &mut [Front<'a>],
@@ -103,8 +103,8 @@ fn pieces_between<'a>(
     Ok(made)
 }
 
-/// The pieces of the key space between the ends of the runs' fragments, each with the fragments over it. They stand for the
-/// fragments of all range deletions of the runs. It fails only for want of memory.
+/// The pieces of the key space between the ends of the runs' fragments, each with the fragments over it. They are the
+/// fragments of all range deletions of the runs.
 ///
 /// For n fragments of k runs it takes n log n steps, and k for each piece, however many sequences the fragments have.
 pub(crate) fn pieces_of<'a>(
@@ -130,7 +130,7 @@ fn first_above<'b, 'a>(pieces: &'b [Piece<'a>], key: &[u8]) -> Option<&'b Piece<
 
 /// The piece that has a key, if one does.
 ///
-/// It looks at as many pieces as the logarithm of their number.
+/// It is a binary search.
 pub(crate) fn covering_piece<'b, 'a>(pieces: &'b [Piece<'a>], key: &[u8]) -> Option<&'b Piece<'a>>
     requires { AreInOrder pieces.now }
     ensures some { IfSome result (λ f. filter (λ g. run.covers g key.now) pieces.now ≡ f.now ∷ []) }
