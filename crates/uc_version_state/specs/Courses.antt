@@ -36,16 +36,16 @@ abbrev pub MayCome : Operation → Machine → List Step → Type 0
 MayCome m s [] = ⊤
 MayCome m s (step ∷ steps) = MayStep m s step × MayCome m (after_step s step) steps
 
--- the store may open so, and each step may be made where those before it lead
+-- the store may open like this, and each step may be made after those before it
 pub record IsPossible (m : Operation) (course : Course) : Type 0 where
   pub opens : MayOpen course.opening
   pub come : MayCome m (started course.opening course.compactors) course.steps
 
--- where it leads
+-- the machine after it
 abbrev pub machine_after : Course → Machine
 machine_after course = fold after_step (started course.opening course.compactors) course.steps
 
--- a course of one compactor that installs just this
+-- a course of one compactor that installs only this
 pub record InstallsAlone (m : Operation) (o : Opening) (i : Install) : Type 0 where
   pub course : Course
   pub opens_so : course.opening ≡ o

@@ -1,4 +1,4 @@
--- What happens to a store from its opening on.
+-- What happens to a store after its opening.
 use Rattle.std.specs.Prelude.{ℕ, ⊤, List, [], ◌∷◌, ◌++◌, fold}
 use Rattle.std.specs.List.{flat_map}
 use Rattle.uc_oper.specs.Operation.{Operation}
@@ -17,7 +17,7 @@ MayHappen m v (Installed i) = MayInstall m v i
 abbrev pub after : Stored → Event → Stored
 after v (Installed i) = installed i v
 
--- the writes that it brings
+-- the writes that it adds
 abbrev pub writes_brought : Event → List Write
 writes_brought (Installed i) = []
 
@@ -35,7 +35,7 @@ abbrev pub MayFollow : Operation → Stored → List Event → Type 0
 MayFollow m v [] = ⊤
 MayFollow m v (e ∷ es) = MayHappen m v e × MayFollow m (after v e) es
 
--- the store may open so, and each event may happen to the version that those before it leave
+-- the store may open like this, and each event may happen to the version after those before it
 pub record IsLegal (m : Operation) (h : History) : Type 0 where
   pub opens : MayOpen h.opening
   pub follow : MayFollow m (opened h.opening) h.events

@@ -16,21 +16,21 @@ pub record Install : Type 0 where
   pub oldest : Bool
   pub output : Contents
 
--- how many runs stand in front of the one with an id
+-- how many runs come before the one with an id
 abbrev pub place_of : ℕ → List PlacedRun → ℕ
 place_of id [] = 0
 place_of id (p ∷ ps) = if p.id == id then 0 else suc (place_of id ps)
 
--- neighbouring runs: so many behind the first ones
+-- neighbouring runs: `count` after the first ones
 abbrev pub part_of : ℕ → ℕ → List PlacedRun → List PlacedRun
 part_of first count runs = take count (drop first runs)
 
--- the slot of the newest of some runs; 0 where there is none
+-- the slot of the newest of some runs; 0 if there is none
 abbrev pub slot_of : List PlacedRun → ℕ
 slot_of [] = 0
 slot_of (p ∷ ps) = p.slot
 
--- the version with a run in place of neighbouring ones: it gets the next id and the slot of the newest of them, and the
+-- the version after a run replaced neighbouring ones: it gets the next id and the slot of the newest of them, and the
 -- other slots become free
 abbrev pub replaced : ℕ → ℕ → Contents → Stored → Stored
 replaced first count run v = record v {
@@ -42,22 +42,22 @@ abbrev pub newest_id : List ℕ → ℕ
 newest_id [] = 0
 newest_id (id ∷ ids) = id
 
--- as many runs as there are ids, from the one with the newest of them on
+-- as many runs as there are ids, from the one with the newest id on
 abbrev pub standing : List ℕ → List PlacedRun → List PlacedRun
 standing ids runs = part_of (place_of (newest_id ids) runs) (length ids) runs
 
--- the runs behind these
+-- the runs after these
 abbrev pub behind : List ℕ → List PlacedRun → List PlacedRun
 behind ids runs = drop (place_of (newest_id ids) runs + length ids) runs
 
--- where the inputs stand: behind so many runs
+-- the place of the inputs: how many runs come before them
 abbrev pub place_in : Install → Stored → ℕ
 place_in i v = place_of (newest_id i.ids) v.runs
 
 abbrev pub inputs_in : Install → Stored → List PlacedRun
 inputs_in i v = standing i.ids v.runs
 
--- the runs behind them
+-- the runs after them
 abbrev pub older_in : Install → Stored → List PlacedRun
 older_in i v = behind i.ids v.runs
 
@@ -65,8 +65,8 @@ older_in i v = behind i.ids v.runs
 abbrev pub compaction_in : Install → Stored → Compaction
 compaction_in i v = record { inputs = contents_of (inputs_in i v); keeps = i.keeps; oldest = i.oldest }
 
--- what a version is asked by a compaction: under which keeps it was made, whether for the oldest run of all too, and the
--- greatest sequence of its inputs
+-- what a compaction requires of a version: the keeps that it was made for, whether it was made for the oldest run of
+-- all, and the greatest sequence of its inputs
 pub record Terms : Type 0 where
   pub keeps : List ℕ
   pub oldest : Bool
@@ -79,15 +79,16 @@ terms_of c = record { keeps = c.keeps; oldest = c.oldest; high = high_of c.input
 abbrev pub KeepsKnown : List ℕ → Terms → Type 0
 KeepsKnown keeps t = (keep : ℕ) → Contains keeps keep → keep < t.high → Contains t.keeps keep
 
--- nothing stands below a compaction of the oldest run
+-- no run comes after the inputs of a compaction of the oldest run
 abbrev pub NothingBelow : List PlacedRun → Terms → Type 0
 NothingBelow older t = t.oldest ≡ true → older ≡ []
 
--- an id is left for the output: the last of 64 bits is never given
+-- an id is left for the output: 2^64 - 1 is never given
 abbrev pub IdLeft : Stored → Type 0
 IdLeft v = v.next_id ≢ 2 ^ 64 - 1
 
--- When neighbouring runs of a version, with these older ones behind them, may be replaced by what they were compacted to.
+-- When neighbouring runs of a version, with these older ones after them, may be replaced by what they were compacted
+-- to.
 pub record MayReplace (v : Stored) (older : List PlacedRun) (t : Terms) : Type 0 where
   pub keeps_known : KeepsKnown v.keeps t
   pub oldest_last : NothingBelow older t
@@ -95,13 +96,13 @@ pub record MayReplace (v : Stored) (older : List PlacedRun) (t : Terms) : Type 0
 
 -- When a compaction may be installed in a version.
 pub record MayInstall (m : Operation) (v : Stored) (i : Install) : Type 0 where
-  -- the inputs are two runs or more, which stand there as neighbours in this order
+  -- the inputs are two runs or more, which are there as neighbours in this order
   pub two : 2 ≤ length i.ids
   pub neighbours : ids_of (inputs_in i v) ≡ i.ids
   pub keeps_rise : IsStrictlySortedBy nat_cmp i.keeps
   -- they may be replaced
   pub may : MayReplace v (older_in i v) (terms_of (compaction_in i v))
-  -- the output is what the inputs definitely become
+  -- the output is what the inputs are compacted to
   pub output_made : i.output ≡ output_of m (compaction_in i v)
 
 -- the version after it

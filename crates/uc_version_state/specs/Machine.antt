@@ -1,8 +1,8 @@
--- Compactors beside each other, step by step: the whole machine.
+-- Concurrent compactors, step by step: the whole machine.
 --
--- A compactor notes a stretch of neighbouring runs at a pin, takes the claim words of their slots one by one, looks whether
--- the runs still stand, installs what it made of them, and gives the words back one by one. Between two steps of one
--- compactor the others make any number of theirs.
+-- A compactor notes a stretch of neighbouring runs at a pin. It takes the claim words of their slots one by one, and
+-- checks that the runs are still in place. It installs what it made of them, and gives the words back one by one.
+-- Between two steps of one compactor the others make any number of theirs.
 use Rattle.std.specs.Prelude.{◌≡◌, ℕ, ◌+◌, ◌≤◌, ◌==◌, ◌&&◌, Bool, true, false, ⊤, List, [], ◌∷◌, ◌++◌, Contains, length, take, slice_index, slice_index_or, slice_set, if◌then◌else◌}
 use Rattle.std.specs.List.Sorted.{IsStrictlySortedBy}
 use Rattle.std.specs.Ordering.{nat_cmp}
@@ -17,10 +17,10 @@ use Rattle.uc_version_state.specs.Histories.{History, version_after}
 
 -- ---- what there is
 
--- where a compactor is: the runs that it noted, and which of their words it has
+-- a compactor's phase: the runs that it noted, and which of their words it has
 pub data Phase : Type 0 where
   Idle : Phase
-  -- so many words are taken, the newest run's first
+  -- this number of words is taken, the newest run's first
   Taking : List PlacedRun → ℕ → Phase
   -- all of them are
   Taken : List PlacedRun → Phase
@@ -35,11 +35,11 @@ pub record Machine : Type 0 where
   pub words : List ℕ
   pub phases : List Phase
 
--- the version that readers are shown
+-- the version that readers see
 abbrev pub present : Machine → Stored
 present s = version_after s.history
 
--- the version after the first events of a history
+-- the version after the first `seen` events of a history
 abbrev pub version_at : ℕ → History → Stored
 version_at seen h = version_after (record h { events = take seen h.events })
 
@@ -57,15 +57,16 @@ slots_held (Giving left) = left
 -- ---- what a compactor does
 
 pub data Action : Type 0 where
-  -- notes neighbouring runs of the version after so many events, the present one or an earlier one: so many behind the first
+  -- notes neighbouring runs of the version after a number of events, the present one or an earlier one: how many runs
+  -- come before them, and how many they are
   Pin : ℕ → ℕ → ℕ → Action
   -- tries the next word
   Take : Action
-  -- looks whether the noted runs stand in the present version
+  -- checks whether the noted runs are in the present version
   Check : Action
-  -- publishes a run in their place
+  -- publishes a run that replaces them
   Publish : Install → Action
-  -- lets go of them
+  -- drops its output and gives up the claim
   Abandon : Action
   -- gives the word of one slot back
   Give : ℕ → Action
@@ -76,7 +77,7 @@ have_ids [] [] = true
 have_ids (p ∷ ps) (id ∷ ids) = p.id == id && have_ids ps ids
 have_ids _ _ = false
 
--- whether the noted runs stand there as neighbours, in order
+-- whether the noted runs are there as neighbours, in order
 abbrev pub still_stand : List PlacedRun → Stored → Bool
 still_stand noted v = have_ids (standing (ids_of noted) v.runs) (ids_of noted)
 
@@ -90,7 +91,7 @@ pub record IsStretch (h : History) (seen first count : ℕ) : Type 0 where
 abbrev pub compaction_for : List PlacedRun → Install → Compaction
 compaction_for noted i = record { inputs = contents_of noted; keeps = i.keeps; oldest = i.oldest }
 
--- An install for noted runs. Nothing is said of where they stand: that they do is what is proved.
+-- An install for noted runs. It says nothing of their place: that they are in place is proved.
 pub record IsMadeFor (m : Operation) (v : Stored) (noted : List PlacedRun) (i : Install) : Type 0 where
   pub ids : i.ids ≡ ids_of noted
   pub keeps_rise : IsStrictlySortedBy nat_cmp i.keeps
@@ -108,7 +109,7 @@ MayAct m s (Checked noted) Abandon = ⊤
 MayAct m s (Giving left) (Give slot) = Contains left slot
 MayAct m s _ _ = ⊥
 
--- ---- what becomes of it
+-- ---- what follows
 
 -- a compactor that has nothing left to give is idle
 abbrev pub giving : List ℕ → Phase
@@ -118,7 +119,7 @@ giving (slot ∷ slots) = Giving (slot ∷ slots)
 abbrev pub enters : ℕ → Phase → Machine → Machine
 enters c phase s = record s { phases = slice_set s.phases c phase }
 
--- the phase of one that won a word more
+-- the phase of one that won another word
 abbrev pub taking : List PlacedRun → ℕ → Phase
 taking noted taken = if taken == length noted then Taken noted else Taking noted taken
 

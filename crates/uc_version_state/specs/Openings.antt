@@ -18,13 +18,13 @@ pub record Opening : Type 0 where
   pub keeps : List ℕ
   pub options : Options
 
--- a part more, where there is something in it
+-- one more part, if it isn't empty
 abbrev pub with_rest : List Write → List (List Write)
 with_rest [] = []
 with_rest (w ∷ ws) = (w ∷ ws) ∷ []
 
--- The writes of each memtable in turn, where some are held already: with the write that brings its size to `limit` a
--- memtable is full, and what is left at the end is one more.
+-- The writes of each memtable in turn, with `held` as the first writes. A memtable is full with the write that brings
+-- its size to `limit`; the writes left at the end are one more.
 abbrev pub memtables_from : ℕ → List Write → List Write → List (List Write)
 memtables_from limit held [] = with_rest held
 memtables_from limit held (w ∷ ws) =
@@ -34,7 +34,7 @@ memtables_from limit held (w ∷ ws) =
 abbrev pub memtables : ℕ → List Write → List (List Write)
 memtables limit writes = memtables_from limit [] writes
 
--- the run of a memtable in front of older ones: ids go on from the first, and slots from 0
+-- the run of a memtable before older ones: ids go on from the first, and slots from 0
 abbrev pub with_flushed : ℕ → List PlacedRun → List Write → List PlacedRun
 with_flushed first_id older writes = record { id = first_id + length older; slot = length older; run = flushed writes } ∷ older
 

@@ -26,40 +26,40 @@ oldest runs = drop (length runs - 1) runs
 abbrev pub is_amplified : Options → List Candidate → Bool
 is_amplified o runs = nat_lt (o.percent * total (oldest runs)) (100 * total (newer runs))
 
--- Rule 1, space amplification: all runs, where there are two or more, none is claimed, and the newer ones are too large
--- for the oldest. It has no regard to how many runs a compaction may take.
+-- Rule 1, space amplification: all runs, if there are two or more, none is claimed, and the newer ones are too large
+-- for the oldest. It ignores the limits on the number of runs.
 abbrev pub space_amplification : Options → List Candidate → Option Stretch
 space_amplification o runs =
     if nat_le 2 (length runs) && are_unclaimed runs && is_amplified o runs
     then Some (record { first = 0; count = length runs }) else None
 
--- The first stretch that a rule picks. The rule says how many runs it picks from a place on, given the runs from there on:
--- 0 where it picks none. `above` is how many stand above them.
+-- The first stretch that a rule picks. The rule says how many runs it picks from a place on, given the runs from there
+-- on, or 0. `above` is how many runs come before them.
 abbrev pub first_picked : (List Candidate → ℕ) → ℕ → List Candidate → Option Stretch
 first_picked rule above [] = None
 first_picked rule above (r ∷ runs) =
     if nat_lt 0 (rule (r ∷ runs)) then Some (record { first = above; count = rule (r ∷ runs) }) else first_picked rule (suc above) runs
 
--- whether a size isn't above a sum of sizes by more than so many percent
+-- whether a size isn't above a sum of sizes by more than `ratio` percent
 abbrev pub is_within_ratio : ℕ → ℕ → ℕ → Bool
 is_within_ratio ratio sum size = nat_le (100 * size) ((100 + ratio) * sum)
 
--- Whether a run is collected behind so many others of this sum, which are collected already: it isn't claimed, and it is the
--- first, or there is room for it and it is within the ratio of the sum.
+-- Whether a run is collected after `count` others of this sum: it isn't claimed, and either it is the first, or there
+-- is room for it and it is within the ratio of the sum.
 abbrev pub is_collected : Options → ℕ → ℕ → Candidate → Bool
 is_collected o count sum r = not r.claimed && (nat_eq count 0 || nat_lt count o.greatest && is_within_ratio o.ratio sum r.size)
 
--- how many runs are collected behind those before them: as many as are collected one after the other
+-- how many runs are collected one after the other, after those before them
 abbrev pub collected_behind : Options → List Candidate → List Candidate → ℕ
 collected_behind o before [] = 0
 collected_behind o before (r ∷ runs) =
     if is_collected o (length before) (total before) r then suc (collected_behind o (before ++ r ∷ []) runs) else 0
 
--- how many runs are collected from the first of some on; none where it is claimed
+-- how many runs are collected from the first on; none if it is claimed
 abbrev pub collected : Options → List Candidate → ℕ
 collected o runs = collected_behind o [] runs
 
--- how many runs rule 2 picks from the first of some on: those that are collected, where they are enough
+-- how many runs rule 2 picks from the first on: those that are collected, if they are enough
 abbrev pub collected_enough : Options → List Candidate → ℕ
 collected_enough o runs = if nat_le o.least (collected o runs) then collected o runs else 0
 
@@ -67,23 +67,23 @@ collected_enough o runs = if nat_le o.least (collected o runs) then collected o 
 abbrev pub size_ratio : Options → List Candidate → Option Stretch
 size_ratio o runs = first_picked (collected_enough o) 0 runs
 
--- how many unclaimed runs stand at the head of some
+-- how many unclaimed runs are at the head of some
 abbrev pub unclaimed : List Candidate → ℕ
 unclaimed [] = 0
 unclaimed (r ∷ runs) = if r.claimed then 0 else suc (unclaimed runs)
 
--- how many runs rule 3 picks from the first of some on, where it may take `most`: it wants two unclaimed neighbours
+-- how many runs rule 3 picks from the first on, at most `most`: it needs two unclaimed neighbours
 abbrev pub unclaimed_at_most : ℕ → List Candidate → ℕ
 unclaimed_at_most most runs = if nat_le 2 (unclaimed runs) then min (unclaimed runs) most else 0
 
--- Rule 3, number of runs: where there are more than the trigger, the first unclaimed neighbours, as many as bring the number
--- of runs down to the trigger, and not above `max_merge_width`. Before the first place with two unclaimed neighbours stands
--- a claimed run or none, so these are the newest of a whole stretch of unclaimed runs.
+-- Rule 3, number of runs: if there are more than the trigger, the first unclaimed neighbours. They are as many as bring
+-- the number of runs down to the trigger, and at most `max_merge_width`. A claimed run or none comes before the first
+-- place with two unclaimed neighbours, so these are the newest of a whole stretch of unclaimed runs.
 abbrev pub number_of_runs : Options → List Candidate → Option Stretch
 number_of_runs o runs =
     if nat_lt o.trigger (length runs) then first_picked (unclaimed_at_most (min (length runs - o.trigger + 1) o.greatest)) 0 runs else None
 
--- What is compacted next: nothing below the trigger, and else what the first of the rules picks that picks any.
+-- What is compacted next: nothing below the trigger, otherwise the pick of the first rule that picks any.
 abbrev pub picked : Options → List Candidate → Option Stretch
 picked o runs =
     if nat_lt (length runs) o.trigger then None

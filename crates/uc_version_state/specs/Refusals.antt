@@ -19,7 +19,7 @@ abbrev pub first_unknown : Terms → List ℕ → Option ℕ
 first_unknown t [] = None
 first_unknown t (keep ∷ keeps) = if is_unknown t keep then Some keep else first_unknown t keeps
 
--- runs with these ids stand in the version as neighbours in this order
+-- the runs with these ids are in the version as neighbours in this order
 abbrev pub AreInPlace : Stored → List ℕ → Type 0
 AreInPlace v ids = ids_of (standing ids v.runs) ≡ ids
 
@@ -28,7 +28,7 @@ pub record AreReplaceable (v : Stored) (ids : List ℕ) (t : Terms) : Type 0 whe
   pub in_place : AreInPlace v ids
   pub may : MayReplace v (behind ids v.runs) t
 
--- why they may not be: the first of these conditions that doesn't hold
+-- why they may not be: the first of these conditions that fails
 abbrev pub IsRefused : Stored → List ℕ → Terms → Refusal → Type 0
 IsRefused v ids t OlderBehind = ¬ NothingBelow (behind ids v.runs) t
 IsRefused v ids t (UnknownKeep keep) = NothingBelow (behind ids v.runs) t × (first_unknown t v.keeps ≡ Some keep)
@@ -39,7 +39,7 @@ IsRefused v ids t IdsSpent = NothingBelow (behind ids v.runs) t × KeepsKnown v.
 abbrev pub terms_in : Install → Terms
 terms_in i = record { keeps = i.keeps; oldest = i.oldest; high = i.output.high }
 
--- what an event brings is what it is made of, which no look at ids can tell
+-- an event's output is what it is made of, which no look at ids can tell
 abbrev pub IsMade : Operation → Stored → Event → Type 0
 IsMade m v (Installed i) = i.output ≡ output_of m (compaction_in i v)
 

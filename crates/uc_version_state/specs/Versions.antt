@@ -15,7 +15,7 @@ pub record PlacedRun : Type 0 where
   pub slot : ℕ
   pub run : Contents
 
--- runs, the newest first; the sequences that reads are made at; the last sequence; and the number of the next run
+-- runs, the newest first; the sequences of reads; the last sequence; and the number of the next run
 pub record Stored : Type 0 where
   pub runs : List PlacedRun
   pub keeps : List ℕ
@@ -31,7 +31,7 @@ ids_of runs = map (λ p. p.id) runs
 abbrev pub slots_of : List PlacedRun → List ℕ
 slots_of runs = map (λ p. p.slot) runs
 
--- the plain writes that it stands for: the plain lists of its runs, the oldest first
+-- its plain writes: the plain lists of its runs, the oldest first
 abbrev pub writes_in : Stored → List Write
 writes_in v = writes_of (contents_of v.runs)
 
@@ -44,7 +44,7 @@ pub record IsVersion (v : Stored) : Type 0 where
   pub keeps_rise : IsStrictlySortedBy nat_cmp v.keeps
   pub keeps_below : AllByRecursion (λ keep. keep ≤ v.last) v.keeps
   pub last_below : v.last < 2 ^ 56
-  -- no two runs have one slot or one id, and ids come in turn
+  -- no two runs have one slot or one id, and ids are below the next one
   pub slots_apart : AreDistinct (slots_of v.runs)
   pub slots_below : AllByRecursion (λ slot. slot < MOST_SLOTS) (slots_of v.runs)
   pub ids_apart : AreDistinct (ids_of v.runs)

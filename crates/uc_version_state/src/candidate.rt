@@ -1,6 +1,6 @@
-//! [`Candidate`]: what the picker looks at of a run.
+//! [`Candidate`]: a run as the picker sees it.
 
-/// What the picker looks at of a run.
+/// A run as the picker sees it.
 #[derive(Clone, Copy, Debug, PartialEq, Eq)]
 pub struct Candidate {
     /// The run's size in bytes.

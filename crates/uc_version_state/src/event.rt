@@ -8,14 +8,14 @@ use std::alloc::AllocError;
 /// What changes a store's version.
 #[derive(Debug, Drop)]
 pub enum Event {
-    /// What a compaction made takes the place of its inputs.
+    /// A compaction's output replaces its inputs.
     Installed(Install),
 }
 
 impl Clone for Event {
     ghost is_clone = { λ event copy. copy ≡ event };
 
-    /// A copy, which shares the runs. It fails only for want of memory.
+    /// A copy, which shares the runs.
     fn clone(&self) -> Result<Event, AllocError>
         ensures { IfOk result (λ copy. copy ≡ self.now) }
     {

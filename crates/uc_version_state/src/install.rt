@@ -1,4 +1,4 @@
-//! [`Install`]: what a compaction made, and the runs whose place it takes.
+//! [`Install`]: a compaction's output, and the runs that it replaces.
 ghost use Rattle.std.specs.Prelude.{◌≡◌, ◌≤◌, IfOk, length};
 ghost use Rattle.std.specs.Arc.{arc_value};
 ghost use Rattle.std.specs.List.Sorted.{IsStrictlySortedBy};
@@ -10,8 +10,8 @@ use std::marker::Model;
 use std::sync::Arc;
 use uc_run::Run;
 
-/// A compaction that is installed: its inputs by their ids, the newest first; the keeps that it was made for; whether the
-/// oldest run of all is among its inputs; and its output. A contract sees the output's contents and not where they are
+/// A compaction that is installed: its inputs by their ids, the newest first; the keeps that it was made for; whether
+/// the oldest run of all is among its inputs; and its output. A contract sees the output's contents, not how they are
 /// shared.
 #[derive(Debug, Drop)]
 pub struct Install {
@@ -35,7 +35,7 @@ impl Model for Install {
 impl Clone for Install {
     ghost is_clone = { λ install copy. copy ≡ install };
 
-    /// A copy, which shares the output. It fails only for want of memory.
+    /// A copy, which shares the output.
     fn clone(&self) -> Result<Install, AllocError>
         ensures { IfOk result (λ copy. copy ≡ self.now) }
     {
@@ -49,8 +49,8 @@ impl Clone for Install {
 }
 
 impl Install {
-    /// The install of an output in place of the runs with these ids, which are two or more, the newest first. It was
-    /// compacted for these keeps, which rise, and with the oldest run of all where `oldest` says so.
+    /// The install of an output that replaces the runs with these ids, two or more, the newest first. It was compacted
+    /// for these keeps, which rise. `oldest` says whether the oldest run of all was among them.
     pub fn new(ids: Vec<u64>, keeps: Vec<u64>, oldest: bool, output: Arc<Run>) -> Install
         requires two { 2 ≤ length ids.items }
         requires keeps_rise { IsStrictlySortedBy nat_cmp keeps.items }
@@ -85,14 +85,15 @@ impl Install {
         self.oldest
     }
 
-    /// The run that takes their place.
+    /// The run that replaces them.
     pub fn output(&self) -> &Arc<Run>
         ensures { arc_value result.now ≡ self.now.output }
     {
         &self.output
     }
 
-    /// What holds of every install: its inputs are two runs or more, and its keeps rise. It does nothing.
+    /// What holds of every install: its inputs are two runs or more, and its keeps rise. Proof step: does nothing when
+    /// it runs.
     pub fn recall(&self)
         ensures { IsInstall self.now }
     {

@@ -20,8 +20,8 @@ ghost use Rattle.uc_version_state.specs.Histories.{all_ids_replaced};
 use uc_oper::Operator;
 use uc_run::{flush_keeps_every_effect, flushed_writes_are_a_run};
 
-/// Memtables are filled one after the other: together they hold the writes, in order, and none is empty. All but the last
-/// have reached the limit, and none, where the limit is 1 byte or more, had reached it before its last write.
+/// Memtables are filled one after the other: together they hold the writes, in order, and none is empty. All but the
+/// last have reached the limit. If the limit is at least 1 byte, none had reached it before its last write.
 pub fn memtables_are_filled_in_turn()
     ensures joined { (limit : ℕ) (writes : List Write) →
         flat_map (λ (part : List Write). part) (memtables limit writes) ≡ writes }
@@ -32,14 +32,14 @@ pub fn memtables_are_filled_in_turn()
         Contains (memtables limit writes) part → part ≡ front ++ w ∷ [] → memtable_size front < limit }
 {}
 
-/// A store opens with the keeps that it was given and the last sequence, each once and in order.
+/// A store opens with the given keeps and the last sequence, each once and in order.
 pub fn opened_keeps_are_those_given()
     ensures given { (o : Opening) (seq : ℕ) →
         Contains (opened o).keeps seq ↔ (Contains o.keeps seq ⊎ (seq ≡ last_of 0 o.writes)) }
     ensures in_order { (o : Opening) → IsStrictlySortedBy nat_cmp (opened o).keeps }
 {}
 
-/// What a store opens with is a version.
+/// A store opens with a version.
 pub fn opening_gives_a_version()
     ensures { (o : Opening) → MayOpen o → IsVersion (opened o) }
 {
@@ -55,26 +55,26 @@ pub fn opening_keeps_every_effect<O: Operator>()
     flush_keeps_every_effect::<O>();
 }
 
-/// An install changes nothing that is read: at each sequence that the version keeps, and from its last on, every key has
-/// the value that it had.
+/// An install changes nothing that is read: at each keep of the version, and from its last sequence on, every key keeps
+/// its value.
 pub fn install_keeps_what_is_read<O: Operator>()
     ensures { (v : Stored) (i : Install) (key : List ℕ) (at : ℕ) → IsVersion v → MayInstall O.meaning v i →
         IsReadAt v.keeps v.last at →
         value_of O.meaning (writes_in (installed i v)) key at ≡ value_of O.meaning (writes_in v) key at }
 {}
 
-/// What an install leaves is a version again.
+/// After an install there is a version again.
 pub fn install_gives_a_version<O: Operator>()
     ensures { (v : Stored) (i : Install) → IsVersion v → MayInstall O.meaning v i → IsVersion (installed i v) }
 {}
 
-/// What an event leaves is a version again.
+/// After an event there is a version again.
 pub fn events_give_versions<O: Operator>()
     ensures { (v : Stored) (e : Event) → IsVersion v → MayHappen O.meaning v e → IsVersion (after v e) }
 {}
 
-/// Whatever happened to a store, what it holds is a version, and at each sequence that it keeps every key has the value
-/// that the plain writes give it.
+/// Whatever happened to a store, it holds a version, and at each of its keeps every key has the value that the plain
+/// writes give it.
 pub fn histories_keep_what_is_read<O: Operator>()
     ensures version { (h : History) → IsLegal O.meaning h → IsVersion (version_after h) }
     ensures values { (h : History) (key : List ℕ) (at : ℕ) → IsLegal O.meaning h → Contains (version_after h).keeps at →
@@ -92,8 +92,8 @@ pub fn runs_are_replaced_once<O: Operator>()
     opening_gives_a_version();
 }
 
-/// What may happen to the version after a history goes behind it: the longer history is legal too, and the version after
-/// it is the one after that event.
+/// An event that may happen to the version after a history extends it: the longer history is legal too, and the version
+/// after it is the one after that event.
 pub fn histories_grow_by_events<O: Operator>()
     ensures legal { (h : History) (e : Event) → IsLegal O.meaning h → MayHappen O.meaning (version_after h) e →
         IsLegal O.meaning (record h { events = h.events ++ e ∷ [] }) }
@@ -101,7 +101,7 @@ pub fn histories_grow_by_events<O: Operator>()
         version_after (record h { events = h.events ++ e ∷ [] }) ≡ after (version_after h) e }
 {}
 
-/// What stands of a legal history so far is a legal history.
+/// A beginning of a legal history is a legal history.
 pub fn beginnings_are_legal<O: Operator>()
     ensures { (h : History) (later : List Event) →
         IsLegal O.meaning (record h { events = h.events ++ later }) → IsLegal O.meaning h }
@@ -113,7 +113,7 @@ pub fn runs_stay_until_replaced<O: Operator>()
         ¬ Contains (ids_replaced e) run.id → Contains (after v e).runs run }
 {}
 
-/// Along a history a run keeps its slot and its contents: where runs with one id stand in the versions after a history and
+/// Along a history a run keeps its slot and its contents: if runs with one id are in the versions after a history and
 /// after a longer one that begins with it, they are the same.
 pub fn runs_keep_their_contents<O: Operator>()
     ensures { (h : History) (later : List Event) (run again : PlacedRun) →
@@ -129,7 +129,8 @@ pub fn events_keep_keeps_and_last()
     ensures { (v : Stored) (e : Event) → ((after v e).keeps ≡ v.keeps) × ((after v e).last ≡ v.last) }
 {}
 
-/// Neighbours are found by their ids: as many runs as there are ids, from the one with the newest of them on, are these runs.
+/// Neighbours are found by their ids: as many runs as there are ids, from the one with the newest id on, are these
+/// runs.
 pub fn neighbours_stand_where_their_ids_say()
     ensures { (v : Stored) (first count : ℕ) → IsVersion v → 0 < count → first + count ≤ length v.runs →
         standing (ids_of (part_of first count v.runs)) v.runs ≡ part_of first count v.runs }

@@ -1,17 +1,19 @@
-//! Versions: what a store holds at a moment, what may become of it, and which runs are compacted next.
+//! Versions: what a store holds at a moment, what may happen to it, and which runs are compacted next.
 //!
-//! A [`Version`] has sorted runs, the newest first, the sequences that snapshots keep, and the number of the next run. What
-//! may happen to it is an event; a history is an opening and the events behind it. Read `specs/Versions.antt` first,
-//! then `specs/Openings.antt`, `specs/Installs.antt` and `specs/Histories.antt`, and `laws.rt`, which says what a store
-//! opens with, and that no event changes what is read.
+//! A [`Version`] has sorted runs, the newest first, the keeps (snapshots' sequences), and the number of the next run.
+//! An event changes it; a history is an opening and the events after it. Read `specs/Versions.antt` first, then
+//! `specs/Openings.antt`, `specs/Installs.antt` and `specs/Histories.antt`. `laws.rt` says what a store opens with, and
+//! that no event changes what is read.
 //!
-//! [`Options`] say how a store is opened and compacted. The rules of picking are those of RocksDB's universal compaction:
-//! space amplification, size ratio and number of runs, in this order. `specs/Picks.antt` defines them, `picking.rt` picks,
-//! and `pick_laws.rt` says what holds of what is picked.
+//! [`Options`] say how a store is opened and compacted. The rules of picking are those of RocksDB's universal
+//! compaction: space amplification, size ratio and number of runs, in this order. `specs/Picks.antt` defines them,
+//! `picking.rt` picks, and `pick_laws.rt` has the laws of a pick.
 //!
-//! Compactors beside each other are a machine of single steps. `specs/Machine.antt` is the whole machine: what a compactor
-//! does, when it may, and what becomes of it. In `specs/Courses.antt` any number of compactors make their steps in any order.
+//! Concurrent compactors are a machine of single steps. `specs/Machine.antt` is the whole machine: what a compactor
+//! does, when it may, and what follows. In `specs/Courses.antt` any number of compactors make their steps in any order.
 //! `step_laws.rt` has the law that no checked compactor is ever displaced.
+//!
+//! An `Err(AllocError)` comes only if an allocation fails.
 #![tactic(auto)]
 
 mod candidate;

@@ -3,19 +3,19 @@
 /// How a store is opened and compacted, with RocksDB's name for each option (RocksDB wiki, "Universal Compaction").
 #[derive(Clone, Copy, Debug, PartialEq, Eq)]
 pub struct Options {
-    /// At how many bytes a memtable is flushed, from 1 on (`write_buffer_size`).
+    /// From how many bytes on a memtable is flushed, at least 1 (`write_buffer_size`).
     pub memtable: u64,
-    /// From how many runs on something is compacted, from 1 on (`level0_file_num_compaction_trigger`).
+    /// From how many runs on something is compacted, at least 1 (`level0_file_num_compaction_trigger`).
     pub trigger: u32,
     /// By how many percent a run may be larger than those above it to be compacted with them (`size_ratio`).
     pub ratio: u32,
     /// Above how many percent of the oldest run's size the newer ones together are compacted with it
     /// (`max_size_amplification_percent`).
     pub percent: u32,
-    /// How many runs a compaction by size ratio takes at the least, from 2 on (`min_merge_width`). One that lowers the number of
-    /// runs takes two.
+    /// The least number of runs for a compaction by size ratio, at least 2 (`min_merge_width`). A compaction that
+    /// lowers the number of runs needs two.
     pub least: u32,
-    /// How many runs a compaction takes at the most (`max_merge_width`).
+    /// The greatest number of runs for a compaction (`max_merge_width`).
     pub greatest: u32,
     /// The number of the first run, from 1 to 2^64 - 65.
     pub first_id: u64,
@@ -25,8 +25,8 @@ impl Options {
     ghost use Rattle.std.specs.Prelude.{◌≡◌};
     ghost use Rattle.uc_version_state.specs.Options as options;
 
-    /// The options where none are given: memtables of 4 MiB, 4 runs, 1 percent, 200 percent, at
-    /// least 2 runs and no limit to them, numbers from 1.
+    /// The default options: memtables of 4 MiB, 4 runs, 1 percent, 200 percent, at least 2 runs and no limit to them,
+    /// numbers from 1.
     pub fn usual() -> Options
         ensures { result ≡
             record {

@@ -1,4 +1,4 @@
-//! What holds of what is picked.
+//! What holds of a pick.
 ghost use Rattle.std.specs.Prelude.{◌≡◌, ◌≤◌, ◌<◌, ◌+◌, ◌-◌, ◌*◌, ℕ, List, Some, None, min, true, length};
 ghost use Rattle.std.specs.Prelude.{take, drop, slice_index_or, is_some};
 ghost use Rattle.uc_version_state.specs.declared.options.Options.{Options};
@@ -9,12 +9,12 @@ ghost use Rattle.uc_version_state.specs.Picks.{total, newer, oldest, are_unclaim
 ghost use Rattle.uc_version_state.specs.Picks.{unclaimed, number_of_runs, picked};
 ghost use Rattle.uc_version_state.specs.Collecting.{MayBeCollected};
 
-/// Nothing is picked where there are fewer runs than the trigger.
+/// Nothing is picked if there are fewer runs than the trigger.
 pub fn nothing_is_picked_below_the_trigger()
     ensures { (o : Options) (runs : List Candidate) → length runs < o.trigger → picked o runs ≡ None }
 {}
 
-/// What is picked lies within the runs, and none of it is claimed. With good options it has two runs or more.
+/// A pick lies within the runs, and none of it is claimed. With good options it has two runs or more.
 pub fn picks_are_unclaimed_runs()
     ensures there { (o : Options) (runs : List Candidate) (s : Stretch) → picked o runs ≡ Some s →
         s.first + s.count ≤ length runs }
@@ -24,7 +24,7 @@ pub fn picks_are_unclaimed_runs()
         picked o runs ≡ Some s → 2 ≤ s.count }
 {}
 
-/// From the trigger on, all runs are picked where there are two or more, none is claimed, and those but the oldest are
+/// From the trigger on, all runs are picked if there are two or more, none is claimed, and those but the oldest are
 /// together above `percent` percent of the oldest one's size.
 pub fn amplified_runs_are_all_picked()
     ensures { (o : Options) (runs : List Candidate) → o.trigger ≤ length runs → 2 ≤ length runs → are_unclaimed runs ≡ true →
@@ -32,14 +32,14 @@ pub fn amplified_runs_are_all_picked()
         picked o runs ≡ Some (record { first = 0; count = length runs }) }
 {}
 
-/// How many runs are collected: the greatest number of them, from the first on, that may be.
+/// The number of collected runs is the greatest number, from the first run on, that may be collected.
 pub fn collected_is_the_greatest_number()
     ensures may_be { (o : Options) (runs : List Candidate) → MayBeCollected o runs (collected o runs) }
     ensures greatest { (o : Options) (runs : List Candidate) (n : ℕ) → MayBeCollected o runs n → n ≤ collected o runs }
 {}
 
-/// The size ratio picks what is collected from the first place on that has at least `least` to collect: no more than
-/// `greatest`. Where it picks none, no place has as many.
+/// The size ratio picks the runs collected from the first place on where at least `least` are: no more than `greatest`.
+/// If it picks none, no place has as many.
 pub fn size_ratio_picks_the_first_that_collects_enough()
     ensures there { (o : Options) (runs : List Candidate) (s : Stretch) →
         size_ratio o runs ≡ Some s → s.first < length runs }
@@ -55,9 +55,10 @@ pub fn size_ratio_picks_the_first_that_collects_enough()
         (k : ℕ) → k < length runs → collected o (drop k runs) < o.least }
 {}
 
-/// By the number of runs the first stretch of two or more unclaimed neighbours is picked from: a claimed run or none stands
-/// in front of what is picked. It is as many of the stretch's newest runs as bring the number of runs down to the trigger, and
-/// no more than `greatest`. Where more runs than the trigger stand and none is picked, no two unclaimed ones are neighbours.
+/// By the number of runs, the pick comes from the first stretch of two or more unclaimed neighbours: a claimed run or
+/// none comes before it. It takes as many of the stretch's newest runs as bring the number of runs down to the trigger,
+/// and no more than `greatest`. If there are more runs than the trigger and none is picked, no two unclaimed ones are
+/// neighbours.
 pub fn number_of_runs_picks_from_the_first_stretch()
     ensures many { (o : Options) (runs : List Candidate) (s : Stretch) →
         number_of_runs o runs ≡ Some s → o.trigger < length runs }
@@ -75,7 +76,7 @@ pub fn number_of_runs_picks_from_the_first_stretch()
         number_of_runs o runs ≡ None → (k : ℕ) → k < length runs → unclaimed (drop k runs) < 2 }
 {}
 
-/// Where there are more runs than the trigger, and two unclaimed neighbours among them, something is picked.
+/// If there are more runs than the trigger, and two unclaimed neighbours among them, something is picked.
 pub fn something_is_picked_above_the_trigger()
     ensures { (o : Options) (runs : List Candidate) (k : ℕ) → are_good o ≡ true → o.trigger < length runs →
         2 ≤ unclaimed (drop k runs) → is_some (picked o runs) ≡ true }

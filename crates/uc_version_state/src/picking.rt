@@ -37,7 +37,7 @@ fn are_unclaimed(candidates: &[Candidate]) -> bool
     candidates.iter().all(|candidate| !candidate.claimed)
 }
 
-/// Space amplification: all runs, where there are two or more, none is claimed, and the newer ones are too large.
+/// Space amplification: all runs, if there are two or more, none is claimed, and the newer ones are too large.
 fn space_amplification(options: &Options, candidates: &[Candidate]) -> Option<Stretch>
     requires few { length candidates.now ≤ 65536 }
     ensures { result ≡ picks.space_amplification options.now candidates.now }
@@ -60,7 +60,7 @@ fn is_within_ratio(ratio: u32, sum: u128, size: u64) -> bool
     100 * u128::from(size) <= (100 + u128::from(ratio)) * sum
 }
 
-/// Whether a run is collected behind `count` others of this sum.
+/// Whether a run is collected after `count` others of this sum.
 fn is_collected(options: &Options, count: usize, sum: u128, candidate: &Candidate) -> bool
     requires { sum ≤ 2 ^ 80 }
     ensures { result ≡ picks.is_collected options.now count sum candidate.now }
@@ -70,8 +70,8 @@ fn is_collected(options: &Options, count: usize, sum: u128, candidate: &Candidat
         && (count == 0 || has_room && is_within_ratio(options.ratio, sum, candidate.size))
 }
 
-/// How many runs are collected from the first of some on: a run is, while it is unclaimed and within the ratio of the sum
-/// of those before it, up to `max_merge_width` of them.
+/// How many runs are collected from the first on: a run is, while it is unclaimed and within the ratio of the sum of
+/// those before it, up to `max_merge_width` of them.
 fn collected(options: &Options, candidates: &[Candidate]) -> usize
     requires few { length candidates.now ≤ 65536 }
     ensures { result ≡ picks.collected options.now candidates.now }
@@ -88,7 +88,7 @@ fn collected(options: &Options, candidates: &[Candidate]) -> usize
     count
 }
 
-/// How many runs the size ratio picks from the first of some on: 0 where fewer than `min_merge_width` are collected.
+/// How many runs the size ratio picks from the first on: 0 if fewer than `min_merge_width` are collected.
 fn collected_enough(options: &Options, candidates: &[Candidate]) -> usize
     requires few { length candidates.now ≤ 65536 }
     ensures { result ≡ picks.collected_enough options.now candidates.now }
@@ -115,7 +115,7 @@ fn size_ratio(options: &Options, candidates: &[Candidate]) -> Option<Stretch>
     None
 }
 
-/// How many unclaimed runs stand at the head of some.
+/// How many unclaimed runs are at the head of some.
 fn unclaimed(candidates: &[Candidate]) -> usize
     ensures { result ≡ picks.unclaimed candidates.now }
 {
@@ -129,7 +129,7 @@ fn unclaimed(candidates: &[Candidate]) -> usize
     count
 }
 
-/// How many runs the number of runs picks from the first of some on: 0 where fewer than two unclaimed ones stand there.
+/// How many runs the number of runs picks from the first on: 0 if fewer than two unclaimed ones are there.
 fn unclaimed_at_most(most: usize, candidates: &[Candidate]) -> usize
     ensures { result ≡ picks.unclaimed_at_most most candidates.now }
 {
@@ -150,8 +150,8 @@ fn first_unclaimed(most: usize, candidates: &[Candidate]) -> Option<Stretch>
     None
 }
 
-/// Number of runs: where there are more than the trigger, the first unclaimed neighbours, as many as bring the number of
-/// runs down to the trigger, and not above `max_merge_width`.
+/// Number of runs: if there are more than the trigger, the first unclaimed neighbours. They are as many as bring the
+/// number of runs down to the trigger, and at most `max_merge_width`.
 fn number_of_runs(options: &Options, candidates: &[Candidate]) -> Option<Stretch>
     requires few { length candidates.now ≤ 65536 }
     ensures { result ≡ picks.number_of_runs options.now candidates.now }
@@ -164,11 +164,11 @@ fn number_of_runs(options: &Options, candidates: &[Candidate]) -> Option<Stretch
     first_unclaimed(most.min(options.greatest as usize), candidates)
 }
 
-/// Which neighbouring runs are compacted next, of runs that stand newest first (RocksDB wiki, "Universal Compaction");
-/// `None` where nothing is. Runs below are the candidates, and n is their number. Where n is below `trigger` nothing is
-/// picked. Else it is what the first of these rules picks that picks any:
+/// Which neighbouring runs are compacted next, of runs that come newest first (RocksDB wiki, "Universal Compaction"),
+/// or `None`. Runs below are the candidates, and n is their number. If n is below `trigger` nothing is picked.
+/// Otherwise the first of these rules that picks any decides:
 ///
-/// 1. Space amplification: all runs, where they are two or more, none is claimed, and those but the oldest are together
+/// 1. Space amplification: all runs, if there are two or more, none is claimed, and those but the oldest are together
 ///    above `percent` percent of the oldest one's size. It has no regard to `least` and `greatest`.
 /// 2. Size ratio: from a start, a run is collected behind those before it while it is unclaimed, they are fewer than
 ///    `greatest`, and its size isn't above their sum by more than `ratio` percent. The first start from which at least
@@ -176,9 +176,8 @@ fn number_of_runs(options: &Options, candidates: &[Candidate]) -> Option<Stretch
 /// 3. Number of runs: where n is above `trigger`, the first unclaimed neighbours: as many as bring n down to `trigger` when
 ///    they become one, and at most `greatest`. It has no regard to `least`.
 ///
-/// It takes no memory, and at most the square of n in time. There are at most 65,536 candidates, so that every sum and
-/// product of sizes is exact. With good options a pick has two runs or more, all of them
-/// unclaimed (`picks_are_unclaimed_runs`).
+/// It doesn't allocate, and takes at most n^2 steps. There are at most 65,536 candidates, so every sum and product of
+/// sizes is exact. With good options a pick has two runs or more, all of them unclaimed (`picks_are_unclaimed_runs`).
 pub fn pick_among(options: &Options, candidates: &[Candidate]) -> Option<Stretch>
     requires few { length candidates.now ≤ 65536 }
     ensures { result ≡ picked options.now candidates.now }

@@ -7,7 +7,7 @@ use std::marker::Model;
 use std::sync::Arc;
 use uc_run::Run;
 
-/// A run with its place in a store. A contract sees its contents and not where they are shared.
+/// A run with its place in a store. A contract sees its contents, not how they are shared.
 #[derive(Debug, Drop)]
 pub struct Placed {
     /// Its number, which no other run of the store ever has.
@@ -42,7 +42,7 @@ impl Placed {
         self.slot
     }
 
-    /// The run with its place again, which shares the run. It fails only for want of memory.
+    /// The run with its place again. It shares the run.
     pub fn shared(&self) -> Result<Placed, AllocError>
         ensures { IfOk result (λ again. again ≡ self.now) }
     {

@@ -1,13 +1,13 @@
 //! [`Refusal`]: why an event may not happen to a version.
 
-/// Why an event may not happen to a version. Of several reasons the first of these is named.
+/// Why an event may not happen to a version: the first of these reasons that holds.
 #[derive(Clone, Copy, Debug, PartialEq, Eq)]
 pub enum Refusal {
-    /// It was made for the oldest run of all, and older runs stand behind its inputs.
+    /// It was made for the oldest run of all, but older runs come after its inputs.
     OlderBehind,
     /// It wasn't made for this keep: the least such one below the greatest sequence of its inputs.
     UnknownKeep(u64),
-    /// Its inputs don't stand there as neighbours in their order.
+    /// Its inputs aren't in the version as neighbours in their order.
     NotInPlace,
     /// No id is left: 2^64 - 1 is never given.
     IdsSpent,

@@ -14,14 +14,14 @@ use crate::standing::{are_in_place, newest_id, place_of};
 use crate::terms::Terms;
 use crate::version::Version;
 
-/// Whether no run stands behind as many as there are ids, from the one with the newest of them on.
+/// Whether no run comes after the ones of these ids: as many runs as there are ids, from the one with the newest id on.
 fn are_last(runs: &[Placed], ids: &[u64]) -> bool
     ensures { IsTrue result ↔ (behind ids.now runs.now ≡ []) }
 {
     runs.len() - place_of(runs, newest_id(ids)) <= ids.len()
 }
 
-/// Whether nothing stands behind a compaction of the oldest run.
+/// Whether no run comes after the inputs of a compaction of the oldest run.
 fn is_nothing_below(runs: &[Placed], ids: &[u64], terms: &Terms) -> bool
     ensures { IsTrue result ↔ NothingBelow (behind ids.now runs.now) terms.now }
 {
@@ -49,8 +49,8 @@ fn first_unknown(terms: &Terms, keeps: &[u64]) -> Option<u64>
 }
 
 impl Version {
-    /// Why the runs with these ids may not be replaced by what was compacted under these terms, if they may not. It compares
-    /// no points and takes no memory.
+    /// The first reason why the runs with these ids may not be replaced by what was compacted under these terms, or
+    /// `None`. It compares no points and doesn't allocate.
     pub fn replace_refusal(&self, ids: &[u64], terms: &Terms) -> Option<Refusal>
         ensures none { IfNone result (AreReplaceable self.now ids.now terms.now) }
         ensures some { IfSome result (λ refusal. IsRefused self.now ids.now terms.now refusal) }
@@ -71,7 +71,7 @@ impl Version {
         None
     }
 
-    /// Why an install may not happen to the version, if it may not.
+    /// The first reason why an install may not happen to the version, or `None`.
     fn install_refusal(&self, install: &Install) -> Option<Refusal>
         ensures none { IfNone result (AreReplaceable self.now install.now.ids (terms_in install.now)) }
         ensures some { IfSome result (λ refusal. IsRefused self.now install.now.ids (terms_in install.now) refusal) }
@@ -81,8 +81,8 @@ impl Version {
         self.replace_refusal(install.ids(), &terms)
     }
 
-    /// Why an event may not happen to the version, if it may not. Where nothing refuses it, it may, once it brings what it was
-    /// made of. It compares no points and takes no memory.
+    /// The first reason against the event, or `None`. `None` leaves one thing unchecked: that the output was compacted
+    /// from these inputs. It compares no points and doesn't allocate.
     pub fn refusal(&self, event: &Event) -> Option<Refusal>
         ensures none { IfNone result ((m : Operation) → IsMade m self.now event.now → MayHappen m self.now event.now) }
         ensures some { IfSome result (λ refusal. IsEventRefused self.now event.now refusal) }

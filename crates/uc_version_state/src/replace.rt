@@ -1,4 +1,4 @@
-//! A run in place of neighbouring ones, and what an event makes of a version.
+//! A run that replaces neighbouring ones, and the version after an event.
 ghost use Rattle.std.specs.Prelude.{◌≡◌, ◌+◌, ◌<◌, ◌≤◌, ◌∷◌, ◌++◌, IfOk, OnOk, length, take, drop};
 ghost use Rattle.std.specs.Arc.{arc_value};
 ghost use Rattle.uc_version_state.specs.Versions.{IsVersion};
@@ -17,7 +17,7 @@ use std::sync::Arc;
 use uc_oper::Operator;
 use uc_run::Run;
 
-/// Takes out so many runs behind the first ones.
+/// Removes `count` runs after the first ones.
 fn remove_runs(runs: &mut Vec<Placed>, first: usize, count: usize)
     requires { first + count ≤ length runs.old.items }
     ensures { runs.new.items ≡ take first runs.old.items ++ drop (first + count) runs.old.items }
@@ -27,8 +27,7 @@ fn remove_runs(runs: &mut Vec<Placed>, first: usize, count: usize)
     }
 }
 
-/// Puts a run in place of `count` others behind the first ones, with an id of its own and the slot of the newest of
-/// them.
+/// Replaces `count` runs after the first ones by a run, with an id of its own and the slot of the newest of them.
 fn replace_runs(runs: &mut Vec<Placed>, first: usize, count: usize, id: u64, run: Arc<Run>)
     requires some { 0 < count }
     requires within { first + count ≤ length runs.old.items }
@@ -47,7 +46,7 @@ fn replace_runs(runs: &mut Vec<Placed>, first: usize, count: usize, id: u64, run
     remove_runs(runs, first + 1, count - 1);
 }
 
-/// Pushes the runs behind those that are there, shared.
+/// Pushes the runs, shared, after those that are there.
 fn push_shared(all: &mut Vec<Placed>, runs: &[Placed]) -> Result<(), AllocError>
     ensures { OnOk result (all.new.items ≡ all.old.items ++ runs.now) }
 {
@@ -57,8 +56,8 @@ fn push_shared(all: &mut Vec<Placed>, runs: &[Placed]) -> Result<(), AllocError>
     Ok(())
 }
 
-/// The runs, shared, with one in place of `count` others behind the first ones: it gets an id of its own and the slot of the
-/// newest of them.
+/// The runs, shared, with one that replaces `count` others after the first ones. It gets an id of its own and the slot
+/// of the newest of them.
 fn replaced_runs(
     alloc: Global,
     runs: &[Placed],
@@ -77,8 +76,8 @@ fn replaced_runs(
 }
 
 impl Version {
-    /// Puts a run in place of `count` others behind the first ones: it gets the next id, and the slot of the newest of them.
-    /// It moves what is behind them, and copies no run.
+    /// Replaces `count` runs after the first ones by a run. It gets the next id, and the slot of the newest of them. It
+    /// moves the runs after them, and copies no run.
     pub fn replace(&mut self, first: usize, count: usize, run: Arc<Run>)
         requires some { 0 < count }
         requires within { first + count ≤ length self.old.runs }
@@ -89,8 +88,8 @@ impl Version {
         self.next_id += 1;
     }
 
-    /// The version with a run in place of `count` others behind the first ones, beside this one: it gets the next id, and the
-    /// slot of the newest of them. It shares the runs, and fails only for want of memory.
+    /// A new version, in which a run replaces `count` others after the first ones. It gets the next id, and the slot of
+    /// the newest of them. The version shares the runs.
     fn with_replaced(
         &self,
         alloc: Global,
@@ -115,7 +114,7 @@ impl Version {
         Ok(Version::new(runs, keeps, self.last(), id + 1))
     }
 
-    /// The version after an event, beside this one: it shares the runs, and fails only for want of memory.
+    /// The version after an event, as a new one that shares the runs.
     pub fn after<O: Operator>(&self, alloc: Global, event: &Event) -> Result<Version, AllocError>
         requires { MayHappen O.meaning self.now event.now }
         ensures { IfOk result (λ version. version ≡ histories.after self.now event.now) }

@@ -1,4 +1,4 @@
-//! Where given runs stand in a version.
+//! The places of given runs in a version.
 ghost use Rattle.std.specs.Prelude.{◌≡◌, ◌≢◌, ◌+◌, ◌≤◌, ◌↔◌, ℕ, IsTrue, IfSome, IfNone, length};
 ghost use Rattle.uc_version_state.specs.Versions.{ids_of};
 ghost use Rattle.uc_version_state.specs.Installs as installs;
@@ -7,7 +7,7 @@ ghost use Rattle.uc_version_state.specs.Installs.{part_of};
 use crate::placed::Placed;
 use crate::version::Version;
 
-/// How many runs stand in front of the one with an id; all of them where none has it.
+/// How many runs come before the one with an id; all if none has it.
 pub(crate) fn place_of(runs: &[Placed], id: u64) -> usize
     ensures place { result ≡ installs.place_of id runs.now }
     ensures within { result ≤ length runs.now }
@@ -20,14 +20,14 @@ pub(crate) fn place_of(runs: &[Placed], id: u64) -> usize
     runs.len()
 }
 
-/// The newest of some ids; 0 where there is none.
+/// The newest of some ids; 0 if there is none.
 pub(crate) fn newest_id(ids: &[u64]) -> u64
     ensures { result ≡ installs.newest_id ids.now }
 {
     ids.first().map_or(0, |id| *id)
 }
 
-/// So many runs behind the first ones, as far as they are there.
+/// `count` runs after the first ones, as far as they are there.
 fn part(runs: &[Placed], first: usize, count: usize) -> &[Placed]
     requires { first ≤ length runs.now }
     ensures { result.now ≡ part_of first count runs.now }
@@ -52,7 +52,7 @@ fn have_ids(runs: &[Placed], ids: &[u64]) -> bool
     true
 }
 
-/// Whether runs with these ids stand as neighbours in this order, from the one with the newest of them on.
+/// Whether the runs with these ids are neighbours in this order, from the one with the newest id on.
 pub(crate) fn are_in_place(runs: &[Placed], ids: &[u64]) -> bool
     ensures { IsTrue result ↔ (ids_of (installs.standing ids.now runs.now) ≡ ids.now) }
 {
@@ -61,7 +61,8 @@ pub(crate) fn are_in_place(runs: &[Placed], ids: &[u64]) -> bool
 }
 
 impl Version {
-    /// Where runs with these ids stand as neighbours in this order: behind so many runs. It takes no memory.
+    /// The place of the runs with these ids as neighbours in this order: the number of runs before them. It doesn't
+    /// allocate.
     pub fn place_of(&self, ids: &[u64]) -> Option<usize>
         ensures some { IfSome result (λ first.
             (first + length ids.now ≤ length self.now.runs)

@@ -12,9 +12,9 @@ ghost use Rattle.uc_version_state.specs.Courses.{Course, IsPossible, machine_aft
 
 use crate::laws::opening_gives_a_version;
 
-/// A checked compactor is never displaced. Whatever steps any number of compactors make, in any order: the runs that a
-/// checked compactor noted stand in the present version, the same, as neighbours and in order; no slot is held by two
-/// compactors; every install that a checked compactor made may happen; and so the history is legal.
+/// A checked compactor is never displaced, whatever steps any number of compactors make, in any order. The runs that a
+/// checked compactor noted are in the present version, the same, as neighbours and in order. No slot is held by two
+/// compactors. Every install that a checked compactor made may happen, so the history is legal.
 pub fn never_stale()
     ensures in_place { (m : Operation) (course : Course) (c : ℕ) (noted : List PlacedRun) →
         IsLawful m → IsPossible m course → phase_of c (machine_after course) ≡ Checked noted →
@@ -36,7 +36,7 @@ pub fn never_stale()
     opening_gives_a_version();
 }
 
-/// The machine isn't empty: a compactor that goes through its phases alone installs what it made, of any stretch of any
+/// The machine isn't empty: a compactor that goes through its phases alone installs its output, for any stretch of any
 /// opening.
 pub fn a_lone_compactor_installs()
     ensures { (m : Operation) (o : Opening) (first count : ℕ) (i : Install) → IsLawful m → MayOpen o →

@@ -1,10 +1,10 @@
-//! [`Terms`]: what a compaction asks of a version.
+//! [`Terms`]: what a compaction requires of a version.
 ghost use Rattle.std.specs.Prelude.{◌≡◌};
 
 use std::marker::Model;
 
-/// What a compaction asks of a version: under which keeps it was made, whether for the oldest run of all too, and the
-/// greatest sequence of its inputs.
+/// What a compaction requires of a version: the keeps that it was made for, whether it was made for the oldest run of
+/// all, and the greatest sequence of its inputs.
 #[derive(Debug, Drop)]
 pub struct Terms<'a> {
     pub(crate) keeps: &'a [u64],

@@ -1,4 +1,4 @@
-//! A version's parts, a run in place of others, and where runs stand.
+//! A version's parts, a run that replaces others, and the places of runs.
 ghost use Rattle.std.specs.Prelude.{◌≡◌, ◌∷◌, [], IfOk};
 ghost use Rattle.std.specs.Arc.{arc_value};
 
@@ -72,7 +72,7 @@ fn three_runs(
     Ok(Version::new(runs, keeps, 5, 8))
 }
 
-/// The version with a run in place of the older two.
+/// The version with a run that replaces the older two.
 fn with_merged(
     alloc: Global,
     newest: Arc<Run>,
@@ -93,7 +93,7 @@ fn with_merged(
 /// An id, a slot, and the range of sequences.
 type Row = (u64, usize, u64, u64);
 
-/// What is wanted of a version's runs.
+/// Checks a version's runs.
 fn wants_runs(rt: &impl Abort, version: &Version, want: &[Row]) {
     assert_eq!(rt; version.runs().len(), want.len());
     for (placed, row) in version.runs().iter().zip(want) {
@@ -103,7 +103,7 @@ fn wants_runs(rt: &impl Abort, version: &Version, want: &[Row]) {
     }
 }
 
-/// What is wanted of its keeps, its last sequence and its next id.
+/// Checks its keeps, its last sequence and its next id.
 fn wants_numbers(rt: &impl Abort, version: &Version, want: (&[u64], u64, u64)) {
     assert_eq!(rt; (version.keeps(), version.last(), version.next_id()), want);
 }
@@ -133,7 +133,7 @@ fn a_run_is_put_in_place_of_two(rt: HostRuntime) -> Result<(), Fail> {
     Ok(())
 }
 
-/// Why a run may not take the place of the ones with two ids, if it was made for no keep.
+/// Why a run may not replace the ones with two ids, if it was made for no keep.
 fn refusal_of(
     alloc: Global,
     version: &Version,

@@ -5,8 +5,8 @@ ghost use Rattle.uc_version_state.specs.Versions.{IsVersion};
 use crate::placed::Placed;
 use std::marker::Model;
 
-/// What a store holds at a moment (RocksDB wiki, "Universal Compaction", "Snapshot"): sorted runs, the newest first; the
-/// kept sequences, which reads are made at; the last sequence; and the number of the next run.
+/// What a store holds at a moment (RocksDB wiki, "Universal Compaction", "Snapshot"): sorted runs, the newest first;
+/// the keeps, at which reads are made; the last sequence; and the number of the next run.
 #[derive(Debug, Drop)]
 pub struct Version {
     pub(crate) runs: Vec<Placed>,
@@ -47,14 +47,14 @@ impl Version {
         &self.runs
     }
 
-    /// The sequences that reads are made at, which rise.
+    /// The sequences of reads, which rise.
     pub fn keeps(&self) -> &[u64]
         ensures { result.now ≡ self.now.keeps }
     {
         &self.keeps
     }
 
-    /// The last sequence; 0 where nothing was written.
+    /// The last sequence; 0 if nothing was written.
     pub fn last(&self) -> u64
         ensures { result ≡ self.now.last }
     {
@@ -68,8 +68,8 @@ impl Version {
         self.next_id
     }
 
-    /// What holds of every version: its runs are runs and stand newest first, no two have one slot or one id, and its
-    /// keeps rise. It does nothing.
+    /// What holds of every version: its runs are runs and come newest first, no two have one slot or one id, and its
+    /// keeps rise. Proof step: does nothing when it runs.
     pub fn recall(&self)
         ensures { IsVersion self.now }
     {
