@@ -21,7 +21,7 @@ pub record Progress : Type 0 where
   pub last : ℕ
   pub held : Option Flushing
 
--- these memtables, where the newest alone isn't flushed yet
+-- these memtables, with only the newest not flushed yet
 abbrev pub flushing_of : List (List Write) → Flushing
 flushing_of [] = record { runs = []; newest = [] }
 flushing_of (part ∷ []) = record { runs = []; newest = part }

@@ -1,4 +1,4 @@
--- What a write changes in an opening's memtables, and what they end as.
+-- What a write changes in an opening's memtables, and their final runs.
 use Rattle.std.specs.Prelude.{ℕ, ◌+◌, ◌-◌, Bool, List, [], ◌∷◌, ◌++◌, length, fold, Option, Some, None, ◌&&◌, nat_le, if◌then◌else◌}
 use Rattle.uc_bytes.specs.declared.write.Write.{Write}
 use Rattle.uc_claims.specs.declared.table.TheConstants.{MOST_SLOTS}
@@ -13,7 +13,7 @@ use Rattle.uc_version_open.specs.Progress.{Flushing}
 abbrev pub is_full : ℕ → Flushing → Bool
 is_full limit f = nat_le limit (memtable_size f.newest)
 
--- whether a write more begins a memtable without a slot for its run
+-- whether the next write begins a memtable that has no slot for its run
 abbrev pub is_spent : ℕ → Flushing → Bool
 is_spent limit f = is_full limit f && nat_le (MOST_SLOTS - 1) (length f.runs)
 
@@ -21,19 +21,19 @@ is_spent limit f = is_full limit f && nat_le (MOST_SLOTS - 1) (length f.runs)
 abbrev pub begun : Flushing → Write → Flushing
 begun f w = record { runs = f.runs ++ flushed f.newest ∷ []; newest = w ∷ [] }
 
--- a write behind those of the newest memtable
+-- a write appended to the newest memtable
 abbrev pub grown : Flushing → Write → Flushing
 grown f w = record { runs = f.runs; newest = f.newest ++ w ∷ [] }
 
 abbrev pub with_write : ℕ → Flushing → Write → Flushing
 with_write limit f w = if is_full limit f then begun f w else grown f w
 
--- a write more for memtables that may be held no more
+-- the next write for memtables, which may be dropped already
 abbrev pub held_with : ℕ → Option Flushing → Write → Option Flushing
 held_with limit None w = None
 held_with limit (Some f) w = if is_spent limit f then None else Some (with_write limit f w)
 
--- the run of what is left at the end, where something is
+-- the run of the writes left at the end, if there are some
 abbrev pub rest_run : List Write → List Contents
 rest_run [] = []
 rest_run (w ∷ ws) = flushed (w ∷ ws) ∷ []
@@ -42,11 +42,11 @@ rest_run (w ∷ ws) = flushed (w ∷ ws) ∷ []
 abbrev pub all_runs : Flushing → List Contents
 all_runs f = f.runs ++ rest_run f.newest
 
--- a run in front of older ones: ids go on from the first, and slots from 0
+-- a run before older ones: ids go on from the first, and slots from 0
 abbrev pub with_run : ℕ → List PlacedRun → Contents → List PlacedRun
 with_run first_id older run = record { id = first_id + length older; slot = length older; run = run } ∷ older
 
--- runs with their places, the newest first, of runs that stand oldest first
+-- runs with their places, the newest first; the given ones come oldest first
 abbrev pub placed_runs : ℕ → List Contents → List PlacedRun
 placed_runs first_id runs = fold (with_run first_id) [] runs
 

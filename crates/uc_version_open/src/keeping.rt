@@ -6,7 +6,7 @@ ghost use Rattle.uc_version_open.specs.Refusal as refusals;
 use std::alloc::{AllocError, Global};
 use std::collections::BTreeSet;
 
-/// The first sequence above the last one.
+/// The first of some keeps that is above the last sequence.
 pub(crate) fn first_ahead(keeps: &[u64], last: u64) -> Option<u64>
     ensures { result ≡ refusals.first_ahead last keeps.now }
 {

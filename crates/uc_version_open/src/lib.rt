@@ -1,12 +1,14 @@
 //! A log's writes made into a store's first version.
 //!
-//! An [`Opener`] takes the writes of a log one after the other, so that no list of them is ever held: a full memtable
+//! An [`Opener`] takes the writes of a log one after the other, so no list of them is ever held. A full memtable
 //! becomes a run when the next write comes. It refuses nothing before its end, since a fault of the log comes before a
-//! refused opening. Read `specs/Refusal.antt` first, which says when a store isn't opened, then
-//! `specs/Progress.antt` and `opener.rt`. What a store opens with is `opened` in `uc_version_state`.
+//! refused opening. Read `specs/Refusal.antt` first, which says when a store isn't opened, then `specs/Progress.antt`
+//! and `opener.rt`. A store opens with `opened` of `uc_version_state`.
 //!
-//! [`recover`] goes once through a write-ahead log and hands each write, borrowed from the bytes where it stands, to an
-//! opener. Read `recovery.rt`.
+//! [`recover`] goes once through a write-ahead log and hands each write, borrowed from the log's bytes, to an opener.
+//! Read `recovery.rt`.
+//!
+//! An `Err(AllocError)`, or a variant `Memory`, comes only if an allocation fails.
 #![tactic(auto)]
 
 mod keeping;

@@ -11,8 +11,8 @@ use uc_bytes::WriteRef;
 use uc_claims::MOST_SLOTS;
 use uc_run::{Memtable, Run};
 
-/// The memtables of an opening. A full one is flushed when the next write comes, so that whatever can fail comes before
-/// the first change.
+/// The memtables of an opening. A full one is flushed when the next write comes, so all that can fail comes before the
+/// first change.
 #[derive(Debug, Drop)]
 pub(crate) struct Memtables {
     /// The runs of all but the newest, the oldest first.
@@ -29,7 +29,7 @@ impl Model for Memtables {
 }
 
 impl Memtables {
-    /// No memtables. It takes no memory.
+    /// No memtables. It doesn't allocate.
     pub(crate) fn new(alloc: Global) -> Memtables
         ensures { result ≡ record { runs = []; newest = [] } }
     {
@@ -46,14 +46,14 @@ impl Memtables {
         self.newest.size() >= limit
     }
 
-    /// Whether a write more begins a memtable without a slot for its run.
+    /// Whether the next write begins a memtable that has no slot for its run.
     fn is_spent(&self, limit: u64) -> bool
         ensures { result ≡ steps.is_spent limit self.now }
     {
         self.is_full(limit) && self.runs.len() >= MOST_SLOTS - 1
     }
 
-    /// Flushes the newest, and begins one with this write. It fails only for want of memory, and then changes nothing.
+    /// Flushes the newest, and begins one with this write. An `Err` changes nothing.
     fn begin(&mut self, alloc: Global, write: &WriteRef<'_>) -> Result<(), AllocError>
         requires some { self.old.newest ≢ [] }
         requires above { 0 < write.now.seq }
@@ -76,7 +76,7 @@ impl Memtables {
         }
     }
 
-    /// Inserts a write. It fails only for want of memory, and then changes nothing.
+    /// Inserts a write. An `Err` changes nothing.
     fn insert(&mut self, alloc: Global, limit: u64, write: &WriteRef<'_>) -> Result<(), AllocError>
         requires limit { 1 ≤ limit }
         requires above { last_of 0 self.old.newest < write.now.seq }
@@ -107,8 +107,8 @@ impl Memtables {
     }
 }
 
-/// Inserts a write while memtables are held, and lets go of them all where one has no slot for its run. It fails only
-/// for want of memory, and then changes nothing.
+/// Inserts a write. If the store would need more runs than slots, drops everything: the opening will be refused. An
+/// `Err` changes nothing.
 pub(crate) fn hold_write(
     alloc: Global,
     limit: u64,

@@ -14,10 +14,10 @@ pub enum OpenError {
     /// An option isn't in its range.
     #[error("an option is out of range")]
     BadOption,
-    /// This snapshot, the first such one that was given, is above the last write.
+    /// This snapshot, the first one given that is, is above the last write.
     #[error("snapshot {0} is above the last write")]
     SnapshotAhead(u64),
-    /// The writes are more memtables than a store has slots.
+    /// The writes need more runs than a store has slots.
     #[error("the writes make more runs than a store has slots")]
     TooManyRuns,
     /// Memory ran out.

@@ -22,8 +22,8 @@ use uc_version_state::{Options, Version, opening_gives_a_version};
 
 /// A store that is being opened, by the writes of a log one after the other.
 ///
-/// It refuses nothing before [`finish`](Opener::finish), since a fault of the log comes before a refused opening. What it
-/// holds is the runs so far and one memtable, and neither where the store can't open any more.
+/// It refuses nothing before [`finish`](Opener::finish), since a fault of the log comes before a refused opening. It
+/// holds the runs so far and one memtable, or neither once the store can't open any more.
 #[derive(Debug, Drop)]
 pub struct Opener {
     options: Options,
@@ -61,7 +61,7 @@ fn version_of(
 }
 
 impl Opener {
-    /// A store of which nothing has come yet. Whatever the options are, it is refused at the end alone. It takes no memory.
+    /// A store without writes so far. Bad options are refused only at the end. It doesn't allocate.
     pub fn new(alloc: Global, options: Options) -> Opener
         ensures { result ≡ progress_of options [] }
     {
@@ -76,16 +76,16 @@ impl Opener {
         }
     }
 
-    /// The last sequence, or 0 where no write has come.
+    /// The last sequence, or 0 if no write has come.
     pub fn last(&self) -> u64
         ensures { result ≡ self.now.last }
     {
         self.last
     }
 
-    /// Takes the next write of the log, whose sequence is above all before it and at most
-    /// [`MAX_SEQUENCE`](uc_bytes::MAX_SEQUENCE). It costs a copy of the texts, amortized, and the flush of a memtable where
-    /// that is full. It fails only for want of memory, and then takes nothing.
+    /// Takes the next write of the log. Its sequence is above all before it and at most
+    /// [`MAX_SEQUENCE`](uc_bytes::MAX_SEQUENCE). It costs a copy of the texts, amortized, and the flush of a memtable
+    /// if that is full. An `Err` takes nothing.
     pub fn insert(&mut self, alloc: Global, write: &WriteRef<'_>) -> Result<(), AllocError>
         requires above { self.old.last < write.now.seq }
         requires below { write.now.seq < 2 ^ 56 }
@@ -99,9 +99,9 @@ impl Opener {
         Ok(())
     }
 
-    /// The version of the writes that came, which keeps these sequences and the last one. It is refused for the first of
-    /// these: an option out of its range, a sequence above the last one, more memtables than slots; and, where none of these
-    /// holds, for want of memory. For k sequences it takes k log k steps.
+    /// The version of the writes that came, which keeps these sequences and the last one. An `Err` names the first of
+    /// these: an option out of its range, a sequence above the last one, more memtables than slots. For k sequences it
+    /// takes k log k steps.
     pub fn finish(self, alloc: Global, keeps: &[u64]) -> Result<Version, OpenError>
         ensures ok { (options : OptionsOf) (writes : List WriteOf) → IsRising 0 writes → self ≡ progress_of options writes →
             let opening : OpeningOf = record { writes = writes; keeps = keeps.now; options = options } in

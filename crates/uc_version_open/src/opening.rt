@@ -25,7 +25,7 @@ fn opener_after(alloc: Global, options: Options, writes: &[Write]) -> Result<Ope
     Ok(opener)
 }
 
-/// The version that a store with these writes opens with, as [`Opener`] makes it of them one after the other.
+/// The version that a store with these writes opens with, as [`Opener`] makes it of them.
 pub fn open_version(
     alloc: Global,
     writes: &Writes,

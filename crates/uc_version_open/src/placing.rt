@@ -7,7 +7,7 @@ use std::sync::Arc;
 use uc_run::Run;
 use uc_version_state::Placed;
 
-/// Runs, the oldest first, with their places, the newest first. There are never more than slots.
+/// Runs with their places, the newest first. The given ones come oldest first.
 pub(crate) fn placed_runs(
     alloc: Global,
     first_id: u64,

@@ -11,7 +11,7 @@ use std::alloc::{AllocError, Global};
 use uc_batch::{Advance, BatchReader, BatchWrites, Ended};
 use uc_version_state::Options;
 
-/// A store that is being opened, once it has the writes of a log up to the log's first fault, and how far that was read.
+/// A store that is being opened, with the writes of a log up to the log's first fault, and how far that was read.
 #[derive(Debug, Drop)]
 pub struct Recovered {
     /// The store, which has the writes.
@@ -36,9 +36,8 @@ fn insert_batch(
     Ok(())
 }
 
-/// Takes the writes of a log, up to its first fault, into a store that is being opened under these options. It goes once over
-/// the log, and holds what the opener holds, and one buffer for a batch that stands in several records. It fails only for want
-/// of memory.
+/// Takes the writes of a log, up to its first fault, into a store that is being opened under these options. It goes
+/// once over the log. It holds what the opener holds, and one buffer for a batch of several records.
 pub fn recover(alloc: Global, log: &[u8], options: Options) -> Result<Recovered, AllocError>
     ensures opener { IfOk result (λ recovered. recovered.opener ≡ progress_of options (log_writes log.now).list) }
     ensures ended { IfOk result (λ recovered. recovered.ended ≡ (log_writes log.now).ended) }
