@@ -57,8 +57,8 @@ impl<'a> Cursor<'a> {
         self.run.recall();
     }
 
-    /// The key of the first point that isn't passed, without a search. After `seek(low)` it is the least key at or
-    /// above `low`.
+    /// The key of the first point that isn't passed, without a search. After `seek(low)` on a cursor that isn't past
+    /// `low`, it is the least key at or above `low`.
     pub fn key(&self) -> Option<&'a [u8]>
         ensures there { option_map (λ key. key.now) result ≡
             option_map (λ p. p.key) (slice_get self.now.run.points self.now.place) }
