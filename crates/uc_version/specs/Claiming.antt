@@ -21,13 +21,13 @@ abbrev pub first_busy : List ℕ → List ℕ → Option ℕ
 first_busy claimed [] = None
 first_busy claimed (slot ∷ slots) = if list_any (λ s. s == slot) claimed then Some slot else first_busy claimed slots
 
--- why a stretch of so many runs can't be claimed, whoever has them: it isn't all there, or it is no two runs
+-- why a stretch among `n` runs can't be claimed, whoever has them: it isn't all there, or it has fewer than two runs
 abbrev pub range_refusal : ℕ → Stretch → Option ClaimError
 range_refusal n s =
     if nat_lt n s.first || nat_lt (n - s.first) s.count then Some OutOfRange
     else if nat_lt s.count 2 then Some TooNarrow else None
 
--- Why a stretch can't be claimed: for that, or because a run of it is claimed, of which the newest is named.
+-- Why a stretch can't be claimed: for that, or because runs of it are claimed, of which the newest is named.
 abbrev pub claim_refusal : Owner → Stretch → Option ClaimError
 claim_refusal o s =
     option_or (range_refusal (length o.version.runs) s)

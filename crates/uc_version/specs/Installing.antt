@@ -1,4 +1,4 @@
--- Installs of what was compacted of claimed stretches.
+-- Installs of compacted, claimed stretches.
 use Rattle.std.specs.Prelude.{◌≢◌, ℕ, ◌-◌, List, Option, Some, None, map, nat_lt, if◌then◌else◌}
 use Rattle.uc_oper.specs.Operation.{Operation}
 use Rattle.uc_compact_rules.specs.Inputs.{Compaction}
@@ -26,7 +26,7 @@ stretch_of o c = stretch_in (held_by o.claims c.number)
 abbrev pub claimed_runs : Owner → Claim → List PlacedRun
 claimed_runs o c = runs_held o.version (stretch_of o c)
 
--- an id is left for the output: the last of 64 bits is never given
+-- an id is left for the output: 2^64 - 1 is never given
 abbrev pub IdLeft : Stored → Type 0
 IdLeft v = installs.IdLeft v
 
@@ -38,7 +38,7 @@ place_held h = record { first = h.first; count = h.count }
 abbrev pub compaction_of : Stored → HeldStretch → Compaction
 compaction_of v h = compaction_at v (place_held h)
 
--- when what was compacted may be installed for it
+-- when a compaction may be installed for it
 abbrev pub MayReplace : Stored → HeldStretch → Compaction → Type 0
 MayReplace v h made = IsInstallable v (runs_held v h) made
 
@@ -46,13 +46,13 @@ MayReplace v h made = IsInstallable v (runs_held v h) made
 abbrev pub IsRefused : Stored → HeldStretch → Compaction → InstallError → Type 0
 IsRefused v h made error = IsNotInstallable v (runs_held v h) made error × (error ≢ Stale)
 
--- a held stretch where `count` runs, behind the first ones, became one: it moves up where it is behind them
+-- a held stretch, after `count` runs that come after the first ones became one: it moves up if it comes after them
 abbrev pub moved_up : ℕ → ℕ → Option HeldStretch → Option HeldStretch
 moved_up first count None = None
 moved_up first count (Some h) =
     if nat_lt first h.first then Some (record h { first = h.first - (count - 1) }) else Some h
 
--- the owner after the install: the claim is given back
+-- the owner after the install, which gives the claim back
 abbrev pub after_install : Operation → Owner → Claim → Compaction → Owner
 after_install m o c made = record o {
   version = replaced (stretch_of o c).first (stretch_of o c).count (output_of m made) o.version;

@@ -4,7 +4,7 @@ use Rattle.uc_run_entry.specs.Size.{size_of}
 use Rattle.uc_version_state.specs.declared.candidate.Candidate.{Candidate}
 use Rattle.uc_version_state.specs.Versions.{PlacedRun, Stored}
 
--- a run as a candidate, which is claimed where its slot is
+-- a run as a candidate, which is claimed if its slot is
 abbrev pub candidate_of : (ℕ → Bool) → PlacedRun → Candidate
 candidate_of is_claimed p = record { size = size_of p.run; claimed = is_claimed p.slot }
 

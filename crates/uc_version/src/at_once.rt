@@ -1,4 +1,4 @@
-//! Stretches that are compacted at once: claimed, compacted and put in place by one call.
+//! Stretches that are compacted at once: one call claims, compacts and installs.
 ghost use Rattle.std.specs.Prelude.{◌≡◌, None, true, IfOk, IfErr};
 ghost use Rattle.uc_version_state.specs.Installs.{IdLeft, MayInstall};
 ghost use Rattle.uc_version.specs.Claiming as claiming;
@@ -17,7 +17,7 @@ use uc_oper::Operator;
 use uc_version_state::Stretch;
 
 impl<O: Operator> Owned<O> {
-    /// What a claim's runs become, if an id is left for it. Nothing is compacted in vain.
+    /// What a claim's runs become, if an id is left for it; otherwise nothing is compacted.
     fn compaction(
         &self,
         rt: &(impl Threads + Sync),
@@ -38,7 +38,7 @@ impl<O: Operator> Owned<O> {
         Ok(self.compact(rt, alloc, claim)?)
     }
 
-    /// Puts what a claim's runs became in their place. The answer is its id.
+    /// Replaces a claim's runs by what they became. Returns its id.
     fn put_in_place(&mut self, claim: OwnedClaim, made: Compacted<O>) -> u64
         requires held { claiming.is_held self.old claim ≡ true }
         requires left { IdLeft self.old.version }
@@ -54,7 +54,7 @@ impl<O: Operator> Owned<O> {
         }
     }
 
-    /// Gives a claim back that nothing came of, and says why.
+    /// Gives a claim back after a failure, and returns the error.
     fn give_up(&mut self, claim: OwnedClaim, error: CompactError) -> CompactError
         requires { claiming.is_held self.old claim ≡ true }
         ensures { (result ≡ error) × (self.new ≡ claiming.without_claim self.old claim) }
@@ -63,9 +63,9 @@ impl<O: Operator> Owned<O> {
         error
     }
 
-    /// Claims a stretch, compacts it under the keeps of this moment, and puts what it became in place, in one call. The answer is
-    /// the id of the new run; the claims that are held stay. Where the stretch can't be claimed, no id is left or memory runs
-    /// out, the store is as it was, and the first of these is told.
+    /// Claims a stretch, compacts it under the current keeps, and installs the result, in one call. Returns the id of
+    /// the new run; the claims that are held stay. If the stretch can't be claimed, no id is left or memory runs out,
+    /// the store is as it was, and the first of these is returned.
     pub fn compact_now(
         &mut self,
         rt: &(impl Threads + Sync),

@@ -7,16 +7,16 @@ pub enum ClaimError {
     /// The stretch isn't all there.
     #[error("the store has no such runs")]
     OutOfRange,
-    /// It is fewer than two runs, so there is nothing to compact.
+    /// It has fewer than two runs, so there is nothing to compact.
     #[error("a compaction takes two runs or more")]
     TooNarrow,
     /// The run with this slot is claimed already: the newest of those that are.
     #[error("slot {0} is claimed")]
     Busy(usize),
-    /// Its runs aren't neighbours any more. An owner of a store never says so.
+    /// Its runs aren't neighbours any more. An owner of a store never returns this.
     #[error("the runs have been replaced")]
     Moved,
-    /// Memory ran out. An owner of a store never says so.
+    /// Memory ran out. An owner of a store never returns this.
     #[error("out of memory")]
     Memory,
 }

@@ -40,7 +40,7 @@ pub(crate) fn held_stretch(claims: &[Option<HeldStretch>], claim: &OwnedClaim) -
     }
 }
 
-/// A held stretch where `count` runs, behind the first ones, became one.
+/// A held stretch, after `count` runs that come after the first ones became one.
 fn moved_up(held: Option<HeldStretch>, first: usize, count: usize) -> Option<HeldStretch>
     ensures { result ≡ installing.moved_up first count held }
 {
@@ -54,7 +54,7 @@ fn moved_up(held: Option<HeldStretch>, first: usize, count: usize) -> Option<Hel
     }
 }
 
-/// Moves the stretches up that stand behind `count` runs which became one.
+/// Moves up the stretches that come after `count` runs which became one.
 pub(crate) fn move_up(claims: &mut [Option<HeldStretch>], first: usize, count: usize)
     ensures { claims.new ≡ map (installing.moved_up first count) claims.old }
 {

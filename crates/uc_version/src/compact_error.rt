@@ -12,7 +12,7 @@ pub enum CompactError {
     /// It can't be claimed.
     #[error("the runs can't be claimed: {0}")]
     NotClaimed(ClaimError),
-    /// No id is left for what it becomes: 2^64 - 1 is never given.
+    /// No id is left for its result: 2^64 - 1 is never given.
     #[error("no run numbers are left")]
     IdsSpent,
     /// Memory ran out.

@@ -7,10 +7,10 @@ use uc_version_state::Stretch;
 /// The most claims that are held at once: each has two slots or more.
 pub const MOST_CLAIMS: usize = MOST_SLOTS / 2;
 
-/// The stretch of a claim that is held: where it stands now, and the ids of its newest and its oldest run.
+/// The stretch of a claim that is held: its present place, and the ids of its newest and its oldest run.
 #[derive(Clone, Copy, Debug, PartialEq, Eq)]
 pub struct HeldStretch {
-    /// How many runs stand above it, which are newer.
+    /// How many newer runs come before it.
     pub first: usize,
     /// How many runs it has.
     pub count: usize,
@@ -21,7 +21,7 @@ pub struct HeldStretch {
 }
 
 impl HeldStretch {
-    /// Where it stands.
+    /// Its place.
     pub fn place(&self) -> Stretch
         ensures { result ≡ record { first = self.now.first; count = self.now.count } }
     {

@@ -18,8 +18,8 @@ ghost use Rattle.uc_version.specs.declared.install_error.InstallError.TheVariant
 use uc_oper::Operator;
 use uc_version_state::{install_gives_a_version, picks_are_unclaimed_runs};
 
-/// What was compacted of claimed runs, and is installable in a version where the runs with their ids are the same still, is an
-/// event that may happen to that version.
+/// If a version still has the claimed runs under their ids, and a compaction of them is installable there, its install
+/// is an event that may happen to that version.
 pub fn what_fits_may_be_installed<O: Operator>()
     ensures { (v : Stored) (claimed : List PlacedRun) (made : Compaction) → 2 ≤ length claimed →
         Stand made.inputs made.keeps →
@@ -27,7 +27,7 @@ pub fn what_fits_may_be_installed<O: Operator>()
         MayInstall O.meaning v (install_for O.meaning claimed made) }
 {}
 
-/// An install for a claim that is held is an event that may happen to the version, and leaves the version after it.
+/// An install for a held claim is an event that may happen to the version, and leaves the version after it.
 pub fn installs_are_events<O: Operator>()
     ensures may { (o : Owner) (c : Claim) (made : Compaction) → IsOwner o → is_held o c ≡ true →
         Stand made.inputs made.keeps →
@@ -40,7 +40,7 @@ pub fn installs_are_events<O: Operator>()
         installed (install_of O.meaning o.version (stretch_of o c) made) o.version }
 {}
 
-/// What is picked can be claimed: it is there, has two runs or more, and nobody has claimed any of them.
+/// A pick can be claimed: it is there, has two runs or more, and nobody has claimed any of them.
 pub fn picks_can_be_claimed()
     ensures { (o : Owner) (s : Stretch) → IsOwner o → picked o.options (candidates_of o.version (is_busy o)) ≡ Some s →
         claim_refusal o s ≡ None }
@@ -48,7 +48,7 @@ pub fn picks_can_be_claimed()
     picks_are_unclaimed_runs();
 }
 
-/// What an owner is left by claims, by giving them back and by installs is an owner again.
+/// After a claim, after giving one back and after an install there is an owner again.
 pub fn owners_stay_owners<O: Operator>()
     ensures claimed { (o : Owner) (s : Stretch) → IsOwner o → claim_refusal o s ≡ None →
         IsOwner (with_claim o (claim_of o s) s) }
@@ -69,14 +69,13 @@ pub fn claims_keep_their_runs<O: Operator>()
         other.number ≢ c.number → claimed_runs (after_install O.meaning o c made) other ≡ claimed_runs o other }
 {}
 
-/// A claim that isn't refused is held from then on.
+/// A claim that isn't refused is held after it is made.
 pub fn claims_are_held()
     ensures { (o : Owner) (s : Stretch) → IsOwner o → claim_refusal o s ≡ None →
         is_held (with_claim o (claim_of o s) s) (claim_of o s) ≡ true }
 {}
 
-/// What is claimed can be compacted under the keeps of the moment, and be installed where an id is left. For nothing else is it
-/// refused.
+/// A claim can be compacted under the current keeps, and be installed if an id is left. It is refused for nothing else.
 pub fn claims_can_be_compacted()
     ensures stand { (o : Owner) (c : Claim) → IsOwner o → is_held o c ≡ true →
         Stand (compaction_of o.version (stretch_of o c)).inputs (compaction_of o.version (stretch_of o c)).keeps }
@@ -87,8 +86,8 @@ pub fn claims_can_be_compacted()
         (error ≡ IdsSpent) × ¬ IdLeft o.version }
 {}
 
-/// A stretch that can be claimed can be compacted at once where an id is left: it is claimed, its compaction is an event that may
-/// happen, and the claim is given back with the install, so that the owner that is left holds the claims that it held.
+/// A stretch that can be claimed can be compacted at once if an id is left. It is claimed, its compaction is an event
+/// that may happen, and the install gives the claim back. So the owner holds the same claims as before.
 pub fn claimable_stretches_can_be_compacted<O: Operator>()
     ensures may { (o : Owner) (s : Stretch) → IsOwner o → claim_refusal o s ≡ None → IdLeft o.version →
         MayInstall O.meaning o.version (install_at O.meaning o.version s) }

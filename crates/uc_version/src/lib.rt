@@ -1,10 +1,12 @@
-//! The store in one owner's hands: which stretches of runs are compacted, and what is put in their place.
+//! The store of one owner: which stretches of runs are compacted, and what replaces them.
 //!
-//! An [`Owned`] has a version, and the claims of those who compact stretches of its runs. Read `specs/Owners.antt` first,
-//! then `specs/Claiming.antt` and `specs/Installing.antt`, and `owned.rt`; and `specs/AtOnce.antt` with `at_once.rt`. What
-//! holds of compactions of any version's runs, and of their installs, whoever claims them, stands in `specs/Compacting.antt`,
-//! `stretches.rt` and `refusal.rt`. Versions and the picker stand in `uc_version_state`, whose public items are given out
-//! here too.
+//! An [`Owned`] has a version, and the claims of those who compact stretches of its runs. Read `specs/Owners.antt`
+//! first, then `specs/Claiming.antt`, `specs/Installing.antt` and `owned.rt`; and `specs/AtOnce.antt` with
+//! `at_once.rt`. `specs/Compacting.antt`, `stretches.rt` and `refusal.rt` are about compactions of any version's runs,
+//! and their installs, whoever claims them. Versions and the picker are in `uc_version_state`. This crate re-exports
+//! its public items.
+//!
+//! An `Err(AllocError)`, or a variant `Memory`, comes only if an allocation fails.
 #![tactic(auto)]
 
 mod at_once;

@@ -12,10 +12,9 @@ use uc_oper::Operator;
 use uc_version_open::{OpenError, open_version};
 use uc_version_state::Options;
 
-/// A store of these writes, which keeps these sequences and the last one: each write is inserted into a memtable, which is
-/// flushed to a run as soon as it has `memtable` bytes, and at the end (RocksDB wiki, "MemTable"). It is refused for the
-/// first of these: an option out of its range, a sequence above the last one, more runs than slots; and for want of
-/// memory.
+/// A store of these writes, which keeps these sequences and the last one. Each write is inserted into a memtable, which
+/// is flushed to a run as soon as it has `memtable` bytes, and at the end (RocksDB wiki, "MemTable"). An `Err` names
+/// the first of these: an option out of its range, a sequence above the last one, more runs than slots.
 pub fn open_plain<O: Operator>(
     alloc: Global,
     writes: &Writes,

@@ -1,4 +1,4 @@
-//! [`Owned`]: a store that one owner has.
+//! [`Owned`]: a store with one owner.
 ghost use Rattle.std.specs.Prelude.{◌≡◌, ◌<◌, Some, None, true, IfOk, IfErr};
 ghost use Rattle.uc_claims.specs.declared.table.TheConstants.{MOST_SLOTS};
 ghost use Rattle.uc_version_state.specs.Picks.{picked};
@@ -26,7 +26,7 @@ use uc_compact::Compacted;
 use uc_oper::Operator;
 use uc_version_state::{Options, Stretch, Version, install_gives_a_version};
 
-/// A store that one owner has: a version, and the claims of stretches of its runs.
+/// A store with one owner: a version, and the claims of stretches of its runs.
 #[derive(Drop)]
 pub struct Owned<O: Operator> {
     version: Version,
@@ -49,7 +49,7 @@ impl<O: Operator> Model for Owned<O> {
 }
 
 impl<O: Operator> Owned<O> {
-    /// A store with this version, of which nothing is claimed. It fails only for want of memory.
+    /// A store with this version and no claims.
     pub fn new(alloc: Global, version: Version, options: Options) -> Result<Owned<O>, AllocError>
         requires { are_good options ≡ true }
         ensures { IfOk result (λ owned. owned ≡ unclaimed version options) }
@@ -69,7 +69,7 @@ impl<O: Operator> Owned<O> {
         })
     }
 
-    /// What holds of every owner. It does nothing.
+    /// What holds of every owner. Proof step: does nothing when it runs.
     pub fn recall(&self)
         ensures { IsOwner self.now }
     {
@@ -91,8 +91,7 @@ impl<O: Operator> Owned<O> {
         self.held.has(slot)
     }
 
-    /// Which stretch is compacted next, of runs that aren't claimed (RocksDB wiki, "Universal Compaction"). It takes no
-    /// memory.
+    /// Which stretch of unclaimed runs is compacted next (RocksDB wiki, "Universal Compaction"). It doesn't allocate.
     pub fn pick(&self) -> Option<Stretch>
         ensures { result ≡ picked self.now.options (candidates_of self.now.version (is_busy self.now)) }
     {
@@ -109,8 +108,8 @@ impl<O: Operator> Owned<O> {
         }
     }
 
-    /// Claims a stretch, so that it may be compacted. It is refused where the stretch isn't all there, has fewer than two
-    /// runs, or has a run that is claimed, the newest of which is named; the store is then as it was. It takes no memory.
+    /// Claims a stretch, so that it may be compacted. It is refused if the stretch isn't all there, has fewer than two
+    /// runs, or has claimed runs, of which the newest is named. Then the store is as it was. It doesn't allocate.
     pub fn claim(&mut self, stretch: Stretch) -> Result<OwnedClaim, ClaimError>
         ensures ok { IfOk result (λ claim.
             (claiming.claim_refusal self.old stretch ≡ None)
@@ -142,7 +141,7 @@ impl<O: Operator> Owned<O> {
         })
     }
 
-    /// Gives a claim back without a change. It takes no memory.
+    /// Gives a claim back without a change. It doesn't allocate.
     pub fn abandon(&mut self, claim: OwnedClaim)
         requires { claiming.is_held self.old claim ≡ true }
         ensures { self.new ≡ claiming.without_claim self.old claim }
@@ -152,8 +151,7 @@ impl<O: Operator> Owned<O> {
         self.claims[claim.number] = None;
     }
 
-    /// Compacts the runs of a claim under the keeps of this moment, and with the oldest run exactly where it is the last
-    /// of them. It fails only for want of memory.
+    /// Compacts the runs of a claim under the current keeps, and with the oldest run exactly if it is the last of them.
     pub fn compact(
         &self,
         rt: &(impl Threads + Sync),
@@ -172,9 +170,9 @@ impl<O: Operator> Owned<O> {
         compact_stretch::<O>(rt, alloc, &self.version, held.place())
     }
 
-    /// Puts what was compacted in place of the claim's runs, and gives the claim back. The answer is the id of the new run. It
-    /// copies no run and takes no memory; before anything is changed it goes over the points of the claim's runs, which takes up
-    /// to four tenths of the time of their compaction. A refusal hands back both, and the store is as it was.
+    /// Replaces the claim's runs by what they were compacted to, and gives the claim back. Returns the id of the new
+    /// run. It copies no run and doesn't allocate. Before any change it goes over the points of the claim's runs, which
+    /// takes up to four tenths of the time of their compaction. A refusal hands back both, and the store is as it was.
     pub fn install(
         &mut self,
         claim: OwnedClaim,

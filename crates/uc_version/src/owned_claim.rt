@@ -3,9 +3,9 @@ ghost use Rattle.std.specs.Prelude.{◌≡◌};
 
 use std::marker::Model;
 
-/// The right to compact a stretch of an [`Owned`](crate::Owned) store: its number, and the ids of the newest and the oldest
-/// run of the stretch. Give it back by [`abandon`](crate::Owned::abandon) or [`install`](crate::Owned::install): dropped, it
-/// leaves its runs claimed for good.
+/// The right to compact a stretch of an [`Owned`](crate::Owned) store: its number, and the ids of the newest and the
+/// oldest run of the stretch. Give it back by [`abandon`](crate::Owned::abandon) or [`install`](crate::Owned::install):
+/// if it is dropped, its runs stay claimed for good.
 #[derive(Debug, Drop)]
 pub struct OwnedClaim {
     pub(crate) number: usize,

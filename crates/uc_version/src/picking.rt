@@ -9,7 +9,7 @@ ghost use Rattle.uc_version.specs.Picking.{candidate_of, candidates_of};
 use uc_claims::MOST_SLOTS;
 use uc_version_state::{Candidate, Options, Placed, Stretch, Version, pick_among};
 
-/// What the picker looks at of a run.
+/// A run as the picker sees it.
 fn candidate(placed: &Placed, busy: &[bool; MOST_SLOTS]) -> Candidate
     requires { placed.now.slot < MOST_SLOTS }
     ensures { result ≡ candidate_of (λ slot. slice_index_or busy.now slot false) placed.now }
@@ -20,7 +20,7 @@ fn candidate(placed: &Placed, busy: &[bool; MOST_SLOTS]) -> Candidate
     }
 }
 
-/// The runs as candidates, in front of places that are of no account.
+/// The runs as candidates; the places after them are ignored.
 fn candidates(runs: &[Placed], busy: &[bool; MOST_SLOTS]) -> [Candidate; MOST_SLOTS]
     requires few { length runs.now ≤ MOST_SLOTS }
     requires below { AllByRecursion (λ slot. slot < MOST_SLOTS) (slots_of runs.now) }
@@ -36,8 +36,8 @@ fn candidates(runs: &[Placed], busy: &[bool; MOST_SLOTS]) -> [Candidate; MOST_SL
     all
 }
 
-/// Which neighbouring runs of a version are compacted next, where the runs with these slots are claimed already
-/// (RocksDB wiki, "Universal Compaction"). It takes no memory.
+/// Which neighbouring runs of a version are compacted next; `busy` has the slots of claimed runs (RocksDB wiki,
+/// "Universal Compaction"). It doesn't allocate.
 pub fn pick(version: &Version, options: &Options, busy: &[bool; MOST_SLOTS]) -> Option<Stretch>
     ensures { result ≡ picked options.now (candidates_of version.now (λ slot. slice_index_or busy.now slot false)) }
 {

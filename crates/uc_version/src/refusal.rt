@@ -1,4 +1,4 @@
-//! Why what was compacted isn't installed in place of claimed runs.
+//! Why a compaction isn't installed in place of claimed runs.
 ghost use Rattle.std.specs.Prelude.{◌≡◌, ◌≤◌, ◌↔◌, IsTrue, IfSome, IfNone, length};
 ghost use Rattle.uc_claims.specs.declared.table.TheConstants.{MOST_SLOTS};
 ghost use Rattle.uc_version_state.specs.Versions as versions;
@@ -30,7 +30,7 @@ pub fn are_inputs<O: Operator>(made: &Compacted<O>, runs: &[Placed]) -> bool
     true
 }
 
-/// The error that says why a version refuses what was compacted.
+/// The error for a version's refusal of a compaction.
 pub fn error_of(refusal: Refusal) -> InstallError
     ensures { result ≡ compacting.error_of refusal }
 {
@@ -42,8 +42,8 @@ pub fn error_of(refusal: Refusal) -> InstallError
     }
 }
 
-/// Why a version refuses what was compacted in place of the claimed runs, whatever it was made of, if it does. It compares
-/// no points and takes no memory.
+/// Why a version refuses a compaction in place of the claimed runs, if it does. It ignores what the compaction was made
+/// of, compares no points and doesn't allocate.
 pub fn present_refusal<O: Operator>(
     claimed: &[Placed],
     present: &Version,
@@ -59,8 +59,8 @@ pub fn present_refusal<O: Operator>(
     present.replace_refusal(&ids[..claimed.len()], &terms)
 }
 
-/// Why what was compacted may not be installed in place of the claimed runs in the version of this moment, if it may not. It
-/// goes over the points of the claimed runs, and takes no memory.
+/// Why a compaction may not be installed in place of the claimed runs in the present version, or `None`. It goes over
+/// the points of the claimed runs, and doesn't allocate.
 pub fn install_refusal<O: Operator>(
     claimed: &[Placed],
     present: &Version,

@@ -19,7 +19,7 @@ use uc_claims::MOST_SLOTS;
 use uc_run::Run;
 use uc_version_state::{Placed, Stretch, Version};
 
-/// The runs of a stretch that may be claimed, where they are two or more that are there.
+/// The runs of a stretch, if there are at least two and all are there.
 pub fn runs_of(runs: &[Placed], stretch: Stretch) -> Result<&[Placed], ClaimError>
     ensures ok { IfOk result (λ part.
         (range_refusal (length runs.now) stretch ≡ None)
@@ -35,14 +35,14 @@ pub fn runs_of(runs: &[Placed], stretch: Stretch) -> Result<&[Placed], ClaimErro
     Ok(&runs[stretch.first..stretch.first + stretch.count])
 }
 
-/// The id of the newest of some runs; 0 where there is none.
+/// The id of the newest of some runs; 0 if there is none.
 pub(crate) fn newest_id(runs: &[Placed]) -> u64
     ensures { result ≡ installs.newest_id (ids_of runs.now) }
 {
     runs.first().map_or(0, Placed::id)
 }
 
-/// The id of the oldest of some runs; 0 where there is none.
+/// The id of the oldest of some runs; 0 if there is none.
 pub(crate) fn last_id(runs: &[Placed]) -> u64
     ensures { result ≡ owners.last_id (ids_of runs.now) }
 {
@@ -68,7 +68,7 @@ pub(crate) fn held_runs<'a>(version: &'a Version, held: &HeldStretch) -> &'a [Pl
     stretch_runs(version, held.place())
 }
 
-/// The runs again, shared.
+/// Shares of the runs.
 pub(crate) fn shared_runs(alloc: Global, runs: &[Placed]) -> Result<Vec<Arc<Run>>, AllocError>
     ensures { IfOk result (λ shared. map arc_value shared.items ≡ contents_of runs.now) }
 {
@@ -79,7 +79,7 @@ pub(crate) fn shared_runs(alloc: Global, runs: &[Placed]) -> Result<Vec<Arc<Run>
     Ok(shared)
 }
 
-/// Their slots, in front of places that are of no account.
+/// Their slots; the places after them are ignored.
 pub fn slots_of(runs: &[Placed]) -> [usize; MOST_SLOTS]
     requires { length runs.now ≤ MOST_SLOTS }
     ensures { take (length runs.now) result ≡ versions.slots_of runs.now }
@@ -91,7 +91,7 @@ pub fn slots_of(runs: &[Placed]) -> [usize; MOST_SLOTS]
     slots
 }
 
-/// Their ids, in front of places that are of no account.
+/// Their ids; the places after them are ignored.
 pub fn run_ids(runs: &[Placed]) -> [u64; MOST_SLOTS]
     requires { length runs.now ≤ MOST_SLOTS }
     ensures { take (length runs.now) result ≡ ids_of runs.now }

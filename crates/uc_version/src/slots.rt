@@ -13,7 +13,7 @@ use crate::runs::slots_of;
 use uc_claims::{ClaimTable, HeldSlots, MOST_SLOTS};
 use uc_version_state::Placed;
 
-/// Takes the slots of the runs, the newest first, or none of them where one is taken: the first such one is named.
+/// Takes the slots of the runs, the newest first, or none of them if one is taken: the first such one is named.
 pub(crate) fn claim_slots(
     table: &ClaimTable,
     held: &mut HeldSlots,

@@ -1,4 +1,4 @@
-//! What is compacted of a stretch, and the event that puts it in place.
+//! The compaction of a stretch, and the event that installs it.
 ghost use Rattle.std.specs.Prelude.{◌≡◌, ◌+◌, ◌≤◌, ◌==◌, IfOk, length};
 ghost use Rattle.uc_version_state.specs.declared.event.Event.TheVariants as event;
 ghost use Rattle.uc_version_state.specs.Versions.{ids_of};
@@ -21,8 +21,7 @@ fn has_oldest(version: &Version, stretch: Stretch) -> bool
     stretch.first + stretch.count == runs
 }
 
-/// Compacts a stretch of a version, under its keeps, and with the oldest run exactly where that is the last of them. It fails
-/// only for want of memory.
+/// Compacts a stretch of a version, under its keeps, and with the oldest run exactly if that is the last of them.
 pub fn compact_stretch<O: Operator + Sync>(
     rt: &(impl Threads + Sync),
     alloc: Global,
@@ -51,7 +50,7 @@ fn ids_in(alloc: Global, runs: &[Placed]) -> Result<Vec<u64>, AllocError>
     Ok(ids)
 }
 
-/// The event that puts what was compacted in place of claimed runs. It shares the run, and fails only for want of memory.
+/// The event that replaces claimed runs by what they were compacted to. It shares the run.
 pub fn install_event<O: Operator>(
     alloc: Global,
     claimed: &[Placed],
