@@ -19,7 +19,7 @@ abbrev pub is_below : List ℕ → Option (List ℕ) → Bool
 is_below key None = true
 is_below key (Some high) = is_lt (bytes_cmp key high)
 
--- a key from `low` on, and below `high` where there is one
+-- a key from `low` on, and below `high` if there is one
 abbrev pub is_in_range : List ℕ → Option (List ℕ) → List ℕ → Bool
 is_in_range low high key = is_le (bytes_cmp low key) && is_below key high
 

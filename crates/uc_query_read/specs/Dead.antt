@@ -1,4 +1,4 @@
--- Keys without a value, behind which a walk goes on at one step.
+-- Keys without a value that a walk passes in one step.
 use Rattle.std.specs.Prelude.{◌≡◌, ℕ, ◌+◌, ◌<◌, List, Some, None, length, take}
 use Rattle.std.specs.List.{AllByRecursion, AllWithin, HoldsAt}
 use Rattle.std.specs.declared.cmp.Ordering.TheVariants.{Less}
@@ -10,11 +10,11 @@ use Rattle.uc_run_entry.specs.Run.{IsRun}
 use Rattle.uc_run.specs.Cursors.{Standing}
 use Rattle.uc_run.specs.Hiding.{hidden_to}
 
--- the contents over which a cursor goes make a run
+-- the contents of the cursor's run make a run
 abbrev pub IsOfRun : Standing → Type 0
 IsOfRun c = IsRun c.run.low c.run.high c.run.points c.run.fragments
 
--- The first of the cursors' runs that hides a key, by its place, and where that ends.
+-- The first of the cursors' runs that hides a key, by its place, and where the hiding ends.
 pub record IsHidden (cursors : List Standing) (key : List ℕ) (at place : ℕ) (end : List ℕ) : Type 0 where
   pub within : place < length cursors
   pub hides : HoldsAt (λ c. hidden_to c.run key at ≡ Some end) cursors place

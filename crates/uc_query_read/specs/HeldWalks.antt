@@ -7,6 +7,6 @@ use Rattle.uc_query_read.specs.declared.cursors.Cursors.TheInside.{Inside}
 abbrev pub walk : Inside → Walk
 walk k = walk_at k.low.now k.strict k.high.now (runs_of k.cursors.items)
 
--- the cursors stand before the points of these keys
+-- the cursors are before the points of these keys
 abbrev pub AreThere : Inside → Type 0
 AreThere k = AllByRecursion (StandsAt k.low.now k.strict) k.cursors.items

@@ -5,7 +5,7 @@ use Rattle.std.specs.Ordering.{is_lt}
 use Rattle.uc_bytes.specs.Bytes.{bytes_cmp, same_bytes}
 use lib.Pointwise.{pointwise}
 
--- the keys rise in byte order, so each stands once
+-- the keys rise in byte order, so each occurs once
 abbrev pub KeysRise : List (List ℕ × List ℕ) → Type 0
 KeysRise rows = IsStrictlySortedBy (λ row other. bytes_cmp row.0 other.0) rows
 

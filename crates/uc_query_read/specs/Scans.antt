@@ -1,4 +1,4 @@
--- What a scan shows: the first rows, in byte order, of the keys that are there to be shown.
+-- What a scan shows: the first rows, in byte order, of the keys that can be shown.
 use Rattle.std.specs.Prelude.{◌≡◌, ℕ, ◌≤◌, List, Option, Some, All, Any, Contains, IsTrue, length, ◌⊎◌}
 use Rattle.std.specs.declared.cmp.Ordering.TheVariants.{Less}
 use Rattle.uc_bytes.specs.Bytes.{bytes_cmp}
@@ -21,7 +21,7 @@ pub record AreFirst (P : List ℕ × List ℕ → Type 0) (limit : ℕ) (rows : 
   pub rise : KeysRise rows
   pub only : All P rows
   pub few : length rows ≤ limit
-  -- a pair with P is left out only behind `limit` others
+  -- a pair with P is left out only after `limit` others
   pub first : (row : List ℕ × List ℕ) → P row → Contains rows row ⊎ ((length rows ≡ limit) × All (λ other. bytes_cmp other.0 row.0 ≡ Less) rows)
 
 -- the rows of a scan

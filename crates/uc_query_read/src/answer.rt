@@ -1,14 +1,14 @@
-//! [`Answer`]: what is answered to a query.
+//! [`Answer`]: the answer to a query.
 use crate::rows::Rows;
 use uc_bytes::Bytes;
 
-/// What is answered to a query.
+/// The answer to a query.
 #[derive(Debug, PartialEq, Eq, Drop)]
 pub enum Answer {
-    /// The key's value, where it has one.
+    /// The key's value, if it has one.
     Value(Option<Bytes>),
     /// The first rows.
     Rows(Rows),
-    /// No snapshot protects the sequence that was asked for, which this is (RocksDB wiki, "Snapshot").
+    /// No snapshot protects this sequence, at which the query reads (RocksDB wiki, "Snapshot").
     NotProtected(u64),
 }

@@ -13,21 +13,20 @@ ghost use Rattle.uc_query_read.specs.Scans.{IsNamed, IsScan};
 
 use uc_oper::Operator;
 
-/// The keys of a scan rise strictly in byte order, so each stands once.
+/// The keys of a scan rise strictly in byte order, so each occurs once.
 pub fn scan_keys_rise()
     ensures { (writes : List Write) (low : List ℕ) (high : Option (List ℕ)) →
         IsStrictlySortedBy bytes_cmp (named_keys writes low high) }
 {}
 
-/// The keys of a scan are those in its range that a put or a merge names: a delete or a range deletion
-/// alone shows no key.
+/// The keys of a scan are those in its range that a put or a merge names. A delete or a range deletion alone shows no
+/// key.
 pub fn scan_keys_are_named()
     ensures { (writes : List Write) (low : List ℕ) (high : Option (List ℕ)) (key : List ℕ) →
         Contains (named_keys writes low high) key ↔ IsNamed writes low high key }
 {}
 
-/// The rows of a scan are the first, in byte order of their keys, of the pairs of such a key and its
-/// value at the sequence.
+/// The rows of a scan are the first pairs, in byte order of their keys, of such a key and its value at the sequence.
 pub fn scan_rows_are_first<O: Operator>()
     ensures { (writes : List Write) (low : List ℕ) (high : Option (List ℕ)) (at limit : ℕ) →
         IsScan O.meaning writes low high at limit
@@ -41,7 +40,7 @@ pub fn scan_rows_are_determined<O: Operator>()
         IsScan O.meaning writes low high at limit others → rows ≡ others }
 {}
 
-/// A scan at a protected sequence is answered by those rows, and by no other list.
+/// The answer to a scan at a protected sequence is those rows, and no other list.
 pub fn scan_is_answered_by_first_rows<O: Operator>()
     ensures { (writes : List Write) (keeps : List ℕ) (low : List ℕ) (high : Option (List ℕ)) (at limit : ℕ)
         (rows : List (List ℕ × List ℕ)) → Contains keeps at →
@@ -49,16 +48,15 @@ pub fn scan_is_answered_by_first_rows<O: Operator>()
         ↔ IsScan O.meaning writes low high at limit rows }
 {}
 
-/// A query is refused exactly where its sequence isn't among those that snapshots protect, and the
-/// refusal names it.
+/// A query is refused exactly if no snapshot protects its sequence, and the refusal names it.
 pub fn unprotected_is_refused<O: Operator>()
     ensures { (writes : List Write) (keeps : List ℕ) (query : Query) (seq : ℕ) →
         (answer_of O.meaning writes keeps query ≡ NotProtected seq)
         ↔ ((at_of query ≡ seq) × (¬ Contains keeps seq)) }
 {}
 
-/// Writes that give each key that a query reads the same value give it the same answer, whatever else they say:
-/// a scan shows no other keys either. So writes that no protected read needs may be dropped.
+/// If writes give each key that a query reads the same value, they give the query the same answer, whatever else they
+/// say: a scan shows no other keys either. So writes that no protected read needs may be dropped.
 pub fn equal_values_give_equal_answers<O: Operator>()
     ensures { (writes others : List Write) (keeps : List ℕ) (query : Query) →
         (Contains keeps (at_of query) → (key : List ℕ) → Reads query key →

@@ -15,7 +15,7 @@ use std::alloc::{AllocError, Global};
 use uc_oper::Operator;
 use uc_version_state::{Placed, Version};
 
-/// Whether a snapshot protects the sequence, by a search of the kept ones, which rise.
+/// Whether a snapshot protects the sequence, by a binary search of the keeps, which rise.
 fn is_protected(keeps: &[u64], at: u64) -> bool
     requires { IsStrictlySortedBy nat_cmp keeps.now }
     ensures { result ≡ answers.is_protected keeps.now at }
@@ -23,7 +23,7 @@ fn is_protected(keeps: &[u64], at: u64) -> bool
     keeps.binary_search(&at).is_ok()
 }
 
-/// What is read of runs, the newest first, at a sequence that is protected.
+/// The answer from runs, the newest first, at a protected sequence.
 fn reading<O: Operator>(alloc: Global, runs: &[Placed], query: &Query) -> Result<Answer, AllocError>
     ensures { IfOk result (λ answer. answer ≡ answers.reading O.meaning (writes_of (contents_of runs.now)) query.now) }
 {
@@ -44,7 +44,7 @@ fn reading<O: Operator>(alloc: Global, runs: &[Placed], query: &Query) -> Result
     }
 }
 
-/// The answer to a query, from runs, the newest first, and the kept sequences, which rise.
+/// The answer to a query, from runs, the newest first, and the keeps, which rise.
 pub(crate) fn answer_of_runs<O: Operator>(
     alloc: Global,
     runs: &[Placed],
@@ -64,13 +64,12 @@ pub(crate) fn answer_of_runs<O: Operator>(
     }
 }
 
-/// The answer to a query, from a version's runs: what [`answer_writes`](crate::answer_writes) says of the plain writes that
-/// the version stands for. A sequence that the version doesn't keep is answered `NotProtected`.
+/// The answer to a query, from a version's runs. It is that of [`answer_writes`](crate::answer_writes) for the
+/// version's plain writes. It is `NotProtected` for a sequence that the version doesn't keep.
 ///
-/// A lookup costs in each run, from the newest on, what [`Run::effect`](uc_run::Run::effect) does, and looks no further than
-/// the first run that puts or deletes the key. A scan costs a search in each run at its start, and then for each key of a
-/// point in its range, up to the last row's, a step in each run and what [`Cursor::effect`](uc_run::Cursor::effect)
-/// does. It fails only for want of memory.
+/// A lookup costs in each run, from the newest on, what [`Run::effect`](uc_run::Run::effect) does, up to the first run
+/// that puts or deletes the key. A scan costs a search in each run at its start. Then it costs a step in each run and
+/// what [`Cursor::effect`](uc_run::Cursor::effect) does for each key of a point in its range, up to the last row's.
 pub fn answer_one<O: Operator>(
     alloc: Global,
     version: &Version,
@@ -83,8 +82,7 @@ pub fn answer_one<O: Operator>(
     answer_of_runs::<O>(alloc, version.runs(), version.keeps(), query)
 }
 
-/// The answer to a lookup, as [`answer_one`] gives it to a [`Query::Get`], of a key that is lent: the value that the key has
-/// at the sequence, or `NotProtected`. It fails only for want of memory.
+/// Looks up a borrowed key; the answer is that of [`Query::Get`], as [`answer_one`] returns it.
 pub fn get<O: Operator>(
     alloc: Global,
     version: &Version,

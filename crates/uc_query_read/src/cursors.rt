@@ -19,13 +19,13 @@ use uc_oper::{Effect, Operator};
 use uc_run::Cursor;
 use uc_version_state::Placed;
 
-/// Where a walk over the points of runs stands. A contract sees it as the runs' contents, the newest first, and the keys of
-/// their points that are still ahead: in order, each once, and below a bound where there is one.
+/// The place of a walk over the points of runs. A contract sees it as the runs' contents, the newest first, and the
+/// keys of their points that are still ahead: in order, each once, and below a bound if there is one.
 #[derive(Debug, Drop)]
 pub(crate) struct Cursors<'a> {
     // One for each run, the newest first, before its points that are ahead.
     cursors: Vec<Cursor<'a>>,
-    // The points from here on are ahead or, where strict, those behind it.
+    // The points from here on are ahead (just above here if `strict`).
     low: &'a [u8],
     strict: bool,
     high: &'a Option<Bytes>,
@@ -42,7 +42,7 @@ impl<'a> Model for Cursors<'a> {
     ghost invariant = { AreThere };
 }
 
-/// The lesser of two keys, where there are two.
+/// The lesser of two keys, if there are two; else the one there is.
 pub(crate) fn lesser<'a>(key: Option<&'a [u8]>, other: Option<&'a [u8]>) -> Option<&'a [u8]>
     ensures { option_map (λ k. k.now) result ≡
         heads.lesser_of (option_map (λ k. k.now) key.entry) (option_map (λ k. k.now) other.entry) }
@@ -60,7 +60,7 @@ pub(crate) fn lesser<'a>(key: Option<&'a [u8]>, other: Option<&'a [u8]>) -> Opti
     }
 }
 
-/// Whether a key is below `high`, where there is one.
+/// Whether a key is below `high`, if there is one.
 fn is_below(key: &[u8], high: &Option<Bytes>) -> bool
     ensures { result ≡ answers.is_below key.now high.now }
 {
@@ -85,7 +85,7 @@ fn cursors_from<'a>(
     Ok(cursors)
 }
 
-/// The least of the keys before which the cursors stand.
+/// The least of the cursors' next keys.
 pub(crate) fn least_key<'a>(cursors: &[Cursor<'a>]) -> Option<&'a [u8]>
     ensures { (low : List ℕ) (strict : Bool) → AllByRecursion (StandsAt low strict) cursors.now →
         IsNextKey (points_of (runs_of cursors.now)) low strict (option_map (λ k. k.now) result) }
@@ -97,8 +97,9 @@ pub(crate) fn least_key<'a>(cursors: &[Cursor<'a>]) -> Option<&'a [u8]>
     least
 }
 
-/// What the writes of the cursors' runs, the newest first, at or below a sequence together do to a key whose points are the
-/// first ahead. It looks no further than the first run that puts or deletes the key: what is older is overwritten.
+/// What the writes of the cursors' runs, the newest first, at or below a sequence together do to a key. The key's
+/// points must be the first ahead. It stops at the first run that puts or deletes the key, since older writes are
+/// overwritten.
 fn effect_of_cursors<O: Operator>(
     alloc: Global,
     cursors: &[Cursor<'_>],
@@ -134,7 +135,7 @@ fn value_of_cursors<O: Operator>(
     effect_of_cursors::<O>(alloc, cursors, key, at)?.apply::<O>(alloc, None)
 }
 
-/// Passes the points of each run at and below a key.
+/// Moves each cursor past the points at and below a key.
 fn pass_each(cursors: &mut [Cursor<'_>], key: &[u8])
     ensures { cursors.new ≡ map (passed key.now) cursors.old }
 {
@@ -143,7 +144,7 @@ fn pass_each(cursors: &mut [Cursor<'_>], key: &[u8])
     }
 }
 
-/// Passes the points of each run below a key.
+/// Moves each cursor past the points below a key.
 fn seek_each(cursors: &mut [Cursor<'_>], low: &[u8])
     ensures { cursors.new ≡ map (sought low.now) cursors.old }
 {
@@ -153,8 +154,8 @@ fn seek_each(cursors: &mut [Cursor<'_>], low: &[u8])
 }
 
 impl<'a> Cursors<'a> {
-    /// Before the keys of the runs' points from `low` on, and below `high` where there is one. It costs a search in each run.
-    /// It fails only for want of memory.
+    /// Before the keys of the runs' points from `low` on, and below `high` if there is one. It costs a search in each
+    /// run.
     pub(crate) fn from(
         alloc: Global,
         runs: &'a [Placed],
@@ -171,9 +172,9 @@ impl<'a> Cursors<'a> {
         })
     }
 
-    /// The first of the keys that are ahead, with its value at a sequence, if it has one. It passes the key. It costs a step for
-    /// each run, and for each of the key's points up to the last put or delete. It fails only for want of memory, and stands then
-    /// where it stood.
+    /// The first of the keys that are ahead, with its value at a sequence, if it has one. It passes the key. It costs a
+    /// step for each run, and for each of the key's points up to the last put or delete. After an `Err` it is where it
+    /// was.
     pub(crate) fn next<O: Operator>(
         &mut self,
         alloc: Global,
@@ -197,9 +198,9 @@ impl<'a> Cursors<'a> {
         Ok(Some((key, value)))
     }
 
-    /// Passes keys that have no value at a sequence: those behind the key that was passed last, as far as a run's range deletion
-    /// hides it and neither that run nor a newer one has a point. It does nothing where no run hides that key. It costs a step
-    /// for each run, and for those whose points are passed a search.
+    /// Passes keys without a value at a sequence: those after the last passed key, as far as a run's range deletion
+    /// hides it and neither that run nor a newer one has a point. It does nothing if no run hides that key. It costs a
+    /// step for each run, and a search for those whose points are passed.
     pub(crate) fn skip_dead<O: Operator>(&mut self, at: u64)
         ensures { Skips O.meaning at self.old self.new }
     {

@@ -1,4 +1,4 @@
-//! Keys behind a dead one that have no value either, since a newer run's range deletion hides them.
+//! Keys after a dead one that have no value either, since a newer run's range deletion hides them.
 ghost use Rattle.std.specs.Prelude.{◌≡◌, true, IfSome};
 ghost use Rattle.std.specs.List.{AllByRecursion};
 ghost use Rattle.uc_compact_rules.specs.Inputs.{writes_of};
@@ -11,7 +11,7 @@ use uc_oper::Operator;
 use uc_run::Cursor;
 use uc_run_entry::plain_list_does_what_is_found;
 
-/// The place of the first run that hides a key, and where that ends.
+/// The place of the first run that hides a key, and where the hiding ends.
 fn hidden_by<'a>(cursors: &[Cursor<'a>], key: &[u8], at: u64) -> Option<(usize, &'a [u8])>
     ensures { IfSome result (λ r. IsHidden cursors.now key.now at r.0 r.1.now) }
 {
@@ -25,8 +25,9 @@ fn hidden_by<'a>(cursors: &[Cursor<'a>], key: &[u8], at: u64) -> Option<(usize, 
     None
 }
 
-/// A key above one that was passed, up to which no key behind that has a value, where a run hides it: as far as it is hidden
-/// and neither that run nor a newer one has a point. It costs a step for each run, and a search among the fragments of some.
+/// If a run hides a passed key, a bound above it; no key between them has a value. The bound is the end of the hiding,
+/// or an earlier point of that run or a newer one. It costs a step for each run, and a search among the fragments of
+/// some.
 pub(crate) fn dead_up_to<'a, O: Operator>(
     cursors: &[Cursor<'a>],
     key: &[u8],

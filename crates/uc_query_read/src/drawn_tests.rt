@@ -1,4 +1,4 @@
-//! Runs of drawn writes: they are read as the plain writes are.
+//! Runs of drawn writes: they answer as the plain writes do.
 use crate::answering::answer_of_runs;
 use crate::plain::answer_writes;
 use crate::query::Query;
@@ -44,7 +44,7 @@ impl Dice {
         bytes(alloc, &[b'a'.wrapping_add((self.roll(26) & 31) as u8)])
     }
 
-    /// A change: of eight two puts, a delete, a range deletion and four merges.
+    /// A change: in eighths, two puts, a delete, a range deletion and four merges.
     fn op(&mut self, alloc: Global) -> Result<Op, Fail> {
         let kind = self.roll(8);
         let key = self.key(alloc)?;
@@ -136,7 +136,7 @@ fn answers_alike<O: Operator>(
     Ok(answer_of_runs::<O>(alloc, runs, &[at], query)? == want)
 }
 
-/// Asks at each sequence, and wants the answer of the plain writes.
+/// Asks at each sequence, and checks that the answer is that of the plain writes.
 fn wants_answers<O: Operator>(rt: &impl Abort, alloc: Global, dice: &mut Dice) -> Result<(), Fail> {
     let (runs, writes, last) = drawn(rt, alloc, dice)?;
     for at in 0..=last {

@@ -93,10 +93,10 @@ fn three_runs(rt: &impl Abort, alloc: Global) -> Result<(Vec<Placed>, Writes), F
     Ok((runs, writes))
 }
 
-/// From a key on, and below another where there is one.
+/// From a key on, and below another if there is one.
 type Range = (u8, Option<u8>);
 
-/// The bounds of scans: all keys, ends within what is hidden, begins within it, and behind it.
+/// The bounds of scans: all keys, ends within what is hidden, begins within it, and after it.
 const RANGES: [Range; 8] = [
     (0, None),
     (0, Some(12)),
@@ -111,7 +111,7 @@ const RANGES: [Range; 8] = [
 /// Sequences: below the range deletions, of each, between them, and above.
 const ATS: [u64; 7] = [7, 40, 41, 42, 43, 44, 45];
 
-/// How many rows are wanted at the most.
+/// Limits on the rows.
 const LIMITS: [u64; 3] = [1, 3, 100];
 
 fn high_of(alloc: Global, range: Range) -> Result<Option<Bytes>, Fail> {
@@ -150,7 +150,7 @@ fn shown_rows(
     Ok(rows_of_runs::<Append<44>>(alloc, runs, &[range.0], &high, at, limit)?)
 }
 
-/// Under each limit the runs show of a range what the plain writes do.
+/// Checks under each limit that the runs show of a range what the plain writes do.
 fn wants_plain_rows(
     rt: &impl Abort,
     alloc: Global,

@@ -9,8 +9,8 @@ use crate::answer_laws::equal_values_give_equal_answers;
 use uc_oper::Operator;
 use uc_version_state::histories_keep_what_is_read;
 
-/// Whatever happened to a store since its opening, the answer from its version is the answer from the plain writes that it
-/// was given.
+/// Whatever happened to a store after its opening, its version's answer is the answer from the plain writes that it was
+/// given.
 pub fn histories_keep_answers<O: Operator>()
     ensures { (h : History) (query : Query) → IsLegal O.meaning h →
         answer_of O.meaning (writes_in (version_after h)) (version_after h).keeps query ≡

@@ -1,11 +1,14 @@
-//! Queries, their answers, and what is read of a version: lookups of keys and scans of ranges, at a sequence that is kept.
+//! Queries, their answers, and reads of a version: lookups of keys and scans of ranges, at a keep (a snapshot's
+//! sequence).
 //!
 //! [`answer_writes`] is the slow reference: it answers from a plain list of writes, by the meaning of `uc_model`. Read
-//! `specs/Answers.antt` first, then `query.rt` and `answer.rt`. `specs/Scans.antt` defines a scan without a word on how it is
-//! found, and `answer_laws.rt` says that it is that.
+//! `specs/Answers.antt` first, then `query.rt` and `answer.rt`. `specs/Scans.antt` defines a scan without saying how it
+//! is found; by `answer_laws.rt` the reference finds that.
 //!
-//! [`answer_one`] gives the same answer from a version's runs, which stand for those writes. Read `answering.rt` first, then
-//! `lookup.rt`, and for scans `specs/Ahead.antt`, `specs/Walks.antt`, `cursors.rt`, `dead_keys.rt` and `scan.rt`.
+//! [`answer_one`] returns the same answer from a version's runs. Read `answering.rt` first, then `lookup.rt`, and for
+//! scans `specs/Ahead.antt`, `specs/Walks.antt`, `cursors.rt`, `dead_keys.rt` and `scan.rt`.
+//!
+//! An `Err(AllocError)` comes only if an allocation fails.
 #![tactic(auto)]
 
 mod answer;

@@ -10,8 +10,8 @@ use uc_model::{effect_gives_value, effects_of_parts_compose};
 use uc_oper::{Effect, Operator};
 use uc_version_state::Placed;
 
-/// What the writes of runs, the newest first, at or below a sequence together do to a key. It looks no further than the first
-/// run that puts or deletes the key: what is older is overwritten. It fails only for want of memory.
+/// What the writes of runs, the newest first, at or below a sequence together do to a key. It stops at the first run
+/// that puts or deletes the key, since older writes are overwritten.
 fn effect_of_runs<O: Operator>(
     alloc: Global,
     runs: &[Placed],
@@ -32,7 +32,7 @@ fn effect_of_runs<O: Operator>(
     Ok(newer)
 }
 
-/// The value that a key has in runs, the newest first, at a sequence. It fails only for want of memory.
+/// The value that a key has in runs, the newest first, at a sequence.
 pub(crate) fn value_of_runs<O: Operator>(
     alloc: Global,
     runs: &[Placed],

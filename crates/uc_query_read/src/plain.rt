@@ -12,7 +12,7 @@ use uc_bytes::{Bytes, Op, Write};
 use uc_model::value_at;
 use uc_oper::Operator;
 
-/// Whether a key is in the range from `low` to below `high`, where there is one.
+/// Whether a key is in the range from `low` to below `high`, if there is one.
 fn is_in_range(key: &Bytes, low: &Bytes, high: &Option<Bytes>) -> bool
     ensures { result ≡ answers.is_in_range low.now high.now key.now }
 {
@@ -114,11 +114,10 @@ fn reading<O: Operator>(
     }
 }
 
-/// Answers a query from the plain writes, by folding those that touch a key for each key. The keeps are
-/// the sequences that snapshots protect, in any order; any other sequence is answered `NotProtected`.
+/// Answers a query from the plain writes, by folding for each key those that touch it. The keeps are the sequences that
+/// snapshots protect, in any order; for any other sequence the answer is `NotProtected`.
 ///
-/// It is the reference that faster ways are held against: a lookup looks at every write, and a scan at
-/// every write for each row. It fails only for want of memory.
+/// It is the reference for the faster ways: a lookup looks at every write, and a scan at every write for each row.
 pub fn answer_writes<O: Operator>(
     alloc: Global,
     writes: &Writes,

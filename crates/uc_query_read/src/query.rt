@@ -17,7 +17,7 @@ pub enum Query {
     Scan {
         /// The first key that may be a row's.
         low: Bytes,
-        /// The rows' keys are below this one, where there is one.
+        /// The rows' keys are below this one, if there is one.
         high: Option<Bytes>,
         /// The sequence at which the rows are read.
         at: u64,

@@ -32,7 +32,7 @@ fn keys_rise(pairs: &[(Bytes, Bytes)]) -> bool
 }
 
 impl Rows {
-    /// The pairs as rows, where their keys rise. Else there are none, and the pairs are lost.
+    /// The pairs as rows, if their keys rise. Otherwise `None`, and the pairs are lost.
     pub fn of(pairs: Vec<(Bytes, Bytes)>) -> Option<Rows>
         ensures rising { IsSome result ↔ KeysRise pairs.items }
         ensures pairs { IfSome result (λ rows. rows ≡ pairs.items) }
@@ -60,7 +60,7 @@ impl Rows {
         self.pairs.as_slice()
     }
 
-    /// The pairs as the vector that holds them. It takes no memory.
+    /// The vector that holds the pairs. It doesn't allocate.
     pub fn into_vec(self) -> Vec<(Bytes, Bytes)>
         ensures pairs { result.items ≡ self }
         ensures rising { KeysRise self }

@@ -43,8 +43,8 @@ fn first_rows<O: Operator>(
     Ok(rows)
 }
 
-/// The rows of a scan of runs, which stand newest first: the first of the keys in the range that a put or a merge names
-/// and that have a value at the sequence.
+/// The rows of a scan of runs, the newest first: the first keys in the range that a put or a merge names and that have
+/// a value at the sequence.
 pub(crate) fn rows_of_runs<O: Operator>(
     alloc: Global,
     runs: &[Placed],

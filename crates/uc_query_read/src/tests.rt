@@ -73,7 +73,7 @@ fn run_of(
     placed(rt, alloc, memtable, slot)
 }
 
-/// The changes in runs of as many of them, the newest first.
+/// The changes in runs of `size` each, the newest first.
 fn runs_of(rt: &impl Abort, alloc: Global, size: usize) -> Result<Vec<Placed>, Fail> {
     assert!(rt; size > 0);
     let mut runs = Vec::new(alloc);
@@ -90,7 +90,7 @@ fn get(alloc: Global, key: &[u8], at: u64) -> Result<Query, Fail> {
     Ok(Query::Get { key, at })
 }
 
-/// A scan: from a key on, below another where there is one, at a sequence, and at most so many rows.
+/// A scan: from a key on, below another if there is one, at a sequence, and with a limit on the rows.
 type Range = (&'static [u8], Option<&'static [u8]>, u64, u64);
 
 fn scan(alloc: Global, range: &Range) -> Result<Query, Fail> {
@@ -108,7 +108,7 @@ fn scan(alloc: Global, range: &Range) -> Result<Query, Fail> {
     })
 }
 
-/// An answer that is wanted.
+/// An expected answer.
 enum Want {
     Value(Option<&'static [u8]>),
     Rows(&'static [(&'static [u8], &'static [u8])]),
@@ -142,7 +142,7 @@ static GETS: [(&[u8], u64, Want); 6] = [
     (b"\x6b", 3, Want::NotProtected(3)),
 ];
 
-/// The sequences that are kept.
+/// The keeps.
 const KEEPS: [u64; 2] = [2, 5];
 
 /// The answer from runs under these keeps.
@@ -150,12 +150,12 @@ fn answer_of(alloc: Global, runs: &[Placed], query: &Query) -> Result<Answer, Fa
     Ok(answer_of_runs::<Append<44>>(alloc, runs, &KEEPS, query)?)
 }
 
-/// Whether an answer is the one that is wanted.
+/// Whether an answer is the expected one.
 fn is_wanted(alloc: Global, answer: &Answer, want: &Want) -> Result<bool, Fail> {
     Ok(*answer == wanted(alloc, want)?)
 }
 
-/// Looks keys up in these runs.
+/// Looks keys up in these runs, and checks the answers.
 fn wants_lookups(rt: &impl Abort, alloc: Global, runs: &[Placed]) -> Result<(), Fail> {
     for (key, at, want) in &GETS {
         let query = get(alloc, key, *at)?;
@@ -195,7 +195,7 @@ static SCANS: [(Range, Want); 7] = [
     ((b"", None, 4, 10), Want::NotProtected(4)),
 ];
 
-/// Scans these runs.
+/// Scans these runs, and checks the rows.
 fn wants_scans(rt: &impl Abort, alloc: Global, runs: &[Placed]) -> Result<(), Fail> {
     for (range, want) in &SCANS {
         let query = scan(alloc, range)?;
@@ -313,13 +313,13 @@ fn version_of(alloc: Global, run: Arc<Run>) -> Result<Version, Fail> {
     Ok(Version::new(runs, keeps, 5, 1))
 }
 
-/// Whether a version gives the wanted answer.
+/// Whether a version returns the expected answer.
 fn answers(alloc: Global, version: &Version, query: &Query, want: &Want) -> Result<bool, Fail> {
     let answer = answer_one::<Append<44>>(alloc, version, query)?;
     is_wanted(alloc, &answer, want)
 }
 
-/// Looks keys up in a version.
+/// Looks keys up in a version, and checks the answers.
 fn wants_values(rt: &impl Abort, alloc: Global, version: &Version) -> Result<(), Fail> {
     for (key, at, want) in &GETS {
         let query = get(alloc, key, *at)?;
@@ -328,7 +328,7 @@ fn wants_values(rt: &impl Abort, alloc: Global, version: &Version) -> Result<(),
     Ok(())
 }
 
-/// Scans a version.
+/// Scans a version, and checks the rows.
 fn wants_rows(rt: &impl Abort, alloc: Global, version: &Version) -> Result<(), Fail> {
     for (range, want) in &SCANS {
         let query = scan(alloc, range)?;
