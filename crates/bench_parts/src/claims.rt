@@ -1,8 +1,8 @@
 //! Takes and gives slots by 1, 2 or 4 threads, for `bench/claims`.
 //!
-//! `THREADS LAYOUT ROUNDS` prints the nanoseconds that it took and how many takes won. The
-//! layout is `disjoint`, where each thread has two slots of its own, `spaced`, where these are also far enough
-//! from those of the others to share no cache line, or `contended`, where all want the same two.
+//! `THREADS LAYOUT ROUNDS` prints the nanoseconds and how many takes won. The layout is `disjoint` (each thread has two
+//! slots of its own), `spaced` (these also share no cache line with those of other threads), or `contended` (all want
+//! the same two).
 ghost use Rattle.std.specs.Prelude.{◌≡◌, ◌<◌, All};
 ghost use Rattle.uc_claims.specs.Holding.{AreDistinct};
 
@@ -122,7 +122,7 @@ fn work_four<R: Threads + Sync>(rt: &R, table: &ClaimTable, seat: Seat, plan: Pl
     (table.join(a, b), x.wrapping_add(y))
 }
 
-// All threads' rounds on a new table. How many takes won, and whether every slot is free at the end.
+// All threads' rounds on a new table. Returns how many takes won, and whether every slot is free at the end.
 fn run<R: Threads + Sync>(rt: &R, alloc: Global, threads: u64, plan: Plan) -> Result<(u64, bool)> {
     let (table, seat) = ClaimTable::new(alloc, COUNT)?;
     let (seat, won) = match threads {
@@ -133,7 +133,7 @@ fn run<R: Threads + Sync>(rt: &R, alloc: Global, threads: u64, plan: Plan) -> Re
     Ok((won, table.close(seat) == [false; MOST_SLOTS]))
 }
 
-/// A little of each layout: it says that every slot is free again.
+/// A little of each layout: it checks that every slot is free again.
 pub(crate) fn few<R: Threads + Sync + Print>(rt: &R, alloc: Global) -> Result<()> {
     for layout in [Layout::Disjoint, Layout::Spaced, Layout::Contended] {
         let plan = Plan {

@@ -1,10 +1,10 @@
 //! Makes runs and compacts them into one, for `bench/compact`.
 //!
-//! `SHAPE RUNS WRITES KEEPS WHERE` makes so many runs of so many writes each, and compacts them under so many
-//! keeps at equal distances, of which the last is the last sequence. The shape is `counter`, `append` or `ranges`, and
-//! WHERE is `oldest` where nothing stands below the runs, else `newer`. It prints the nanoseconds of the compaction, how
-//! many points and fragments it made, how large they are, and a checksum of them. Without the last two words it only makes
-//! the runs, and says how many.
+//! `SHAPE RUNS WRITES KEEPS WHERE` makes RUNS runs of WRITES writes each, and compacts them under KEEPS keeps at equal
+//! distances, of which the last is the last sequence. The shape is `counter`, `append` or `ranges`. WHERE is `oldest`
+//! if nothing lies below the runs, else `newer`. It prints the nanoseconds of the compaction, the number of points and
+//! fragments that it made, their size, and a checksum of them. Without the last two words it only makes the runs, and
+//! prints their number.
 use crate::figures::Figures;
 use crate::load::{Load, Shape, keeps_of, loaded};
 use anyhow::{Result, bail, ensure};
@@ -27,11 +27,11 @@ struct Plan {
     load: Load,
     /// How many keeps there are.
     keeps: u64,
-    /// Whether nothing stands below the runs.
+    /// Whether nothing lies below the runs.
     oldest: bool,
 }
 
-/// The nanoseconds that a compaction took, and what it made.
+/// The nanoseconds of a compaction, and its output.
 fn measured_by<O: Operator + Sync>(
     rt: &(impl Clock + Threads + Sync),
     alloc: Global,
@@ -50,7 +50,7 @@ fn measured_by<O: Operator + Sync>(
     Ok((nanoseconds, figures))
 }
 
-/// The same by the operator that the shape's merges want.
+/// The same, with the operator for the shape's merges.
 fn measured(
     rt: &(impl Clock + Threads + Sync),
     alloc: Global,
@@ -62,7 +62,7 @@ fn measured(
     }
 }
 
-/// A little of each shape, and what becomes of it.
+/// A little of each shape, and its output.
 pub(crate) fn few(rt: &(impl Clock + Threads + Sync + Print), alloc: Global) -> Result<()> {
     for shape in [Shape::Counter, Shape::Append, Shape::Ranges] {
         let load = Load {
@@ -83,7 +83,7 @@ pub(crate) fn few(rt: &(impl Clock + Threads + Sync + Print), alloc: Global) -> 
     Ok(())
 }
 
-/// Prints how long the compaction takes that the words ask for, and what it makes; or how many runs are made.
+/// Prints the time of the compaction that the words ask for, and its output; or the number of runs.
 pub(crate) fn measure(
     rt: &(impl Clock + Threads + Sync + Print),
     alloc: Global,

@@ -1,6 +1,6 @@
 //! Sums a buffer by CRC-32C, for `bench/crc`.
 //!
-//! `SIZE_MIB ROUNDS` makes a buffer of so many MiB, sums it so many times, and prints the nanoseconds that the sums took and
+//! `SIZE_MIB ROUNDS` makes a buffer of SIZE_MIB MiB, sums it ROUNDS times, and prints the nanoseconds of the sums and
 //! the last checksum.
 ghost use Rattle.std.specs.Prelude.{◌≡◌, IfOk, vec_len};
 
@@ -28,8 +28,8 @@ fn generated(alloc: Global, size: usize) -> Result<Vec<u8>>
     Ok(bytes)
 }
 
-// The last checksum. Each round puts the low byte of the one before in front of the bytes, so that no round
-// can be left out.
+// The last checksum. Each round puts the low byte of the one before at the front of the bytes, so no round can be left
+// out.
 fn summed(bytes: &mut [u8], rounds: u32) -> u32 {
     let mut checksum = 0;
     for _ in 0..rounds {
@@ -49,7 +49,7 @@ pub(crate) fn few(rt: &impl Print, alloc: Global) -> Result<()> {
     Ok(())
 }
 
-/// Sums so many MiB in so many rounds, and prints how long that took.
+/// Sums the buffer, and prints the time.
 pub(crate) fn measure(rt: &(impl Clock + Print), alloc: Global, words: &[String]) -> Result<()> {
     let [size, rounds] = words else {
         bail!("crc takes SIZE_MIB ROUNDS");

@@ -14,7 +14,7 @@ pub(crate) struct Figures {
 }
 
 impl Figures {
-    /// Those of a run. It fails only for want of memory.
+    /// The figures of a run.
     pub(crate) fn of(alloc: Global, run: &Run) -> Result<Figures, AllocError> {
         let mut checksum = 0;
         for point in run.entries() {

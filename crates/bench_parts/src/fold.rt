@@ -1,7 +1,7 @@
 //! Folds the operands of merges into one key, for `bench/fold`.
 //!
-//! `append COUNT` makes so many operands of ten digits, and `counter COUNT` as many numbers. It puts them together one after
-//! the other, and prints the nanoseconds that this took, the length of the operand that comes out and a checksum of it.
+//! `append COUNT` makes COUNT operands of ten digits, and `counter COUNT` as many numbers. It combines them one after
+//! the other, and prints the nanoseconds, the length of the resulting operand and a checksum of it.
 use crate::texts::digits;
 use anyhow::{Result, bail};
 use std::alloc::{AllocError, Global};
@@ -52,20 +52,20 @@ fn summary(effect: &Effect) -> (usize, u64) {
     (operand.len(), checksum)
 }
 
-/// Folds a few of each kind, and prints what comes out.
+/// Folds a few of each kind, and prints the result.
 pub(crate) fn few(rt: &impl Print, alloc: Global) -> Result<()> {
     print_folded::<Append<COMMA>>(rt, alloc, texts(alloc, FEW)?)?;
     print_folded::<Counter>(rt, alloc, numbers(alloc, FEW)?)
 }
 
-/// Prints the length and the checksum of what the operands do in turn.
+/// Prints the length and the checksum of the folded operands.
 fn print_folded<O: Operator>(rt: &impl Print, alloc: Global, operands: Vec<Effect>) -> Result<()> {
     let (length, checksum) = summary(&folded::<O>(alloc, operands)?);
     println!(rt; "fold: {length} {checksum:016x}")?;
     Ok(())
 }
 
-/// Prints how long it takes to put the operands together, and what comes out.
+/// Prints the time to fold the operands, and the result.
 fn measure_by<O: Operator>(
     rt: &(impl Clock + Print),
     alloc: Global,
@@ -79,7 +79,7 @@ fn measure_by<O: Operator>(
     Ok(())
 }
 
-/// Measures so many operands of the kind that the words name.
+/// Measures the number and kind of operands that the words name.
 pub(crate) fn measure(rt: &(impl Clock + Print), alloc: Global, words: &[String]) -> Result<()> {
     let [kind, count] = words else {
         bail!("fold takes append or counter, and COUNT");

@@ -7,10 +7,10 @@ use std::sync::Arc;
 use uc_bytes::{MAX_SEQUENCE, OpRef, WriteRef};
 use uc_run::{Memtable, Run};
 
-/// How many points a key has, at an average, where keys are drawn.
+/// How many points a key has on average, if keys are drawn.
 const POINTS_OF_A_KEY: u64 = 8;
 
-/// Writes of a row that follow one another are so many places apart: a prime, so that each place comes once.
+/// The distance of places between successive writes of a run: a prime, so each place comes once.
 const STRIDE: u64 = 7919;
 
 /// What the runs hold.
@@ -54,7 +54,7 @@ impl Load {
     }
 }
 
-/// Inserts a change behind all before it.
+/// Inserts a change after all before it.
 fn insert(memtable: &mut Memtable, seq: u64, op: OpRef<'_>) -> Result<()> {
     ensure!(memtable.last() < seq, "sequences don't rise");
     ensure!(seq <= MAX_SEQUENCE, "too many writes");
@@ -79,7 +79,7 @@ fn insert_range(memtable: &mut Memtable, seq: u64, first: u64) -> Result<()> {
     insert(memtable, seq, OpRef::delete_range(&begin, &end))
 }
 
-/// Inserts the write behind so many others; where something is drawn, a random number says what.
+/// Inserts the write after `before` others; if it is drawn, `random` decides it.
 fn insert_next(memtable: &mut Memtable, load: Load, before: u64, random: u64) -> Result<()> {
     let seq = before.saturating_add(1);
     let merges = random & 1 == 1;
@@ -104,7 +104,7 @@ fn insert_next(memtable: &mut Memtable, load: Load, before: u64, random: u64) ->
     }
 }
 
-/// The run of so many writes behind some others.
+/// The next run of writes, after `before` others.
 fn run_behind(alloc: Global, load: Load, before: u64, numbers: &mut Numbers) -> Result<Run> {
     let mut memtable = Memtable::new(alloc);
     for place in 0..load.writes {
@@ -128,7 +128,7 @@ pub(crate) fn loaded(alloc: Global, load: Load) -> Result<Vec<Arc<Run>>> {
     Ok(runs)
 }
 
-/// So many keeps at equal distances, of which the last is the last sequence.
+/// `count` keeps at equal distances, of which the last is the last sequence.
 pub(crate) fn keeps_of(alloc: Global, load: Load, count: u64) -> Result<Vec<u64>, AllocError> {
     let mut keeps = Vec::new(alloc);
     for place in 1..=count {

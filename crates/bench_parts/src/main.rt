@@ -1,7 +1,7 @@
 //! Parts of the store, each measured alone, for the scripts in `bench/`.
 //!
-//! `bench_parts PART WORDS` measures a part: `claims`, `compact`, `crc`, `fold`, `read` or `run`, each of which stands in a file of
-//! that name, where the words are told. Without words it does a little of each part and prints what came of it, and no times.
+//! `bench_parts PART WORDS` measures a part: `claims`, `compact`, `crc`, `fold`, `read` or `run`. The file of that name
+//! explains its words. Without words it does a little of each part and prints the results, and no times.
 #![tactic(auto)]
 
 mod claims;
@@ -34,7 +34,7 @@ fn few(rt: &(impl Clock + Threads + Sync + Print), alloc: Global) -> Result<()> 
     run::few(rt, alloc)
 }
 
-/// Measures the part that a word names; `read`, which wants a log, is measured by `main`.
+/// Measures the part that a word names; `read` needs a log, so `main` measures it.
 fn measure(
     rt: &(impl Clock + Threads + Sync + Print),
     alloc: Global,

@@ -1,7 +1,7 @@
 //! Reads the writes of a log into a list, for `bench/read_writes`.
 //!
-//! It makes a list of the writes of the log on standard input, and prints the nanoseconds that this took, how many writes
-//! there are, and a checksum of their sequences and their texts' lengths.
+//! It makes a list of the writes of the log on standard input. It prints the nanoseconds, the number of writes, and a
+//! checksum of their sequences and their texts' lengths.
 use anyhow::Result;
 use std::alloc::{AllocError, Global};
 use std::time::{Clock, Instant};
@@ -61,7 +61,7 @@ fn checksum(writes: &Writes) -> u64 {
     checksum
 }
 
-/// Reads the writes of a log of a few batches, and prints how many there are and their checksum.
+/// Reads the writes of a log of a few batches, and prints their number and checksum.
 pub(crate) fn few(rt: &impl Print, alloc: Global) -> Result<()> {
     let writes = read_writes(alloc, &few_batches(alloc)?, Mode::TornTail)?;
     let (count, checksum) = (writes.list().len(), checksum(&writes));
@@ -69,7 +69,7 @@ pub(crate) fn few(rt: &impl Print, alloc: Global) -> Result<()> {
     Ok(())
 }
 
-/// Reads the writes of a log, and prints how long that takes, how many there are and their checksum.
+/// Reads the writes of a log, and prints the time, their number and their checksum.
 pub(crate) fn measure(rt: &(impl Clock + Print), alloc: Global, log: &[u8]) -> Result<()> {
     let start = Instant::now(rt)?;
     let writes = read_writes(alloc, log, Mode::TornTail)?;

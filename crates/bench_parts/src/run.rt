@@ -1,8 +1,8 @@
 //! Loads writes into memtables, flushes each to a run, and looks keys up in the runs, for `bench/run`.
 //!
-//! `COUNT` makes so many writes, eight to a key, and a run of every 4 MiB of them, and then looks up
-//! 20,000 keys at the last sequence. It prints the nanoseconds of the load and of the lookups, how many runs and
-//! points there are, how large they are, and a checksum of the answers.
+//! `COUNT` makes COUNT writes, eight to a key, and a run of every 4 MiB of them. Then it looks up 20,000 keys at the
+//! last sequence. It prints the nanoseconds of the load and of the lookups, the number of runs and points, their size,
+//! and a checksum of the answers.
 ghost use Rattle.std.specs.Prelude.{◌<◌, ◌^◌};
 
 use crate::numbers::Numbers;
@@ -41,7 +41,7 @@ impl Load {
     }
 }
 
-/// Puts the run of a memtable's writes behind the others, if it has any.
+/// Pushes the run of a memtable's writes, if it has any.
 fn push_run(alloc: Global, runs: &mut Vec<Run>, memtable: Memtable) -> Result<(), AllocError> {
     if memtable.is_empty() {
         return Ok(());
@@ -93,7 +93,7 @@ fn with_value(checksum: u64, value: &Option<Bytes>) -> u64 {
     sum.wrapping_mul(31).wrapping_add(1)
 }
 
-/// A checksum of the values of so many random keys at the last sequence.
+/// A checksum of the values of `lookups` random keys at the last sequence.
 fn looked_up(alloc: Global, runs: &[Run], load: Load, lookups: u64) -> Result<u64, AllocError> {
     let mut numbers = Numbers::new(2);
     let mut checksum = 0u64;
@@ -115,7 +115,7 @@ fn totals(runs: &[Run]) -> (u64, u64) {
     (points, size)
 }
 
-/// Loads a thousand writes in runs of 8 KiB, looks keys up, and prints what came of it.
+/// Loads a thousand writes in runs of 8 KiB, looks keys up, and prints the results.
 pub(crate) fn few(rt: &impl Print, alloc: Global) -> Result<()> {
     let load = Load {
         writes: FEW,
@@ -128,7 +128,7 @@ pub(crate) fn few(rt: &impl Print, alloc: Global) -> Result<()> {
     Ok(())
 }
 
-/// Prints how long the load and the lookups take, and what came of them.
+/// Prints the times of the load and of the lookups, and the results.
 pub(crate) fn measure(rt: &(impl Clock + Print), alloc: Global, words: &[String]) -> Result<()> {
     let [writes] = words else {
         bail!("run takes COUNT");

@@ -10,7 +10,7 @@ use uc_run::Memtable;
 /// How far a range deletion reaches: over about ten of 160,000 keys.
 const REACH: u64 = 1 << 50;
 
-/// Where a key stands among the numbers of 64 bits.
+/// The place of a key among the numbers of 64 bits.
 fn spread(key: u64) -> u64 {
     key.wrapping_mul(SPREAD)
 }
@@ -20,9 +20,8 @@ pub(crate) fn key_of(key: u64) -> [u8; 16] {
     key_at(spread(key))
 }
 
-/// Inserts the write behind so many others. A random number says which key it changes, and how: half of the writes are
-/// merges, one of 64 is a deletion, one of 16,384 a range deletion, and the others are puts. It fails only for want of
-/// memory.
+/// Inserts the write after `before` others. A random number says which key it changes, and how: half of the writes are
+/// merges, one of 64 is a deletion, one of 16,384 a range deletion, and the others are puts.
 pub(crate) fn insert_next(
     memtable: &mut Memtable,
     before: u64,
