@@ -33,7 +33,8 @@ impl Work {
         })
     }
 
-    /// Counts a compaction and its install by when they began, came between and ended. Whether the clock said all three.
+    /// Counts a compaction and its install, from the times of the beginning, the middle and the end. Returns whether
+    /// the clock gave all three.
     fn count(
         &mut self,
         start: Option<Instant>,
@@ -70,7 +71,7 @@ fn newest_claimed<O: Operator, N: Name, W: Wait + Drop>(
     }
 }
 
-/// Compacts what is claimed and installs it, and counts how long both took.
+/// Compacts a claim and installs it, and counts both times.
 fn install_timed<O: Operator + Sync, N: Name, W: Wait + Drop>(
     rt: &(impl Threads + Wait + Clock + Sync),
     alloc: Global,
@@ -93,7 +94,7 @@ fn install_timed<O: Operator + Sync, N: Name, W: Wait + Drop>(
     }
 }
 
-/// The two newest runs are compacted and installed.
+/// Compacts and installs the two newest runs.
 fn install_one<O: Operator + Sync, N: Name, W: Wait + Drop>(
     rt: &(impl Threads + Wait + Clock + Sync),
     alloc: Global,
@@ -109,7 +110,7 @@ fn install_one<O: Operator + Sync, N: Name, W: Wait + Drop>(
     install_timed(rt, alloc, store, held, reader, work)
 }
 
-/// All runs are made into one, two by two. Whether they were.
+/// Makes all runs into one, two by two. Returns whether that worked.
 pub(crate) fn install_all<O: Operator + Sync, N: Name, W: Wait + Drop>(
     rt: &(impl Threads + Wait + Clock + Sync),
     alloc: Global,

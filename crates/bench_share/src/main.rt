@@ -1,13 +1,13 @@
 //! Pins and installs of a store that threads share, for `bench/share`.
 //!
-//! `bench_share pins READERS ROUNDS` lets 1, 2 or 4 readers pin so many times each with nobody beside them, and prints the
-//! nanoseconds and how many pins there were. `bench_share beside READERS STORES` opens so many stores of 64 runs, one after
-//! the other; in each an installer makes them one by 63 installs while the readers pin; it prints the nanoseconds of these
-//! installs together, and how many pins there were meanwhile. `bench_share times READERS STORES` does the same with a clock
-//! around each pin, and prints the median, the 99th and the 99.99th of a hundred, and the longest, in nanoseconds.
-//! `bench_share installs POINTS STORES` has stores whose runs have so many points, and nobody beside the installer; it prints
-//! the medians of a compaction and of an install, in nanoseconds.
-//! Without words it does a little of each, and says that all pins and installs went well.
+//! `bench_share pins READERS ROUNDS` lets 1, 2 or 4 readers pin ROUNDS times each without an installer, and prints the
+//! nanoseconds and the number of pins. `bench_share beside READERS STORES` opens STORES stores of 64 runs, one after
+//! the other. In each an installer makes them one by 63 installs while the readers pin. It prints the nanoseconds of
+//! these installs together, and the number of pins meanwhile. `bench_share times READERS STORES` does the same with a
+//! clock around each pin, and prints the median, the 99th and the 99.99th percentile, and the longest, in nanoseconds.
+//! `bench_share installs POINTS STORES` has stores whose runs have POINTS points, and no readers. It prints the medians
+//! of a compaction and of an install, in nanoseconds. Without words it does a little of each, and says that all pins
+//! and installs went well.
 #![tactic(auto)]
 
 ghost use Rattle.std.specs.Prelude.{◌≡◌};
@@ -33,10 +33,10 @@ use std::time::{Clock, Instant};
 use uc_oper::{Counter, Operator};
 use uc_share::{Name, Opening, Reader, Seat, Store};
 
-/// How often an installer looks whether all readers pin.
+/// How often an installer checks whether all readers pin.
 const PATIENCE: u64 = 10_000_000_000;
 
-/// Installs once all readers pin, and tells them the beginning and the end. How many nanoseconds it took, where all went well.
+/// Installs once all readers pin, and signals the beginning and the end. Returns the nanoseconds, if all went well.
 fn install_beside<O: Operator + Sync, N: Name, W: Wait + Drop>(
     rt: &(impl Threads + Wait + Clock + Sync),
     alloc: Global,
@@ -65,7 +65,7 @@ fn install_beside<O: Operator + Sync, N: Name, W: Wait + Drop>(
     u64::try_from(end.ok()?.duration_since(start.ok()?).as_nanos()).ok()
 }
 
-/// What readers do with a store, and who is beside them.
+/// What readers do with a store, and whether an installer runs.
 #[derive(Clone, Copy)]
 struct Plan {
     readers: usize,
@@ -76,7 +76,7 @@ struct Plan {
 /// How many nanoseconds passed in a store, and the pins meanwhile.
 type Outcome = Option<(u64, Times)>;
 
-/// Readers pin with nobody beside them.
+/// Readers pin without an installer.
 fn pin_alone<O, N, W, R>(
     rt: &R,
     alloc: Global,
@@ -126,7 +126,7 @@ where
     Some((length?, times?))
 }
 
-/// An installer installs with nobody beside it.
+/// An installer installs without readers.
 fn install_alone<O: Operator + Sync, N: Name, W: Wait + Drop>(
     rt: &(impl Threads + Wait + Clock + Sync),
     alloc: Global,
@@ -140,7 +140,7 @@ fn install_alone<O: Operator + Sync, N: Name, W: Wait + Drop>(
     Some((length, Times::new(alloc).ok()?))
 }
 
-/// What a plan comes to in a store, one of whose readers is an installer's.
+/// The outcome of a plan in a store, one of whose readers is an installer's.
 fn outcome<O, N, W, R>(
     rt: &R,
     alloc: Global,
@@ -187,7 +187,7 @@ where
     outcome(rt, alloc, &store, readers, seat, plan, work)
 }
 
-/// What a plan comes to in so many stores whose runs have so many points, one after the other.
+/// The outcomes of a plan in the plan's stores, one after the other.
 fn outcomes(
     rt: &(impl Threads + Wait + Clock + Sync),
     alloc: Global,
@@ -270,7 +270,7 @@ impl Mode {
     }
 }
 
-/// Prints what came of a mode.
+/// Prints the outcome of a mode.
 fn print_outcome(
     rt: &impl Print,
     mode: Mode,

@@ -1,4 +1,4 @@
-//! Readers that pin, with nobody beside them or while an installer installs.
+//! Readers that pin, alone or while an installer installs.
 use crate::times::Times;
 use std::alloc::Global;
 use std::marker::{Send, Sync};
@@ -9,7 +9,7 @@ use std::time::{Clock, Instant};
 use uc_oper::Operator;
 use uc_share::{Name, Reader, Store};
 
-/// What an installer is about.
+/// What the installer is doing.
 pub(crate) const WAITING: u64 = 0;
 
 pub(crate) const INSTALLING: u64 = 1;
@@ -19,7 +19,7 @@ pub(crate) const DONE: u64 = 2;
 /// What readers and their installer tell each other.
 #[derive(Drop)]
 pub(crate) struct Window {
-    /// What the installer is about.
+    /// What the installer is doing.
     pub(crate) phase: AtomicU64,
     /// How many readers pin already.
     pub(crate) ready: AtomicU64,
@@ -38,7 +38,7 @@ impl Window {
 /// How readers pin.
 #[derive(Clone, Copy)]
 pub(crate) enum Way {
-    /// So many times.
+    /// This number of times.
     Often(u64),
     /// As long as an installer installs.
     Beside,
@@ -46,7 +46,7 @@ pub(crate) enum Way {
     Timed,
 }
 
-/// Pins so many times. How often that went well.
+/// Pins `rounds` times. Returns how many pins went well.
 fn pin_often<O: Operator, N: Name, W: Wait + Drop>(
     store: &Store<O, N, W>,
     reader: &mut Reader<O, N>,
@@ -61,7 +61,7 @@ fn pin_often<O: Operator, N: Name, W: Wait + Drop>(
     pins
 }
 
-/// Pins until the installer is done. How often that was while it installed.
+/// Pins until the installer is done. Returns the number of pins while it installed.
 fn pin_beside<O: Operator, N: Name, W: Wait + Drop>(
     store: &Store<O, N, W>,
     reader: &mut Reader<O, N>,

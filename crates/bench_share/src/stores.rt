@@ -13,7 +13,7 @@ use uc_share::{Name, Opening, Options, Reader, Seat, Store};
 /// How many runs a store has at first.
 const RUNS: u64 = 64;
 
-/// Options under which each so many bytes are a run.
+/// Options under which each `memtable` bytes are a run.
 fn options(memtable: u64) -> Options {
     Options {
         memtable,
@@ -21,7 +21,8 @@ fn options(memtable: u64) -> Options {
     }
 }
 
-/// A store of 64 runs with so many puts each, of keys of eight bytes, each with a value of one, for so many readers and a seat.
+/// A store of 64 runs, each with the same number of puts of keys of eight bytes and values of one, with its readers and
+/// a seat.
 pub(crate) fn opening_of<O: Operator>(
     alloc: Global,
     points: u64,

@@ -4,7 +4,7 @@ use std::alloc::{AllocError, Global};
 /// How many counters there are for each doubling of the time.
 const STEPS: u64 = 32;
 
-/// How often a call took about so many nanoseconds: each counter is for times that differ by at most a thirty-second.
+/// How often a call took about a given time: each counter is for times that differ by at most a thirty-second.
 #[derive(Drop)]
 pub(crate) struct Times {
     counts: Vec<u64>,
@@ -61,7 +61,7 @@ impl Times {
         self.longest = self.longest.max(nanoseconds);
     }
 
-    /// Counts so many calls of which nothing else is known.
+    /// Counts calls of which nothing else is known.
     pub(crate) fn count(&mut self, calls: u64) {
         self.calls = self.calls.saturating_add(calls);
     }
@@ -87,7 +87,7 @@ impl Times {
         self.longest
     }
 
-    /// The time that so many of 10,000 calls don't pass.
+    /// The time that `share` of 10,000 calls don't exceed.
     pub(crate) fn below(&self, share: u64) -> u64 {
         let wanted = self.calls.saturating_mul(share) / 10_000;
         let mut seen = 0_u64;
