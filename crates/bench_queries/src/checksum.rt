@@ -10,7 +10,7 @@ fn with_bytes(checksum: u64, bytes: &[u8]) -> u64 {
     sum
 }
 
-/// A checksum and then an answer: the bytes that it shows, and behind them what tells one kind of answer from another.
+/// A checksum and then an answer: the bytes that it shows, then what tells one kind of answer from another.
 pub fn with_answer(checksum: u64, answer: &Answer) -> u64 {
     match answer {
         Answer::Value(None) => checksum.wrapping_mul(31),

@@ -25,7 +25,8 @@ const SCANS: usize = 20;
 /// How many keys a range deletion spans.
 const SPAN: u64 = 5;
 
-/// A put, a merge, a deletion or a range deletion that a number stands for, of a key, of keys up to an end, and to a value.
+/// The put, merge, deletion or range deletion for a number. It changes `key`, or the keys up to `end`, and puts
+/// `value`.
 fn op_of<'a>(number: u64, key: &'a [u8], end: &'a [u8], value: &'a [u8]) -> OpRef<'a> {
     if number == 0 {
         return OpRef::delete_range(key, end);
@@ -39,7 +40,7 @@ fn op_of<'a>(number: u64, key: &'a [u8], end: &'a [u8], value: &'a [u8]) -> OpRe
     OpRef::put(key, value)
 }
 
-/// A store that is being opened, and has taken so many random writes.
+/// A store that is being opened, after `writes` random writes.
 fn inserted(alloc: Global, writes: u64, options: Options) -> Result<Opener, AllocError>
     requires { writes < 2 ^ 56 }
 {

@@ -20,7 +20,7 @@ impl Numbers {
         mixed ^ (mixed >> 31)
     }
 
-    /// The next number below a bound, or 0 where that is 0.
+    /// The next number below a bound, or 0 if that is 0.
     pub fn below(&mut self, bound: u64) -> u64 {
         self.next().checked_rem(bound).unwrap_or(0)
     }

@@ -5,7 +5,7 @@ use uc_batch::Ended;
 use uc_version::{Opener, Options, Version};
 use uc_version_open::{Recovered, recover};
 
-/// What a log is made into, which is let go of before anything else is done, and how far it was read.
+/// Recovers a log, which is freed before anything else is done, and how far it was read.
 fn recovered(alloc: Global, log: Vec<u8>, options: Options) -> Result<Recovered, AllocError> {
     recover(alloc, &log, options)
 }

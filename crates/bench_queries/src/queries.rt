@@ -7,7 +7,7 @@ use uc_query_read::Query;
 /// How many keys a log of counters has (`make_log counters`).
 pub const KEYS: u64 = 300_000;
 
-/// How many rows a scan by lot has at most.
+/// How many rows a drawn scan has at most.
 const MOST_ROWS: u64 = 50;
 
 /// The key with a number, as `make_log` spells it.
@@ -16,7 +16,7 @@ pub fn key_of(alloc: Global, number: u64) -> Result<Bytes, AllocError> {
     Bytes::from_slice(alloc, text.as_bytes())
 }
 
-/// So many lookups of keys by lot.
+/// `count` lookups of drawn keys.
 pub fn lookups(
     alloc: Global,
     numbers: &mut Numbers,
@@ -32,7 +32,7 @@ pub fn lookups(
     Ok(queries)
 }
 
-/// A scan from the key with a number on, for so many rows.
+/// A scan from the key with a number on, for at most `limit` rows.
 pub fn scan_from(alloc: Global, number: u64, limit: u64, at: u64) -> Result<Query, AllocError> {
     Ok(Query::Scan {
         low: key_of(alloc, number)?,
@@ -42,7 +42,7 @@ pub fn scan_from(alloc: Global, number: u64, limit: u64, at: u64) -> Result<Quer
     })
 }
 
-/// So many scans from keys by lot, each for 1 to 50 rows.
+/// `count` scans from drawn keys, each for 1 to 50 rows.
 pub fn scans(
     alloc: Global,
     numbers: &mut Numbers,
