@@ -1,4 +1,4 @@
-//! [`Outcome`]: what came of batches of queries, and how long each took.
+//! [`Outcome`]: the answers to batches of queries, and the time of each batch.
 
 use anyhow::Result;
 use bench_queries::checksum::with_answers;
@@ -11,7 +11,7 @@ use uc_query_read::Query;
 use uc_query_workers::answer_plain;
 use uc_version::Version;
 
-/// How a batch is shared out.
+/// How a batch is divided.
 #[derive(Clone, Copy)]
 pub(crate) struct Working {
     /// How many workers answer it.
@@ -21,7 +21,7 @@ pub(crate) struct Working {
 }
 
 impl Working {
-    /// What is taken where the words say nothing.
+    /// The defaults.
     pub(crate) fn usual() -> Working {
         Working {
             workers: 1,
@@ -30,19 +30,19 @@ impl Working {
     }
 }
 
-/// What came of batches of queries.
+/// The outcome of batches of queries.
 #[derive(Drop)]
 pub(crate) struct Outcome {
     /// How many answers there are.
     pub(crate) answers: usize,
     /// A checksum of them all.
     pub(crate) checksum: u64,
-    /// How long each batch took.
+    /// The time of each batch.
     pub(crate) nanoseconds: Vec<u128>,
 }
 
-/// Answers batches of queries of a version one after the other. The clock of each goes from before its first query to
-/// behind its last one: the queries are made before it, and the checksum behind it.
+/// Answers batches of queries of a version one after the other. Each batch is timed from before its first query to
+/// after its last one. The queries are made before that, and the checksum after it.
 pub(crate) fn answered(
     rt: &(impl Clock + Threads + Sync),
     alloc: Global,

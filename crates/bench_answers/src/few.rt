@@ -20,7 +20,7 @@ fn few_owned(alloc: Global) -> Result<Owned<Counter>> {
     Ok(Owned::<Counter>::new(alloc, few_writes(alloc)?, options)?)
 }
 
-/// Makes sure that so many workers come to the answers that were there before.
+/// Checks that `workers` workers return the same answers as before.
 fn ensure_same(
     rt: &(impl Clock + Threads + Sync),
     alloc: Global,
@@ -50,7 +50,7 @@ fn same_answers(
     Ok(before)
 }
 
-/// Prints how large a store is behind its compactions, and what the answers were.
+/// Prints the size of a store after its compactions, and the answers.
 fn print_same(
     rt: &(impl Clock + Threads + Sync + Print),
     alloc: Global,
@@ -63,8 +63,8 @@ fn print_same(
     Ok(())
 }
 
-/// Answers a few queries of a few writes before and after their compactions, and prints how large the store is then, and
-/// what the answers were.
+/// Answers a few queries of a few writes before and after their compactions, and prints the size of the store then, and
+/// the answers.
 pub(crate) fn few_answers(rt: &(impl Clock + Threads + Sync + Print), alloc: Global) -> Result<()> {
     let mut owned = few_owned(alloc)?;
     let batches = few_batches(alloc, owned.version().last())?;

@@ -1,13 +1,14 @@
 //! Answers lookups and scans of a store that opens from a log, for `bench/answers`.
 //!
-//! `bench_answers WORKLOAD [--memtable N] [--trigger N] [--uncompacted] [--one-batch] [--workers N] [--piece N]` reads a log
-//! of counters from standard input, opens a store from it, and compacts what universal compaction picks as long as it picks
-//! anything. Then it answers the workload's queries at the last sequence, batch by batch or all as one, by so many workers
-//! (1) in pieces of so many queries (16). It prints how many runs and points there are, how many answers came, a checksum of
-//! them, and the nanoseconds of each batch. Read `words.rt` for the options, and `queries.rt` for the workloads.
+//! `bench_answers WORKLOAD [--memtable N] [--trigger N] [--uncompacted] [--one-batch] [--workers N] [--piece N]` reads
+//! a log of counters from standard input, opens a store from it, and compacts what universal compaction picks as long
+//! as it picks anything. Then it answers the workload's queries at the last sequence, batch by batch or all as one, by
+//! `--workers` workers (1) in pieces of `--piece` queries (16). It prints the number of runs, of points and of answers,
+//! a checksum of the answers, and the nanoseconds of each batch. Read `words.rt` for the options, and `queries.rt` for
+//! the workloads.
 //!
-//! Without words it does so with a thousand writes of its own, before and after the compactions and by one worker and by
-//! three, and prints the first four: the answers must be the same.
+//! Without words it does so with a thousand writes of its own, before and after the compactions and by one worker and
+//! by three, and prints the first four: the answers must be the same.
 #![tactic(auto)]
 
 mod answering;
@@ -36,7 +37,7 @@ use uc_oper::Counter;
 use uc_query_read::Query;
 use uc_version::Owned;
 
-/// The store of a log, which is let go of once a store is made from it; compacted, where that was asked for.
+/// The store of a log, which is freed once a store is made from it; compacted, if that was asked for.
 fn store_of(
     rt: &(impl Threads + Sync),
     alloc: Global,
@@ -63,7 +64,7 @@ fn asked_batches(alloc: Global, asked: &Asked, at: u64) -> Result<Vec<Vec<Query>
     }
 }
 
-/// Answers the workload of a log, and prints what came of it.
+/// Answers the workload of a log, and prints the outcome.
 fn measure(
     rt: &(impl Clock + Threads + Sync + Print),
     alloc: Global,

@@ -6,7 +6,7 @@ use bench_queries::opening::totals;
 use uc_oper::Counter;
 use uc_version::Owned;
 
-/// Prints how large a store is, how many answers it gave, and their checksum, without an end of the line.
+/// Prints the size of a store, the number of its answers, and their checksum, without an end of the line.
 pub(crate) fn print_figures(
     rt: &impl Print,
     owned: &Owned<Counter>,
@@ -18,7 +18,7 @@ pub(crate) fn print_figures(
     Ok(())
 }
 
-/// Prints a line of the same figures, and of how long each batch took.
+/// Prints a line of the same figures, and the time of each batch.
 pub(crate) fn print_outcome(
     rt: &impl Print,
     owned: &Owned<Counter>,

@@ -15,7 +15,7 @@ const SCANS: usize = 500;
 /// Which queries a store is asked.
 #[derive(Clone, Copy)]
 pub(crate) enum Workload {
-    /// 20,000 lookups of keys by lot, and 500 scans from such a key for 1 to 50 rows.
+    /// 20,000 lookups of drawn keys, and 500 scans from such a key for 1 to 50 rows.
     Answers,
     /// 20,000 lookups of the few keys of a log of hot counters.
     Hot,
@@ -35,7 +35,7 @@ impl Workload {
     }
 }
 
-/// Batches of one scan each, from the first key on, for so many rows.
+/// Batches of one scan each, from the first key on, one for each limit on the rows.
 fn scans_of_all(alloc: Global, limits: &[u64], at: u64) -> Result<Vec<Vec<Query>>, AllocError> {
     let mut batches = Vec::new(alloc);
     for limit in limits {

@@ -18,7 +18,7 @@ pub(crate) struct Asked {
     pub(crate) working: Working,
 }
 
-/// An option that has a number behind it.
+/// An option that a number follows.
 #[derive(Clone, Copy)]
 enum Setting {
     Memtable,
@@ -40,7 +40,7 @@ impl Setting {
 }
 
 impl Asked {
-    /// Takes the number behind an option.
+    /// Takes the number after an option.
     fn set(&mut self, setting: Setting, number: &str) -> Result<()> {
         match setting {
             Setting::Memtable => self.options.memtable = number.parse::<u64>()?,
@@ -52,7 +52,7 @@ impl Asked {
     }
 }
 
-/// What a workload's name and the options behind it ask for.
+/// What a workload's name and the options after it ask for.
 pub(crate) fn asked_by(workload: &str, options: &[String]) -> Result<Asked> {
     let Some(workload) = Workload::named(workload) else {
         bail!("the workload is answers, hot or deleted");
