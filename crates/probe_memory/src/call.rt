@@ -99,7 +99,7 @@ pub(crate) fn calls() -> &'static [(Call, &'static str)] {
     &CALLS
 }
 
-/// What comes of a call on a store that threads share or on anything above one, if it is one.
+/// The verdict of a call on a store that threads share or on anything above one, if it is one.
 fn verdict_above<R: Threads + Wait + Sync>(rt: &R, alloc: Global, call: Call) -> Option<Verdict> {
     let call = match call {
         Call::StoreOpen => return store_opened(rt, alloc),
@@ -120,7 +120,7 @@ fn verdict_above<R: Threads + Wait + Sync>(rt: &R, alloc: Global, call: Call) ->
     shared_verdict(rt, alloc, call)
 }
 
-/// Makes a call with its setting, and judges it. There is no verdict where the setting has no memory.
+/// Makes a call with its setting, and judges it. There is no verdict if memory ran out for the setting.
 pub(crate) fn verdict<R: Threads + Wait + Sync>(
     rt: &R,
     alloc: Global,

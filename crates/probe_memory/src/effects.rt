@@ -1,4 +1,4 @@
-//! Effects on one key, joined and applied, and folds of many. Want of memory loses what is moved in, so it is there twice.
+//! Effects on one key, joined and applied, and folds of many. An `Err` loses what is moved in, so it is there twice.
 use crate::probe::{Outcome, Probe, Verdict, tried, tried_again};
 use crate::settings::{LONG, Texts};
 use std::alloc::Global;
@@ -21,7 +21,7 @@ fn operand(alloc: Global) -> Option<Effect> {
     Some(Effect::Fold(long(alloc)?))
 }
 
-/// Two merges, one behind the other.
+/// Two merges, one after the other.
 type Pair = (Effect, Effect);
 
 /// Two merges, twice.
@@ -90,7 +90,7 @@ pub(crate) fn effect_applied(alloc: Global) -> Option<Verdict> {
     Some(tried(alloc, &mut Applies { pairs, wanted }))
 }
 
-/// So many merges.
+/// `PARTS` merges.
 fn parts(alloc: Global) -> Option<Vec<Effect>> {
     let mut parts = Vec::new(alloc);
     for _ in 0..PARTS {

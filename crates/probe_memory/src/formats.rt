@@ -8,10 +8,10 @@ use uc_batch::{
 use uc_bytes::Op;
 use uc_logrec::{Ending, LogRead, LogWriter, read_log};
 
-/// How many bytes a payload has that spans two blocks.
+/// How many bytes a payload that spans two blocks has.
 const LONG: usize = 40_000;
 
-/// A payload of so many bytes.
+/// A payload of `len` bytes.
 fn payload_of(alloc: Global, len: usize) -> Option<Vec<u8>> {
     let mut payload = Vec::new(alloc);
     payload.resize(len, 7).ok()?;
@@ -42,7 +42,7 @@ impl Probe for ReadsLog {
     }
 }
 
-/// Reads a log of two payloads, the second of which stands in several records.
+/// Reads a log of two payloads, the second of several records.
 pub(crate) fn log_read(alloc: Global) -> Option<Verdict> {
     let payload = payload_of(alloc, LONG)?;
     let mut log = LogWriter::new(alloc);
@@ -78,7 +78,7 @@ fn two_payloads(alloc: Global, payload: &[u8]) -> Option<Vec<u8>> {
     Some(log.finish())
 }
 
-/// Adds a payload behind another. The log then has to be the one of both.
+/// Adds a payload after another. The log must then be the one of both.
 pub(crate) fn payload_added(alloc: Global) -> Option<Verdict> {
     let payload = payload_of(alloc, LONG)?;
     let wanted = two_payloads(alloc, &payload)?;

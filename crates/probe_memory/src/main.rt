@@ -1,14 +1,14 @@
-//! Calls of the library where memory is refused, for `faults/run.sh`, which makes each of them again and again and refuses one
-//! request for memory after the other.
+//! Calls of the library with memory refused, for `faults/run.sh`. That script makes each of them again and again, and
+//! refuses one request for memory after the other.
 //!
-//! `probe_memory CALL` makes a call's setting, and then the call between two requests for memory of sizes that nothing else asks
-//! for, so that a preloaded library can tell the call's own requests. It prints what came of it: `CALL right`, `CALL wrong: WHY`,
-//! or `CALL out of memory`, which says that memory was wanting, that what the call was lent was then as before, that what was
-//! moved into it had come back, where it may not lose that, and that the same call was right at once after it. Without words it
-//! makes each call once. `probe_memory list` prints their names.
+//! `probe_memory CALL` makes a call's setting, and then the call between two requests for memory of sizes that nothing
+//! else asks for. So a preloaded library can tell the call's own requests. It prints the outcome: `CALL right`, `CALL
+//! wrong: WHY`, or `CALL out of memory`. The last means that an allocation failed, that what the call borrowed was then
+//! as before, that what was moved into it had come back unless it may lose that, and that the same call was right at
+//! once after it. Without words it makes each call once. `probe_memory list` prints their names.
 //!
-//! Read `probe.rt` first. `settings.rt` has what the calls are lent; the calls stand in `formats.rt`, `effects.rt`, `runs.rt`,
-//! `owned.rt`, `shared.rt` and `queries.rt`.
+//! Read `probe.rt` first. `settings.rt` has what the calls borrow; the calls are in `formats.rt`, `effects.rt`,
+//! `runs.rt`, `owned.rt`, `shared.rt` and `queries.rt`.
 #![tactic(auto)]
 
 mod call;
@@ -30,7 +30,7 @@ use std::marker::Sync;
 use std::sync::Wait;
 use std::thread::Threads;
 
-/// Makes a call and prints what comes of it.
+/// Makes a call and prints the outcome.
 fn print_verdict(
     rt: &(impl Threads + Wait + Sync + Print),
     alloc: Global,

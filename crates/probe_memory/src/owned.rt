@@ -1,4 +1,4 @@
-//! A store in one owner's hands: opened, and claimed, compacted and installed by one call after another or by one for all.
+//! A store with one owner: opened, and claimed, compacted and installed by one call after another or by one for all.
 use crate::probe::{Fault, Outcome, Probe, Verdict, marked, tried, tried_again};
 use crate::settings::{
     KEEPS, Texts, is_busy, log, owned, owned_after, same_version, small_runs, version, writes,
@@ -17,7 +17,7 @@ use uc_version::{
 /// The runs that are claimed.
 const STRETCH: Stretch = Stretch { first: 1, count: 4 };
 
-/// A claim of the stretch, or none where it is refused.
+/// A claim of the stretch, or `None` if it is refused.
 fn claimed(owned: &mut Owned<Texts>) -> Option<OwnedClaim> {
     owned.claim(STRETCH).ok()
 }
@@ -110,7 +110,7 @@ pub(crate) fn stretch_claimed(alloc: Global) -> Option<Verdict> {
     Some(tried(alloc, &mut Claims { owned, before }))
 }
 
-/// What comes of `Owned::compact`.
+/// The outcome of `Owned::compact`.
 fn compact_outcome(
     rt: &(impl Threads + Sync),
     alloc: Global,
@@ -127,7 +127,7 @@ fn compact_outcome(
     }
 }
 
-/// What comes of compacting a claim, and once more where memory was wanting.
+/// The verdict on compacting a claim, tried again if memory ran out.
 fn compact_tried(
     rt: &(impl Threads + Sync),
     alloc: Global,
@@ -139,7 +139,7 @@ fn compact_tried(
     Some(tried_again(alloc, || compact_outcome(rt, alloc, owned, claim, wanted)))
 }
 
-/// Compacts what is claimed.
+/// Compacts a claim.
 pub(crate) fn claim_compacted(rt: &(impl Threads + Sync), alloc: Global) -> Option<Verdict> {
     let mut owned = owned(alloc)?;
     let claim = claimed(&mut owned)?;
@@ -149,7 +149,7 @@ pub(crate) fn claim_compacted(rt: &(impl Threads + Sync), alloc: Global) -> Opti
 /// A claim, and what its runs become.
 type Made = (OwnedClaim, Compacted<Texts>);
 
-/// What comes of `Owned::install`, which hands back what it took where memory is wanting.
+/// The outcome of `Owned::install`, which hands back what it took if memory runs out.
 fn install_outcome(
     owned: &mut Owned<Texts>,
     made: Made,
@@ -166,7 +166,7 @@ fn install_outcome(
     }
 }
 
-/// What comes of installing what was made, by the version that is right behind it, and once more where memory was wanting.
+/// The verdict on an install, by the version that is right after it, tried again if memory ran out.
 fn install_tried(alloc: Global, owned: &mut Owned<Texts>, made: Made, wanted: &Version) -> Verdict {
     let (first, back) = marked(alloc, || install_outcome(owned, made, wanted));
     match back {
@@ -182,19 +182,19 @@ fn made_of(rt: &(impl Threads + Sync), alloc: Global, owned: &mut Owned<Texts>) 
     Some((claim, made))
 }
 
-/// Installs what was compacted, by the store that is right behind it.
+/// Installs a compaction, by the version that is right after it.
 fn installed_as(rt: &(impl Threads + Sync), alloc: Global, wanted: &Version) -> Option<Verdict> {
     let mut owned = owned(alloc)?;
     let made = made_of(rt, alloc, &mut owned)?;
     Some(install_tried(alloc, &mut owned, made, wanted))
 }
 
-/// Installs what was compacted.
+/// Installs a compaction.
 pub(crate) fn claim_installed(rt: &(impl Threads + Sync), alloc: Global) -> Option<Verdict> {
     installed_as(rt, alloc, owned_after(rt, alloc, STRETCH)?.version())
 }
 
-/// What comes of `Owned::compact_now`.
+/// The outcome of `Owned::compact_now`.
 fn compact_now_outcome(
     rt: &(impl Threads + Sync),
     alloc: Global,
@@ -208,7 +208,7 @@ fn compact_now_outcome(
     }
 }
 
-/// What comes of the call, and once more where memory was wanting: then nothing is claimed, and the version is as before.
+/// The verdict on the call, tried again if memory ran out: then nothing is claimed, and the version is as before.
 fn compact_now_tried(
     rt: &(impl Threads + Sync),
     alloc: Global,
@@ -226,7 +226,7 @@ fn compact_now_tried(
     Verdict::of_again(compact_now_outcome(rt, alloc, owned, wanted))
 }
 
-/// Makes the call, by the version that is right behind it.
+/// Makes the call, by the version that is right after it.
 fn compacted_to(rt: &(impl Threads + Sync), alloc: Global, wanted: &Version) -> Option<Verdict> {
     let (mut owned, before) = (owned(alloc)?, version(alloc)?);
     Some(compact_now_tried(rt, alloc, &mut owned, &before, wanted))

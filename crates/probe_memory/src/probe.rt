@@ -1,21 +1,21 @@
-//! [`Probe`]: a call with its setting, and [`Verdict`]: what comes of trying it.
+//! [`Probe`]: a call with its setting, and [`Verdict`]: the result of trying it.
 use crate::marks::{BEGIN, END, mark};
 use std::alloc::Global;
 use std::fmt;
 
-/// What comes of a call.
+/// The outcome of a call.
 #[derive(Clone, Copy, PartialEq, Eq)]
 pub(crate) enum Outcome {
-    /// What is right.
+    /// It is right.
     Right,
-    /// Memory was wanting.
+    /// Memory ran out.
     Memory,
     /// Anything else.
     Wrong,
 }
 
 impl Outcome {
-    /// What comes of a call that answers, by whether the answer is right.
+    /// The outcome of a call that answers, by whether the answer is right.
     pub(crate) fn of(is_right: bool) -> Outcome {
         if is_right {
             Outcome::Right
@@ -24,7 +24,7 @@ impl Outcome {
         }
     }
 
-    /// What comes of a call that memory was wanting for, by whether it hands back what it took.
+    /// The outcome of a call for which memory ran out, by whether it hands back what it took.
     pub(crate) fn of_refused(is_handed_back: bool) -> Outcome {
         if is_handed_back {
             Outcome::Memory
@@ -33,28 +33,28 @@ impl Outcome {
         }
     }
 
-    /// What comes of two, one after the other: the first that isn't right.
+    /// The outcome of two, one after the other: the first that isn't right.
     pub(crate) fn and(self, other: Outcome) -> Outcome {
         if self == Outcome::Right { other } else { self }
     }
 }
 
-/// What else may come of a call.
+/// What else may be wrong with a call.
 #[derive(Clone, Copy)]
 pub(crate) enum Fault {
-    /// It answers what isn't right.
+    /// Its answer is wrong.
     Answer,
-    /// Memory was wanting, and the same call doesn't answer what is right at once after it.
+    /// Memory ran out, and the same call isn't right at once after it.
     Again,
-    /// Memory was wanting, and what it was lent isn't as before.
+    /// Memory ran out, and what it borrowed isn't as before.
     Lent,
-    /// Memory was wanting, and what readers pin isn't as before.
+    /// Memory ran out, and what readers pin isn't as before.
     Shown,
-    /// Memory was wanting, and not all readers came back.
+    /// Memory ran out, and not all readers came back.
     Reader,
-    /// The log isn't right in the end.
+    /// The log is wrong in the end.
     Log,
-    /// The run isn't right in the end.
+    /// The run is wrong in the end.
     Run,
 }
 
@@ -73,19 +73,19 @@ impl fmt::Display for Fault {
     }
 }
 
-/// What comes of trying a call between the marks.
+/// The result of trying a call between the marks.
 #[derive(Clone, Copy)]
 pub(crate) enum Verdict {
-    /// It answered what is right.
+    /// Its answer was right.
     Right,
-    /// Memory was wanting, all was as before, and the same call answered what is right at once after it.
+    /// Memory ran out, all was as before, and the same call was right at once after it.
     Memory,
     /// It did something else.
     Wrong(Fault),
 }
 
 impl Verdict {
-    /// What came of a call that can't be out of memory any more.
+    /// The verdict on a call for which memory can't run out any more.
     pub(crate) fn of_first(first: Outcome) -> Verdict {
         match first {
             Outcome::Right => Verdict::Right,
@@ -93,7 +93,7 @@ impl Verdict {
         }
     }
 
-    /// What came of a call whose memory was wanting, by what the same call came to behind it.
+    /// The verdict on a call for which memory ran out, by the outcome of the same call after it.
     pub(crate) fn of_again(again: Outcome) -> Verdict {
         match again {
             Outcome::Right => Verdict::Memory,
@@ -112,15 +112,15 @@ impl fmt::Display for Verdict {
     }
 }
 
-/// A call with all that it is lent, and what is right. A call that may start threads has no [`Probe`], and is a closure instead:
-/// that threads may use what stands for the runtime can't be said through a trait.
+/// A call with all that it borrows, and what is right. A call that may start threads has no [`Probe`], and is a closure
+/// instead: a trait can't say that threads may use the runtime's stand-in.
 pub(crate) trait Probe {
-    /// Makes the call. It asks for no memory but what the call asks for. What the call takes for good where it fails, is
-    /// there twice.
+    /// Makes the call. It allocates only what the call allocates. What the call takes for good if it fails, is there
+    /// twice.
     fn call(&mut self, alloc: Global) -> Outcome;
 
-    /// Whether what is lent is as it was before a call that was refused memory, and what was moved in has come back. A call that
-    /// may change nothing of what it is lent leaves it so.
+    /// Whether what it borrows is as it was before a call that was refused memory, and what was moved in has come back.
+    /// A call that may change nothing that it borrows leaves this as it is.
     fn is_unchanged(&self) -> bool {
         true
     }
@@ -138,7 +138,7 @@ where
     came
 }
 
-/// Makes a call between the marks, and the same call again where memory was wanting.
+/// Makes a call between the marks, and the same call again if memory ran out.
 pub(crate) fn tried_again<F: FnMut() -> Outcome>(alloc: Global, mut call: F) -> Verdict
 where
     F: Drop,
@@ -153,7 +153,7 @@ where
     }
 }
 
-/// What comes of a call that was made, and of the same call again where memory was wanting.
+/// The verdict on a call that was made, and on the same call again if memory ran out.
 fn judged<P: Probe>(alloc: Global, probe: &mut P, first: Outcome) -> Verdict {
     if first != Outcome::Memory {
         return Verdict::of_first(first);

@@ -90,7 +90,7 @@ pub(crate) fn scan_asked(alloc: Global) -> Option<Verdict> {
     one_asked(alloc, scan(alloc, CHANGES, 10)?)
 }
 
-/// What comes of `answer_plain`.
+/// The outcome of `answer_plain`.
 fn plain_outcome(
     rt: &(impl Threads + Sync),
     alloc: Global,
@@ -124,7 +124,7 @@ pub(crate) fn plain_asked(rt: &(impl Threads + Sync), alloc: Global) -> Option<V
     plain_tried(rt, alloc, &version, &queries)
 }
 
-/// What comes of `report`.
+/// The outcome of `report`.
 fn report_outcome(
     rt: &(impl Threads + Sync),
     alloc: Global,
@@ -145,7 +145,7 @@ pub(crate) fn version_reported(rt: &(impl Threads + Sync), alloc: Global) -> Opt
     Some(tried_again(alloc, || report_outcome(rt, alloc, version, wanted)))
 }
 
-/// Whether a call's name is one of those that there are.
+/// Whether a call's name exists.
 fn has_name(call: &Call) -> bool
     ensures { IsTrue result ↔ HasName call.now }
 {
@@ -157,7 +157,7 @@ fn has_name(call: &Call) -> bool
     }
 }
 
-/// Whether all calls' names are.
+/// Whether all calls' names exist.
 fn have_names(calls: &[Call]) -> bool
     ensures { IsTrue result ↔ AllByRecursion HasName calls.now }
 {
@@ -167,7 +167,7 @@ fn have_names(calls: &[Call]) -> bool
 /// The two newest runs, which are compacted twice.
 const NEWEST: Stretch = Stretch { first: 0, count: 2 };
 
-/// A claim, a compaction, a batch of queries, and what was claimed installed.
+/// A claim, a compaction, a batch of queries, and the claim's install.
 fn calls(alloc: Global) -> Option<Vec<Call>> {
     let mut calls = Vec::new(alloc);
     calls
@@ -194,7 +194,7 @@ fn are_replies(replies: &[Reply], answers: &[Answer]) -> bool {
     }
 }
 
-/// What comes of `run_calls`.
+/// The outcome of `run_calls`.
 fn calls_outcome(
     rt: &(impl Threads + Sync),
     alloc: Global,
@@ -212,14 +212,14 @@ fn calls_outcome(
     }
 }
 
-/// Whether no claim is left in a store, and its version is the one before the calls or the one behind their compaction: the calls
-/// before the one that is refused memory stand.
+/// Whether no claim is left in a store, and its version is the one before the calls or the one after their compaction:
+/// the calls before the one that is refused memory stay done.
 fn is_between(owned: &Owned<Texts>, before: &Version, after: &Version) -> bool {
     let now = owned.version();
     !is_busy(owned) && (same_version(now, before) || same_version(now, after))
 }
 
-/// What comes of the calls, and once more where memory was wanting.
+/// The verdict on the calls, tried again if memory ran out.
 fn calls_tried(
     rt: &(impl Threads + Sync),
     alloc: Global,
@@ -239,7 +239,7 @@ fn calls_tried(
     Verdict::of_again(calls_outcome(rt, alloc, owned, calls, answers))
 }
 
-/// Makes calls, by their answers and the version behind their compaction.
+/// Makes calls, by their answers and the version after their compaction.
 fn made_with(
     rt: &(impl Threads + Sync),
     alloc: Global,

@@ -84,7 +84,7 @@ fn to_insert(alloc: Global) -> Option<Inserts> {
     })
 }
 
-/// Inserts the last of the changes. The memtable then has to be flushed to the run of all of them.
+/// Inserts the last of the changes. The memtable must then be flushed to the run of all of them.
 fn inserted_last(alloc: Global, mut probe: Inserts, wanted: &Run) -> Option<Verdict> {
     let verdict = tried(alloc, &mut probe);
     if flushed(alloc, probe.memtable)?.same(wanted) {
@@ -169,7 +169,7 @@ fn points(alloc: Global) -> Option<Vec<Entry>> {
     Some(points)
 }
 
-/// The run of points at 1 to 3, if they make one. Want of memory loses them.
+/// The run of points at 1 to 3, if they make one. An `Err` loses them.
 fn run_of(alloc: Global, points: Vec<Entry>) -> Option<Run> {
     let fragments = Vec::new(alloc);
     if !is_run(1, 3, &points, &fragments) {
@@ -201,7 +201,7 @@ impl Probe for Builds {
     }
 }
 
-/// The points twice, since want of memory loses them.
+/// The points twice, since an `Err` loses them.
 fn points_twice(alloc: Global) -> Option<Vec<Vec<Entry>>> {
     let mut lists = Vec::new(alloc);
     for _ in 0..2 {
@@ -261,7 +261,7 @@ fn compacted(
     compact(rt, alloc, runs, &KEEPS, true).ok()
 }
 
-/// What comes of `compact`.
+/// The outcome of `compact`.
 fn compact_outcome(
     rt: &(impl Threads + Sync),
     alloc: Global,

@@ -1,4 +1,4 @@
-//! What calls are lent: a few changes, and what is made of them.
+//! What calls borrow: a few changes, and what is made of them.
 ghost use Rattle.std.specs.Prelude.{◌≡◌, true};
 ghost use Rattle.uc_version_state.specs.Options.{are_good};
 
@@ -18,10 +18,10 @@ pub(crate) type Texts = Append<b','>;
 /// How many changes there are. Each is a run of its own.
 pub(crate) const CHANGES: u64 = 8;
 
-/// The sequences that are kept beside the last one.
+/// The keeps beside the last sequence.
 pub(crate) const KEEPS: [u64; 2] = [2, 5];
 
-/// A text that has no room inside a point.
+/// A text that doesn't fit inside a point.
 pub(crate) const LONG: &[u8] =
     b"seventy bytes of text, which is more than fits a point of a sorted run";
 
@@ -95,7 +95,7 @@ pub(crate) fn owned(alloc: Global) -> Option<Owned<Texts>> {
     open_plain(alloc, &writes(alloc)?, &KEEPS, small_runs()).ok()
 }
 
-/// A store of them, behind the compaction of a stretch.
+/// A store of them, after the compaction of a stretch.
 pub(crate) fn owned_after(
     rt: &(impl Threads + Sync),
     alloc: Global,
@@ -112,7 +112,7 @@ pub(crate) fn lookup(alloc: Global, at: u64) -> Option<Query> {
     Some(Query::Get { key, at })
 }
 
-/// A scan of so many rows of all keys.
+/// A scan of all keys, for at most `limit` rows.
 pub(crate) fn scan(alloc: Global, at: u64, limit: u64) -> Option<Query> {
     let low = Bytes::from_slice(alloc, b"").ok()?;
     Some(Query::Scan {
@@ -123,7 +123,7 @@ pub(crate) fn scan(alloc: Global, at: u64, limit: u64) -> Option<Query> {
     })
 }
 
-/// Lookups and scans at kept sequences, and a lookup at one that isn't kept.
+/// Lookups and scans at keeps, and a lookup at a sequence that isn't kept.
 pub(crate) fn queries(alloc: Global) -> Option<Vec<Query>> {
     let mut queries = Vec::new(alloc);
     for at in [CHANGES, 2, 3, 5] {
@@ -159,7 +159,7 @@ fn same_runs(runs: &[Placed], others: &[Placed]) -> bool {
         })
 }
 
-/// Whether versions are the same. It takes no memory.
+/// Whether versions are the same. It doesn't allocate.
 pub(crate) fn same_version(version: &Version, other: &Version) -> bool {
     same_runs(version.runs(), other.runs())
         && version.keeps() == other.keeps()

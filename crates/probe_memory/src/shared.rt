@@ -1,4 +1,4 @@
-//! A store that threads share: opened, pinned, picked, claimed, compacted and installed, and asked by a batch.
+//! A store that threads share: opened, pinned, picked, claimed, compacted and installed, and queried by a batch.
 ghost use Rattle.std.specs.Prelude.{◌≡◌, IfSome, All};
 ghost use Rattle.uc_share.specs.Stores.{IsNamed};
 
@@ -35,7 +35,7 @@ pub(crate) enum SharedCall {
 /// The runs that are claimed.
 const STRETCH: Stretch = Stretch { first: 1, count: 4 };
 
-/// What comes of looking at what a store opened with: a version that is pinned, one reader more and two seats.
+/// The outcome of looking at an opened store: a version that is pinned, one reader more and two seats.
 fn look_outcome<N: Name, W: Wait + Drop>(
     store: &Store<Texts, N, W>,
     readers: &mut Vec<Reader<Texts, N>>,
@@ -51,7 +51,7 @@ fn look_outcome<N: Name, W: Wait + Drop>(
     }
 }
 
-/// What comes of naming a store, of which this version is pinned then.
+/// The outcome of naming a store, of which this version is pinned then.
 fn name_outcome<N: Name, W: Wait + Drop>(
     handle: W,
     alloc: Global,
@@ -66,7 +66,7 @@ fn name_outcome<N: Name, W: Wait + Drop>(
     }
 }
 
-/// What comes of opening a store for two readers and two seats, and of naming it.
+/// The outcome of opening a store for two readers and two seats, and of naming it.
 fn opens(rt: &impl Wait, alloc: Global, version: Version, wanted: &Version) -> Outcome {
     match Opening::of(alloc, version, small_runs(), 2, 2) {
         Ok(opening) => name_outcome::<Brand, _>(rt, alloc, opening, wanted),
@@ -87,7 +87,7 @@ pub(crate) fn store_opened(rt: &impl Wait, alloc: Global) -> Option<Verdict> {
     })
 }
 
-/// What comes of pinning.
+/// The outcome of a pin.
 fn pin_outcome<N: Name, W: Wait + Drop>(
     store: &Store<Texts, N, W>,
     reader: &mut Reader<Texts, N>,
@@ -99,7 +99,7 @@ fn pin_outcome<N: Name, W: Wait + Drop>(
     }
 }
 
-/// What comes of `Store::pin` between the marks, and once more where memory was wanting.
+/// The verdict on `Store::pin` between the marks, tried again if memory ran out.
 fn pinned<N: Name, W: Wait + Drop>(
     alloc: Global,
     store: &Store<Texts, N, W>,
@@ -109,7 +109,7 @@ fn pinned<N: Name, W: Wait + Drop>(
     tried_again(alloc, || pin_outcome(store, reader, wanted))
 }
 
-/// What comes of a pick, which is the runs that a store in one owner's hands picks.
+/// The verdict on a pick, which must be what a store with one owner picks.
 fn picked<N: Name, W: Wait + Drop>(
     alloc: Global,
     store: &Store<Texts, N, W>,
@@ -125,7 +125,7 @@ fn picked<N: Name, W: Wait + Drop>(
     Verdict::of_first(Outcome::of(stretch == wanted))
 }
 
-/// What comes of a claim, and the seat and the pin where memory was wanting.
+/// The outcome of a claim, and the seat and the pin if memory ran out.
 fn claim_outcome<N: Name, W: Wait + Drop>(
     store: &Store<Texts, N, W>,
     reader: &mut Reader<Texts, N>,
@@ -142,7 +142,7 @@ fn claim_outcome<N: Name, W: Wait + Drop>(
     }
 }
 
-/// What comes of a claim between the marks. Where memory was wanting, the seat and the pin are there for another.
+/// The verdict on a claim between the marks. If memory ran out, the seat and the pin are there for another.
 fn claimed<N: Name, W: Wait + Drop>(
     alloc: Global,
     store: &Store<Texts, N, W>,
@@ -177,7 +177,7 @@ fn held_by<N: Name, W: Wait + Drop>(
     }
 }
 
-/// What comes of `Held::compact`.
+/// The outcome of `Held::compact`.
 fn compact_outcome<N: Name>(
     rt: &(impl Threads + Sync),
     alloc: Global,
@@ -190,7 +190,7 @@ fn compact_outcome<N: Name>(
     }
 }
 
-/// What comes of a compaction of what is held, and once more where memory was wanting.
+/// The verdict on a compaction of a claim, tried again if memory ran out.
 fn compacted<N: Name>(
     rt: &(impl Threads + Sync),
     alloc: Global,
@@ -206,10 +206,10 @@ fn pick_wanted(alloc: Global) -> Option<Option<Stretch>> {
     Some(owned(alloc)?.pick())
 }
 
-/// What is held, and what was made of it.
+/// A claim, and its compaction.
 type Made<N> = (Held<Texts, N>, Compacted<Texts>);
 
-/// What comes of an install, which hands back what it took where memory is wanting.
+/// The outcome of an install, which hands back what it took if memory runs out.
 fn install_outcome<N: Name, W: Wait + Drop>(
     rt: &impl Wait,
     alloc: Global,
@@ -228,8 +228,8 @@ fn install_outcome<N: Name, W: Wait + Drop>(
     }
 }
 
-/// What comes of an install: the reader then pins what is right. Where memory was wanting, it still pins what was shown before,
-/// and what is held and what was made are there for another install.
+/// The verdict on an install: the reader then pins what is right. If memory ran out, it still pins what was shown
+/// before, and the claim and its compaction are there for another install.
 fn install_tried<N: Name, W: Wait + Drop>(
     rt: &impl Wait,
     alloc: Global,
@@ -255,7 +255,7 @@ fn install_tried<N: Name, W: Wait + Drop>(
     Verdict::of_again(again.and(pin_outcome(store, reader, after)))
 }
 
-/// What comes of an install of what is held.
+/// The verdict on an install of a claim.
 fn installed<N: Name, W: Wait + Drop, R: Threads + Wait + Sync>(
     rt: &R,
     alloc: Global,
@@ -270,7 +270,7 @@ fn installed<N: Name, W: Wait + Drop, R: Threads + Wait + Sync>(
     Some(install_tried(rt, alloc, store, (held, made), reader, shown))
 }
 
-/// What comes of giving a claim back: the slots are free for another claim.
+/// The verdict on giving a claim back: the slots are free for another claim.
 fn abandoned<N: Name, W: Wait + Drop>(
     alloc: Global,
     store: &Store<Texts, N, W>,
@@ -285,7 +285,7 @@ fn abandoned<N: Name, W: Wait + Drop>(
     Verdict::of_first(claim_outcome(store, reader, seat, pin).0)
 }
 
-/// What comes of a batch of queries by three workers, and the readers.
+/// The outcome of a batch of queries by three workers, and the readers.
 fn batch_outcome<N: Name + Send>(
     rt: &(impl Threads + Sync),
     alloc: Global,
@@ -301,7 +301,7 @@ fn batch_outcome<N: Name + Send>(
     }
 }
 
-/// What comes of `answer_all`. Where memory was wanting, the readers have come back for another batch.
+/// The verdict on `answer_all`. If memory ran out, the readers have come back for another batch.
 fn batch_tried<N: Name + Send>(
     rt: &(impl Threads + Sync),
     alloc: Global,
@@ -322,7 +322,7 @@ fn batch_tried<N: Name + Send>(
     Verdict::of_again(batch_outcome(rt, alloc, readers, queries, wanted).1)
 }
 
-/// What comes of a batch of queries.
+/// The verdict on a batch of queries.
 fn asked<N: Name + Send>(
     rt: &(impl Threads + Sync),
     alloc: Global,
@@ -333,7 +333,7 @@ fn asked<N: Name + Send>(
     Some(batch_tried(rt, alloc, readers, &queries, &wanted))
 }
 
-/// What comes of a call that needs a claim, where `before` is shown.
+/// The verdict on a call that needs a claim, while `before` is shown.
 fn with_claim<N: Name, W: Wait + Drop, R: Threads + Wait + Sync>(
     rt: &R,
     alloc: Global,
@@ -355,7 +355,7 @@ fn with_claim<N: Name, W: Wait + Drop, R: Threads + Wait + Sync>(
     }
 }
 
-/// What comes of a call that needs a pin and a seat, where `before` is shown.
+/// The verdict on a call that needs a pin and a seat, while `before` is shown.
 fn with_pin<N: Name, W: Wait + Drop, R: Threads + Wait + Sync>(
     rt: &R,
     alloc: Global,
@@ -378,7 +378,7 @@ fn with_pin<N: Name, W: Wait + Drop, R: Threads + Wait + Sync>(
     }
 }
 
-/// A reader and a seat of those of a store.
+/// A reader and a seat of a store.
 fn next_worker<N: Name, W: Wait + Drop>(
     store: &Store<Texts, N, W>,
     readers: &mut Vec<Reader<Texts, N>>,
@@ -392,7 +392,7 @@ fn next_worker<N: Name, W: Wait + Drop>(
     Some((reader, seat))
 }
 
-/// What comes of a call of a reader and a seat of a store, where `before` is shown.
+/// The verdict on a call of a reader and a seat of a store, while `before` is shown.
 fn worker_verdict<N: Name, W: Wait + Drop, R: Threads + Wait + Sync>(
     rt: &R,
     alloc: Global,
@@ -411,7 +411,7 @@ fn worker_verdict<N: Name, W: Wait + Drop, R: Threads + Wait + Sync>(
     }
 }
 
-/// What comes of a call of a store that is opened here, where `before` is shown.
+/// The verdict on a call of a store that is opened here, while `before` is shown.
 fn store_verdict<N: Name + Send, W: Wait + Drop, R: Threads + Wait + Sync>(
     rt: &R,
     handle: W,
@@ -429,7 +429,7 @@ fn store_verdict<N: Name + Send, W: Wait + Drop, R: Threads + Wait + Sync>(
     }
 }
 
-/// What comes of a call of a store.
+/// The verdict on a call of a store.
 pub(crate) fn shared_verdict(
     rt: &(impl Threads + Wait + Sync),
     alloc: Global,
