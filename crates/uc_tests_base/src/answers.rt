@@ -17,7 +17,7 @@ fn store_of(alloc: Global, changes: &[(u64, Change)]) -> Result<Writes, Fail> {
     Ok(Writes::of(written(alloc, changes)?).ok_or("the sequences don't rise")?)
 }
 
-/// Keys out of order; of them `b` is deleted again, and `d` is named by deletions alone.
+/// Keys out of order. `b` is deleted again, and only deletions name `d`.
 static DELETIONS: [(u64, Change); 8] = [
     (1, Change::Put(b"c", b"3")),
     (2, Change::Put(b"b", b"2")),
@@ -29,7 +29,7 @@ static DELETIONS: [(u64, Change); 8] = [
     (8, Change::Put(b"ca", b"5")),
 ];
 
-/// An answer that is wanted.
+/// An expected answer.
 enum Want {
     Value(Option<&'static [u8]>),
     Rows(&'static [(&'static [u8], &'static [u8])]),
@@ -46,7 +46,7 @@ fn are_pairs(rows: &[(Bytes, Bytes)], want: &[(&[u8], &[u8])]) -> bool {
     rows.len() == want.len()
 }
 
-/// Whether an answer is the one that is wanted.
+/// Whether an answer is the expected one.
 fn is_wanted(answer: &Answer, want: &Want) -> bool {
     match (answer, want) {
         (Answer::Value(None), Want::Value(None)) => true,
@@ -57,7 +57,7 @@ fn is_wanted(answer: &Answer, want: &Want) -> bool {
     }
 }
 
-/// Whether a query at a sequence is answered as is wanted.
+/// Whether a query at a sequence has the expected answer.
 fn is_answered<O: Operator>(
     alloc: Global,
     writes: &Writes,
@@ -91,7 +91,7 @@ fn lookup_of(alloc: Global, key: &[u8], at: u64) -> Result<Query, AllocError> {
     Ok(Query::Get { key, at })
 }
 
-/// Looks at the answer to a lookup under some keeps.
+/// Checks the answer to a lookup under some keeps.
 fn wants_lookup(
     rt: &impl Abort,
     alloc: Global,
@@ -142,7 +142,7 @@ static SCANS: [Scan; 4] = [
     (b"", None, 4, 10, Want::NotProtected(4)),
 ];
 
-/// Whether a scan is answered as is wanted.
+/// Whether a scan has the expected answer.
 fn scan_is_answered<O: Operator>(
     alloc: Global,
     writes: &Writes,
@@ -153,7 +153,7 @@ fn scan_is_answered<O: Operator>(
     is_answered::<O>(alloc, writes, keeps, &query_of(alloc, scan)?, *at, want)
 }
 
-/// Looks at the answer to a scan under some keeps.
+/// Checks the answer to a scan under some keeps.
 fn wants_scan<O: Operator>(
     rt: &impl Abort,
     alloc: Global,

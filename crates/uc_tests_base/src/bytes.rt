@@ -8,7 +8,7 @@ use uc_bytes::{Bytes, Items};
 /// Strings that rise in byte order.
 static RISING: [&[u8]; 6] = [b"", b"\x00", b"a", b"ab", b"b", b"\xff"];
 
-/// Whether byte strings stand in this order by each comparison.
+/// Whether byte strings have this order by each comparison.
 fn stand(bytes: &Bytes, other: &Bytes, order: Ordering) -> bool {
     bytes.cmp(other) == order
         && (bytes < other) == order.is_lt()
@@ -56,7 +56,7 @@ fn none_are_empty(alloc: Global) -> Result<bool, AllocError> {
     Ok(Bytes::from_slice(alloc, b"")?.is_empty())
 }
 
-/// Wants the bytes of `ab`, and an equal copy of them.
+/// Checks the bytes of `ab`, and an equal copy of them.
 fn wants_ab(rt: &impl Abort, bytes: &Bytes) -> Result<(), Fail> {
     assert!(rt; are_ab(bytes));
     assert!(rt; are_copied(bytes)?);
@@ -90,7 +90,7 @@ fn are_more(alloc: Global, items: &Items<i32>) -> Result<bool, AllocError> {
     Ok(Items::from(Vec::from_slice(alloc, &[3, 1])?) != *items)
 }
 
-/// Wants the numbers, an equal copy, and others than the first two of them.
+/// Checks the numbers, an equal copy, and that they aren't the first two alone.
 fn wants_numbers(rt: &impl Abort, alloc: Global, items: &Items<i32>) -> Result<(), Fail> {
     assert!(rt; are_numbers(items));
     assert!(rt; items_are_copied(items)?);

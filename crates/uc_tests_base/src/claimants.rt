@@ -12,7 +12,7 @@ const COUNT: usize = 8;
 
 const ROUNDS: u32 = 10_000;
 
-// Numbers without an order that one sees.
+// Numbers in no visible order.
 #[derive(Drop)]
 struct Draws {
     state: u64,
@@ -39,17 +39,17 @@ fn shuffled(draws: &mut Draws) -> [usize; COUNT] {
     slots
 }
 
-// Raises each slot's counter. Whether each was 0.
+// Raises each slot's counter. Returns whether each was 0.
 fn enter(counters: &[AtomicU64; COUNT], slots: &[usize]) -> bool {
     slots.iter().all(|slot| counters[*slot % COUNT].fetch_add(1, Ordering::SeqCst) == 0)
 }
 
-// Lowers them again. Whether each was 1.
+// Lowers them again. Returns whether each was 1.
 fn leave(counters: &[AtomicU64; COUNT], slots: &[usize]) -> bool {
     slots.iter().all(|slot| counters[*slot % COUNT].fetch_sub(1, Ordering::SeqCst) == 1)
 }
 
-// What one thread does. Whether it was alone with each slot that it had.
+// What one thread does. Returns whether it was alone with each slot that it had.
 fn work(
     table: &ClaimTable,
     mut seat: Seat,

@@ -1,13 +1,15 @@
-//! Bytes, changes, operators, folds, claim words and what a read means, called as their users call them.
+//! Bytes, changes, operators, folds, claim words and the meaning of reads, called as their users call them.
 //!
-//! `bytes.rt` has byte strings and lists, `writes.rt` copies of changes, `operators.rt` operators and the effects that compose
-//! by them, and `folds.rt` folds of thousands of parts by several threads. `effects.rt` has what both ask of an effect.
+//! `bytes.rt` has byte strings and lists, `writes.rt` copies of changes, `operators.rt` operators and the effects that
+//! compose by them, and `folds.rt` folds of thousands of parts by several threads. `effects.rt` has what both check of
+//! an effect.
 //!
-//! `claims.rt` has takes and gives worked by hand, `lone_seat.rt` a lone seat beside a plain list of flags, over all sequences of
-//! four takes and gives, and `claimants.rt` four threads with a seat each. `slots.rt` asks what a table may be asked for.
+//! `claims.rt` has takes and gives worked by hand. `lone_seat.rt` compares a lone seat with a plain list of flags, over
+//! all sequences of four takes and gives. `claimants.rt` has four threads with a seat each. `slots.rt` checks what may
+//! be asked of a table.
 //!
-//! `values.rt` has values by sequence and the keys that a write touches, and `answers.rt` lookups and scans over plain writes.
-//! Their writes are made from plain data in `given.rt`.
+//! `values.rt` has values by sequence and the keys that a write touches, and `answers.rt` lookups and scans over plain
+//! writes. Their writes are made from plain data in `given.rt`.
 #![tactic(auto)]
 
 #[cfg(test)]

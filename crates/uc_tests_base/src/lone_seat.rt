@@ -1,4 +1,4 @@
-//! A lone seat beside a plain list of flags, over all sequences of four takes and gives.
+//! A lone seat compared with a plain list of flags, over all sequences of four takes and gives.
 ghost use Rattle.std.specs.Prelude.{◌≡◌, ◌<◌, ◌^◌, IsTrue, All, Contains};
 ghost use Rattle.uc_claims.specs.Holding.{AreDistinct};
 
@@ -91,7 +91,7 @@ fn compare(rt: &impl Abort, held: &HeldSlots, flags: &[bool; COUNT]) {
     }
 }
 
-// Four steps, which the digits of the code say.
+// Four steps, given by the digits of the code.
 fn play(rt: &impl Abort, table: &ClaimTable, mut held: HeldSlots, code: u64) -> HeldSlots
     requires table { held.table ≡ table.now.table }
     requires count { table.now.count ≡ COUNT }

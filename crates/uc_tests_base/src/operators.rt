@@ -26,7 +26,7 @@ const ONE: [u8; 8] = [1, 0, 0, 0, 0, 0, 0, 0];
 /// An older text, a newer one, and what an operator makes of both.
 type Row = (&'static [u8], &'static [u8], &'static [u8]);
 
-/// Wants this text.
+/// Checks that the text is this one.
 fn wants(rt: &impl Abort, found: &[u8], wanted: &[u8]) {
     assert_eq!(rt; found, wanted);
 }
@@ -47,7 +47,7 @@ fn wants_both_in_place<O: Operator>(rt: &impl Abort, alloc: Global, row: &Row) -
     Ok(())
 }
 
-/// Makes a value of an operand.
+/// Checks the value of a first operand.
 fn wants_first<O: Operator>(
     rt: &impl Abort,
     alloc: Global,
@@ -133,7 +133,7 @@ fn the_greater_text_stays_in_place(rt: HostRuntime) -> Result<(), Fail> {
     Ok(())
 }
 
-/// Keeps the newest text. It gives the required functions alone.
+/// Keeps the newest text. It has only the required functions.
 enum Newest {}
 
 impl Operator for Newest {
@@ -154,7 +154,7 @@ impl Operator for Newest {
     }
 }
 
-/// Applies an effect to a value, and wants another one.
+/// Applies an effect to a value, and checks the result.
 fn wants_applied<O: Operator>(
     rt: &impl Abort,
     alloc: Global,
@@ -187,7 +187,7 @@ fn operands_merge_into_values(rt: HostRuntime) -> Result<(), Fail> {
     Ok(())
 }
 
-/// Wants the effect of this operand.
+/// Checks that the effect is that of this operand.
 fn wants_fold(rt: &impl Abort, effect: &Effect, operand: &[u8]) {
     assert!(rt; is_fold(effect, operand), "{effect:?}");
 }

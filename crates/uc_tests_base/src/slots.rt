@@ -2,7 +2,7 @@
 ghost use Rattle.std.specs.Prelude.{◌≡◌, ◌<◌, IsTrue, All};
 ghost use Rattle.uc_claims.specs.Holding.{AreDistinct};
 
-/// Whether no slot stands in the list twice.
+/// Whether no slot is in the list twice.
 pub(crate) fn are_distinct(slots: &[usize]) -> bool
     ensures { IsTrue result → AreDistinct slots.now }
 {

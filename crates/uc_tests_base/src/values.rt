@@ -12,7 +12,7 @@ use uc_model::{
 };
 use uc_oper::{Append, Counter, Effect, Maximum, Operator};
 
-/// Whether a value is this one, or there is none where none is wanted.
+/// Whether a value is this one, or there is none if none is expected.
 fn is_value(value: &Option<Bytes>, want: Option<&[u8]>) -> bool {
     match (value, want) {
         (None, None) => true,
@@ -32,7 +32,7 @@ fn has_value<O: Operator>(
     Ok(is_value(&value_at::<O>(alloc, writes, key, at)?, want))
 }
 
-/// Whether the writes up to a sequence give a key this value where it had none.
+/// Whether the writes up to a sequence give a key this value, starting from none.
 fn gives_value<O: Operator>(
     alloc: Global,
     writes: &[Write],
@@ -55,7 +55,7 @@ static VALUES: [(u64, Option<&[u8]>); 7] = [
     (9, Some(b"c")),
 ];
 
-/// Looks at the value of `k` at a sequence, as it is read and by the effect.
+/// Checks the value of `k` at a sequence, as it is read and by the effect.
 fn wants_value(
     rt: &impl Abort,
     alloc: Global,
@@ -80,14 +80,14 @@ fn values_by_sequence(rt: HostRuntime) -> Result<(), Fail> {
     Ok(())
 }
 
-/// What is wanted of an effect.
+/// An expected effect.
 enum Want {
     Keep,
     Fold(&'static [u8]),
     Set(&'static [u8]),
 }
 
-/// Whether the writes up to a sequence do this to a key, where merges join texts by a comma.
+/// Whether the writes up to a sequence do this to a key, if merges join texts by a comma.
 fn has_effect(
     alloc: Global,
     writes: &[Write],
