@@ -124,7 +124,7 @@ fn batches_that_are_refused(rt: HostRuntime) -> Result<(), Fail> {
     Ok(())
 }
 
-/// Asserts what a batch says behind a last sequence.
+/// Asserts what a batch says after a last sequence.
 fn says(rt: &impl Abort, alloc: Global, last: u64, payload: Payload<'_>) -> Result<(), Fail> {
     let writes = read_batch(alloc, payload.bytes, last)?;
     are_told(rt, alloc, &writes, payload.lines)
@@ -164,8 +164,8 @@ fn a_batch_cut_at_each_byte(rt: HostRuntime) -> Result<(), Fail> {
     is_read(&rt, rt.alloc(), FIRST)
 }
 
-/// A batch of every kind of record, counted or not, with and without a family, and with numbers that are
-/// spelled longer than they need.
+/// A batch of every kind of record, counted or not, with and without a family, and with numbers spelled longer than
+/// needed.
 const KINDS: &[u8; 65] = b"\x01\x00\x00\x00\x00\x00\x00\x00\x0a\x00\x00\x00\
     \x00\x01a\
     \x07\x01b\
@@ -191,7 +191,7 @@ const KINDS_PAYLOAD: Payload<'static> = Payload {
                 7 put 6b 6c\n8 merge 6d 6e\n9 delete 6f\n10 range 70 71\n",
 };
 
-/// Where the last record begins that the batch has where it is cut.
+/// Where the last record begins in the batch cut to `len` bytes.
 fn last_start(len: usize) -> usize {
     let mut last = 12;
     for start in STARTS {
@@ -202,7 +202,7 @@ fn last_start(len: usize) -> usize {
     last
 }
 
-/// A batch that is cut lacks records, or ends inside the last that it has.
+/// A batch that is cut lacks records, or ends inside its last one.
 #[test]
 fn a_batch_of_every_kind_cut_at_each_byte(rt: HostRuntime) -> Result<(), Fail> {
     let alloc = rt.alloc();
@@ -226,7 +226,7 @@ const NO_WRITES: Payload<'static> = Payload {
     ..FIRST
 };
 
-/// A batch is above the last sequence used, unless it has no records.
+/// A batch must be above the last sequence used, unless it has no records.
 #[test]
 fn batches_behind_others(rt: HostRuntime) -> Result<(), Fail> {
     let alloc = rt.alloc();

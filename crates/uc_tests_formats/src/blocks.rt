@@ -1,4 +1,4 @@
-//! Logs of more than one block: where their records stand, and what is left of them where they are cut.
+//! Logs of more than one block: where their records are, and what is left of them after a cut.
 use crate::known::{Payload, cut_at, front, gives, is_left, is_refused, is_written};
 use std::alloc::Global;
 use std::ops::Range;
@@ -7,7 +7,7 @@ use std::test::Fail;
 use uc_batch::BatchError;
 use uc_logrec::{Ending, LogFault};
 
-/// A batch of so many bytes: it sets the key `a` to a value of `value_len` bytes `Z`.
+/// A batch that sets the key `a` to a value of `value_len` bytes `Z`.
 #[derive(Clone, Copy)]
 struct Batch {
     seq: u8,
@@ -88,7 +88,7 @@ fn placed<'a>(alloc: Global, texts: &'a [Text], spans: &[Span]) -> Result<Vec<Pa
 /// A record, by its header and the part of a payload that it holds.
 type Record = (&'static [u8], usize, Range<usize>);
 
-/// The records of the batches, with the zero bytes that fill a block behind the last record in it.
+/// The records of the batches, with the zero bytes that fill a block after the last record in it.
 const RECORDS: [Record; 6] = [
     (b"\x7d\x79\x35\xa5\xe8\x03\x01", 0, 0..1000),
     (b"\xea\xbb\x07\x0e\x0a\x7c\x02", 1, 0..31_754),
@@ -134,7 +134,7 @@ fn log_of(alloc: Global, records: &[Record], payloads: &[Payload<'_>]) -> Result
 /// Where the batches begin and end in their log.
 const SPANS: [Span; 3] = [(0, 1007), (1007, 98_298), (98_304, 106_311)];
 
-/// Lengths to which the log of the batches is cut, how many batches are left, and how it ends then.
+/// Lengths to which the log of the batches is cut, the number of batches left, and how it ends then.
 const CUTS: [(usize, usize, Ending); 13] = [
     (1007, 1, Ending::Clean),
     (1013, 1, Ending::Torn(1007)),
@@ -154,7 +154,7 @@ const CUTS: [(usize, usize, Ending); 13] = [
 /// Where records and blocks of that log begin and end: it is cut at each byte near them too.
 const EDGES: [usize; 7] = [8, 1007, 32_768, 65_536, 98_298, 98_304, 106_303];
 
-/// Asserts what is left of the log of the batches where it is cut, and that a writer makes it.
+/// Asserts what is left of the log of the batches after a cut, and that a writer makes it.
 fn batches_are_cut(rt: &impl Abort, alloc: Global, payloads: &[Payload<'_>]) -> Result<(), Fail> {
     let log = log_of(alloc, &RECORDS, payloads)?;
     for (len, count, ending) in CUTS {
@@ -172,8 +172,8 @@ fn batches_are_cut(rt: &impl Abort, alloc: Global, payloads: &[Payload<'_>]) -> 
     is_written(rt, alloc, payloads, &log)
 }
 
-/// Bytes of that log of which a bit is changed, how many batches are left, and how it ends then. The zero bytes
-/// that fill a block aren't looked at.
+/// Bytes of that log of which a bit is changed, the number of batches left, and how it ends then. The zero bytes that
+/// fill a block aren't looked at.
 const CHANGES: [(usize, usize, Ending); 8] = [
     (999, 0, Ending::Fault(LogFault::BadChecksum, 0)),
     (1011, 1, Ending::Fault(LogFault::BadLength, 1007)),
@@ -185,7 +185,7 @@ const CHANGES: [(usize, usize, Ending); 8] = [
     (106_310, 2, Ending::Fault(LogFault::BadChecksum, 98_304)),
 ];
 
-/// Asserts what is left of the log of the batches where it is changed.
+/// Asserts what is left of the log of the batches after a change.
 fn batches_are_changed(
     rt: &impl Abort,
     alloc: Global,
@@ -214,7 +214,7 @@ fn batches_over_blocks(rt: HostRuntime) -> Result<(), Fail> {
     batches_are_changed(&rt, alloc, &payloads)
 }
 
-/// A batch and a payload behind it that is none: where they begin and end, and their records.
+/// A batch and a payload after it that is none: where they begin and end, and their records.
 type Pair = (Batch, &'static [u8], [Span; 2], &'static [Record]);
 
 const PAIRS: [Pair; 3] = [
@@ -233,7 +233,7 @@ const PAIRS: [Pair; 3] = [
     ),
 ];
 
-/// Asserts what is left of the log of a pair where it is cut behind its batch, and that a writer makes it.
+/// Asserts what is left of the log of a pair if it is cut after its batch, and that a writer makes it.
 fn pair_is_cut(
     rt: &impl Abort,
     alloc: Global,

@@ -1,4 +1,4 @@
-//! The checksum beside the division, and vectors of RFC 3720.
+//! The checksum compared with the division, and vectors of RFC 3720.
 use std::test::*;
 use uc_logrec::{crc32c, division, extend, mask, unmask};
 
@@ -12,7 +12,7 @@ const READ_COMMAND: [u8; 48] = [
 /// The check value of the CRC catalogues, and the examples of RFC 3720, appendix B.4.
 #[test]
 fn known_checksums(rt: HostRuntime) {
-    // The law on the definitions: a call of it does nothing.
+    // The law on the definitions. Proof step: does nothing when it runs.
     division();
     let mut rising = [0u8; 32];
     let mut falling = [0u8; 32];

@@ -3,8 +3,8 @@ use crate::known::{BATCH_LOG, FIRST, Payload, cut_at, front, gives, is_left};
 use std::test::Fail;
 use uc_logrec::{Ending, LogFault};
 
-/// A FULL record, a payload in four records (its second MIDDLE has no data), and a FULL record behind an
-/// empty FIRST, as old writers left it at the end of a block.
+/// A FULL record, a payload in four records (its second MIDDLE has no data), and a FULL record after an empty FIRST, as
+/// old writers left it at the end of a block.
 const LOG: &[u8; 105] = b"\xe9\x9f\x78\x19\x11\x00\x01\
     \x01\x00\x00\x00\x00\x00\x00\x00\x01\x00\x00\x00\x01\x01a\x011\
     \xe0\xe3\xa6\xa8\x05\x00\x02\x02\x00\x00\x00\x00\
@@ -100,8 +100,8 @@ fn record_at(place: u64) -> Record {
     found
 }
 
-/// How the log ends of which a byte was changed: a length that passes the block's end is bad,
-/// one that passes the log's end is torn, and any other change is seen by the checksum.
+/// How the log ends after a byte was changed: a length that passes the block's end is bad, one that passes the log's
+/// end is torn, and the checksum shows any other change.
 fn changed_at(record: Record, place: u64, mask: u8) -> Ending {
     let mask = u16::from(mask);
     let len = match place.saturating_sub(record.start) {
@@ -122,7 +122,7 @@ fn changed_at(record: Record, place: u64, mask: u8) -> Ending {
     }
 }
 
-/// Each byte takes each other value in turn. The writes and the dump are looked at where one bit is turned.
+/// Each byte takes each other value in turn. The writes and the dump are checked if one bit is flipped.
 #[test]
 fn each_byte_of_the_log_changed(rt: HostRuntime) -> Result<(), Fail> {
     let alloc = rt.alloc();
@@ -144,7 +144,7 @@ fn each_byte_of_the_log_changed(rt: HostRuntime) -> Result<(), Fail> {
     Ok(())
 }
 
-/// The log of one batch, of which a byte is changed: its length is at the bytes 4 and 5.
+/// The log of one batch, with a changed byte: its length is at the bytes 4 and 5.
 #[test]
 fn a_byte_of_one_batch_changed(rt: HostRuntime) -> Result<(), Fail> {
     for place in 0..BATCH_LOG.len() {

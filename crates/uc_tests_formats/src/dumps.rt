@@ -7,7 +7,7 @@ use uc_tool_io::{Done, dump};
 /// A log in hexadecimal, what its dump prints, and how the run ends.
 type Row = (&'static str, &'static str, Done);
 
-/// Records without data, alone and behind one another.
+/// Records without data, alone and one after the other.
 const EMPTY_RECORDS: [Row; 11] = [
     ("", "clean\n", Done::Fine),
     ("052b2843000001", "batch fault 1 too short\n", Done::BadLog),
@@ -46,7 +46,7 @@ const EMPTY_RECORDS: [Row; 11] = [
     ),
 ];
 
-/// The log of a batch that sets `a` to `1`, whole, cut, changed, and with more behind it.
+/// The log of a batch that sets `a` to `1`, whole, cut, changed, and with more after it.
 const ONE_BATCH: [Row; 12] = [
     (
         "e99f78191100010100000000000000010000000101610131",
@@ -106,7 +106,7 @@ const ONE_BATCH: [Row; 12] = [
     ),
 ];
 
-/// Logs of one payload: each refusal of a batch that can stand first, and every kind of change.
+/// Logs of one payload: each refusal of a batch that can come first, and every kind of change.
 const BATCHES: [Row; 7] = [
     (
         "bdb39be4160001ffffffffffffff000200000001016101310101610131",

@@ -1,4 +1,4 @@
-//! Logs that are known by their payloads, and what is asserted of what damage leaves of them.
+//! Logs with known payloads, and assertions of what is left of them after damage.
 use std::alloc::Global;
 use std::process::Abort;
 use std::test::Fail;
@@ -28,7 +28,7 @@ pub const BATCH_LOG: [u8; 24] = [
     0xe9, 0x9f, 0x78, 0x19, 0x11, 0, 1, 1, 0, 0, 0, 0, 0, 0, 0, 1, 0, 0, 0, 1, 1, 0x61, 1, 0x31,
 ];
 
-/// The batch as it stands in that log.
+/// The batch as it is in that log.
 pub const FIRST: Payload<'static> = Payload {
     start: 0,
     end: 24,
@@ -36,7 +36,7 @@ pub const FIRST: Payload<'static> = Payload {
     lines: "1 put 61 31\n",
 };
 
-/// How a log ends that is cut: torn where the cut goes through a payload.
+/// How a log ends after a cut: torn if the cut goes through a payload.
 pub fn cut_at(payloads: &[Payload<'_>], len: u64) -> Ending {
     for payload in payloads {
         if payload.start < len && len < payload.end {
@@ -66,7 +66,7 @@ fn lines_of(alloc: Global, payloads: &[Payload<'_>]) -> Result<String, Fail> {
     Ok(lines)
 }
 
-/// Asserts that writes say what stands in lines.
+/// Asserts that writes say what the lines say.
 pub fn are_told(rt: &impl Abort, alloc: Global, writes: &[Write], lines: &str) -> Result<(), Fail> {
     let mut told = String::new(alloc);
     for write in writes {
@@ -114,7 +114,7 @@ fn dumps(
     Ok(())
 }
 
-/// Asserts which payloads are read of a log, and how it ends.
+/// Asserts which payloads a reader returns of a log, and how it ends.
 pub fn gives(
     rt: &impl Abort,
     alloc: Global,
@@ -131,8 +131,8 @@ pub fn gives(
     Ok(())
 }
 
-/// Asserts which writes are read of a log: all that are left up to any fault, and where a torn tail alone
-/// is accepted the same, or a refusal.
+/// Asserts which writes are read of a log. Up to any fault they are all that are left; if only a torn tail is accepted,
+/// they are the same, or a refusal.
 fn reads(
     rt: &impl Abort,
     alloc: Global,
@@ -159,7 +159,7 @@ fn reads(
     Ok(())
 }
 
-/// Asserts what is left of a log that ends so, by its payloads, by its writes and by its dump.
+/// Asserts what is left of a log with this ending, by its payloads, by its writes and by its dump.
 pub fn is_left(
     rt: &impl Abort,
     alloc: Global,
@@ -180,8 +180,8 @@ pub fn is_left(
     dumps(rt, alloc, log, left, line.as_str())
 }
 
-/// Asserts what is left of a log in front of a payload that is no batch, or none that may stand there: the
-/// payload's number, and what is wrong with it, also as a dump says it.
+/// Asserts what is left of a log before a payload that is no batch, or none that may come there: the payload's number,
+/// and what is wrong with it, also as a dump says it.
 pub fn is_refused(
     rt: &impl Abort,
     alloc: Global,

@@ -1,14 +1,14 @@
-//! Worked examples of log records, checksums and write batches, and of logs of batches: what they hold, where they are at
-//! fault, and how they are dumped.
+//! Worked examples of log records, checksums and write batches, and of logs of batches: what they hold, where they are
+//! faulty, and how they are dumped.
 //!
-//! Everything here runs the calls of other crates as their users do, over bytes that were worked out by hand or come from the
-//! formats' own vectors. It stands on the formats and on `uc_tool_io`, and not on the store.
+//! Everything here runs the calls of other crates as their users do, over bytes that were worked out by hand or come
+//! from the formats' own vectors. It depends on the formats and on `uc_tool_io`, and not on the store.
 //!
-//! Read `log_records.rt` first: it has records, and what a log ends with. `checksums.rt` has the vectors of RFC 3720 and the
-//! division beside them, and `spelled_batches.rt` batches that are read, refused, written and lent. `known.rt` asserts what a log
-//! holds, by its payloads, its writes and its dump: `logs.rt` has small logs and `batches.rt` batches, whole and faulty,
-//! `damage.rt` a log that is cut at each byte and changed at each byte, `blocks.rt` logs of several blocks, and `dumps.rt` texts of
-//! dumps.
+//! Read `log_records.rt` first: it has records, and how a log ends. `checksums.rt` has the vectors of RFC 3720 and
+//! compares with the division. `spelled_batches.rt` has batches that are read, refused, written and borrowed.
+//! `known.rt` asserts what a log holds, by its payloads, its writes and its dump. `logs.rt` has small logs, and
+//! `batches.rt` batches, whole and faulty. `damage.rt` has a log that is cut at each byte and changed at each byte,
+//! `blocks.rt` logs of several blocks, and `dumps.rt` texts of dumps.
 #![tactic(auto)]
 
 #[cfg(test)]

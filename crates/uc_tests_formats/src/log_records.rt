@@ -1,4 +1,4 @@
-//! Logs whose bytes, payloads and endings come from outside: the checksums are those of LevelDB's own code.
+//! Logs with bytes, payloads and endings from outside: the checksums are those of LevelDB's own code.
 use std::alloc::{AllocError, Global};
 use std::process::Abort;
 use std::test::Fail;
@@ -54,7 +54,7 @@ fn part(letter: u8) -> &'static [u8] {
 /// How many payloads a log has, and how it ends.
 type Wanted = (usize, Ending);
 
-/// Whether a log has so many payloads, and ends so.
+/// Whether a log has this number of payloads and this ending.
 fn reads(alloc: Global, log: &[u8], wanted: Wanted) -> Result<bool, AllocError> {
     let read = read_log(alloc, log)?;
     Ok((read.payloads.as_slice().len(), read.ending) == wanted)
@@ -75,7 +75,7 @@ static WITHOUT_DATA: [(&str, Wanted); 11] = [
     ("uf0", (1, Ending::Torn(7))),
 ];
 
-/// Whether each of these logs is read so.
+/// Whether each of these logs is read as expected.
 fn are_read(alloc: Global) -> Result<bool, AllocError> {
     for (letters, wanted) in &WITHOUT_DATA {
         let log = log_of(alloc, letters.as_bytes())?;
@@ -120,7 +120,7 @@ fn one_batch(rt: HostRuntime) -> Result<(), Fail> {
     Ok(())
 }
 
-/// What is put behind the log of that batch, and what it has and how it ends then.
+/// What follows the log of that batch, and its payloads and ending then.
 static FOLLOWED: [(&[u8], Wanted); 7] = [
     (b"\x00", (1, Ending::Clean)),
     (b"\x00\x00", (1, Ending::Clean)),
@@ -131,7 +131,7 @@ static FOLLOWED: [(&[u8], Wanted); 7] = [
     (&OTHER, (1, Ending::Fault(LogFault::UnsupportedType, 24))),
 ];
 
-/// Whether the log of that batch is read so with each of these behind it.
+/// Whether the log of that batch is read as expected, followed by each of these.
 fn followed_is_read(alloc: Global) -> Result<bool, AllocError> {
     for (back, wanted) in &FOLLOWED {
         let mut log = Vec::from_slice(alloc, &LOG)?;
@@ -155,7 +155,7 @@ fn cut_or_followed(rt: HostRuntime) -> Result<(), Fail> {
     Ok(())
 }
 
-/// Whether that log has no payload and ends so, with these bytes at these places.
+/// Whether that log has no payload and this ending, with these bytes at these places.
 fn is_changed(alloc: Global, changes: &[(usize, u8)], ending: Ending) -> Result<bool, AllocError> {
     let mut log = LOG;
     for (place, byte) in changes {
@@ -166,7 +166,7 @@ fn is_changed(alloc: Global, changes: &[(usize, u8)], ending: Ending) -> Result<
     reads(alloc, &log, (0, ending))
 }
 
-/// How that log ends with the lowest bit of a byte turned, and with the highest.
+/// How that log ends with the lowest bit of a byte flipped, and with the highest.
 fn turned_ends(place: usize) -> (Ending, Ending) {
     let checksum = Ending::Fault(LogFault::BadChecksum, 0);
     match place {
@@ -203,7 +203,7 @@ fn changed_bytes(rt: HostRuntime) -> Result<(), Fail> {
     Ok(())
 }
 
-/// The log of payloads of these many bytes.
+/// The log of payloads of these sizes.
 fn log_with(alloc: Global, sizes: &[usize]) -> Result<Vec<u8>, AllocError> {
     let mut writer = LogWriter::new(alloc);
     for (number, size) in sizes.iter().enumerate() {
@@ -216,7 +216,7 @@ fn log_with(alloc: Global, sizes: &[usize]) -> Result<Vec<u8>, AllocError> {
 /// A record of a log, by its place, its length and its type.
 type Record = (usize, u16, u8);
 
-/// Whether these records stand in a log.
+/// Whether a log has these records.
 fn stand(log: &[u8], records: &[Record]) -> bool {
     for (place, len, kind) in records {
         let header = log.get(*place..).unwrap_or(&[]).get(4..7);
@@ -237,7 +237,7 @@ static OVER_BLOCKS: [Record; 5] = [
     (98_304, 8000, 1),
 ];
 
-/// Lengths to which their log is cut, and what it has and how it ends then.
+/// Lengths to which their log is cut, and its payloads and ending then.
 static CUTS: [(usize, Wanted); 13] = [
     (1007, (1, Ending::Clean)),
     (1013, (1, Ending::Torn(1007))),
@@ -254,7 +254,7 @@ static CUTS: [(usize, Wanted); 13] = [
     (106_311, (3, Ending::Clean)),
 ];
 
-/// Whether their log is read so where it is cut.
+/// Whether their log is read as expected after each cut.
 fn cuts_are_read(alloc: Global, log: &[u8]) -> Result<bool, AllocError> {
     for (len, wanted) in &CUTS {
         if !reads(alloc, log.get(..*len).unwrap_or(&[]), *wanted)? {
@@ -314,7 +314,7 @@ static STEPS: [(u64, Step); 4] = [
     (2, Err(Ending::Fault(LogFault::LastAlone, 31))),
 ];
 
-/// Whether a log is read by these steps.
+/// Whether a log is read in these steps.
 fn takes_steps(alloc: Global, log: &[u8]) -> Result<bool, AllocError> {
     let mut reader = LogReader::new(log);
     let mut joined = Vec::new(alloc);
@@ -353,7 +353,7 @@ fn is_joined(
     }
 }
 
-/// Whether a log has this payload in pieces, and that batch behind it.
+/// Whether a log has this payload in pieces, and then that batch.
 fn has_pieces(alloc: Global, log: &[u8], payload: &[u8]) -> Result<bool, AllocError> {
     let mut reader = LogReader::new(log);
     let mut joined = Vec::from_slice(alloc, b"of an earlier log")?;

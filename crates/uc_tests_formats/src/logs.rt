@@ -126,7 +126,7 @@ fn logs_without_payload(rt: HostRuntime) -> Result<(), Fail> {
     Ok(())
 }
 
-/// A batch is read, whatever stands behind it.
+/// A batch is read, whatever follows it.
 #[test]
 fn logs_of_one_batch(rt: HostRuntime) -> Result<(), Fail> {
     for row in ONE_BATCH {
@@ -135,7 +135,7 @@ fn logs_of_one_batch(rt: HostRuntime) -> Result<(), Fail> {
     Ok(())
 }
 
-/// A batch can't stand a second time.
+/// A batch can't come a second time.
 #[test]
 fn a_batch_that_goes_back(rt: HostRuntime) -> Result<(), Fail> {
     let log = log_of(rt.alloc(), "bb")?;

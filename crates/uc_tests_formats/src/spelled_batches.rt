@@ -53,7 +53,7 @@ fn puts_are_read(rt: HostRuntime) -> Result<(), Fail> {
     Ok(())
 }
 
-/// Why a batch behind a sequence is refused.
+/// Why a batch after a sequence is refused.
 fn refusal_of(
     alloc: Global,
     head: [u8; 12],
@@ -64,7 +64,7 @@ fn refusal_of(
     Ok(read_batch(alloc, &bytes, last).err())
 }
 
-/// Records of one batch, and why it is refused where its count is 1.
+/// Records of one batch, and why it is refused if its count is 1.
 static REFUSED: [(&[u8], BatchError); 12] = [
     (b"\x05\x01\x01a\x011", BatchError::OtherFamily(1)),
     (b"\x01\xff\xff\xff\xff\x1f", BatchError::BadVarint(13)),
@@ -175,7 +175,7 @@ fn what_is_written_is_read(rt: HostRuntime) -> Result<(), Fail> {
     Ok(())
 }
 
-/// Whether the writes of a batch are the same where their texts are borrowed.
+/// Whether the writes of a batch are the same if their texts are borrowed.
 fn same_borrowed(alloc: Global, bytes: &[u8]) -> Result<bool, Fail> {
     let owned = read_batch(alloc, bytes, 0)?;
     for (write, want) in BatchWrites::read(bytes, 0)?.zip(&owned) {
@@ -246,13 +246,13 @@ fn log_of_batches(alloc: Global) -> Result<Vec<u8>, Fail> {
     Ok(writer.finish())
 }
 
-/// Whether a log's writes have these sequences, and it is read so far.
+/// Whether a log's writes have these sequences, and it is read to this end.
 fn is_read(alloc: Global, log: &[u8], want: &[u64], end: &Ended) -> Result<bool, Fail> {
     let (sequences, ended) = sequences(alloc, log)?;
     Ok(sequences.as_slice() == want && ended == *end)
 }
 
-/// Whether a reader of batches lends nothing before its first one.
+/// Whether a reader of batches returns no writes before its first batch.
 fn lends_nothing_yet(alloc: Global, log: &[u8]) -> bool {
     let mut batches = BatchReader::new(alloc, log);
     batches.last() == 0 && batches.writes().next().is_none()
