@@ -1,10 +1,10 @@
-//! What stands in front of a log, and what is said of its first line at fault.
+//! Heads before a log, and what is said of their first faulty line.
 
 use std::alloc::Global;
 use std::test::Fail;
 use uc_script::{ScriptError, Source, explain, read_head};
 
-/// What stands in front of a log, the number of its first line at fault, and what is said of it.
+/// A head, the number of its first faulty line, and what is said of it.
 struct Row {
     text: &'static [u8],
     number: u64,
@@ -57,7 +57,7 @@ static ROWS: [Row; 8] = [
     },
 ];
 
-/// The number of the first line at fault, or 0 where there is none.
+/// The number of the first faulty line, or 0 if there is none.
 fn fault_of(alloc: Global, text: &[u8]) -> u64 {
     match read_head(alloc, text) {
         Err(ScriptError::Fault(number)) => number,
@@ -83,7 +83,7 @@ fn faults_of_heads(rt: HostRuntime) -> Result<(), Fail> {
     Ok(())
 }
 
-/// A `log` line that has its line feed is none, whatever stands behind it.
+/// A `log` line that has its line feed has no fault, whatever follows it.
 #[test]
 fn heads_without_a_fault(rt: HostRuntime) -> Result<(), Fail> {
     let texts: [&[u8]; 3] = [b"log\n", b"log\nlog", b"log\n\xff\x00"];

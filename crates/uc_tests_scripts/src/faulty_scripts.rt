@@ -1,10 +1,10 @@
-//! Scripts, and what is said of their first line at fault.
+//! Scripts, and what is said of their first faulty line.
 
 use std::alloc::Global;
 use std::test::Fail;
 use uc_script::{ScriptError, Source, explain, judge_script, read_script};
 
-/// A script, the number of its first line at fault, and what is said of it.
+/// A script, the number of its first faulty line, and what is said of it.
 struct Row {
     script: &'static [u8],
     number: u64,
@@ -19,7 +19,7 @@ fn said_of(alloc: Global, script: &[u8], number: u64) -> Result<String, Fail> {
     }
 }
 
-/// The number of the first line at fault, or 0 where there is none.
+/// The number of the first faulty line, or 0 if there is none.
 fn fault_of(alloc: Global, script: &[u8]) -> u64 {
     match read_script(alloc, script) {
         Err(ScriptError::Fault(number)) => number,
@@ -27,7 +27,7 @@ fn fault_of(alloc: Global, script: &[u8]) -> u64 {
     }
 }
 
-/// The same where the script is judged alone.
+/// The same if the script is only judged.
 fn judged_fault_of(alloc: Global, script: &[u8]) -> u64 {
     match judge_script(alloc, script) {
         Err(ScriptError::Fault(number)) => number,
@@ -198,7 +198,7 @@ fn faults_of_scripts(rt: HostRuntime) -> Result<(), Fail> {
     Ok(())
 }
 
-/// Of a line that is read right nothing is said, nor of one behind the last of the calls.
+/// Nothing is said of a line that is right, or of one after the last call.
 #[test]
 fn lines_without_a_fault(rt: HostRuntime) -> Result<(), Fail> {
     let script = b"keep 1\n\n# put\nopen\nget . last\nscan 6b - 3 0\nabandon 31";

@@ -1,4 +1,4 @@
-//! What the tests of heads and of scripts share: texts that are put together, and faults in them.
+//! What the tests of heads and of scripts share: composed texts, and their faults.
 use std::alloc::{AllocError, Global};
 use uc_script::ScriptError;
 
@@ -10,7 +10,7 @@ pub(crate) fn is_fault<T>(read: &Result<T, ScriptError>, line: u64) -> bool {
     }
 }
 
-/// A line between what stands in front of it and behind it.
+/// A line between what comes before it and after it.
 pub(crate) fn text_of(
     alloc: Global,
     front: &[u8],

@@ -1,4 +1,4 @@
-//! Heads in front of logs: what they say, where the log begins, and the first line at fault.
+//! Heads before logs: what they say, where the log begins, and the first faulty line.
 
 use crate::given::{is_fault, text_of};
 use std::alloc::{AllocError, Global};
@@ -7,10 +7,10 @@ use std::test::Fail;
 use uc_bytes::Bytes;
 use uc_script::{Head, Query, QueryReader, Seq, read_head};
 
-/// A text, and the line at fault in it.
+/// A text, and its faulty line.
 type Fault = (&'static [u8], u64);
 
-/// Whether each of these heads is at fault in its line.
+/// Whether each of these heads is faulty in its line.
 fn are_faults(alloc: Global, rows: &[Fault]) -> bool {
     for (text, line) in rows {
         if !is_fault(&read_head(alloc, text), *line) {
@@ -38,7 +38,7 @@ fn a_head_without_log(rt: HostRuntime) {
     assert!(rt; are_faults(rt.alloc(), &WITHOUT_LOG));
 }
 
-/// Heads whose `log` has no end of line.
+/// Heads whose `log` has no line feed.
 static WITHOUT_END: [Fault; 4] = [
     (b"log", 1),
     (b"get 61 last\nlog", 2),
@@ -51,7 +51,7 @@ fn a_log_line_without_its_end(rt: HostRuntime) {
     assert!(rt; are_faults(rt.alloc(), &WITHOUT_END));
 }
 
-/// Heads with a fault in front of a `log`.
+/// Heads with a fault before a `log`.
 static FIRST_FAULTS: [Fault; 9] = [
     (b"# one\nput 61 62\nnothing\nlog\n", 2),
     (b"keep 1\nkeep last\nlog\n", 2),
@@ -69,13 +69,13 @@ fn the_first_faulty_line_of_a_head(rt: HostRuntime) {
     assert!(rt; are_faults(rt.alloc(), &FIRST_FAULTS));
 }
 
-/// Whether a line behind a comment is a fault, with this behind it.
+/// Whether a line after a comment is a fault, if this follows it.
 fn is_fault_before(alloc: Global, line: &[u8], back: &[u8]) -> Result<bool, AllocError> {
     let text = text_of(alloc, b"# one\n", line, back)?;
     Ok(is_fault(&read_head(alloc, &text), 2))
 }
 
-/// Whether each of these lines is a fault behind a comment, at the end of a head and in front of a `log`.
+/// Whether each of these lines is a fault after a comment, at the end of a head and before a `log`.
 fn are_faults_in_front(alloc: Global, lines: &[&[u8]]) -> Result<bool, AllocError> {
     for line in lines {
         if !is_fault_before(alloc, line, b"")? || !is_fault_before(alloc, line, b"\nlog\n")? {
@@ -85,7 +85,7 @@ fn are_faults_in_front(alloc: Global, lines: &[&[u8]]) -> Result<bool, AllocErro
     Ok(true)
 }
 
-/// Faulty lines that begin as those of questions.
+/// Faulty lines that begin as those of queries.
 static FAULTY_THAT_ASK: [&[u8]; 26] = [
     b"get",
     b"get 61",
@@ -178,7 +178,7 @@ static TEXT: &[u8] =
     b"# \xff\x00\nget 61 last\nkeep 7\n\nscan . - 0 0\nkeep 0\nkeep 18446744073709551615\n\
     scan 6A 6b 5 last\nkeep 7\nget . 18446744073709551615\nlog\nkeep 9\nget 62 1\nlog\n";
 
-/// A query by its first key, the end and the limit of a scan, and its sequence, where it has them.
+/// A query by its first key, the end and the limit of a scan, and its sequence, if it has them.
 type Asked<'a> = (&'a [u8], Option<&'a [u8]>, Option<u64>, Seq);
 
 fn asked(query: &Query) -> Asked<'_> {
@@ -222,10 +222,10 @@ fn reader_of(head: &Head) -> QueryReader<'static> {
     QueryReader::new(TEXT.get(..head.size).unwrap_or(&[]))
 }
 
-/// How many queries are asked for, which of all comes first then, and how many are given.
+/// How many queries are asked for, the number of the first one, and how many are returned.
 type Portion = (usize, usize, usize);
 
-/// Whether a reader gives this portion of the queries.
+/// Whether a reader returns this portion of the queries.
 fn gives(alloc: Global, reader: &mut QueryReader<'_>, portion: Portion) -> Result<bool, Fail> {
     let (count, place, given) = portion;
     let queries = reader.next_queries(alloc, count)?;
@@ -255,7 +255,7 @@ fn what_a_head_says(rt: HostRuntime) -> Result<(), Fail> {
 /// What is asked for, portion by portion.
 static PORTIONS: [Portion; 5] = [(0, 0, 0), (1, 0, 1), (2, 1, 2), (2, 3, 1), (2, 4, 0)];
 
-/// Whether a reader gives each portion in turn.
+/// Whether a reader returns each portion in turn.
 fn gives_portions(alloc: Global, mut reader: QueryReader<'_>) -> Result<bool, Fail> {
     for portion in &PORTIONS {
         if !gives(alloc, &mut reader, *portion)? {

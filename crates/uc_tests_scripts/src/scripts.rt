@@ -1,4 +1,4 @@
-//! Scripts that are read, scripts at fault, and texts that are printed.
+//! Scripts that are read, faulty scripts, and texts that are printed.
 
 use crate::given::{is_fault, text_of};
 use std::alloc::{AllocError, Global};
@@ -7,10 +7,10 @@ use std::test::Fail;
 use uc_bytes::{Bytes, Op, OpKind};
 use uc_script::{Call, Query, Script, Seq, push_hex, push_number, read_script};
 
-/// A text, and the line at fault in it.
+/// A text, and its faulty line.
 type Fault = (&'static [u8], u64);
 
-/// Whether each of these scripts is at fault in its line.
+/// Whether each of these scripts is faulty in its line.
 fn are_faults(alloc: Global, rows: &[Fault]) -> bool {
     for (text, line) in rows {
         if !is_fault(&read_script(alloc, text), *line) {
@@ -51,7 +51,7 @@ fn the_first_faulty_line_comes_first(rt: HostRuntime) {
     assert!(rt; are_faults(rt.alloc(), &FIRST_FAULTS));
 }
 
-/// What stands around a line of a script, and which line it is then.
+/// What is around a line of a script, and which line it is then.
 type Place = (&'static [u8], &'static [u8], u64);
 
 /// Whether each of these lines is a fault in each of these places.
@@ -67,13 +67,13 @@ fn are_faults_at(alloc: Global, lines: &[&[u8]], places: &[Place]) -> Result<boo
     Ok(true)
 }
 
-/// In front of an `open`.
+/// Before an `open`.
 static BEFORE_OPEN: [Place; 1] = [(b"", b"\nopen\n", 1)];
 
-/// Behind an `open` and a comment.
+/// After an `open` and a comment.
 static AFTER_OPEN: [Place; 2] = [(b"open\n# two\n", b"", 3), (b"open\n# two\n", b"\n", 3)];
 
-/// Lines that are a fault in front of an `open`.
+/// Lines that are a fault before an `open`.
 static FAULTY_BEFORE_OPEN: [&[u8]; 38] = [
     b"put 61",
     b"put 61 62 63",
@@ -121,7 +121,7 @@ fn faulty_lines_before_open(rt: HostRuntime) -> Result<(), Fail> {
     Ok(())
 }
 
-/// Lines that are a fault behind an `open`.
+/// Lines that are a fault after an `open`.
 static FAULTY_AFTER_OPEN: [&[u8]; 21] = [
     b"open",
     b"put 61 62",
@@ -152,7 +152,7 @@ fn faulty_lines_after_open(rt: HostRuntime) -> Result<(), Fail> {
     Ok(())
 }
 
-/// Lines on compactions that are a fault behind an `open`.
+/// Lines on compactions that are a fault after an `open`.
 static FAULTY_ON_COMPACTIONS: [&[u8]; 32] = [
     b"claim",
     b"claim 0",
@@ -246,7 +246,7 @@ fn the_keeps_in_order(rt: HostRuntime) -> Result<(), Fail> {
     Ok(())
 }
 
-/// A call by its first key, the end and the limit of a scan, and its sequence, where it has them.
+/// A call by its first key, the end and the limit of a scan, and its sequence, if it has them.
 type Asked<'a> = (Option<&'a [u8]>, Option<&'a [u8]>, Option<u64>, Option<Seq>);
 
 fn asked(call: &Call) -> Asked<'_> {
@@ -337,13 +337,13 @@ const ON_COMPACTIONS: [(&[u8], Call); 11] = [
     (b"report", Call::Report),
 ];
 
-/// Whether a script asks this call alone.
+/// Whether a script asks only this call.
 fn asks_alone(script: &Script, wanted: &Call) -> bool {
     let calls = script.calls.as_slice();
     calls.len() == 1 && calls.first() == Some(wanted)
 }
 
-/// Whether a line asks this call alone.
+/// Whether a line asks only this call.
 fn asks(alloc: Global, line: &[u8], wanted: &Call) -> Result<bool, Fail> {
     let text = text_of(alloc, b"open\n", line, b"")?;
     Ok(asks_alone(&read_script(alloc, &text)?, wanted))

@@ -22,7 +22,7 @@ fn bytes_are_shown(rt: HostRuntime) -> Result<(), Fail> {
     Ok(())
 }
 
-/// A line of 60 bytes is shown whole, and of a longer one its first 60.
+/// A line of 60 bytes is shown whole; of a longer one the first 60.
 #[test]
 fn long_lines_are_cut(rt: HostRuntime) -> Result<(), Fail> {
     let sixty = "------------------------------------------------------------";
