@@ -1,4 +1,4 @@
-//! Random spans against plain lists.
+//! Random spans compared with plain lists.
 use std::alloc::{AllocError, Global};
 use std::sync::Arc;
 use std::test::Fail;
@@ -7,7 +7,7 @@ use uc_run_spans::{Seqs, Span, Spans, are_within};
 /// Sequences are below this.
 const MOST_SEQS: u64 = 9;
 
-/// The next number of a row of random ones, below a bound that isn't 0.
+/// The next random number below a bound that isn't 0.
 fn random_below(state: &mut u64, bound: u64) -> u64 {
     *state = state
         .wrapping_mul(6_364_136_223_846_793_005)
@@ -19,7 +19,7 @@ fn random_below(state: &mut u64, bound: u64) -> u64 {
     }
 }
 
-/// A span over some of so many fragments, or none where there are none.
+/// A span over some of `fragments` fragments, or `None` if there are none.
 fn random_span(state: &mut u64, fragments: usize) -> Option<Span> {
     let first = random_below(state, fragments as u64) as usize;
     let count = random_below(state, fragments as u64) as usize;
@@ -32,7 +32,7 @@ fn random_span(state: &mut u64, fragments: usize) -> Option<Span> {
     }
 }
 
-/// Up to so many spans.
+/// Random spans, with an upper bound on their number.
 fn random_spans(
     alloc: Global,
     state: &mut u64,
@@ -87,7 +87,7 @@ fn are(alloc: Global, seqs: &Seqs, plain: &[u64]) -> Result<bool, AllocError> {
     )
 }
 
-/// Whether sequences of their own and shared ones are both those of a plain list, and equal.
+/// Whether owned sequences and shared ones are both those of a plain list, and equal.
 fn both_are(alloc: Global, own: &Seqs, shared: &Seqs, plain: &[u64]) -> Result<bool, AllocError> {
     Ok(
         are(alloc, own, plain)?
@@ -130,7 +130,7 @@ fn shared_count(spans: &Arc<Spans>) -> Result<u64, AllocError> {
     Ok(count)
 }
 
-/// Whether each fragment of given spans answers as its plain list does, and all together are as many.
+/// Whether each fragment of given spans answers as its plain list does, and the counts agree.
 fn all_answer(alloc: Global, spans: &Arc<Spans>, given: &[Span]) -> Result<bool, AllocError> {
     let mut total = 0_u64;
     for fragment in 0..spans.fragments() {
@@ -143,7 +143,7 @@ fn all_answer(alloc: Global, spans: &Arc<Spans>, given: &[Span]) -> Result<bool,
     Ok(shared_count(spans)? == total)
 }
 
-/// Whether given spans over so many fragments answer as plain lists do.
+/// Whether given spans over `fragments` fragments answer as plain lists do.
 fn is_one_case(alloc: Global, fragments: usize, given: &[Span]) -> Result<bool, AllocError> {
     if !are_within(fragments, given) {
         return Ok(false);

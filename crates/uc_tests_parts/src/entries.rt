@@ -106,7 +106,7 @@ static COVERED: [(&[u8], Option<&[u8]>); 8] = [
 /// Fragments with a gap between the second and the third.
 static WITH_A_GAP: [FragmentOf; 3] = [(b"a", b"c", &[5]), (b"c", b"d", &[8]), (b"f", b"g", &[2])];
 
-/// Wants for each key the fragment over it.
+/// Checks the fragment over each key.
 fn wants_covered(rt: &impl Abort, list: &[Fragment]) {
     assert!(rt; is_run(1, 9, &[], list));
     for (key, want) in &COVERED {
@@ -150,7 +150,7 @@ fn are_two(list: &[Fragment]) -> bool {
     }
 }
 
-/// Wants two fragments, and an equal copy of them.
+/// Checks two fragments, and an equal copy of them.
 fn wants_two(rt: &impl Abort, list: &Vec<Fragment>) -> Result<(), Fail> {
     assert!(rt; are_copied(list)?);
     assert!(rt; are_two(list));

@@ -8,7 +8,7 @@ use uc_run_entry::{
     fragments_cover_what_ranges_cover,
 };
 
-/// Ranges and the fragments of them: a begin and an end, with a sequence or with some.
+/// Ranges and their fragments, each a begin, an end, and a sequence or several.
 struct Cut {
     ranges: &'static [(&'static [u8], &'static [u8], u64)],
     fragments: &'static [Piece],
@@ -131,7 +131,7 @@ fn ranges_are_cut_into_fragments(rt: HostRuntime) -> Result<(), Fail> {
     Ok(())
 }
 
-/// Ends of random ranges, and keys that are looked for.
+/// Ends of random ranges, and keys to look for.
 static KEYS: [&[u8]; 8] = [b"", b"a", b"aa", b"ab", b"b", b"b\x00", b"c", b"\xff"];
 
 /// Ends of many random ranges.
@@ -142,7 +142,7 @@ static MANY_KEYS: [&[u8]; 12] = [
 /// Sequences of random ranges are below this.
 const MOST_SEQS: u64 = 5;
 
-/// A key that is chosen at random.
+/// A random key.
 fn random_key(state: &mut u64) -> &'static [u8] {
     KEYS[(next_random(state) % 8) as usize]
 }
@@ -213,7 +213,7 @@ fn are_covered(alloc: Global, ranges: &[Range<'_>]) -> Result<bool, AllocError> 
     Ok(true)
 }
 
-/// Whether the fragments of random ranges do.
+/// Whether the fragments of random ranges cover each key as they do.
 fn few_are_covered(alloc: Global, state: &mut u64, count: u64) -> Result<bool, AllocError> {
     are_covered(alloc, &few_ranges(alloc, state, count)?)
 }
@@ -262,7 +262,7 @@ fn first_by(seqs: &[u64], at: u64) -> Option<u64> {
     seqs.iter().copied().find(|seq| *seq <= at)
 }
 
-/// Whether the fragments have these sequences over a key, and give the newest of them for each number.
+/// Whether the fragments have these sequences over a key, and return the newest of them for each number.
 fn are_over(
     alloc: Global,
     fragments: &[Fragment],
@@ -282,7 +282,7 @@ fn are_over(
     )
 }
 
-/// Whether fragments have over a key the sequences of ranges that rise, and how long the longest of such were.
+/// Whether fragments have over a key the sequences of ranges that rise. Returns how long the longest of such were too.
 fn is_over(
     alloc: Global,
     ranges: &[Range<'_>],
@@ -319,7 +319,7 @@ fn share_spans(
     is_cut_to(alloc, ranges, &fragments)
 }
 
-/// Whether random ranges are.
+/// Whether random ranges are cut that way.
 fn many_share_spans(
     alloc: Global,
     state: &mut u64,
@@ -341,7 +341,7 @@ fn many_ranges_that_overlap_share_spans(rt: HostRuntime) -> Result<(), Fail> {
     Ok(())
 }
 
-/// Whether fragments are the same as a copy whose sequences are their own.
+/// Whether fragments are the same as a copy that owns its sequences.
 fn are_same_as_own(alloc: Global, fragments: &Fragments) -> Result<bool, AllocError> {
     let own = Fragments::from(fragments.as_slice().to_vec(alloc)?);
     Ok(fragments.same(&own) && own.same(fragments))
@@ -362,7 +362,7 @@ fn do_ends_differ(alloc: Global) -> Result<bool, AllocError> {
     Ok(!is_cut_to(alloc, &nested(alloc, b"b", b"y")?, &lower)?)
 }
 
-/// Wants fragments of ranges that differ from those of fewer ranges alone.
+/// Checks that fragments of ranges differ from those of fewer ranges.
 fn wants_same(
     rt: &impl Abort,
     alloc: Global,

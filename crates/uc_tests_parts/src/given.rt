@@ -1,4 +1,4 @@
-//! What several of the tests make: points that own their texts, and numbers that are drawn.
+//! What several of the tests make: points that own their texts, and random numbers.
 use std::alloc::{AllocError, Global};
 use uc_bytes::Bytes;
 use uc_run_entry::{Entry, WhatRef};
@@ -15,7 +15,7 @@ pub(crate) fn entry_of(
     Ok(Entry { key, seq, what })
 }
 
-/// The next number of a row of random ones.
+/// The next random number.
 pub(crate) fn next_random(state: &mut u64) -> u64 {
     *state = state
         .wrapping_mul(6_364_136_223_846_793_005)

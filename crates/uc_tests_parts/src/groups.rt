@@ -49,7 +49,7 @@ fn is_next<'a>(
     }
 }
 
-/// Whether these groups come and no others.
+/// Whether exactly these groups come.
 fn come(
     alloc: Global,
     groups: &mut Groups<'_>,
@@ -64,7 +64,7 @@ fn come(
     Ok(groups.next_into(&mut points)?.is_none() && points.is_empty())
 }
 
-/// Whether the runs, the newest first, have these groups and no others.
+/// Whether the runs, the newest first, have exactly these groups.
 fn have_groups(
     alloc: Global,
     runs: [&[(u8, u64)]; 3],
@@ -95,7 +95,7 @@ static MERGES: [Merge; 5] = [
         older: &[],
         groups: &[],
     },
-    // Keys of one run alone and of both, several points of a key, and equal last keys.
+    // Keys of one run only and of both, several points of a key, and equal last keys.
     Merge {
         newer: &[(1, 9), (3, 8), (3, 7), (4, 6), (9, 10)],
         older: &[(2, 1), (3, 4), (3, 2), (9, 3)],
@@ -113,7 +113,7 @@ static MERGES: [Merge; 5] = [
         older: &[(3, 2), (4, 1)],
         groups: &[(1, &[7]), (2, &[9, 8]), (3, &[2]), (4, &[1])],
     },
-    // All keys of the newer run behind those of the older one.
+    // All keys of the newer run after those of the older one.
     Merge {
         newer: &[(5, 9)],
         older: &[(3, 2), (4, 1)],
@@ -146,7 +146,7 @@ fn no_runs_have_no_groups(rt: HostRuntime) -> Result<(), Fail> {
 /// Keys of random points are below this.
 const MOST_KEYS: u8 = 4;
 
-/// The points of a random run, in order: for each key from 0 on as many as come, their sequences falling from `top`.
+/// The points of a random run, in order: for each key from 0 on a random number, their sequences falling from `top`.
 fn random_points(state: &mut u64, alloc: Global, top: u64) -> Result<Vec<(u8, u64)>, AllocError> {
     let mut points = Vec::new(alloc);
     for key in 0..MOST_KEYS {
@@ -182,7 +182,7 @@ fn groups_of_all(alloc: Global, runs: &[&[(u8, u64)]]) -> Result<Vec<(u8, Vec<u6
     Ok(groups)
 }
 
-/// Groups with their sequences lent.
+/// Groups with their sequences borrowed.
 fn lent(alloc: Global, groups: &[(u8, Vec<u64>)]) -> Result<Vec<(u8, &[u64])>, AllocError> {
     let mut lent = Vec::new(alloc);
     for (key, seqs) in groups {

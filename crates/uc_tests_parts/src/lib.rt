@@ -1,8 +1,9 @@
 //! The parts of runs and of compactions, worked by hand.
 //!
-//! `entries.rt` has points and fragments that make a run, `fragments.rt` range deletions cut into fragments, `points.rt` packed
-//! points, `groups.rt` runs merged by key, and `stripes.rt` what is kept of one key and of one fragment. `given.rt` has what several
-//! of them make. `spans.rt` has spans worked by hand, and `drawn_spans.rt` random ones against plain lists.
+//! `entries.rt` has points and fragments that make a run, and `fragments.rt` range deletions cut into fragments.
+//! `points.rt` has packed points, `groups.rt` runs merged by key, and `stripes.rt` what is kept of one key and of one
+//! fragment. `given.rt` has what several of them make. `spans.rt` has spans worked by hand, and `drawn_spans.rt` random
+//! ones compared with plain lists.
 #![tactic(auto)]
 
 #[cfg(test)]

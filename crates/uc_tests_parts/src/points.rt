@@ -32,7 +32,7 @@ fn says_the_same(point: &Point, entry: &Entry) -> bool {
         && point.what() == WhatRef::of(&entry.what)
 }
 
-/// Whether an entry is packed, says the same then, and is unpacked again.
+/// Whether an entry, packed, says the same, and is unpacked again.
 fn is_packed(alloc: Global, entry: &Entry) -> Result<bool, AllocError> {
     if entry.seq > SEQS[2] {
         return Ok(false);
@@ -46,7 +46,7 @@ fn is_said(alloc: Global, key: &[u8], seq: u64, says: WhatRef<'_>) -> Result<boo
     is_packed(alloc, &entry_of(alloc, key, seq, says)?)
 }
 
-/// Whether points of each kind are.
+/// Whether points of each kind are packed and unpacked.
 fn is_said_each_way(alloc: Global, key: &[u8], seq: u64, text: &[u8]) -> Result<bool, AllocError> {
     Ok(
         is_said(alloc, key, seq, WhatRef::Put(text))?
@@ -107,7 +107,7 @@ fn sets(effect: &Effect, value: Option<&[u8]>) -> bool {
     }
 }
 
-/// Wants an effect that sets this value, or no value.
+/// Checks that an effect sets this value, or no value.
 fn wants_set(rt: &impl Abort, effect: &Effect, value: Option<&[u8]>) {
     assert!(rt; sets(effect, value), "{effect:?}");
 }
@@ -143,7 +143,7 @@ fn are_falling(points: &[Point]) -> bool {
     points.len() == 2
 }
 
-/// Whether the points of deletes of these have them.
+/// Whether the points of these deletes have these keys and sequences.
 fn are_packed_in_order(alloc: Global) -> Result<bool, AllocError> {
     let entries = [
         Entry {

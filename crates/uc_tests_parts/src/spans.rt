@@ -137,7 +137,7 @@ fn shared_of(alloc: Global, case: &Case) -> Result<Vec<Seqs>, AllocError> {
     Ok(shared)
 }
 
-/// Whether shared sequences are equal to some of their own exactly where their lists are.
+/// Whether shared sequences equal owned ones exactly if their lists are equal.
 fn are_equal_alike(
     alloc: Global,
     shared: &[Seqs],

@@ -14,7 +14,7 @@ use uc_run_entry::{Point, Seqs, WhatRef};
 /// A point of a test: its sequence, and what it says.
 type Given = (u8, WhatRef<'static>);
 
-/// Points of one key and the sequences of range deletions over it, what is kept, and the points that are wanted.
+/// Points of one key, the sequences of range deletions over it, what a compaction keeps, and the expected points.
 #[derive(Clone, Copy)]
 struct OfKey {
     points: &'static [Given],
@@ -26,7 +26,7 @@ struct OfKey {
 
 /// Appends, which join with a comma; worked by hand.
 static POINTS: [OfKey; 13] = [
-    // Nothing comes of nothing, also under a range deletion.
+    // No points give none, also under a range deletion.
     OfKey {
         points: &[],
         seqs: &[4],
@@ -78,7 +78,7 @@ static POINTS: [OfKey; 13] = [
         bottom: None,
         wanted: &[(5, WhatRef::Put(b"d,e"))],
     },
-    // A delete stays where older runs may have the key ...
+    // A delete stays if older runs may have the key ...
     OfKey {
         points: &[(5, WhatRef::Delete), (4, WhatRef::Put(b"d"))],
         seqs: &[],
@@ -102,7 +102,7 @@ static POINTS: [OfKey; 13] = [
         bottom: None,
         wanted: &[(5, WhatRef::Put(b"e"))],
     },
-    // Above all points of its stripe it says enough by itself ...
+    // Above all points of its stripe it is enough by itself ...
     OfKey {
         points: &[(3, WhatRef::Put(b"c"))],
         seqs: &[4],
@@ -110,7 +110,7 @@ static POINTS: [OfKey; 13] = [
         bottom: None,
         wanted: &[],
     },
-    // ... but it says nothing of a stripe below it.
+    // ... but it does nothing for a stripe below it.
     OfKey {
         points: &[(3, WhatRef::Put(b"c"))],
         seqs: &[4],
@@ -156,7 +156,7 @@ fn every_other(alloc: Global, seqs: &[u64], first: usize) -> Result<Seqs, AllocE
     Ok(Seqs::from(part))
 }
 
-/// What is pushed behind one point that stands there, where the sequences come from two lists.
+/// What is pushed after one point that is there, if the sequences come from two lists.
 fn kept_by(
     rt: &(impl Threads + Sync),
     alloc: Global,
@@ -193,7 +193,7 @@ fn is(point: &Point, given: &Given) -> bool {
     point.key() == b"k".as_slice() && point.seq() == u64::from(given.0) && point.what() == given.1
 }
 
-/// Whether points are these, behind the one that stood there.
+/// Whether points are these, after the one that was there.
 fn are_wanted(points: &[Point], wanted: &[Given]) -> bool {
     let Some((first, kept)) = points.split_first() else {
         return false;
@@ -206,7 +206,7 @@ fn are_wanted(points: &[Point], wanted: &[Given]) -> bool {
     is(first, &(1, WhatRef::Delete)) && kept.len() == wanted.len()
 }
 
-/// Whether what is wanted is kept of the points of a case.
+/// Whether the expected points of a case are kept.
 fn points_are_kept(rt: &(impl Threads + Sync), alloc: Global, case: &OfKey) -> Result<bool, Fail> {
     Ok(are_wanted(&kept_of(rt, alloc, case)?, case.wanted))
 }
@@ -219,7 +219,7 @@ fn points_that_are_kept(rt: HostRuntime) -> Result<(), Fail> {
     Ok(())
 }
 
-/// Sequences of a fragment, what is kept, and the sequences that are wanted.
+/// Sequences of a fragment, what a compaction keeps, and the expected sequences.
 #[derive(Clone, Copy)]
 struct OfFragment {
     seqs: &'static [u64],
@@ -257,7 +257,7 @@ static SEQS: [OfFragment; 6] = [
         bottom: Some(1),
         wanted: &[9, 7],
     },
-    // ... also where that is the only stripe.
+    // ... also if that is the only stripe.
     OfFragment {
         seqs: &[9, 7, 4, 2],
         keeps: &[],
@@ -291,7 +291,7 @@ fn kept_of_lists(
     Ok(kept_seqs(alloc, &over, &Keeping::new(case.keeps, case.bottom))?)
 }
 
-/// Whether what is wanted is kept of the sequences of a case.
+/// Whether the expected sequences of a case are kept.
 fn are_kept(alloc: Global, case: &OfFragment) -> Result<bool, Fail> {
     let first = every_other(alloc, case.seqs, 0)?;
     let second = every_other(alloc, case.seqs, 1)?;
@@ -325,13 +325,13 @@ static LISTS: [OfLists; 4] = [
         second: &[5, 3],
         wanted: &[5, 3],
     },
-    // One behind the other.
+    // One after the other.
     OfLists {
         first: &[9, 8],
         second: &[5, 3],
         wanted: &[9, 8, 5, 3],
     },
-    // One among the other, and some in both.
+    // Interleaved, and some in both.
     OfLists {
         first: &[8, 5, 1],
         second: &[9, 8, 3, 1],
@@ -354,7 +354,7 @@ fn find_as(first: &Seqs, second: &Seqs, wanted: &[u64]) -> bool {
     over.newest() == wanted.first().copied()
 }
 
-/// Whether the lists of a case do.
+/// Whether the lists of a case find what their plain list does.
 fn find_as_wanted(alloc: Global, case: &OfLists) -> Result<bool, AllocError> {
     let first = Seqs::from(case.first.to_vec(alloc)?);
     let second = Seqs::from(case.second.to_vec(alloc)?);
