@@ -17,10 +17,10 @@ fn puts(alloc: Global, count: u8) -> Result<Run, Fail> {
     built(alloc, 1, 40, points, Vec::new(alloc))
 }
 
-/// Numbers of points, and how many blocks they fill.
+/// Numbers of points, and of the blocks that they fill.
 static BLOCKS: [(u8, u64); 7] = [(0, 0), (1, 1), (15, 1), (16, 1), (17, 2), (32, 2), (33, 3)];
 
-/// Whether a run is one of puts of the keys below a byte, which fill so many blocks.
+/// Whether a run is one of puts of the keys below a byte, which fill this number of blocks.
 fn fills_blocks(run: &Run, end: u8, blocks: u64) -> bool {
     let count = u64::from(end);
     run.recall();
@@ -32,7 +32,7 @@ fn fills_blocks(run: &Run, end: u8, blocks: u64) -> bool {
         && run.next_key(&[end], false).is_none()
 }
 
-/// Whether so many puts fill so many blocks.
+/// Whether `count` puts fill `blocks` blocks.
 fn puts_fill_blocks(alloc: Global, count: u8, blocks: u64) -> Result<bool, Fail> {
     Ok(fills_blocks(&puts(alloc, count)?, count, blocks))
 }
@@ -56,7 +56,7 @@ static FENCES: [(u64, Option<&[u8]>); 4] = [
     (3, None),
 ];
 
-/// Keys, whether they are looked for strictly, their place, and the key there.
+/// Keys, whether the search is strict, their place, and the key there.
 static PLACES: [(&[u8], bool, u64, Option<&[u8]>); 6] = [
     (b"", false, 0, Some(b"\x00")),
     (b"\x0f", false, 15, Some(b"\x0f")),
@@ -86,7 +86,7 @@ fn has_places(run: &Run) -> bool {
     true
 }
 
-/// Looks for places, keys and fences in a run of 33 puts.
+/// Checks places, keys and fences in a run of 33 puts.
 fn wants_places(rt: &impl Abort, run: &Run) {
     assert!(rt; has_fences(run, &FENCES));
     assert!(rt; has_places(run));
@@ -101,7 +101,7 @@ fn keys_have_places(rt: HostRuntime) -> Result<(), Fail> {
     Ok(())
 }
 
-/// A key behind a shared front. 64 in order have the same eight bytes there.
+/// A key with a shared front. 64 in order have the same eight bytes there.
 fn long_key(number: u8) -> [u8; 11] {
     let high = b'a' + number / 64;
     [
@@ -129,12 +129,12 @@ fn long_keys(alloc: Global) -> Result<Run, Fail> {
     built(alloc, 1, 40, points, Vec::new(alloc))
 }
 
-/// Whether a key is found at a place, and the place behind it where it is looked for strictly.
+/// Whether a search finds a key at a place, and a strict one the place after it.
 fn stands_at(run: &Run, key: &[u8], place: u64) -> bool {
     run.seek(key, false) == place && run.seek(key, true) == place.wrapping_add(1)
 }
 
-/// Looks for the keys, and for those that have no point.
+/// Checks the places of the keys, and of those that have no point.
 fn wants_long_keys(rt: &impl Abort, run: &Run) {
     for number in 0..200 {
         assert!(rt;
@@ -202,7 +202,7 @@ static MERGES: Given = Given {
     ranges: &[(b"j", b"l", &[4])],
 };
 
-/// Sequences, and the value that there is then, if one is known.
+/// Sequences, and the value at each, if one is known.
 static EFFECTS: [(u64, Option<&[u8]>); 6] = [
     (1, Some(b"b")),
     (2, Some(b"b,c")),
@@ -220,7 +220,7 @@ fn has_itself(alloc: Global, run: &Run, key: u8) -> Result<bool, AllocError> {
     )
 }
 
-/// Whether each key of such a run of so many puts has its value from 1 on and nothing at 0, and the next key has none.
+/// Whether each key of such a run of `count` puts has its value from 1 on and nothing at 0, and the next key has none.
 fn has_each_effect(alloc: Global, run: &Run, count: u8) -> Result<bool, AllocError> {
     for key in 0..count {
         if !has_itself(alloc, run, key)? {
@@ -230,7 +230,7 @@ fn has_each_effect(alloc: Global, run: &Run, count: u8) -> Result<bool, AllocErr
     keeps_at::<Append<44>>(alloc, run, &[count], 1)
 }
 
-/// Whether a run of so many puts does.
+/// Whether that holds of a run of `count` puts.
 fn puts_have_effects(alloc: Global, count: u8) -> Result<bool, Fail> {
     Ok(has_each_effect(alloc, &puts(alloc, count)?, count)?)
 }
@@ -263,7 +263,7 @@ fn is_of_puts(alloc: Global, run: &Run) -> Result<bool, Fail> {
     Ok(run.same(&puts(alloc, 4)?))
 }
 
-/// Wants the effects of these merges, one fragment and 50 bytes.
+/// Checks the effects of these merges, one fragment and 50 bytes.
 fn wants_merges(rt: &impl Abort, alloc: Global, run: &Run) -> Result<(), Fail> {
     assert!(rt; has_effects(alloc, run)?);
     assert!(rt; run.fragments().len() == 1 && run.size() == 50);

@@ -38,7 +38,7 @@ pub(crate) fn output<O: Operator + Sync>(
     }
 }
 
-/// A compaction of a test: its runs, its keeps, whether the oldest run is among them, and the run that is wanted.
+/// A compaction of a test: its runs, its keeps, whether the oldest run is among them, and the expected run.
 #[derive(Clone, Copy)]
 struct Case {
     runs: &'static [Given],
@@ -47,7 +47,7 @@ struct Case {
     wanted: Given,
 }
 
-/// Whether a compaction was of so many runs with these keeps, and gave this run.
+/// Whether a compaction was of this number of runs with these keeps, and returned this run.
 fn is_wanted<O: Operator>(
     made: &Compacted<O>,
     runs: usize,
@@ -63,7 +63,7 @@ fn is_wanted<O: Operator>(
         && made.oldest() == oldest
 }
 
-/// Whether a compaction of these runs gives the run that is wanted.
+/// Whether a compaction of these runs returns the expected run.
 pub(crate) fn gives<O: Operator + Sync>(
     rt: &(impl Threads + Sync),
     alloc: Global,
@@ -77,7 +77,7 @@ pub(crate) fn gives<O: Operator + Sync>(
     Ok(is_wanted(&made, runs.len(), keeps, oldest, &wanted))
 }
 
-/// Whether a compaction of a test gives the run that is wanted.
+/// Whether a compaction of a test returns the expected run.
 fn passes<O: Operator + Sync>(
     rt: &(impl Threads + Sync),
     alloc: Global,
@@ -89,7 +89,7 @@ fn passes<O: Operator + Sync>(
 
 /// Appends, which join with a comma.
 static APPENDS: [Case; 4] = [
-    // Two operands are joined; the put stands in an older run.
+    // Two operands are joined; the put is in an older run.
     Case {
         runs: &[
             Given {
@@ -274,7 +274,7 @@ static COUNTERS: [Case; 5] = [
             ranges: &[],
         },
     },
-    // A range deletion between two snapshots stays where older runs stand below ...
+    // A range deletion between two snapshots stays if older runs lie below ...
     Case {
         runs: &[
             Given {
@@ -351,7 +351,7 @@ fn counters_add_up_within_stripes(rt: HostRuntime) -> Result<(), Fail> {
     Ok(())
 }
 
-/// A delete of a key beside a range deletion over it, both in one stripe, and the size of what they become.
+/// A delete of a key and a range deletion over it, both in one stripe, and the size of the output.
 static DELETES: [(Case, u64); 2] = [
     // The range deletion is newer, and hides the delete.
     (
@@ -381,7 +381,7 @@ static DELETES: [(Case, u64); 2] = [
         },
         10,
     ),
-    // The delete is newer, and stays beside the range deletion.
+    // The delete is newer, and stays with the range deletion.
     (
         Case {
             runs: &[
@@ -426,7 +426,7 @@ fn deletes_beside_range_deletions(rt: HostRuntime) -> Result<(), Fail> {
     Ok(())
 }
 
-/// Whether runs of a test may be compacted together, as they stand or turned.
+/// Whether runs of a test may be compacted together, as they are or reversed.
 fn stand(alloc: Global, runs: &[Given], turned: bool, keeps: &[u64]) -> Result<bool, Fail> {
     let mut runs = runs_of(alloc, runs)?;
     if turned {

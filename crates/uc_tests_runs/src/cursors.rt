@@ -7,7 +7,7 @@ use uc_oper::Append;
 use uc_run::{Cursor, Run};
 use uc_run_entry::{Entry, WhatRef};
 
-/// What a point of this number says: of four one put, two merges and a delete.
+/// What a point of this number says: in quarters, one put, two merges and a delete.
 fn says_of(number: u8, text: &[u8]) -> WhatRef<'_> {
     match number & 3 {
         0 => WhatRef::Put(text),
@@ -22,7 +22,7 @@ fn point(alloc: Global, key: u8, number: u8) -> Result<Entry, AllocError> {
     entry_of(alloc, &[key], seq, says_of(number, &[number]))
 }
 
-/// How many points keys have, the others of five after each other.
+/// How many points keys have, cycling through these.
 static COUNTS: [u8; 5] = [30, 1, 2, 9, 4];
 
 /// Adds the points of the five keys of a group, of which each has another between it and the next.
@@ -48,7 +48,7 @@ fn points(alloc: Global) -> Result<Vec<Entry>, AllocError> {
     Ok(points)
 }
 
-/// Fragments: between two keys, over one, over some, and behind all points.
+/// Fragments: between two keys, over one, over some, and after all points.
 static FRAGMENTS: [Piece; 6] = [
     (&[1], &[2], &[60]),
     (&[2], &[3], &[60, 30]),
@@ -68,7 +68,7 @@ fn run_of_them(alloc: Global) -> Result<Run, Fail> {
 /// Sequences at which keys are read.
 static ATS: [u64; 6] = [0, 3, 30, 44, 60, 100];
 
-/// Whether a cursor that stands before a key finds there what a search does.
+/// Whether a cursor just before a key finds there what a search does.
 fn finds_as_searched(
     alloc: Global,
     run: &Run,
@@ -83,7 +83,7 @@ fn finds_as_searched(
     Ok(cursor.effect::<Append<44>>(alloc, key, at)? == want)
 }
 
-/// At each sequence the cursor wants the effect that a search finds.
+/// Checks at each sequence that the cursor finds the effect that a search finds.
 fn wants_effects(
     rt: &impl Abort,
     alloc: Global,
@@ -101,7 +101,7 @@ fn wants_effects(
     Ok(())
 }
 
-/// Walks on from a key over all that are not below it, and wants what searches of each find.
+/// Walks on from a key over all that are not below it, and checks each against a search.
 fn wants_walk(
     rt: &impl Abort,
     alloc: Global,
@@ -151,7 +151,7 @@ fn told_end(key: &[u8], at: u64) -> Option<&'static [u8]> {
     None
 }
 
-/// Whether at each sequence the key is hidden up to where the fragment over it ends.
+/// Whether at each sequence the key is hidden up to the end of the fragment over it.
 fn is_hidden_as_told(cursor: &Cursor<'_>, key: &[u8]) -> bool {
     for at in &ATS {
         if cursor.hidden_to(key, *at) != told_end(key, *at) {
@@ -161,7 +161,7 @@ fn is_hidden_as_told(cursor: &Cursor<'_>, key: &[u8]) -> bool {
     true
 }
 
-/// Whether who seeks each key from one on stands where a search of it stands.
+/// Whether seeking each key from one on leads to the place that a search finds.
 fn seeks_as_searched(run: &Run, low: u8) -> bool {
     for key in low..100 {
         let mut cursor = run.cursor(&[low]);

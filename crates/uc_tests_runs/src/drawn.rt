@@ -15,7 +15,7 @@ static LETTERS: [&[u8]; 26] = [
     b"q", b"r", b"s", b"t", b"u", b"v", b"w", b"x", b"y", b"z",
 ];
 
-/// Keys, and ends of range deletions, where most changes are range deletions.
+/// Keys, and ends of range deletions, if most changes are range deletions.
 pub(crate) static ENDS: [&[u8]; 12] = [
     b"", b"a", b"aa", b"ab", b"b", b"b\x00", b"c", b"ca", b"d", b"da", b"e", b"\xff",
 ];
@@ -23,9 +23,9 @@ pub(crate) static ENDS: [&[u8]; 12] = [
 /// Which changes are drawn.
 #[derive(Clone, Copy)]
 pub(crate) enum Kinds {
-    /// Of eight a put, a delete, two range deletions and four merges; up to 300.
+    /// In eighths, a put, a delete, two range deletions and four merges; up to 300.
     Each,
-    /// Of eight a put, a merge, and six range deletions; up to 40.
+    /// In eighths, a put, a merge, and six range deletions; up to 40.
     MostlyRanges,
 }
 
@@ -59,7 +59,7 @@ impl Dice {
         ENDS[(self.roll(12) % 12) as usize]
     }
 
-    /// A range deletion. Few of them have no keys, so that many stand over each other.
+    /// A range deletion. Few of them have no keys, so many overlap.
     fn range(&mut self) -> OpRef<'static> {
         let begin = self.end();
         let end = self.end();
@@ -158,7 +158,7 @@ pub(crate) fn flushed(rt: &impl Abort, alloc: Global, memtable: Memtable) -> Res
     Ok(memtable.flush(alloc)?)
 }
 
-/// The run of some writes above a sequence, which are added to a list as well.
+/// The run of some writes above a sequence, which are added to a list too.
 pub(crate) fn drawn(
     rt: &impl Abort,
     alloc: Global,
@@ -181,7 +181,8 @@ fn most_seqs(run: &Run) -> u64 {
     most
 }
 
-/// Draws writes and wants in their run what they do to these keys. How many sequences a fragment of the run has at most.
+/// Draws writes and checks in their run what they do to these keys. Returns the most sequences that a fragment of the
+/// run has.
 pub(crate) fn wants_drawn(
     rt: &impl Abort,
     alloc: Global,

@@ -1,4 +1,4 @@
-//! [`Given`]: a run of a test, as it is written down, and the run that it is.
+//! [`Given`]: a run of a test, as it is written down.
 use std::alloc::{AllocError, Global};
 use std::sync::Arc;
 use std::test::Fail;

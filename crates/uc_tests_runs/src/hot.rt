@@ -32,7 +32,7 @@ fn two_of_ones(alloc: Global) -> Result<Vec<Arc<Run>>, Fail> {
     Ok(runs)
 }
 
-/// Whether the oldest run is among both, and the run that they become then.
+/// Whether the oldest run is among both, and the expected run.
 static HOT: [(bool, Given); 2] = [
     (
         false,
@@ -54,7 +54,7 @@ static HOT: [(bool, Given); 2] = [
     ),
 ];
 
-/// Wants one point of both runs, with the oldest run among them and without it.
+/// Checks that both runs give one point, with the oldest run among them and without it.
 fn wants_one_point(
     rt: &(impl Abort + Threads + Sync),
     alloc: Global,

@@ -1,10 +1,10 @@
-//! Worked examples of runs: what is found in them, and what compactions make of them.
+//! Worked examples of runs: what is found in them, and how they are compacted.
 //!
-//! Everything here runs the calls of other crates as their users do, over points that were worked out by hand. `blocks.rt` has
-//! runs of some sizes and lookups in them, `cursors.rt` walks over their points, `memtables.rt` memtables and the runs that they are
-//! flushed to, `compactions.rt` whole compactions, `hot.rt` one of thousands of merges of a key, and `overlaps.rt` flushes and
-//! compactions of random range deletions that overlap. `given.rt` makes runs that are written down, `drawn.rt` runs of writes that
-//! are drawn, and `lookups.rt` has what is asked of a run.
+//! Everything here runs the calls of other crates as their users do, over points that were worked out by hand.
+//! `blocks.rt` has runs of some sizes and lookups in them, `cursors.rt` walks over their points, and `memtables.rt`
+//! memtables and the runs that they are flushed to. `compactions.rt` has whole compactions, `hot.rt` one of thousands
+//! of merges of a key, and `overlaps.rt` flushes and compactions of random overlapping range deletions. `given.rt`
+//! makes runs that are written down, `drawn.rt` runs of drawn writes, and `lookups.rt` has the checks of a run.
 #![tactic(auto)]
 
 #[cfg(test)]

@@ -1,4 +1,4 @@
-//! What the tests ask of a run: a point at a place, and what a key has at a sequence.
+//! What the tests check of a run: a point at a place, and what a key has at a sequence.
 use std::alloc::{AllocError, Global};
 use std::process::Abort;
 use std::test::Fail;
@@ -71,7 +71,7 @@ pub(crate) fn first_lost(
     Ok(None)
 }
 
-/// Looks each key up in a run at each sequence, and wants what the writes do to it.
+/// Looks each key up in a run at each sequence, and checks that it finds what the writes do.
 pub(crate) fn wants_effects(
     rt: &impl Abort,
     alloc: Global,

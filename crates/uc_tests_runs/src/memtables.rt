@@ -1,4 +1,4 @@
-//! Insertions into a memtable, what is counted, and the runs that memtables are flushed to.
+//! Insertions into a memtable, its counts, and the runs that memtables are flushed to.
 use crate::drawn::{Dice, KEYS, Kinds, flushed, insert_owned, wants_drawn};
 use crate::given::{Given, run_of};
 use crate::lookups::{keeps_at, puts_at, sets_at};
@@ -33,7 +33,7 @@ fn holds_after(
     Ok(!memtable.is_empty() && holds(memtable, size, seq))
 }
 
-/// Inserts three changes into an empty memtable, and wants its size after each.
+/// Inserts three changes into an empty memtable, and checks its size after each.
 fn wants_sums(rt: &impl Abort, memtable: &mut Memtable) -> Result<(), Fail> {
     assert!(rt; memtable.is_empty() && holds(memtable, 0, 0));
     assert!(rt; holds_after(rt, memtable, 1, OpRef::put(b"a", b"bc"), 11)?);
@@ -53,7 +53,7 @@ fn insert_two_ranges(rt: &impl Abort, memtable: &mut Memtable) -> Result<(), Fai
     insert(rt, memtable, 8, OpRef::delete_range(b"\x63", b"\x67"))
 }
 
-/// Inserts these and one without keys, and wants the size before and after it.
+/// Inserts these and one without keys, and checks the size before and after it.
 fn wants_three_ranges(rt: &impl Abort, memtable: &mut Memtable) -> Result<(), Fail> {
     insert_two_ranges(rt, memtable)?;
     assert!(rt; holds(memtable, 20, 8));
@@ -72,7 +72,7 @@ fn owned_put(alloc: Global) -> Result<Write, Fail> {
     Ok(WriteRef::new(3, op).to_write(alloc)?)
 }
 
-/// Inserts it into an empty memtable, and wants its size.
+/// Inserts it into an empty memtable, and checks its size.
 fn wants_put(rt: &impl Abort, memtable: &mut Memtable, write: &Write) -> Result<(), Fail> {
     insert_owned(rt, memtable, write)?;
     assert!(rt; !memtable.is_empty());
@@ -141,7 +141,7 @@ fn shows(alloc: Global, run: &Run, key: &[u8], at: u64, seen: bool) -> Result<bo
     }
 }
 
-/// Looks for the range deletions in their run.
+/// Checks the range deletions in their run.
 fn wants_seen(rt: &impl Abort, alloc: Global, run: &Run) -> Result<(), Fail> {
     for (key, at, seen) in &SEEN {
         assert!(rt; shows(alloc, run, key, *at, *seen)?, "{key:?} at {at}");

@@ -1,7 +1,7 @@
-//! Range deletions that overlap, flushed and compacted.
+//! Overlapping range deletions, flushed and compacted.
 //!
-//! Most of the writes are range deletions, so that fragments have many sequences and share spans. The runs are held against the
-//! plain fold of the writes.
+//! Most of the writes are range deletions, so that fragments have many sequences and share spans. The runs are compared
+//! with the plain fold of the writes.
 use crate::compactions::output;
 use crate::drawn::{Dice, ENDS, Kinds, drawn, wants_drawn};
 use crate::lookups::first_lost;
@@ -27,7 +27,7 @@ fn ranges_that_overlap_are_flushed(rt: HostRuntime) -> Result<(), Fail> {
     Ok(())
 }
 
-/// Adds a run of such writes above those of the last.
+/// Pushes a run of such writes, above those of the last.
 fn push_run(
     rt: &impl Abort,
     alloc: Global,
@@ -68,7 +68,7 @@ fn drawn_keeps(alloc: Global, dice: &mut Dice) -> Result<Vec<u64>, AllocError> {
     Ok(keeps)
 }
 
-/// Whether a lookup in a run finds the value that the writes give where there was none.
+/// Whether a lookup in a run finds the value that the writes give, starting from none.
 fn keeps_value(
     alloc: Global,
     run: &Run,
@@ -94,7 +94,7 @@ fn keeps_values(alloc: Global, run: &Run, writes: &[Write], at: u64) -> Result<b
     Ok(true)
 }
 
-/// Whether a compacted run reads at a sequence as the writes do. Where nothing stands below it that is a matter of values.
+/// Whether a compacted run reads at a sequence as the writes do. If nothing lies below it, only the values count.
 fn reads_alike(
     alloc: Global,
     made: &Compacted<Append<44>>,
@@ -122,7 +122,7 @@ fn stands_for(
     reads_alike(alloc, made, writes, made.output().high_seq())
 }
 
-/// Whether runs are compacted into one that stands for the writes.
+/// Whether the compaction of runs reads as the writes do.
 fn is_compacted(
     rt: &(impl Threads + Sync),
     alloc: Global,
@@ -135,7 +135,7 @@ fn is_compacted(
     Ok(stands_for(alloc, &made, writes)?)
 }
 
-/// Whether two runs of such writes are compacted into one that stands for them, with the oldest run and without it.
+/// Whether the compaction of two runs of such writes reads as they do, with the oldest run and without it.
 fn are_compacted(
     rt: &(impl Abort + Threads + Sync),
     alloc: Global,
