@@ -10,7 +10,7 @@ use uc_query::{Answer, Query, answer_one};
 use uc_version::{ClaimError, CompactError, MOST_SLOTS, Stretch};
 use uc_version_state::Version;
 
-/// What is claimed before, a stretch that is compacted at once, what that comes to, and the runs then, by their ids and slots.
+/// What is claimed before, a stretch that is compacted at once, the outcome, and the runs then, by their ids and slots.
 #[derive(Clone, Copy)]
 struct Row {
     held: Option<Stretch>,
@@ -42,7 +42,7 @@ static ROWS: [Row; 8] = [
         outcome: Ok(5),
         runs: &[(5, 3)],
     },
-    // Beside another claim, which moves up with its runs or stays where it is.
+    // With another claim, which moves up with its runs or stays where it is.
     Row {
         held: Some(Stretch { first: 2, count: 2 }),
         stretch: Stretch { first: 0, count: 2 },
@@ -80,14 +80,14 @@ fn rows() -> &'static [Row] {
     &ROWS
 }
 
-/// Compacts a row's stretch at once, and looks at what that comes to.
+/// Compacts a row's stretch at once, and checks the outcome.
 fn compacts(rt: &(impl Threads + Abort + Sync), alloc: Global, store: &mut Store, row: &Row) {
     let outcome = store.compact_now(rt, alloc, row.stretch);
     assert_eq!(rt; outcome, row.outcome);
     assert!(rt; has_runs(store, row.runs));
 }
 
-/// Compacts a row's stretch while this one is claimed, which is held still then.
+/// Compacts a row's stretch while this one is claimed; the claim is still held then.
 fn compacts_beside(
     rt: &(impl Threads + Abort + Sync),
     alloc: Global,
@@ -110,7 +110,7 @@ fn is_free(store: &Store) -> bool {
     true
 }
 
-/// Compacts a row's stretch beside what it holds. No run is claimed then.
+/// Compacts a row's stretch with what the row claims. No run is claimed then.
 fn compacts_row(
     rt: &(impl Threads + Abort + Sync),
     alloc: Global,
@@ -179,7 +179,7 @@ fn what_was_merged_is_read(rt: HostRuntime) -> Result<(), Fail> {
     Ok(())
 }
 
-/// Compacts at once in a store that has no id left. A stretch that can't be claimed is told first.
+/// Compacts at once in a store that has no id left. A stretch that can't be claimed is refused first.
 fn wants_ids_spent(rt: &(impl Threads + Abort + Sync), alloc: Global, store: &mut Store) {
     let newest = Stretch { first: 0, count: 2 };
     let spent = store.compact_now(rt, alloc, newest);

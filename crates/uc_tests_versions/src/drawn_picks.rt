@@ -1,10 +1,10 @@
-//! Random picks beside a plain slow program.
+//! Random picks compared with a plain slow program.
 use crate::picks::wants_pick;
 use std::alloc::{AllocError, Global};
 use std::test::Fail;
 use uc_version_state::{Candidate, Options, Stretch};
 
-/// The next number of a row of random ones, below `sides`.
+/// The next random number below `sides`.
 fn next_random(state: &mut u64, sides: u64) -> u64 {
     *state = state
         .wrapping_mul(6_364_136_223_846_793_005)
@@ -34,7 +34,7 @@ fn may_be_collected(options: &Options, candidates: &[Candidate]) -> bool {
     options.least as usize <= candidates.len() && candidates.len() <= options.greatest as usize
 }
 
-/// The first start from which enough runs may be collected, with as many as may be: each number of runs is tried.
+/// The first start from which enough runs may be collected, with as many as possible: each number of runs is tried.
 fn slow_ratio(options: &Options, candidates: &[Candidate]) -> Option<Stretch> {
     for first in 0..candidates.len() {
         let rest = &candidates[first..];
@@ -48,7 +48,7 @@ fn slow_ratio(options: &Options, candidates: &[Candidate]) -> Option<Stretch> {
     None
 }
 
-/// The first stretch of unclaimed runs with two or more, cut to what is wanted: each end of each is tried.
+/// The first stretch of unclaimed runs with two or more, cut to what is needed: each end of each is tried.
 fn slow_number(options: &Options, candidates: &[Candidate]) -> Option<Stretch> {
     let more = candidates.len().checked_sub(options.trigger as usize)?;
     for first in 0..candidates.len() {
@@ -67,7 +67,7 @@ fn slow_number(options: &Options, candidates: &[Candidate]) -> Option<Stretch> {
     None
 }
 
-/// All runs, where the newer ones are too large for the oldest.
+/// All runs, if the newer ones are too large for the oldest.
 fn slow_whole(options: &Options, candidates: &[Candidate]) -> Option<Stretch> {
     let oldest = candidates.last()?;
     let size = u128::from(oldest.size);
@@ -80,7 +80,7 @@ fn slow_whole(options: &Options, candidates: &[Candidate]) -> Option<Stretch> {
     })
 }
 
-/// What is picked, rule by rule.
+/// The pick, rule by rule.
 fn slow_pick(options: &Options, candidates: &[Candidate]) -> Option<Stretch> {
     if candidates.len() < options.trigger as usize {
         return None;
@@ -90,7 +90,7 @@ fn slow_pick(options: &Options, candidates: &[Candidate]) -> Option<Stretch> {
         .or(slow_number(options, candidates))
 }
 
-/// Options that are drawn.
+/// Drawn options.
 fn drawn_options(state: &mut u64) -> Options {
     let least = 2 + (next_random(state, 2) & 1) as u32;
     Options {
@@ -103,7 +103,7 @@ fn drawn_options(state: &mut u64) -> Options {
     }
 }
 
-/// So many candidates that are drawn.
+/// `count` drawn candidates.
 fn drawn_candidates(
     alloc: Global,
     state: &mut u64,

@@ -1,4 +1,4 @@
-//! Installs of what was made otherwise than the store makes it, and claims of another store.
+//! Installs of compactions that the store didn't make, and claims of another store.
 use crate::stores::{Change, Commas, MERGED, Store, claimed, given_back, has_runs, opened};
 use std::alloc::Global;
 use std::marker::Sync;
@@ -10,13 +10,13 @@ use uc_run::WhatRef;
 use uc_version::{InstallError, OwnedClaim, Stretch};
 use uc_version_state::Version;
 
-/// What a compaction makes.
+/// A compaction.
 type Made = Compacted<Commas>;
 
 /// The two newest runs.
 const NEWEST: Stretch = Stretch { first: 0, count: 2 };
 
-/// What the two newest runs of a store become under these keeps, with the oldest run among them or not.
+/// The compaction of a store's two newest runs under these keeps, with the oldest run among them or not.
 fn compacted(
     rt: &(impl Threads + Sync),
     alloc: Global,
@@ -34,7 +34,7 @@ fn compacted(
     Ok(compact::<Commas>(rt, alloc, &inputs, keeps, oldest)?)
 }
 
-/// Installs what was made for a claim that is held, and gives the id of its run.
+/// Installs a compaction for a held claim, and returns the id of its run.
 fn installed(store: &mut Store, claim: OwnedClaim, made: Made) -> Result<u64, Fail> {
     if !store.holds(&claim) {
         return Err("the claim isn't held")?;
@@ -45,7 +45,7 @@ fn installed(store: &mut Store, claim: OwnedClaim, made: Made) -> Result<u64, Fa
     }
 }
 
-/// Installs for a claim that is held what is refused, and gives the claim that comes back, with the error.
+/// Installs for a held claim what is refused, and returns the claim that comes back, with the error.
 fn refused(
     store: &mut Store,
     claim: OwnedClaim,
@@ -60,8 +60,8 @@ fn refused(
     }
 }
 
-/// What another has made of the two newest runs of a put and two merges: the keeps of the store, those that it was made for,
-/// whether it was made for the oldest run too, and why it isn't installed.
+/// A foreign compaction of the two newest runs of a put and two merges: the keeps of the store, those that it was made
+/// for, whether it was made for the oldest run too, and why it isn't installed.
 #[derive(Clone, Copy)]
 struct MadeElsewhere {
     keeps: &'static [u64],
@@ -91,7 +91,7 @@ fn foreign() -> &'static [MadeElsewhere] {
     &FOREIGN
 }
 
-/// Looks at the refusal of a row, and gives the claim that comes back.
+/// Checks the refusal of a row, and returns the claim that comes back.
 fn comes_back(
     rt: &(impl Threads + Abort + Sync),
     alloc: Global,
@@ -105,7 +105,8 @@ fn comes_back(
     Ok(claim)
 }
 
-/// Installs for a claim what the two newest runs become under the store's own keeps, and gives the id of its run.
+/// Installs for a claim the compaction of the two newest runs under the store's own keeps, and returns the id of its
+/// run.
 fn own_installed(
     rt: &(impl Threads + Sync),
     alloc: Global,
@@ -116,7 +117,7 @@ fn own_installed(
     installed(store, claim, own)
 }
 
-/// Looks at the refusal of a row. What the store itself makes is installed then.
+/// Checks the refusal of a row. Then the store's own compaction is installed.
 fn refuses(
     rt: &(impl Threads + Abort + Sync),
     alloc: Global,
@@ -144,7 +145,7 @@ fn what_is_refused_comes_back(rt: HostRuntime) -> Result<(), Fail> {
 /// A put, and the delete of its key.
 static DELETED: [Change; 2] = [Change::Put(b"\x01"), Change::Delete];
 
-/// Whether a version keeps 2, and its newest run is the delete of `k` there alone.
+/// Whether a version keeps 2, and its newest run is only the delete of `k` there.
 fn newest_is_a_delete(version: &Version) -> bool {
     match version.runs().first() {
         None => false,
@@ -157,7 +158,7 @@ fn newest_is_a_delete(version: &Version) -> bool {
     }
 }
 
-/// Compacts a put and the delete of its key, and looks at what is left of them.
+/// Compacts a put and the delete of its key, and checks what is left of them.
 fn leaves_a_delete(
     rt: &(impl Threads + Abort + Sync),
     alloc: Global,
@@ -177,7 +178,7 @@ fn a_delete_stays_where_the_oldest_run_is_left_out(rt: HostRuntime) -> Result<()
     leaves_a_delete(&rt, alloc, &mut opened(alloc, &DELETED, &[], 1)?)
 }
 
-/// Whether two claims have one number, and each store holds its own alone.
+/// Whether two claims have one number, and each store holds only its own.
 fn are_told_apart(one: &Store, claim: &OwnedClaim, other: &Store, foreign: &OwnedClaim) -> bool {
     claim.number() == foreign.number()
         && one.holds(claim)
@@ -202,7 +203,7 @@ fn claims_of_another_store_are_not_held(rt: HostRuntime) -> Result<(), Fail> {
     Ok(())
 }
 
-/// Claims the two newest runs and gives them back. The number of the claim.
+/// Claims the two newest runs and gives them back. Returns the number of the claim.
 fn number_of_a_claim(store: &mut Store) -> Result<usize, Fail> {
     let claim = claimed(store, NEWEST)?;
     let number = claim.number();

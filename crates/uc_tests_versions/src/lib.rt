@@ -1,14 +1,14 @@
-//! How a store begins, what is compacted next and what comes of it, worked by hand.
+//! How a store begins, what is compacted next and with what outcome, worked by hand.
 //!
-//! `openings.rt` has openings from plain writes, `recoveries.rt` openings from short logs, `picks.rt` picks by hand and
-//! `drawn_picks.rt` random ones beside a plain slow program, and `reports.rt` reports on what a store holds. `stores.rt` opens
-//! stores of a few runs, `at_once.rt` compacts stretches of them at once, and `installs.rt` installs what was made otherwise than
-//! the store makes it.
+//! `openings.rt` has openings from plain writes, `recoveries.rt` openings from short logs, `picks.rt` picks by hand,
+//! `drawn_picks.rt` random ones compared with a plain slow program, and `reports.rt` reports on what a store holds.
+//! `stores.rt` opens stores of a few runs, `at_once.rt` compacts stretches of them at once, and `installs.rt` installs
+//! compactions that the store didn't make.
 //!
-//! `machine.rt` is the machine of compactors of `uc_version_state`, written as ordinary code over runs that are an id and a slot
-//! alone (`step_runs.rt`), with two variants in which a compactor makes its steps in a wrong order. `drawn_steps.rt` runs all three
-//! by drawn steps: the machine never displaces a checked compactor, and each of the others does. `worked_steps.rt` has a course of
-//! each that shows it.
+//! `machine.rt` is the machine of compactors of `uc_version_state`, written as ordinary code. Its runs are only an id
+//! and a slot (`step_runs.rt`). In two variants a compactor makes its steps in a wrong order. `drawn_steps.rt` runs all
+//! three by drawn steps: the machine never displaces a checked compactor, and each of the others does.
+//! `worked_steps.rt` has a course of each that shows it.
 #![tactic(auto)]
 
 #[cfg(test)]

@@ -1,4 +1,4 @@
-//! [`Machine`]: compactors beside each other, step by step.
+//! [`Machine`]: concurrent compactors, step by step.
 use crate::step_runs::{MOST, Runs};
 
 /// How many compactors there are.
@@ -7,22 +7,22 @@ pub(crate) const COMPACTORS: usize = 3;
 /// In which order a compactor makes its steps.
 #[derive(Clone, Copy, PartialEq, Eq)]
 pub(crate) enum Order {
-    /// Take, look, publish, give.
+    /// Take, check, publish, give.
     Lawful,
-    /// Look, take, publish, give.
+    /// Check, take, publish, give.
     LooksFirst,
-    /// Take, look, give, publish.
+    /// Take, check, give, publish.
     GivesFirst,
 }
 
-/// Where a compactor is.
+/// A compactor's phase.
 #[derive(Clone, Copy)]
 pub(crate) enum Phase {
     Idle,
     Taking(Runs, usize),
     Taken(Runs),
     Checked(Runs),
-    /// Checked, and its words are given already: only where words are given first.
+    /// Checked, and its words are given already: only if words are given first.
     Bare(Runs),
     Giving(Runs),
 }
@@ -63,7 +63,7 @@ impl Machine {
         }
     }
 
-    /// The version after so many installs.
+    /// The version after `seen` installs.
     fn version_at(&self, seen: usize) -> Runs {
         self.shown.get(seen).copied().unwrap_or(Runs::none())
     }
@@ -99,7 +99,7 @@ impl Machine {
         }
     }
 
-    /// Gives what is left, or is idle where that is nothing.
+    /// Gives what is left, or is idle if nothing is.
     fn enter_giving(&mut self, compactor: usize, left: Runs) {
         if left.all().is_empty() {
             self.enter(compactor, Phase::Idle);
@@ -108,7 +108,7 @@ impl Machine {
         }
     }
 
-    /// Notes a stretch of the version after so many installs.
+    /// Notes a stretch of the version after a number of installs.
     pub(crate) fn pin(
         &mut self,
         compactor: usize,
@@ -148,7 +148,7 @@ impl Machine {
         Happened::Won
     }
 
-    /// Looks whether the noted runs stand in the present version.
+    /// Checks whether the noted runs are in the present version.
     fn check(&mut self, compactor: usize, noted: Runs) -> Happened {
         if self.present().has(&noted) {
             self.enter(compactor, Phase::Checked(noted));
@@ -159,7 +159,7 @@ impl Machine {
         }
     }
 
-    /// Puts a new run in the place of the noted ones.
+    /// Replaces the noted runs by a new one.
     fn publish(&mut self, noted: Runs) -> Happened {
         let id = (self.installs as u64).wrapping_add(MOST as u64);
         let next = self.present().replaced(&noted, id);
@@ -177,7 +177,7 @@ impl Machine {
         }
     }
 
-    /// Publishes; where words are given first, gives them instead.
+    /// Publishes; if words are given first, gives them instead.
     fn install(&mut self, compactor: usize, noted: Runs) -> Happened {
         if self.order == Order::GivesFirst {
             self.give_all(noted);
@@ -198,8 +198,8 @@ impl Machine {
         Happened::Gave
     }
 
-    /// The next step of a compactor that isn't idle; where it may abandon and should, it does. Of the words that are left it
-    /// gives that at a place.
+    /// The next step of a compactor that isn't idle; if it may abandon and should, it does. Of the words that are left
+    /// it gives that at a place.
     pub(crate) fn go_on(&mut self, compactor: usize, abandon: bool, place: usize) -> Happened {
         match self.phase(compactor) {
             Phase::Idle => Happened::Nothing,
@@ -218,7 +218,7 @@ impl Machine {
         }
     }
 
-    /// Whether a checked compactor doesn't find its runs in place any more.
+    /// Whether a checked compactor no longer finds its runs in place.
     pub(crate) fn is_displaced(&self, compactor: usize) -> bool {
         match self.phase(compactor) {
             Phase::Checked(noted) | Phase::Bare(noted) => !self.present().has(&noted),
@@ -236,7 +236,7 @@ impl Machine {
         held.all().iter().any(|placed| placed.slot == slot)
     }
 
-    /// Whether each word says how many compactors hold its slot, and that is one at the most.
+    /// Whether each word says how many compactors hold its slot, and that is at most one.
     pub(crate) fn are_counted(&self) -> bool {
         for slot in 0..MOST {
             let mut holders = 0_u32;

@@ -8,7 +8,7 @@ use uc_run::Run;
 use uc_version_open::{OpenError, Opener, no_refusal_is_leave_to_open, open_version};
 use uc_version_state::{Options, Version};
 
-/// What an opening comes to: how many runs, the id of the newest, and the keeps.
+/// The outcome of an opening: the number of runs, the id of the newest, and the keeps.
 #[derive(Clone, Copy)]
 struct Opened {
     runs: usize,
@@ -16,7 +16,7 @@ struct Opened {
     keeps: &'static [u64],
 }
 
-/// An opening of puts of ten bytes, numbered from 1, and what it comes to.
+/// An opening of puts of ten bytes, numbered from 1, and its outcome.
 #[derive(Clone, Copy)]
 struct Case {
     puts: u64,
@@ -123,7 +123,7 @@ static CASES: [Case; 17] = [
         wanted: Err(OpenError::TooManyRuns),
         ..ROW
     },
-    // The first that is ahead, and before the number of runs.
+    // The first that is ahead; it comes before the number of runs.
     Case {
         keeps: &[4],
         wanted: Err(OpenError::SnapshotAhead(4)),
@@ -192,7 +192,7 @@ fn has_runs(version: &Version, wanted: &Opened) -> bool {
     version.runs().len() == wanted.runs
 }
 
-/// Looks at the version that a row came to.
+/// Checks the version of a row.
 fn wants_version(rt: &impl Abort, case: &Case, version: &Version, wanted: &Opened) {
     assert!(rt; has_runs(version, wanted));
     assert_eq!(rt; version.keeps(), wanted.keeps);
@@ -201,7 +201,7 @@ fn wants_version(rt: &impl Abort, case: &Case, version: &Version, wanted: &Opene
     assert_eq!(rt; version.next_id(), next);
 }
 
-/// Looks at what a row came to.
+/// Checks the outcome of a row.
 fn wants(rt: &impl Abort, case: &Case, outcome: Result<Version, OpenError>) -> Result<(), Fail> {
     match (outcome, case.wanted) {
         (Ok(version), Ok(wanted)) => wants_version(rt, case, &version, &wanted),
@@ -211,7 +211,7 @@ fn wants(rt: &impl Abort, case: &Case, outcome: Result<Version, OpenError>) -> R
     Ok(())
 }
 
-/// What comes of the puts of a row, one by one.
+/// The outcome of the puts of a row, one by one.
 fn put_one_by_one(rt: &impl Abort, alloc: Global, case: &Case) -> Result<Version, OpenError> {
     let mut opener = Opener::new(alloc, options_of(case));
     for seq in 1..=case.puts {
@@ -231,7 +231,7 @@ fn puts_open_one_by_one(rt: HostRuntime) -> Result<(), Fail> {
     Ok(())
 }
 
-/// So many puts of ten bytes, numbered from 1.
+/// `count` puts of ten bytes, numbered from 1.
 fn put_list(alloc: Global, count: u64) -> Result<Writes, Fail> {
     let mut list = Vec::new(alloc);
     for seq in 1..=count {
@@ -251,7 +251,7 @@ fn lists_of_puts_open(rt: HostRuntime) -> Result<(), Fail> {
     Ok(())
 }
 
-/// Whether a run has these least and greatest sequences, and so many points and fragments.
+/// Whether a run has these least and greatest sequences, and these numbers of points and fragments.
 fn has_counts(run: &Run, seqs: [u64; 2], points: u64, fragments: usize) -> bool {
     [run.low_seq(), run.high_seq()] == seqs
         && run.points() == points
@@ -273,7 +273,7 @@ const ONE_RUN: Opened = Opened {
     keeps: &[],
 };
 
-/// Looks at the version of a range deletion at 5 that has no keys.
+/// Checks the version of a range deletion at 5 that has no keys.
 fn wants_one_empty_run(rt: &impl Abort, version: &Version) {
     assert!(rt; has_runs(version, &ONE_RUN));
     assert_eq!(rt; version.last(), 5);

@@ -9,7 +9,7 @@ use uc_version_state::{
     something_is_picked_above_the_trigger,
 };
 
-/// Options, runs and what is picked of them: how many stand above, and how many they are.
+/// Options, runs and their pick: how many come before, and how many they are.
 #[derive(Clone, Copy)]
 struct Pick {
     trigger: u32,
@@ -108,7 +108,7 @@ static PICKS: [Pick; 41] = [
         picked: Some((0, 2)),
         ..ROW
     },
-    // Space amplification has no regard to `greatest` or `least`.
+    // Space amplification ignores `greatest` and `least`.
     Pick {
         percent: 100,
         greatest: 2,
@@ -153,7 +153,7 @@ static PICKS: [Pick; 41] = [
         picked: Some((0, 3)),
         ..ROW
     },
-    // A start behind others.
+    // A start after others.
     Pick {
         percent: 1_000,
         runs: &[(10, false), (40, false), (40, false)],
@@ -174,7 +174,7 @@ static PICKS: [Pick; 41] = [
         picked: Some((2, 3)),
         ..ROW
     },
-    // A claimed run is not collected, and nothing behind it.
+    // A claimed run is not collected, and nothing after it.
     Pick {
         runs: &[(10, false), (10, true), (10, false), (10, false)],
         picked: Some((2, 2)),
@@ -214,7 +214,7 @@ static PICKS: [Pick; 41] = [
         runs: &[(1, false), (2, false), (3, false), (4, false), (5, false)],
         ..ROW
     },
-    // The number of runs is brought down to the trigger, at most `greatest` at a time; `least` is of no account.
+    // The number of runs is brought down to the trigger, at most `greatest` at a time; `least` is ignored.
     Pick {
         percent: 1_000,
         runs: &[(10, false), (40, false), (200, false), (1_000, false)],
@@ -235,7 +235,7 @@ static PICKS: [Pick; 41] = [
         picked: Some((0, 2)),
         ..ROW
     },
-    // The first two unclaimed neighbours, and all of their stretch that is wanted.
+    // The first two unclaimed neighbours, and all of their stretch that is needed.
     Pick {
         percent: 1_000,
         runs: &[
@@ -352,7 +352,7 @@ fn candidates_of(alloc: Global, runs: &[(u64, bool)]) -> Result<Vec<Candidate>, 
     Ok(candidates)
 }
 
-/// Looks at what is picked of candidates under good options.
+/// Checks the pick of candidates under good options.
 pub(crate) fn wants_pick(
     rt: &impl Abort,
     options: &Options,

@@ -42,7 +42,7 @@ fn recovered(alloc: Global, log: &[u8], memtable: u64) -> Result<(Version, Ended
     }
 }
 
-/// Whether a log opens a version of so many runs up to a last sequence, and is read so far.
+/// Whether a log opens a version of a number of runs up to a last sequence, and is read to this end.
 fn is_taken_in(
     alloc: Global,
     log: &[u8],

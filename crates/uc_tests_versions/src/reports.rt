@@ -147,7 +147,7 @@ fn opened(alloc: Global, row: &Row) -> Result<Version, Fail> {
     }
 }
 
-/// Looks at the report of a row's version.
+/// Checks the report of a row's version.
 fn wants(rt: &impl Abort, report: &Report, row: &Row) {
     assert_eq!(rt; report.lines.as_slice(), row.lines);
     assert_eq!(rt; report.total, row.total);

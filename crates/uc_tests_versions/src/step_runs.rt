@@ -41,7 +41,7 @@ impl Runs {
         &self.places[..self.count.min(MOST)]
     }
 
-    /// One more behind them.
+    /// Pushes one more after them.
     pub(crate) fn push(&mut self, placed: Placed) {
         if self.count < MOST {
             self.places[self.count] = placed;
@@ -49,7 +49,7 @@ impl Runs {
         }
     }
 
-    /// So many behind the first ones, as far as they are there.
+    /// `count` runs after the first ones, as far as they are there.
     pub(crate) fn part(&self, first: usize, count: usize) -> Runs {
         let mut part = Runs::none();
         for placed in self.all().iter().skip(first).take(count) {
@@ -74,14 +74,14 @@ impl Runs {
         self.all().get(place).map(|placed| placed.slot)
     }
 
-    /// How many stand in front of the newest of the noted ones.
+    /// How many come before the newest of the noted ones.
     fn place_of(&self, noted: &Runs) -> usize {
         let newest = noted.all().first().map_or(0, |placed| placed.id);
         let place = self.all().iter().position(|placed| placed.id == newest);
         place.unwrap_or(MOST)
     }
 
-    /// Whether the noted ones stand here as neighbours, in order.
+    /// Whether the noted ones are here as neighbours, in order.
     pub(crate) fn has(&self, noted: &Runs) -> bool {
         let part = self.part(self.place_of(noted), noted.all().len());
         if part.all().len() != noted.all().len() {
@@ -95,7 +95,7 @@ impl Runs {
         true
     }
 
-    /// One with the id in place of the noted ones, with the slot of the newest of them.
+    /// One with the id that replaces the noted ones, with the slot of the newest of them.
     pub(crate) fn replaced(&self, noted: &Runs, id: u64) -> Runs {
         let first = self.place_of(noted);
         let mut runs = self.part(0, first);

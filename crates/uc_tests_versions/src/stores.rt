@@ -1,4 +1,4 @@
-//! Stores in one owner's hands, where each write is a run.
+//! Stores with one owner, in which each write is a run.
 use std::alloc::{AllocError, Global};
 use std::test::Fail;
 use uc_batch::Writes;
@@ -27,7 +27,7 @@ pub(crate) static MERGED: [Change; 3] = [
     Change::Merge(b"c"),
 ];
 
-/// So many merges.
+/// `count` merges.
 pub(crate) fn merges(alloc: Global, count: usize) -> Result<Vec<Change>, AllocError> {
     let mut changes = Vec::new(alloc);
     for _ in 0..count {
@@ -93,7 +93,7 @@ pub(crate) fn claimed(store: &mut Store, stretch: Stretch) -> Result<OwnedClaim,
     }
 }
 
-/// Gives a claim back that is held.
+/// Gives back a claim that is held.
 pub(crate) fn given_back(store: &mut Store, claim: OwnedClaim) -> Result<(), Fail> {
     if !store.holds(&claim) {
         return Err("the claim isn't held")?;
