@@ -22,11 +22,11 @@ enum Step {
     Compact(usize, usize),
     Pick,
     Report,
-    /// The key's value at sequence 4, by so many workers, in pieces of so many queries.
+    /// Asks for the key's value at sequence 4; the number of workers, and of queries in a piece.
     Ask(usize, usize),
 }
 
-/// What is replied, as far as it is looked at.
+/// The part of a reply that is checked.
 #[derive(Clone, Copy)]
 enum Wanted {
     Claimed(u8),
@@ -38,9 +38,9 @@ enum Wanted {
     NameHeld(u8),
     Compacted(u64),
     Picked(Option<Stretch>),
-    /// So many runs.
+    /// This number of runs.
     Runs(usize),
-    /// This value alone.
+    /// Only this value.
     Value(&'static [u8]),
 }
 
@@ -55,7 +55,7 @@ use Wanted::{
 enum Batch {
     /// All have a reply.
     Whole(&'static [(Step, Wanted)]),
-    /// Those behind the first ones have none, since one of them is refused with this error.
+    /// Only the first ones have a reply, since a later one is refused with this error.
     Stopped(&'static [(Step, Wanted)], &'static [Step], AskError),
 }
 
@@ -68,7 +68,7 @@ struct Row {
 
 /// Lists of calls without queries that are answered.
 static ROWS: [Row; 4] = [
-    // Two claims beside each other, installed in either order, and a third across both.
+    // Two claims at once, installed in either order, and a third across both.
     Row {
         writes: 4,
         first_id: 1,
@@ -97,7 +97,7 @@ static ROWS: [Row; 4] = [
             (Install(0), NoClaim(0)),
         ])],
     },
-    // A name that is held comes before the stretch. What is claimed at the end of a list is free in the next one.
+    // A name that is held comes before the stretch. A claim at the end of a list is free in the next one.
     Row {
         writes: 4,
         first_id: 1,
@@ -133,7 +133,7 @@ static ROWS: [Row; 4] = [
             Whole(&[(Claim(0, 0, 3), Claimed(0)), (Install(0), Installed(6))]),
         ],
     },
-    // The last number of 64 bits is never given.
+    // 2^64 - 1 is never given.
     Row {
         writes: 64,
         first_id: 18_446_744_073_709_551_551,
@@ -150,7 +150,7 @@ static ROWS: [Row; 4] = [
     },
 ];
 
-/// Asked between claims and installs, the value is the same. These wait for the workers.
+/// Asked between claims and installs, the value is the same. Claims and installs wait for the workers.
 static ASKED: [Row; 1] = [Row {
     writes: 4,
     first_id: 1,
@@ -222,7 +222,7 @@ fn calls_of(
     Ok(calls)
 }
 
-/// Whether a call's name is one of those that there are.
+/// Whether a call's name exists.
 fn has_name(call: &Call) -> bool
     ensures { IsTrue result ↔ HasName call.now }
 {
@@ -234,14 +234,14 @@ fn has_name(call: &Call) -> bool
     }
 }
 
-/// Whether all calls' names are.
+/// Whether all calls' names exist.
 fn have_names(calls: &[Call]) -> bool
     ensures { IsTrue result ↔ AllByRecursion HasName calls.now }
 {
     calls.iter().all(has_name)
 }
 
-/// Whether a reply is what is wanted.
+/// Whether a reply is the expected one.
 fn is_wanted(reply: &Reply, wanted: Wanted) -> bool {
     match wanted {
         Claimed(name) => matches!(reply, Reply::Claimed(n) if *n == name),
@@ -259,7 +259,7 @@ fn is_wanted(reply: &Reply, wanted: Wanted) -> bool {
     }
 }
 
-/// Whether answers are this value alone.
+/// Whether answers are only this value.
 fn is_value(answers: &[Answer], value: &[u8]) -> bool {
     match answers {
         [Answer::Value(Some(bytes))] => bytes.as_slice() == value,
@@ -267,7 +267,7 @@ fn is_value(answers: &[Answer], value: &[u8]) -> bool {
     }
 }
 
-/// Looks at what comes of calls: their replies, or the error that one is refused with.
+/// Checks the outcome of calls: their replies, or the error that one is refused with.
 fn wants(
     rt: &impl Abort,
     outcome: &Result<Vec<Reply>, AskError>,
@@ -286,7 +286,7 @@ fn wants(
     }
 }
 
-/// Makes the calls of steps, and looks at what comes of them.
+/// Makes the calls of steps, and checks the outcome.
 fn played(
     rt: &(impl Threads + Abort + Sync),
     alloc: Global,

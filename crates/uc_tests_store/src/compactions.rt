@@ -126,7 +126,7 @@ fn stands_for_inputs<O: Operator + Sync>(
     )
 }
 
-/// Compacts a stretch under some drawn keeps, and where it ends with the oldest run with and without saying so.
+/// Compacts a stretch under some drawn keeps; if it ends with the oldest run, with and without saying so.
 fn stretch_stands<O: Operator + Sync>(
     rt: &(impl Threads + Sync),
     alloc: Global,

@@ -1,11 +1,11 @@
 //! Stores worked by hand, and random ones, compacted in every way: reads see no difference.
 //!
-//! Each random store has a few small runs of drawn writes. Every stretch of them is compacted under drawn keeps, and what the
-//! output does to each key at every kept sequence, at the greatest of the inputs and above, is compared with what the
-//! plain program of `uc_model` makes of the stretch's writes (`compactions.rt`).
-//! `owned_stores.rt` has stores whose stretches are claimed and installed in any order, and `workers.rt` batches of queries.
-//! Worked by hand are claims, installs and picks (`owners.rt`), lists of calls (`calls.rt`) and a batch of queries
-//! (`worked_batches.rt`); `stores.rt` opens the stores of the first two.
+//! Each random store has a few small runs of drawn writes. `compactions.rt` compacts every stretch of them under drawn
+//! keeps. It compares what the output does to each key, at every keep and at the greatest sequence of the inputs and
+//! above, with the plain program of `uc_model` over the stretch's writes. `owned_stores.rt` has stores whose stretches
+//! are claimed and installed in any order, and `workers.rt` batches of queries. Worked by hand are claims, installs and
+//! picks (`owners.rt`), lists of calls (`calls.rt`) and a batch of queries (`worked_batches.rt`); `stores.rt` opens the
+//! stores of the first two.
 #![tactic(auto)]
 
 #[cfg(test)]

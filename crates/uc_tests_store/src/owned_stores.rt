@@ -1,4 +1,4 @@
-//! Random stores in one owner's hands: claims, installs and picks in any order, and the same answers all along.
+//! Random stores with one owner: claims, installs and picks in any order, and the same answers all along.
 use std::alloc::Global;
 use std::marker::Sync;
 use std::process::Abort;
@@ -111,7 +111,7 @@ fn reads_alike_throughout<O: Operator>(
     )
 }
 
-/// Compacts what a claim has and installs it, or gives the claim back where it is refused.
+/// Compacts a claim and installs the result, or gives the claim back if it is refused.
 fn install<O: Operator + Sync>(
     rt: &(impl Threads + Sync),
     alloc: Global,
@@ -138,7 +138,7 @@ fn drawn_claim(dice: &mut Dice, claims: &mut Vec<OwnedClaim>) -> Option<OwnedCla
     }
 }
 
-/// Claims a stretch, and keeps the claim: whether it is claimed.
+/// Claims a stretch, and keeps the claim. Returns whether it is claimed.
 fn claim<O: Operator>(
     store: &mut Owned<O>,
     claims: &mut Vec<OwnedClaim>,
@@ -175,7 +175,7 @@ fn abandon<O: Operator>(store: &mut Owned<O>, claim: OwnedClaim) -> Result<(), F
     Ok(())
 }
 
-/// A drawn stretch, that the store may have or not.
+/// A drawn stretch, which the store may have or not.
 fn drawn_stretch(dice: &mut Dice) -> Result<Stretch, Fail> {
     Ok(Stretch {
         first: usize::try_from(dice.roll(8))?,
@@ -183,7 +183,7 @@ fn drawn_stretch(dice: &mut Dice) -> Result<Stretch, Fail> {
     })
 }
 
-/// A claim of a drawn stretch, or of what is picked; one of the claims installed, or given back.
+/// A claim of a drawn stretch, or of a pick; or one of the claims installed, or given back.
 fn step<O: Operator + Sync>(
     rt: &(impl Threads + Sync),
     alloc: Global,
@@ -206,7 +206,7 @@ fn step<O: Operator + Sync>(
     Ok(())
 }
 
-/// Does 30 drawn things with a store: whether after each it reads as the plain writes do.
+/// Does 30 drawn steps with a store. Returns whether after each it reads as the plain writes do.
 fn stays_alike<O: Operator + Sync>(
     rt: &(impl Threads + Sync),
     alloc: Global,

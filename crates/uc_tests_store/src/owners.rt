@@ -9,7 +9,7 @@ use std::thread::Threads;
 use uc_bytes::{OpRef, Write, WriteRef};
 use uc_version::{ClaimError, InstallError, MOST_SLOTS, OwnedClaim, Stretch};
 
-/// A step of a row: a call, and what it comes to.
+/// A step of a row: a call, and its outcome.
 #[derive(Clone, Copy)]
 enum Step {
     /// The runs with these ids and slots, the newest first.
@@ -21,7 +21,7 @@ enum Step {
     Pick(Option<Stretch>),
 }
 
-/// Merges of one key, each a run of its own, and what is done with the store then.
+/// Merges of one key, each a run of its own, and the steps of the store then.
 struct Row {
     merges: u64,
     first_id: u64,
@@ -29,7 +29,7 @@ struct Row {
 }
 
 static ROWS: [Row; 6] = [
-    // Two claims beside each other, installed in either order.
+    // Two claims at once, installed in either order.
     Row {
         merges: 4,
         first_id: 1,
@@ -97,8 +97,8 @@ static ROWS: [Row; 6] = [
             Runs(&[(6, 4)]),
         ],
     },
-    // Runs of one size: the newer ones together are above a quarter of the oldest, where nothing is claimed, and above the
-    // ratio of one to the next else.
+    // Runs of one size: the newer ones together are above a quarter of the oldest if nothing is claimed, and else above
+    // the ratio of one to the next.
     Row {
         merges: 4,
         first_id: 1,
@@ -113,7 +113,7 @@ static ROWS: [Row; 6] = [
             Pick(Some(Stretch { first: 0, count: 3 })),
         ],
     },
-    // The last number of 64 bits is never given.
+    // 2^64 - 1 is never given.
     Row {
         merges: 64,
         first_id: 18_446_744_073_709_551_551,
@@ -132,7 +132,7 @@ fn rows() -> &'static [Row] {
     &ROWS
 }
 
-/// So many merges, numbered from 1.
+/// `count` merges, numbered from 1.
 fn merges(alloc: Global, count: u64) -> Result<Vec<Write>, AllocError> {
     let mut writes = Vec::new(alloc);
     for number in 0..count {
@@ -142,7 +142,7 @@ fn merges(alloc: Global, count: u64) -> Result<Vec<Write>, AllocError> {
     Ok(writes)
 }
 
-/// Looks at a store's runs, given by their ids and slots, the newest first.
+/// Checks a store's runs, given by their ids and slots, the newest first.
 fn wants_runs(rt: &impl Abort, store: &Store, wanted: &[(u64, usize)]) {
     let runs = store.version().runs();
     assert_eq!(rt; runs.len(), wanted.len());
@@ -151,7 +151,7 @@ fn wants_runs(rt: &impl Abort, store: &Store, wanted: &[(u64, usize)]) {
     }
 }
 
-/// Claims a stretch, and keeps the claim: its number.
+/// Claims a stretch, and keeps the claim. Returns its number.
 fn claimed(
     store: &mut Store,
     claims: &mut Vec<OwnedClaim>,
@@ -185,7 +185,7 @@ fn abandoned(store: &mut Store, claims: &mut Vec<OwnedClaim>, number: usize) -> 
     Ok(())
 }
 
-/// Installs what the runs of a number's claim become. A refused claim goes back to those that are kept.
+/// Installs a numbered claim's compaction. A refused claim goes back to those that are kept.
 fn installed(
     rt: &(impl Threads + Sync),
     alloc: Global,
@@ -215,7 +215,7 @@ fn is_busy(store: &Store, slot: usize) -> Result<bool, Fail> {
     Ok(store.busy(slot))
 }
 
-/// Does a step, and looks at what it comes to.
+/// Does a step, and checks its outcome.
 fn stepped(
     rt: &(impl Threads + Abort + Sync),
     alloc: Global,

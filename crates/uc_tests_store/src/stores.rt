@@ -1,4 +1,4 @@
-//! Stores in one owner's hands, where each write is a run and compactions are due early.
+//! Stores with one owner, in which each write is a run and compactions are due early.
 use std::alloc::Global;
 use std::test::Fail;
 use uc_batch::Writes;

@@ -87,7 +87,7 @@ fn store(alloc: Global) -> Result<Version, Fail> {
     }
 }
 
-/// A scan from `low` on to `high`, where there is one.
+/// A scan from `low` on to `high`, if there is one.
 fn scan(
     alloc: Global,
     low: &[u8],
@@ -155,7 +155,7 @@ fn answers(alloc: Global) -> Result<Vec<Answer>, Fail> {
     Ok(answers)
 }
 
-/// Asks by so many workers in pieces of so many queries.
+/// Asks by a number of workers, in pieces of a number of queries.
 fn ask(
     rt: &(impl Threads + Sync),
     alloc: Global,
@@ -167,7 +167,7 @@ fn ask(
     answer_plain::<Append<b','>>(rt, alloc, version, queries, workers, piece)
 }
 
-/// Whether so many workers give these answers, whatever the pieces are.
+/// Whether this number of workers returns these answers, whatever the pieces are.
 fn is_answered(
     rt: &(impl Threads + Sync),
     alloc: Global,
@@ -211,7 +211,7 @@ static REFUSED: [(usize, usize, AskError); 3] = [
     (1, 0, AskError::BadPiece),
 ];
 
-/// Looks at what comes of no queries: no answers, or a refusal.
+/// Checks the outcome of no queries: no answers, or a refusal.
 fn wants_refusals(rt: &(impl Threads + Abort + Sync), alloc: Global, version: &Version) {
     let none = ask(rt, alloc, version, &[], 2, 1);
     assert!(rt; none.is_ok_and(|none| none.is_empty()));

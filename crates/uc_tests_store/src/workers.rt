@@ -41,7 +41,7 @@ fn drawn_query(alloc: Global, dice: &mut Dice, last: u64) -> Result<Query, Fail>
     })
 }
 
-/// So many drawn queries.
+/// `count` drawn queries.
 fn drawn_queries(
     alloc: Global,
     dice: &mut Dice,
@@ -55,7 +55,7 @@ fn drawn_queries(
     Ok(queries)
 }
 
-/// What the plain writes answer to each query, where these sequences are kept.
+/// The answers of the plain writes to each query, if these sequences are kept.
 fn plain_answers<O: Operator>(
     alloc: Global,
     writes: &Writes,
@@ -69,7 +69,7 @@ fn plain_answers<O: Operator>(
     Ok(answers)
 }
 
-/// Whether so many workers give these answers, in pieces of 1 to 9 queries.
+/// Whether this number of workers returns these answers, in pieces of 1 to 9 queries.
 fn is_answered<O: Operator + Sync>(
     rt: &(impl Threads + Sync),
     alloc: Global,
