@@ -11,7 +11,7 @@ use std::alloc::{AllocError, Global};
 /// every result has 8 bytes.
 pub enum Counter {}
 
-/// The number that the bytes stand for.
+/// The number that the bytes encode.
 fn number(bytes: &[u8]) -> u64
     ensures { result ≡ counting.number bytes.now }
 {
