@@ -1,6 +1,6 @@
 -- What a read means (RocksDB wiki: "Merge Operator", "DeleteRange", "Snapshot").
 --
--- Lists of writes stand oldest first: each of these folds goes in the order of the list.
+-- Lists of writes are oldest first, and each of these folds goes in the order of the list.
 use Rattle.std.specs.Prelude.{◌≡◌, ℕ, Bool, ◌&&◌, List, Option, Some, None, nat_le, nat_lt, filter, fold}
 use Rattle.std.specs.Ordering.{is_lt, is_le}
 use Rattle.uc_bytes.specs.Bytes.{bytes_cmp, same_bytes}

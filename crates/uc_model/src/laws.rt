@@ -73,8 +73,8 @@ pub fn effects_of_parts_compose<O: Operator>()
         composed O.meaning (effect_on O.meaning older key at) (effect_on O.meaning newer key at) }
 {}
 
-/// Wherever a list of writes is cut, the first part makes something of a value, and the second part's effect makes of
-/// that what all writes make of the value.
+/// Wherever a list of writes is cut, applying the second part's effect to the value after the first part gives the
+/// value after all writes.
 pub fn effect_continues_value<O: Operator>()
     ensures from { (value : Option (List ℕ)) (older newer : List Write) (key : List ℕ) (at : ℕ) →
         value_from O.meaning value (older ++ newer) key at ≡

@@ -43,8 +43,8 @@ fn changed<O: Operator>(
     }
 }
 
-/// A key's value at a sequence: the writes at or below it that touch the key, folded from no value. The list stands
-/// oldest first. It looks at every write.
+/// A key's value at a sequence: the writes at or below it that touch the key, folded from no value. The list is oldest
+/// first. It looks at every write.
 pub fn value_at<O: Operator>(
     alloc: Global,
     writes: &[Write],
@@ -62,7 +62,7 @@ pub fn value_at<O: Operator>(
     Ok(value)
 }
 
-/// What the writes at or below a sequence together do to a key: their single effects, composed. The list stands oldest
+/// What the writes at or below a sequence together do to a key: their single effects, composed. The list is oldest
 /// first. It looks at every write.
 pub fn effect_at<O: Operator>(
     alloc: Global,
