@@ -15,11 +15,11 @@ claimant whole slots = record { whole = whole; slots = slots }
 abbrev pub newcomer : Claimant
 newcomer = claimant true []
 
--- how often a slot stands in a list
+-- how often a slot is in a list
 abbrev pub times : ℕ → List ℕ → ℕ
 times slot slots = count_by (λ x. x == slot) slots
 
--- how often a slot stands in the lists of all seats together
+-- how often a slot is in the lists of all seats together
 abbrev pub times_in_all : ℕ → List Claimant → ℕ
 times_in_all slot seats = sum_by (λ (v : Claimant). times slot v.slots) seats
 
@@ -52,7 +52,7 @@ Exchanged at before found after =
 abbrev pub Gave : Step (Unit {0}) → Sitting → ℕ → Sitting → Type 0
 Gave at before stored after = (after.1 ≡ before.1) × (after.0 ≡ claimant before.0.whole (without (at.word ∷ []) before.0.slots))
 
--- nothing changes, and a whole seat finds how often the slot stands in its own list
+-- nothing changes, and a whole seat finds how often the slot is in its own list
 abbrev pub Looked : Step (Unit {0}) → Sitting → ℕ → Sitting → Type 0
 Looked at before found after = (after.1 ≡ before.1) × (after.0 ≡ before.0) × (before.0.whole ≡ true → found ≡ times at.word before.0.slots)
 

@@ -19,7 +19,7 @@ pub record Holding : Type 0 where
 abbrev pub free_seat : TableId → Bool → Holding
 free_seat table whole = record { table = table; whole = whole; slots = [] }
 
--- no slot stands in the list twice
+-- no slot is in the list twice
 abbrev pub AreDistinct : List ℕ → Type 0
 AreDistinct [] = ⊤
 AreDistinct (slot ∷ slots) = (list_any (λ x. x == slot) slots ≡ false) × AreDistinct slots

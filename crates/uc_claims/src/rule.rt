@@ -1,11 +1,11 @@
 //! The rule of the claim words, and the seven kinds of step that keep it.
 //!
-//! Each word is 0 or 1, and is how often its slot stands in the lists of all seats together. A slot past
-//! the last word stands in no list. A whole seat, which is one that was never split, is the only seat.
+//! Each word is 0 or 1, and counts how often its slot is in the lists of all seats together. A slot past the last word
+//! is in no list. A whole seat, one that was never split, is the only seat.
 //!
 //! | Kind of step | Made by | What it does |
 //! |---|---|---|
-//! | won exchange | `ClaimTable::try_take` | the word goes from 0 to 1, and the slot goes behind the seat's list |
+//! | won exchange | `ClaimTable::try_take` | the word goes from 0 to 1, and the slot is appended to the seat's list |
 //! | lost exchange | `ClaimTable::try_take` | the word was 1 and stays, and so does the list |
 //! | give | `ClaimTable::free` | the word goes from 1 to 0, and the slot leaves the seat's list |
 //! | look | `ClaimTable::busy` | reads the word, and changes nothing |
@@ -13,8 +13,8 @@
 //! | join | `ClaimTable::join` | one seat takes in the list of the other, whose list is then empty |
 //! | close | `ClaimTable::close` | reads all words once no thread shares the table |
 //!
-//! A step changes the list of the one seat that makes it; split and join change those of the two that
-//! they name. A seat that is dropped keeps its list among the lists, so its slots stay taken.
+//! A step changes the list of the one seat that makes it; split and join change those of the two that they name. A seat
+//! that is dropped keeps its list among the lists, so its slots stay taken.
 use atomic_table::{Join, Play, Split, TableRule};
 use std::collections::LinkedList;
 
