@@ -1,4 +1,4 @@
--- Where a reader stands in a log, seen by what is ahead of it.
+-- The place of a reader in a log, seen by what is ahead of it.
 use Rattle.std.specs.Prelude.{◌≡◌, ◌<◌, ℕ, suc, ◌+◌, List, length, None}
 use Rattle.uc_logrec.specs.declared.log_reader.Next.{Next}
 use Rattle.uc_logrec.specs.declared.log_reader.Next.TheVariants.{Whole, Joined, Ended}

@@ -9,6 +9,6 @@ pub enum Ending {
     /// Inside a payload, as when the writer was stopped. The offset is that of the payload's first record, or of the
     /// record that is cut off if none of its records is whole.
     Torn(u64),
-    /// At a record that can't stand there, and its offset.
+    /// At a record that can't be there, and its offset.
     Fault(LogFault, u64),
 }

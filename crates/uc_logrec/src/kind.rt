@@ -16,7 +16,7 @@ pub(crate) enum Kind {
 }
 
 impl Kind {
-    /// The type that stands in the log.
+    /// The type in the log.
     pub(crate) fn code(self) -> u8
         ensures { result ≡ code_of self }
     {

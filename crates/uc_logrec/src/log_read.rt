@@ -8,7 +8,7 @@ use crate::log_reader::{LogReader, Next};
 use std::alloc::{AllocError, Global};
 use uc_bytes::{Bytes, Items};
 
-/// A list of payloads, in the order in which they stand in the log.
+/// A list of payloads, in the order of the log.
 pub type Payloads = Items<Bytes>;
 
 /// What a log holds.
@@ -16,7 +16,7 @@ pub type Payloads = Items<Bytes>;
 pub struct LogRead {
     /// The complete payloads before the ending.
     pub payloads: Payloads,
-    /// How the log ends behind them.
+    /// How the log ends after them.
     pub ending: Ending,
 }
 

@@ -14,7 +14,7 @@ use std::marker::Model;
 /// What comes next in a log.
 #[derive(Clone, Copy, Debug)]
 pub enum Next<'a> {
-    /// A payload that stands in the log in one piece.
+    /// A payload that the log has in one piece.
     Whole(&'a [u8]),
     /// A payload of several pieces, which the buffer has now, joined.
     Joined,

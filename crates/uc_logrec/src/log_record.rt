@@ -1,4 +1,4 @@
-//! A record of the log, and what stands at a place where one may begin.
+//! A record of the log, and what is at a place where one may begin.
 ghost use Rattle.std.specs.Prelude.{◌≡◌, ◌+◌, ◌-◌, ◌<◌, ◌≤◌, ◌^◌, ◌==◌, length, take, drop, Ok, Err, IfOk, IfErr};
 ghost use Rattle.std.specs.List.{list_all};
 ghost use Rattle.uc_logrec.specs.Format as format;

@@ -21,7 +21,7 @@ pub(crate) struct Unfinished {
 /// What a record does to the payload that is open.
 #[derive(Clone, Copy)]
 pub(crate) enum Step {
-    /// Its data is a complete payload as it stands, and none is open now.
+    /// Its data is a complete payload in place, and none is open now.
     Whole,
     /// The payload in the buffer is complete, and none is open now.
     Joined,
