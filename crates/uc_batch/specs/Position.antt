@@ -1,4 +1,4 @@
--- Where a reader is in a log's batches, seen by what is ahead of it.
+-- The place of a reader in a log's batches, seen by what is ahead of it.
 use Rattle.std.specs.Prelude.{◌≡◌, ℕ, ◌+◌, ◌<◌, ◌≤◌, ◌^◌, List, [], ◌++◌, length, drop, Option, Some, None, Ok}
 use Rattle.uc_bytes.specs.declared.write.Write.{Write}
 use Rattle.uc_logrec.specs.Log.{Reading}

@@ -23,7 +23,7 @@ NumberIsLong more [] = ⊥
 NumberIsLong zero (b ∷ bs) = 16 ≤ b
 NumberIsLong (suc more) (b ∷ bs) = (128 ≤ b) × NumberIsLong more bs
 
--- ---- the fields behind a tag
+-- ---- the fields after a tag
 
 -- the number of a column family, and a text with its length before it
 pub data Field : Type 0 where
