@@ -1,14 +1,14 @@
--- The lines of a script by cases, and what each case comes to.
+-- The lines of a script by cases, and the outcome of each case.
 use Rattle.std.specs.Prelude.{◌≡◌, ℕ, ◌+◌, List, ◌∷◌, ◌++◌, length, None, IsSome, IsTrue, IsFalse, Result, Ok, Err, filter_map}
 use Rattle.std.specs.List.{AllByRecursion}
 use Rattle.uc_script.specs.Script.{setup_line, call_line, says_open, change_in, keep_in, call_in}
 use Rattle.uc_script.specs.declared.script.Script.{Script}
 
--- Each line may stand before `open`, and none is `open`.
+-- Each line may come before `open`, and none is `open`.
 abbrev pub AreSetup : List (List ℕ) → Type 0
 AreSetup lines = AllByRecursion (λ line. IsSome (setup_line line) × IsFalse (says_open line)) lines
 
--- Each line may stand after `open`.
+-- Each line may come after `open`.
 abbrev pub AreCalls : List (List ℕ) → Type 0
 AreCalls lines = AllByRecursion (λ line. IsSome (call_line line)) lines
 

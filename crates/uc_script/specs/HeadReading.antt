@@ -1,4 +1,4 @@
--- Reading a head line by line, and what a reader returns. `Head.head_of` says what it comes to.
+-- Reading a head line by line, and what a reader returns. `Head.head_of` defines the outcome.
 use Rattle.std.specs.Prelude.{ℕ, ◌+◌, ◌-◌, nat_lt, List, [], ◌∷◌, ◌++◌, length, take, Some, None, Result, Ok, Err, if◌then◌else◌}
 use Rattle.uc_script.specs.Head.{Head, head_line, queries_in}
 use Rattle.uc_script.specs.declared.head.Head.{Head as Found}

@@ -8,7 +8,7 @@ abbrev pub lines_of : List ℕ → List (List ℕ)
 lines_of [] = []
 lines_of (byte ∷ rest) = if byte == 10 then [] ∷ lines_of rest else onto_first byte (lines_of rest)
 
--- The fields of a line: what stands between its spaces. A line without a space is one field.
+-- The fields of a line: what is between its spaces. A line without a space is one field.
 abbrev pub fields_of : List ℕ → List (List ℕ)
 fields_of line = slice_split (λ byte. byte == 32) line
 

@@ -1,4 +1,4 @@
--- Reading line by line, and what a reader returns. `Script.script_of` says what it comes to.
+-- Reading line by line, and what a reader returns. `Script.script_of` defines the outcome.
 use Rattle.std.specs.Prelude.{◌≡◌, ℕ, ◌+◌, ◌-◌, List, [], ◌∷◌, ◌++◌, length, drop, Some, None, Result, Ok, Err}
 use Rattle.uc_script.specs.Script.{setup_line, call_line}
 use Rattle.uc_script.specs.declared.error.ScriptError.{ScriptError}

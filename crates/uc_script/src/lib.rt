@@ -1,26 +1,25 @@
-//! Scripts as text: what a script's bytes ask, what stands in front of a log, the small texts that the program prints,
-//! and what is wrong with a line.
+//! Scripts as text: what a script's bytes ask, the head before a log, the small texts that the program prints, and what
+//! is wrong with a line.
 //!
 //! A script is lines of fields. The lines before its one `open` say what to write and which sequences to keep, and
-//! those after it what to ask. Each line is as it should be, or the script has a fault there; nothing else about a
-//! script can be wrong. Scripts are bytes and not UTF-8: a comment may hold any byte but LF.
+//! those after it what to ask. Either each line is right, or the script has a fault at one; nothing else about a script
+//! can be wrong. Scripts are bytes and not UTF-8: a comment may hold any byte but LF.
 //!
-//! In front of a log may stand a head: lines that keep and ask, as a script has them, and a line `log`. What is behind
-//! that is the log, and no lines.
+//! A head may come before a log: lines that keep and ask, as in a script, and a line `log`. What follows is the log,
+//! and no lines.
 //!
-//! Read `reading.rt` first: it is the whole way from bytes to a [`Script`], or to its [`Preamble`], where
-//! `call_reader.rt` lends its calls, one at a time. `head.rt` is the way from bytes to a [`Head`], and
-//! `query_reader.rt` lends its queries, some at a time. `lines.rt` cuts the text, `field.rt` reads a field,
-//! `setup_line.rt` and `call_line.rt` a line of either part of a script, `head_line.rt` one of a head, `query_line.rt`
-//! what the last two share, and `digits.rt` is the way back for bytes and numbers. `laws.rt` says what the definitions
-//! in `specs/` mean.
+//! Read `reading.rt` first: it goes from bytes to a [`Script`], or to its [`Preamble`]; then `call_reader.rt` returns
+//! its calls one at a time. `head.rt` goes from bytes to a [`Head`], and `query_reader.rt` returns its queries, a few
+//! at a time. `lines.rt` cuts the text, and `field.rt` reads a field. `setup_line.rt` and `call_line.rt` read a line of
+//! either part of a script, and `head_line.rt` one of a head; `query_line.rt` has what the last two share. `digits.rt`
+//! prints bytes and numbers. `laws.rt` says what the definitions in `specs/` mean.
 //!
-//! Reading tells the number of the first line at fault and nothing else. [`explain`] looks at that line once more, and
-//! says for a reader what stands there, what is wrong with it and what may stand there: an [`Explanation`], which
-//! prints as one line. Read `specs/Faults.antt`, then `explaining.rt`. `word.rt` has the words that lines begin with
-//! and what follows each, `field_kind.rt` what a field may be, `fault.rt` the kinds of faults, `judging.rt` finds the
-//! first of a line, `shortening.rt` writes a line with printable characters alone, and `fault_laws.rt` says that an
-//! explanation is one line.
+//! Reading returns only the number of the first faulty line. [`explain`] looks at that line once more, and says for a
+//! reader what is there, what is wrong with it and what may be there: an [`Explanation`], which prints as one line.
+//! Read `specs/Faults.antt`, then `explaining.rt`. `word.rt` has the words that lines begin with and what follows each,
+//! `field_kind.rt` what a field may be, and `fault.rt` the kinds of faults. `judging.rt` finds the first fault of a
+//! line, and `shortening.rt` writes a line with only printable characters. `fault_laws.rt` says that an explanation is
+//! one line.
 //!
 //! An `Err(AllocError)`, or a variant `Memory`, comes only if an allocation fails.
 #![tactic(auto)]

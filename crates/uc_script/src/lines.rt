@@ -61,7 +61,7 @@ pub(crate) enum Fields<'a> {
     More,
 }
 
-/// Splits a line at its spaces, and gives up at the sixth field.
+/// Splits a line at its spaces, and stops at the sixth field.
 #[tactic(auto, using(crate::proofs::Cuts::some_field))]
 pub(crate) fn split_line(line: &[u8]) -> Fields<'_>
     ensures { Holds result (fields_of line.now) }
