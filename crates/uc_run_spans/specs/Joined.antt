@@ -17,7 +17,8 @@ AreSorted (s ∷ ss) = AllByRecursion (Follows s) ss × AreSorted ss
 abbrev pub IsBehind : Span → Span → Type 0
 IsBehind s t = (t.seq ≤ s.seq) × (t.seq ≡ s.seq → s.end < t.first)
 
--- each has fragments and is behind those before it: the newest first, and those of one sequence with gaps between them
+-- each has fragments and comes after those before it: the newest first, and those of one sequence with gaps between
+-- them
 abbrev pub AreJoined : List Span → Type 0
 AreJoined [] = ⊤
 AreJoined (s ∷ ss) = (s.first < s.end) × AllByRecursion (IsBehind s) ss × AreJoined ss
