@@ -1,4 +1,4 @@
--- The writes that a run stands for, as one plain list.
+-- The writes of a run, as one plain list.
 use Rattle.std.specs.Prelude.{ℕ, List, [], ◌∷◌, ◌++◌, map, fold, nat_lt, if◌then◌else◌}
 use Rattle.std.specs.List.{flat_map}
 use Rattle.uc_bytes.specs.declared.op.Op.{Op}

@@ -1,4 +1,4 @@
--- Fragments beside the spans that they share.
+-- Fragments and the spans that they share.
 use Rattle.std.specs.Prelude.{◌≡◌, ℕ, List, map, Option, Some, None, MatchOption, ⊤}
 use Rattle.std.specs.Arc.{arc_value}
 use Rattle.uc_run_entry.specs.declared.fragment.Fragment.{Fragment}
