@@ -66,7 +66,7 @@ pub data Action : Type 0 where
   Check : Action
   -- publishes a run that replaces them
   Publish : Install → Action
-  -- drops its output and gives up the claim
+  -- gives up the noted runs
   Abandon : Action
   -- gives the word of one slot back
   Give : ℕ → Action

@@ -1,4 +1,4 @@
--- Which neighbouring runs are compacted next (RocksDB wiki, "Universal Compaction"). Runs stand newest first.
+-- Which neighbouring runs are compacted next (RocksDB wiki, "Universal Compaction"). Runs come newest first.
 use Rattle.std.specs.Prelude.{ℕ, suc, ◌+◌, ◌-◌, ◌*◌, min, Bool, not, ◌&&◌, ◌||◌, List, [], ◌∷◌, ◌++◌, Option, Some, None, if◌then◌else◌, length, take, drop, nat_lt, nat_le, nat_eq}
 use Rattle.std.specs.List.{sum_by, list_all}
 use Rattle.std.specs.Option.{option_or}

@@ -169,12 +169,12 @@ fn number_of_runs(options: &Options, candidates: &[Candidate]) -> Option<Stretch
 /// Otherwise the first of these rules that picks any decides:
 ///
 /// 1. Space amplification: all runs, if there are two or more, none is claimed, and those but the oldest are together
-///    above `percent` percent of the oldest one's size. It has no regard to `least` and `greatest`.
-/// 2. Size ratio: from a start, a run is collected behind those before it while it is unclaimed, they are fewer than
+///    above `percent` percent of the oldest one's size. It ignores `least` and `greatest`.
+/// 2. Size ratio: from a start, a run is collected after those before it while it is unclaimed, they are fewer than
 ///    `greatest`, and its size isn't above their sum by more than `ratio` percent. The first start from which at least
 ///    `least` runs are collected is picked, with these.
-/// 3. Number of runs: where n is above `trigger`, the first unclaimed neighbours: as many as bring n down to `trigger` when
-///    they become one, and at most `greatest`. It has no regard to `least`.
+/// 3. Number of runs: if n is above `trigger`, the first unclaimed neighbours: as many as bring n down to `trigger` when
+///    they become one, and at most `greatest`. It ignores `least`.
 ///
 /// It doesn't allocate, and takes at most n^2 steps. There are at most 65,536 candidates, so every sum and product of
 /// sizes is exact. With good options a pick has two runs or more, all of them unclaimed (`picks_are_unclaimed_runs`).
