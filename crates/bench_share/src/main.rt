@@ -187,7 +187,7 @@ where
     outcome(rt, alloc, &store, readers, seat, plan, work)
 }
 
-/// The outcomes of a plan in the plan's stores, one after the other.
+/// The outcomes of a plan in `stores` stores whose runs have `points` points, one after the other.
 fn outcomes(
     rt: &(impl Threads + Wait + Clock + Sync),
     alloc: Global,

@@ -21,8 +21,8 @@ fn options(memtable: u64) -> Options {
     }
 }
 
-/// A store of 64 runs, each with the same number of puts of keys of eight bytes and values of one, with its readers and
-/// a seat.
+/// A store of 64 runs, each of `points` puts of keys of eight bytes and values of one, for `readers` readers and a
+/// seat.
 pub(crate) fn opening_of<O: Operator>(
     alloc: Global,
     points: u64,
