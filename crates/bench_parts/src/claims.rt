@@ -14,7 +14,7 @@ use uc_claims::{ClaimTable, MOST_SLOTS, Seat};
 
 const COUNT: usize = MOST_SLOTS;
 
-/// Where the slots lie that the threads want.
+/// Where the slots are that the threads take.
 #[derive(Clone, Copy)]
 enum Layout {
     Disjoint,
@@ -33,7 +33,7 @@ impl Layout {
     }
 }
 
-/// What each thread does: which slots it wants, and how often.
+/// What each thread does: which slots it takes, and how often.
 #[derive(Clone, Copy)]
 struct Plan {
     layout: Layout,
