@@ -282,7 +282,7 @@ fn are_over(
     )
 }
 
-/// Whether fragments have over a key the sequences of ranges that rise. Returns how long the longest of such were too.
+/// Whether fragments have over a key the sequences of ranges that rise. Raises `longest` to their number.
 fn is_over(
     alloc: Global,
     ranges: &[Range<'_>],
@@ -362,7 +362,8 @@ fn do_ends_differ(alloc: Global) -> Result<bool, AllocError> {
     Ok(!is_cut_to(alloc, &nested(alloc, b"b", b"y")?, &lower)?)
 }
 
-/// Checks that fragments of ranges differ from those of fewer ranges.
+/// Checks that fragments are those of the ranges, differ from those without the first range, and equal a copy that owns
+/// its sequences.
 fn wants_same(
     rt: &impl Abort,
     alloc: Global,
