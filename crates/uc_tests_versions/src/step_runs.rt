@@ -1,6 +1,6 @@
 //! [`Runs`]: the runs of a version, or some that were noted.
 
-/// As many runs as a store has at the most, and as many slots.
+/// As many runs as a store has at most, and as many slots.
 pub(crate) const MOST: usize = 8;
 
 /// A run without its contents.
