@@ -38,7 +38,7 @@ impl<O: Operator> Owned<O> {
         Ok(self.compact(rt, alloc, claim)?)
     }
 
-    /// Replaces a claim's runs by what they became. Returns its id.
+    /// Replaces a claim's runs by what they became, and compares no points: it was made of these runs. Returns its id.
     fn put_in_place(&mut self, claim: OwnedClaim, made: Compacted<O>) -> u64
         requires held { claiming.is_held self.old claim ≡ true }
         requires left { IdLeft self.old.version }
@@ -48,10 +48,7 @@ impl<O: Operator> Owned<O> {
     {
         self.recall();
         claims_can_be_compacted();
-        match self.install(claim, made) {
-            Ok(id) => id,
-            Err(_) => unreachable!(),
-        }
+        self.replace_claimed(claim, made)
     }
 
     /// Gives a claim back after a failure, and returns the error.

@@ -1,5 +1,5 @@
 //! [`Owned`]: a store with one owner.
-ghost use Rattle.std.specs.Prelude.{◌≡◌, ◌<◌, Some, None, true, IfOk, IfErr};
+ghost use Rattle.std.specs.Prelude.{◌≡◌, ◌<◌, Some, None, true, IfOk, IfErr, IfSome, IfNone};
 ghost use Rattle.uc_claims.specs.declared.table.TheConstants.{MOST_SLOTS};
 ghost use Rattle.uc_version_state.specs.Picks.{picked};
 ghost use Rattle.uc_version_state.specs.Options.{are_good};
@@ -170,6 +170,38 @@ impl<O: Operator> Owned<O> {
         compact_stretch::<O>(rt, alloc, &self.version, held.place())
     }
 
+    /// Why `made` may not replace the claim's runs, if it may not. It goes over the points of these runs.
+    fn refusal_of(&self, claim: &OwnedClaim, made: &Compacted<O>) -> Option<InstallError>
+        requires { claiming.is_held self.now claim.now ≡ true }
+        ensures none { IfNone result
+            (installing.MayReplace self.now.version (installing.stretch_of self.now claim.now) made.now) }
+        ensures some { IfSome result
+            (installing.IsRefused self.now.version (installing.stretch_of self.now claim.now) made.now) }
+    {
+        let held = held_stretch(&self.claims, claim);
+        install_refusal(held_runs(&self.version, &held), &self.version, made)
+    }
+
+    /// Replaces the claim's runs by `made`, which may replace them, and gives the claim back. Returns the id of the new
+    /// run. It compares no points, copies no run and doesn't allocate.
+    pub(crate) fn replace_claimed(&mut self, claim: OwnedClaim, made: Compacted<O>) -> u64
+        requires held { claiming.is_held self.old claim ≡ true }
+        requires may { installing.MayReplace self.old.version (installing.stretch_of self.old claim) made }
+        ensures id { result ≡ self.old.version.next_id }
+        ensures after { self.new ≡ installing.after_install O.meaning self.old claim made }
+    {
+        made.recall_standing();
+        install_gives_a_version::<O>();
+        let held = held_stretch(&self.claims, &claim);
+        give_slots(&self.table, &mut self.held, held_runs(&self.version, &held));
+        self.claims[claim.number] = None;
+        move_up(&mut self.claims, held.first, held.count);
+        let id = self.version.next_id();
+        self.version
+            .replace(held.first, held.count, made.into_output());
+        id
+    }
+
     /// Replaces the claim's runs by what they were compacted to, and gives the claim back. Returns the id of the new
     /// run. It copies no run and doesn't allocate. Before any change it goes over the points of the claim's runs, which
     /// takes up to four tenths of the time of their compaction. A refusal hands back both, and the store is as it was.
@@ -189,19 +221,9 @@ impl<O: Operator> Owned<O> {
             refused.2
             × (self.new ≡ self.old)) }
     {
-        made.recall_standing();
-        install_gives_a_version::<O>();
-        let held = held_stretch(&self.claims, &claim);
-        let runs = held_runs(&self.version, &held);
-        if let Some(error) = install_refusal(runs, &self.version, &made) {
+        if let Some(error) = self.refusal_of(&claim, &made) {
             return Err((claim, made, error));
         }
-        give_slots(&self.table, &mut self.held, held_runs(&self.version, &held));
-        self.claims[claim.number] = None;
-        move_up(&mut self.claims, held.first, held.count);
-        let id = self.version.next_id();
-        self.version
-            .replace(held.first, held.count, made.into_output());
-        Ok(id)
+        Ok(self.replace_claimed(claim, made))
     }
 }
