@@ -1,12 +1,9 @@
 //! `ucstore`: words, streams and an exit status. All else is in `uc_tool`.
 //!
-//! `command.rt` has the command line and what its words set. The operators that it can name, and why there may be no command
+//! `uc_command` has the command line and what its words set. The operators that it can name, and why there may be no command
 //! line to read, stand in `uc_tool` too.
 #![tactic(auto)]
 
-mod command;
-
-use crate::command::{Plan, Shown};
 use clap::error::ErrorKind;
 use clap::{ArgMatches, Error};
 use std::alloc::Global;
@@ -18,6 +15,7 @@ use std::process::ExitCode;
 use std::rt::Env;
 use std::sync::Wait;
 use std::thread::Threads;
+use uc_command::{Plan, Shown};
 use uc_oper::{Append, Counter, Maximum};
 use uc_tool::{
     Done, OperatorName, Reason, Refusal, ask_with_reason, dump, is_plan, play_with_reason,
@@ -36,8 +34,8 @@ fn play_script<R: Read, W: Write>(
     writer: &mut W,
     reason: &mut Option<Reason>,
 ) -> Done {
-    let options = command::options(matches);
-    match command::operator_name(matches) {
+    let options = uc_command::options(matches);
+    match uc_command::operator_name(matches) {
         Some(OperatorName::Counter) => play_with_reason::<Counter, R, W>(
             rt, alloc, reader, writer, &options, reason,
         ),
@@ -61,17 +59,17 @@ fn ask_log<R: Read, W: Write>(
     writer: &mut W,
     reason: &mut Option<Reason>,
 ) -> Done {
-    let options = command::options(matches);
+    let options = uc_command::options(matches);
     let Plan {
         workers,
         piece,
         compactors,
-    } = command::plan_of(matches);
+    } = uc_command::plan_of(matches);
     // The parser lets no other numbers through.
     if !is_plan(workers, piece, compactors) {
         return Done::Refused;
     }
-    let (done, _installs) = match command::operator_name(matches) {
+    let (done, _installs) = match uc_command::operator_name(matches) {
         Some(OperatorName::Counter) => ask_with_reason::<Counter, R, W>(
             rt, alloc, reader, writer, &options, workers, piece, compactors, reason,
         ),
@@ -96,8 +94,8 @@ fn report<R: Read, W: Write>(
     writer: &mut W,
     reason: &mut Option<Reason>,
 ) -> Done {
-    let options = command::options(matches);
-    match command::operator_name(matches) {
+    let options = uc_command::options(matches);
+    match uc_command::operator_name(matches) {
         Some(OperatorName::Counter) => {
             report_log_with_reason::<Counter, R, W>(rt, alloc, reader, writer, &options, reason)
         }
@@ -188,7 +186,7 @@ fn run<R: Print + Eprint + Input + AllocGlobal + Threads + Wait + Sync, S: AsStr
 ) -> Result<Done, Refusal> {
     let alloc = rt.alloc();
     let shown = Shown::new(alloc)?;
-    match command::ucstore(alloc, &shown)?.try_get_matches_from(words) {
+    match uc_command::ucstore(alloc, &shown)?.try_get_matches_from(words) {
         Ok(matches) => run_matches(rt, &matches),
         Err(error) => Ok(explain(rt, &error)),
     }

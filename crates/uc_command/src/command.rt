@@ -2,7 +2,8 @@
 
 use clap::{Arg, ArgMatches, Command, value_parser};
 use std::alloc::{AllocError, Global};
-use uc_tool::{OperatorName, Options};
+use uc_tool_io::OperatorName;
+use uc_version_state::Options;
 
 const ABOUT: &str = "A log-structured merge store in memory, proved.";
 
@@ -349,29 +350,4 @@ pub fn options(matches: &ArgMatches<'_>) -> Options {
 /// The operator of a subcommand that opens a store. The parser requires one of the names that there are.
 pub fn operator_name(matches: &ArgMatches<'_>) -> Option<OperatorName> {
     matches.get_str("operator").and_then(OperatorName::named)
-}
-
-/// How many threads `ucstore ask` answers and compacts by, and how it cuts the queries.
-#[derive(Clone, Copy, Debug, PartialEq, Eq)]
-pub struct Plan {
-    /// How many workers answer.
-    pub workers: usize,
-    /// How many queries a worker takes at a time.
-    pub piece: usize,
-    /// How many threads compact.
-    pub compactors: usize,
-}
-
-/// A number that the words set, or 0: the parser gives each a usual value.
-fn count(matches: &ArgMatches<'_>, name: &str) -> usize {
-    matches.get_one::<u64>(name).unwrap_or(0) as usize
-}
-
-/// The plan of `ucstore ask` that the words set.
-pub fn plan_of(matches: &ArgMatches<'_>) -> Plan {
-    Plan {
-        workers: count(matches, "workers"),
-        piece: count(matches, "piece"),
-        compactors: count(matches, "compactors"),
-    }
 }

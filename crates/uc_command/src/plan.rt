@@ -1,0 +1,27 @@
+//! [`Plan`]: how many threads `ucstore ask` works by.
+use clap::ArgMatches;
+
+/// How many threads `ucstore ask` answers and compacts by, and how it cuts the queries.
+#[derive(Clone, Copy, Debug, PartialEq, Eq)]
+pub struct Plan {
+    /// How many workers answer.
+    pub workers: usize,
+    /// How many queries a worker takes at a time.
+    pub piece: usize,
+    /// How many threads compact.
+    pub compactors: usize,
+}
+
+/// A number that the words set, or 0: the parser gives each a usual value.
+fn count(matches: &ArgMatches<'_>, name: &str) -> usize {
+    matches.get_one::<u64>(name).unwrap_or(0) as usize
+}
+
+/// The plan of `ucstore ask` that the words set.
+pub fn plan_of(matches: &ArgMatches<'_>) -> Plan {
+    Plan {
+        workers: count(matches, "workers"),
+        piece: count(matches, "piece"),
+        compactors: count(matches, "compactors"),
+    }
+}
