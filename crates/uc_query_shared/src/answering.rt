@@ -24,8 +24,8 @@ use uc_query_read::{Answer, Query};
 use uc_query_workers::{AskError, Batch, ask_refusal};
 use uc_share::{Name, Reader};
 
-/// Why a batch can't be answered by so many workers with so many readers in pieces of so many queries: each worker has a reader
-/// of its own. The workers are looked at first.
+/// Why `workers` can't answer a batch with `readers` in pieces of `piece` queries, if they can't: each worker has a reader of its
+/// own. The workers are looked at first.
 pub fn batch_refusal(readers: usize, workers: usize, piece: usize) -> Option<AskError>
     ensures { result ≡ asking.batch_refusal readers workers piece }
 {
@@ -35,8 +35,7 @@ pub fn batch_refusal(readers: usize, workers: usize, piece: usize) -> Option<Ask
     ask_refusal(workers, piece)
 }
 
-/// For how many answers each worker's list has room: twice its share, since one may draw more than another, and all for one
-/// worker.
+/// The room of each worker's list, in answers: twice its share, since one may draw more than another, and all for one worker.
 fn room_of_each(queries: usize, workers: usize) -> usize
     requires { 0 < workers }
 {
@@ -100,16 +99,16 @@ fn answers_of<O: Operator + Sync, N: Name + Send, G: Gate, R: Threads + Sync>(
     )
 }
 
-/// The answers to a batch of queries of a shared store, in their order, by so many workers that each have one of the readers. The
-/// batch is cut into pieces of so many queries. A worker draws a piece, calls the gate, pins the version that is shown then, and
-/// answers the piece from it, until no piece is left. Each worker has a thread where one can be made, and else runs after another.
+/// The answers to a batch of queries of a shared store, in their order, by `workers` that each have one of the readers. The batch
+/// is cut into pieces of `piece` queries. A worker draws a piece, calls the gate, pins the version that is shown then, and answers
+/// the piece from it, until no piece is left. Each worker has a thread if one can be made, and else runs after another.
 ///
 /// Whatever the workers draw, and whatever is installed meanwhile, the answers are those of the plain writes that the store was
 /// opened with, at the sequences that it keeps; a query at another sequence is answered `NotProtected`.
 ///
 /// It is refused for a number of workers that isn't 1 to [`MOST_WORKERS`](uc_query_workers::MOST_WORKERS) or is above the number
-/// of readers, then for a piece of no query, and else only for want of memory. The readers come back in their order, also then;
-/// they have seen no less than before.
+/// of readers, and then for a piece of no query. The readers come back in their order, also after an `Err`. They have seen no less
+/// than before.
 pub fn answer_all<O: Operator + Sync, N: Name + Send, G: Gate>(
     rt: &(impl Threads + Sync),
     alloc: Global,
@@ -141,7 +140,7 @@ pub fn answer_all<O: Operator + Sync, N: Name + Send, G: Gate>(
     }
 }
 
-/// What readers have seen is legal. It does nothing.
+/// What readers have seen is legal. Proof step: does nothing when it runs.
 fn are_legal<O: Operator, N: Name>(readers: &[Reader<O, N>])
     ensures { AllByRecursion (MayFollow O.meaning N.base) readers.now }
 {

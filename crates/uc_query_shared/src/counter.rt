@@ -37,8 +37,7 @@ impl Model for PieceCounter {
 }
 
 impl PieceCounter {
-    /// A counter of which nothing is drawn, for so many workers, with a seat that has all their parts. It fails only for want
-    /// of memory; no other call takes any.
+    /// A counter of which nothing is drawn, with a seat that has the parts of all workers. No other call allocates.
     pub fn new(
         alloc: Global,
         pieces: u64,
@@ -65,7 +64,7 @@ impl PieceCounter {
         PieceSeat { token }
     }
 
-    /// Takes in another seat: its parts, and behind the seat's own numbers those that the other drew. The seat that does so
+    /// Takes in another seat: its parts, and after the seat's own numbers those that the other drew. The seat that does so
     /// has a part itself.
     pub fn join(&self, seat: &mut PieceSeat, other: PieceSeat)
         requires part { 0 < seat.old.parts }
@@ -85,7 +84,7 @@ impl PieceCounter {
     }
 
     /// Draws the next piece, by one addition, if one is left. A seat may meet the end once for each of its parts, and draws no
-    /// more then. What was drawn, a piece or none, goes behind the seat's numbers, which rise.
+    /// more then. What was drawn, a piece or none, is appended to the seat's numbers, which rise.
     pub fn draw(&self, seat: &mut PieceSeat) -> Option<u64>
         requires table { seat.old.table ≡ self.now.table }
         requires may { past self.now.pieces seat.old.numbers < seat.old.parts }

@@ -53,7 +53,7 @@ type Share = Result<(PieceSeat, Drawn), AllocError>;
 /// What workers drew, and the seat that took in those of all of them.
 pub(crate) type Shares = Result<(PieceSeat, Vec<Drawn>), AllocError>;
 
-/// Lets a worker draw pieces with a reader, which comes back also where memory ran out.
+/// Lets a worker draw pieces with a reader, which comes back also if memory ran out.
 fn drawn_by_one<O: Operator, N: Name, G: Gate>(
     alloc: Global,
     job: &Job<'_, G>,
@@ -121,7 +121,7 @@ fn together<O: Operator, N: Name, G: Gate>(
     Ok((seat, draws))
 }
 
-/// Puts a reader back behind the others, for which there is room.
+/// Puts a reader back after the others, for which there is room.
 fn put_back<O: Operator, N: Name>(readers: &mut Vec<Reader<O, N>>, reader: Reader<O, N>)
     requires { vec_len readers.old < vec_capacity readers.old }
     ensures items { readers.new.items ≡ readers.old.items ++ reader ∷ [] }
@@ -132,9 +132,8 @@ fn put_back<O: Operator, N: Name>(readers: &mut Vec<Reader<O, N>>, reader: Reade
     }
 }
 
-/// Lets so many workers draw pieces, each with one of the readers: the calling thread, and a thread of its own for each other where
-/// one can be made. The seat has as many parts as there are workers. The readers come back in their order, also where memory ran
-/// out.
+/// Lets workers draw pieces, each with one of the readers: the calling thread, and a thread of its own for each other one if it
+/// can be made. The seat has as many parts as there are workers. The readers come back in their order, also if memory ran out.
 ///
 /// The calling thread starts all the others, one after the other: `uc_query_workers` says why.
 #[cycle(workers)]

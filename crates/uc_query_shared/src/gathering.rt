@@ -11,8 +11,7 @@ use std::alloc::{AllocError, Global};
 use uc_query_read::Answer;
 use uc_query_workers::{Batch, Drawn, holder_of, take_first};
 
-/// Moves the answers to the piece with a number, of so many pieces, behind those of `all`. It is the first that is left of what
-/// workers drew. Want of memory loses some of them.
+/// Appends the answers of piece `number` to `all`. Some worker has it next. An `Err` loses some of them.
 fn push_piece(
     batch: &Batch<'_>,
     pieces: usize,
@@ -34,7 +33,7 @@ fn push_piece(
     Ok(())
 }
 
-/// The answers to all pieces, which are so many, in their order.
+/// The answers to all pieces, in their order.
 pub(crate) fn joined(
     alloc: Global,
     batch: &Batch<'_>,

@@ -11,6 +11,8 @@
 //! each once, and the word is at most pieces and workers together, so it never wraps. So once all workers have met the end,
 //! the numbers of all pieces stand in the joined seat's list, each once ([`PieceCounter::recall_all_drawn`]). `rule.rt` has the rule
 //! and the kinds of step that keep it; read it before `counter.rt`.
+//!
+//! An `Err(AllocError)`, or an error `Memory`, comes only if an allocation fails.
 #![tactic(auto)]
 
 mod answering;

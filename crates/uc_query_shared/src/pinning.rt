@@ -10,7 +10,7 @@ use uc_query_read::Answer;
 use uc_query_workers::Batch;
 use uc_share::{Name, Reader};
 
-/// Pins what is shown, and appends its answers to the piece with a number. Want of memory leaves some of them there.
+/// Pins what is shown, and appends its answers to piece `number`. After an `Err` some of them are there.
 pub(crate) fn push_pinned<O: Operator, N: Name>(
     alloc: Global,
     batch: &Batch<'_>,

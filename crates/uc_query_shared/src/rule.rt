@@ -6,7 +6,7 @@
 //!
 //! | Kind of step | Made by | What it does |
 //! |---|---|---|
-//! | draw | `PieceCounter::draw` | the word grows by one, and what it was goes behind the seat's list |
+//! | draw | `PieceCounter::draw` | the word grows by one, and what it was is appended to the seat's list |
 //! | look | `PieceCounter::recall_all_drawn` | reads the word, and changes nothing |
 //! | split | `PieceCounter::split` | the seat has a part less, and there is a new seat with one part and an empty list |
 //! | join | `PieceCounter::join` | one seat takes in the parts and the list of the other, which has none then |

@@ -10,7 +10,7 @@ use uc_oper::Operator;
 use uc_query_read::{Answer, Query, answer_one};
 use uc_version_state::Version;
 
-/// Queries, cut into pieces of so many; the last one may have fewer. A contract sees it as these.
+/// Queries, cut into pieces of `piece` queries; the last one may have fewer. A contract sees it as these.
 #[derive(Drop)]
 pub struct Batch<'a> {
     queries: &'a [Query],
@@ -28,7 +28,7 @@ impl<'a> Model for Batch<'a> {
     ghost invariant = { λ b. 0 < b.piece };
 }
 
-/// Appends the answers to queries. Want of memory leaves some of them there.
+/// Appends the answers to queries. After an `Err` some of them are there.
 fn push_each<O: Operator>(
     alloc: Global,
     version: &Version,
@@ -46,7 +46,7 @@ fn push_each<O: Operator>(
 }
 
 impl<'a> Batch<'a> {
-    /// Queries in pieces of so many.
+    /// Queries, in pieces of `piece`.
     pub fn new(queries: &'a [Query], piece: usize) -> Batch<'a>
         requires { 0 < piece }
         ensures { result ≡ record { queries = queries.now; piece = piece } }
@@ -78,7 +78,7 @@ impl<'a> Batch<'a> {
         &rest[..self.piece.min(rest.len())]
     }
 
-    /// Appends a version's answers to the piece with a number. Want of memory leaves some of them there.
+    /// Appends a version's answers to piece `number`. After an `Err` some of them are there.
     pub fn push_answers<O: Operator>(
         &self,
         alloc: Global,

@@ -15,12 +15,12 @@ use uc_oper::Operator;
 use uc_query_read::Answer;
 use uc_version_state::Version;
 
-/// What a worker drew. It is taken from the front where the answers to the batch are put together.
+/// What a worker drew. It is taken from the front when the answers to the batch are put together.
 #[derive(Debug, Drop)]
 pub struct Drawn {
     /// The numbers of the pieces, in the order in which it drew them.
     pub numbers: VecDeque<usize>,
-    /// The answers to them, one piece behind the other.
+    /// The answers to them, one piece after the other.
     pub answers: VecDeque<Answer>,
 }
 
@@ -52,11 +52,11 @@ pub(crate) fn draw_pieces<O: Operator>(
     })
 }
 
-/// Lets so many workers draw pieces: the calling thread, and a thread of its own for each other where one can be made.
+/// Lets workers draw pieces: the calling thread, and a thread of its own for each other one if it can be made.
 ///
 /// The calling thread starts all the others, one after the other. Threads that start threads at the same moment (as in a tree of
 /// halves) don't see each other's yet, and the system puts two on one processor while another has nothing to do. It also makes
-/// each worker's list, with room for so many answers: the memory of a new thread grows page by page, and each page costs a call
+/// each worker's list, with room for `room` answers: the memory of a new thread grows page by page, and each page costs a call
 /// of the system.
 #[cycle(workers)]
 pub(crate) fn drawn_by_workers<O: Operator + Sync, R: Threads + Sync>(

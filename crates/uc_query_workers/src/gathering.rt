@@ -15,7 +15,7 @@ use uc_oper::Operator;
 use uc_query_read::Answer;
 use uc_version_state::Version;
 
-/// Moves so many answers from the front of `answers` behind those of `all`. Want of memory loses some of them.
+/// Moves `count` answers from the front of `answers` to the end of `all`. An `Err` loses some of them.
 fn move_answers(
     answers: &mut VecDeque<Answer>,
     count: usize,
@@ -32,7 +32,7 @@ fn move_answers(
     Ok(())
 }
 
-/// The place of the first of what the workers drew whose first piece that is left is the one with a number.
+/// The index of the worker whose next piece is `number`.
 pub fn holder_of(draws: &[Drawn], number: usize) -> Option<usize>
     ensures some { IfSome result (λ place.
         (place < length draws.now)
@@ -44,8 +44,7 @@ pub fn holder_of(draws: &[Drawn], number: usize) -> Option<usize>
         .position(|drawn| drawn.numbers.front() == Some(&number))
 }
 
-/// Moves the answers to the first piece that is left of what a worker drew, which are so many, behind those of `all`. Want of
-/// memory loses some of them.
+/// Appends the `count` answers of the worker's next piece to `all`. An `Err` loses some of them.
 pub fn take_first(drawn: &mut Drawn, count: usize, all: &mut Vec<Answer>) -> Result<(), AllocError>
     ensures rest { OnOk result (drawn.new.numbers.items ≡ drop 1 drawn.old.numbers.items) }
     ensures answers { (f : ℕ → List AnswerOf) (number : ℕ) → slice_get drawn.old.numbers.items 0 ≡ Some number →
@@ -57,8 +56,8 @@ pub fn take_first(drawn: &mut Drawn, count: usize, all: &mut Vec<Answer>) -> Res
     Ok(())
 }
 
-/// Appends the answers to the piece with a number: those of the worker who drew it or, where nobody did, those that are made
-/// here. Want of memory loses some of them.
+/// Appends the answers to piece `number`: those of the worker who drew it, or those that are made here if nobody did. An `Err`
+/// loses some of them.
 fn push_piece<O: Operator>(
     alloc: Global,
     version: &Version,

@@ -3,6 +3,8 @@
 //! A batch is cut into pieces, which workers draw as they come free: a slow piece holds up nobody. Whatever they do in
 //! whichever order, the answers are those of one thread that goes through the queries. Read `specs/Asking.antt` first,
 //! then `plain.rt`.
+//!
+//! An `Err(AllocError)`, or a variant `Memory`, comes only if an allocation fails.
 #![tactic(auto)]
 
 mod ask_error;

@@ -15,7 +15,7 @@ use uc_oper::Operator;
 use uc_query_read::{Answer, Query};
 use uc_version_state::Version;
 
-/// Why a batch can't be answered by so many workers in pieces of so many queries: the workers are looked at first.
+/// Why `workers` can't answer a batch in pieces of `piece` queries, if they can't. The workers are looked at first.
 pub fn ask_refusal(workers: usize, piece: usize) -> Option<AskError>
     ensures { result ≡ asking.ask_refusal workers piece }
 {
@@ -28,8 +28,7 @@ pub fn ask_refusal(workers: usize, piece: usize) -> Option<AskError>
     None
 }
 
-/// For how many answers each worker's list has room: twice its share, since one may draw more than another, and all for one
-/// worker.
+/// The room of each worker's list, in answers: twice its share, since one may draw more than another, and all for one worker.
 fn room_of_each(queries: usize, workers: usize) -> usize {
     queries.min((queries / workers.max(1)).saturating_mul(2))
 }
@@ -54,12 +53,11 @@ fn answers_of<O: Operator + Sync, R: Threads + Sync>(
     joined::<O>(alloc, version, &batch, drawn)
 }
 
-/// The answers to a batch of queries of a version, in their order. It is cut into pieces of so many queries, which so many
-/// workers draw as they come free; each worker has a thread where one can be made.
+/// The answers to a batch of queries of a version, in their order. It is cut into pieces of `piece` queries, which the workers
+/// draw as they come free. Each worker has a thread if one can be made.
 ///
 /// Whatever the workers and the pieces are, the answers are those of [`answer_one`](uc_query_read::answer_one) to one query
-/// after the other. It is refused for a number of workers that isn't 1 to [`MOST_WORKERS`], then for a piece of no query, and
-/// else only for want of memory.
+/// after the other. It is refused for a number of workers that isn't 1 to [`MOST_WORKERS`], and then for a piece of no query.
 pub fn answer_plain<O: Operator + Sync>(
     rt: &(impl Threads + Sync),
     alloc: Global,
