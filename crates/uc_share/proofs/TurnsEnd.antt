@@ -1,5 +1,5 @@
 -- What comes of a turn, by what its steps came to.
-use Rattle.std.proofs.Common.{◌≡◌, ◌≢◌, Bool, List, length, fold, refl, sym, subst, ◌∙◌, ap}
+use Rattle.std.proofs.Common.{◌≡◌, ◌≢◌, Bool, List, length, fold, refl, sym, subst}
 use Rattle.std.specs.Prelude.{Option, Some, None, Result, Ok, Err, IfOk, IfErr, OnOk}
 use mathlib.Core.List.{IsPrefix}
 use Rattle.logbook.specs.Pages.{Book}
@@ -8,16 +8,16 @@ use Rattle.uc_compact_rules.specs.Inputs.{Compaction}
 use Rattle.uc_version_state.specs.declared.event.Event.{Event}
 use Rattle.uc_version_state.specs.declared.options.Options.{Options}
 use Rattle.uc_version_state.specs.declared.stretch.Stretch.{Stretch}
-use Rattle.uc_version_state.specs.Versions.{PlacedRun, Stored}
+use Rattle.uc_version_state.specs.Versions.{Stored}
 use Rattle.uc_version_state.specs.Histories.{after}
 use Rattle.uc_version.specs.Claiming.{range_refusal}
-use Rattle.uc_version.specs.Compacting.{compaction_at, runs_at}
+use Rattle.uc_version.specs.Compacting.{compaction_at}
 use Rattle.uc_version.specs.declared.claim_error.ClaimError.{ClaimError}
 use Rattle.uc_version.specs.declared.claim_error.ClaimError.TheVariants as refused
 use Rattle.uc_version.specs.declared.install_error.InstallError.{InstallError}
 use Rattle.uc_version.specs.declared.install_error.InstallError.TheVariants.{Memory}
 use Rattle.uc_share.specs.declared.turn.Turn.{Turn}
-use Rattle.uc_share.specs.declared.turn.Turn.TheVariants.{Idle, Late, Installed}
+use Rattle.uc_share.specs.declared.turn.Turn.TheVariants.{Late, Installed}
 use Rattle.uc_share.specs.Fronts.{Moment, moment}
 use Rattle.uc_share.specs.Picking.{IsPick}
 use Rattle.uc_share.specs.Claims.{Claim, IsClaimRefused, claim_of, claimed_runs}

@@ -1,4 +1,4 @@
-use Rattle.std.proofs.Common.{◌≡◌, ◌∙◌, Bool, ap, false, refl, true}
+use Rattle.std.proofs.Common.{◌≡◌, ◌∙◌, Bool, ap, false, refl}
 use Rattle.std.proofs.lemmas.List.Elements.{All-replicate, All-set}
 use Rattle.uc_claims.specs.Holding.{Holding}
 use Rattle.uc_share.proofs.store.Store.busy_slots.Goals as goal

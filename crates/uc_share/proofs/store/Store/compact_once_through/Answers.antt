@@ -2,7 +2,7 @@ use Rattle.std.proofs.Common.{◌≡◌, sym, subst}
 use mathlib.Core.List.{IsPrefix}
 use Rattle.uc_claims.specs.Holding.{Holding}
 use Rattle.uc_share.specs.Fronts.{Moment}
-use Rattle.uc_share.specs.Claims.{Claim, claim_of}
+use Rattle.uc_share.specs.Claims.{claim_of}
 use Rattle.uc_share.specs.Turns.{IsPicked, Turning, turning}
 use Rattle.uc_share.proofs.Prefixes.{prefix_behind}
 use Rattle.uc_share.proofs.TurnsEnd.{finished, is_picked, unfinished}
