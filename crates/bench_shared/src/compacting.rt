@@ -6,23 +6,13 @@ use std::marker::{Send, Sync};
 use std::sync::Wait;
 use std::thread::{Threads, join};
 use uc_oper::Counter;
-use uc_share::{Held, Name, Reader, Seat, Store};
+use uc_share::{Name, Reader, Seat, Store, Turn};
 
-/// How often a compactor looks for something to compact, at the most.
-const LOOKS: usize = 1_000_000;
+/// How many turns a compactor takes at the most.
+const TURNS: usize = 1_000_000;
 
 /// A compactor: a reader and a seat.
 pub(crate) type Compactor<N> = (Reader<Counter, N>, Seat);
-
-/// What came of a look for something to compact.
-#[derive(Clone, Copy)]
-enum Look {
-    /// Nothing is picked.
-    Idle,
-    /// Another compactor was faster.
-    Late,
-    Installed,
-}
 
 /// No, one or two compactors.
 pub(crate) type Compactors<N> = (Option<Compactor<N>>, Option<Compactor<N>>);
@@ -57,48 +47,6 @@ pub(crate) fn two_compactors<N: Name, W: Wait + Drop>(
     (one, other)
 }
 
-/// Compacts what is claimed and installs it. The seat comes back, unless one of both is refused.
-fn installed<N: Name, W: Wait + Drop>(
-    rt: &(impl Threads + Wait + Sync),
-    alloc: Global,
-    store: &Store<Counter, N, W>,
-    held: Held<Counter, N>,
-    reader: &mut Reader<Counter, N>,
-) -> Option<Seat>
-    requires { held.seat.table ≡ store.now.table }
-    ensures { IfSome result (λ seat. seat.table ≡ store.now.table) }
-{
-    let made = held.compact(rt, alloc).ok()?;
-    match store.install(rt, alloc, held, made, reader) {
-        Ok(seat) => Some(seat),
-        Err(_) => None,
-    }
-}
-
-/// Compacts and installs what is picked. The seat comes back with what came of it, unless a compaction or an install is refused.
-fn compact_once<N: Name, W: Wait + Drop>(
-    rt: &(impl Threads + Wait + Sync),
-    alloc: Global,
-    store: &Store<Counter, N, W>,
-    mut seat: Seat,
-    reader: &mut Reader<Counter, N>,
-) -> Option<(Seat, Look)>
-    requires { seat.table ≡ store.now.table }
-    ensures { IfSome result (λ came. came.0.table ≡ store.now.table) }
-{
-    let pin = store.pin(reader).ok()?;
-    let Some(stretch) = store.pick(&pin, &mut seat) else {
-        return Some((seat, Look::Idle));
-    };
-    match store.claim(seat, pin, reader, stretch) {
-        Err((seat, _pin, _error)) => Some((seat, Look::Late)),
-        Ok(held) => {
-            let seat = installed(rt, alloc, store, held, reader)?;
-            Some((seat, Look::Installed))
-        }
-    }
-}
-
 /// How many compactions a compactor installs until nothing is picked, unless one is refused.
 fn compact_picked<N: Name, W: Wait + Drop>(
     rt: &(impl Threads + Wait + Sync),
@@ -110,13 +58,14 @@ fn compact_picked<N: Name, W: Wait + Drop>(
 {
     let (mut reader, mut seat) = compactor;
     let mut installs = 0_u64;
-    for _ in 0..LOOKS {
-        let (back, came) = compact_once(rt, alloc, store, seat, &mut reader)?;
+    for _ in 0..TURNS {
+        let (back, came) = store.compact_once(rt, alloc, seat, &mut reader);
         seat = back;
         match came {
-            Look::Idle => return Some(installs),
-            Look::Late => {}
-            Look::Installed => installs = installs.saturating_add(1),
+            Ok(Turn::Idle) => return Some(installs),
+            Ok(Turn::Late(_)) => {}
+            Ok(Turn::Installed) => installs = installs.saturating_add(1),
+            Err(_) => return None,
         }
     }
     None

@@ -5,20 +5,19 @@ use Rattle.uc_version_state.specs.declared.candidate.Candidate.{Candidate}
 use Rattle.uc_version_state.specs.declared.options.Options.{Options}
 use Rattle.uc_version_state.specs.declared.stretch.Stretch.{Stretch}
 use Rattle.uc_version_state.specs.Picks.{picked}
-use Rattle.uc_version_state.specs.Versions.{Stored, ids_of}
-use Rattle.uc_version_state.specs.Refusals.{AreInPlace}
+use Rattle.uc_version_state.specs.Versions.{Stored}
 use Rattle.uc_version_state.specs.declared.event.Event.{Event}
 use Rattle.uc_version.specs.Claiming.{range_refusal}
 use Rattle.uc_version.proofs.PickedClaims.{in_range}
-use Rattle.uc_share.specs.Fronts.{Moment}
-use Rattle.uc_share.specs.Claims.{Claim, IsClaim, IsClaimRefused, IsLookRefused, claim_error, pinned_runs}
+use Rattle.uc_claims.specs.Holding.{Holding}
+use Rattle.uc_share.specs.Claims.{Claim, IsClaim, IsClaimRefused, IsLookRefused, claim_error}
 use Rattle.uc_share.specs.declared.held.LookError.{LookError}
 use Rattle.uc_share.specs.declared.held.LookError.TheVariants.{Moved, Memory}
 
 -- what isn't claimed after its slots were taken isn't refused for its range
-pub look_refused : (c : Claim) (before seen : List Event) (present : Stored) (error : LookError) → IsClaim c → IsLookRefused c before seen present error → IsClaimRefused c.pin c.stretch present (claim_error error)
-look_refused c before seen present Moved is h = (in_range (length c.pin.version.runs) c.stretch is.two is.within, h)
-look_refused c before seen present Memory is h = in_range (length c.pin.version.runs) c.stretch is.two is.within
+pub look_refused : (seat : Holding) (c : Claim) (before seen : List Event) (present : Stored) (error : LookError) → IsClaim c → IsLookRefused c before seen present error → IsClaimRefused seat c.pin c.stretch present (claim_error error)
+look_refused seat c before seen present Moved is h = (in_range (length c.pin.version.runs) c.stretch is.two is.within, h)
+look_refused seat c before seen present Memory is h = in_range (length c.pin.version.runs) c.stretch is.two is.within
 
 -- what is picked of a version isn't refused for its range
 pub pick_in_range : (o : Options) (runs : List Candidate) (n : ℕ) (r : Option Stretch) → r ≡ picked o runs → length runs ≡ n

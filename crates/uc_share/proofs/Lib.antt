@@ -7,3 +7,4 @@ pub mod Adding
 pub mod Showing
 pub mod Behind
 pub mod Claimed
+pub mod TurnsEnd

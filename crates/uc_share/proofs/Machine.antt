@@ -1,10 +1,10 @@
 -- The machine of compactors' steps asks what the store asks.
-use Rattle.std.proofs.Common.{◌≡◌, ℕ, ◌==◌, ◌&&◌, Bool, true, false, List, [], ◌∷◌, refl, sym, ap, subst, ◌∙◌, arith}
+use Rattle.std.proofs.Common.{◌≡◌, ℕ, ◌==◌, ◌&&◌, true, List, [], ◌∷◌, refl, ap, subst, ◌∙◌}
 use Rattle.std.proofs.lemmas.Bool.{eq-eqb, eqb-true, and_parts}
 use Rattle.uc_oper.specs.Operation.{Operation}
 use Rattle.uc_compact_rules.specs.Inputs.{Compaction, Stand}
 use Rattle.uc_compact_rules.specs.Output.{output_of}
-use Rattle.uc_version_state.specs.Versions.{PlacedRun, Stored, contents_of, ids_of}
+use Rattle.uc_version_state.specs.Versions.{PlacedRun, Stored, ids_of}
 use Rattle.uc_version_state.specs.Installs.{MayReplace, behind, standing, terms_of}
 use Rattle.uc_version_state.specs.Refusals.{AreInPlace}
 use Rattle.uc_version.specs.Compacting.{IsInstallable, install_for}

@@ -1,5 +1,5 @@
 -- Claims of stretches of pinned versions.
-use Rattle.std.specs.Prelude.{◌≡◌, ◌+◌, ◌≤◌, Some, None, Contains, List, length}
+use Rattle.std.specs.Prelude.{◌≡◌, ◌≢◌, true, ◌+◌, ◌≤◌, Some, None, Contains, List, length}
 use Rattle.uc_claims.specs.Holding.{Holding}
 use Rattle.uc_version_state.specs.declared.stretch.Stretch.{Stretch}
 use Rattle.uc_version_state.specs.Versions.{PlacedRun, Stored, ids_of, slots_of}
@@ -37,14 +37,16 @@ pub record IsClaim (c : Claim) : Type 0 where
   pub within : c.stretch.first + c.stretch.count ≤ length c.pin.version.runs
   pub slots : c.seat.slots ≡ slots_of (claimed_runs c)
 
--- Why a stretch of a pinned version isn't claimed, where this is the version that the caller has seen then: the first of these
--- that holds. Want of memory is told of a stretch that may be claimed alone.
-abbrev pub IsClaimRefused : Moment → Stretch → Stored → ClaimError → Type 0
-IsClaimRefused pin s present refused.OutOfRange = range_refusal (length pin.version.runs) s ≡ Some refused.OutOfRange
-IsClaimRefused pin s present refused.TooNarrow = range_refusal (length pin.version.runs) s ≡ Some refused.TooNarrow
-IsClaimRefused pin s present (refused.Busy slot) = (range_refusal (length pin.version.runs) s ≡ None) × Contains (slots_of (pinned_runs pin s)) slot
-IsClaimRefused pin s present refused.Moved = (range_refusal (length pin.version.runs) s ≡ None) × ¬ AreInPlace present (ids_of (pinned_runs pin s))
-IsClaimRefused pin s present refused.Memory = range_refusal (length pin.version.runs) s ≡ None
+-- Why a stretch of a pinned version isn't claimed with a seat, if this is the version that the caller has seen then: the first of
+-- these that holds. A whole seat is never told `Busy`. Want of memory is told only of a stretch that may be claimed.
+abbrev pub IsClaimRefused : Holding → Moment → Stretch → Stored → ClaimError → Type 0
+IsClaimRefused seat pin s present refused.OutOfRange = range_refusal (length pin.version.runs) s ≡ Some refused.OutOfRange
+IsClaimRefused seat pin s present refused.TooNarrow = range_refusal (length pin.version.runs) s ≡ Some refused.TooNarrow
+IsClaimRefused seat pin s present (refused.Busy slot) =
+    (range_refusal (length pin.version.runs) s ≡ None) × Contains (slots_of (pinned_runs pin s)) slot × (seat.whole ≢ true)
+IsClaimRefused seat pin s present refused.Moved =
+    (range_refusal (length pin.version.runs) s ≡ None) × ¬ AreInPlace present (ids_of (pinned_runs pin s))
+IsClaimRefused seat pin s present refused.Memory = range_refusal (length pin.version.runs) s ≡ None
 
 -- Why no claim is made of slots that are taken: their runs don't stand in the version that the look showed; or memory ran out, and
 -- the look showed nothing.

@@ -52,7 +52,7 @@ pub record HoldsReplaced (table : TableId) (v : Stored) (e : Event) (seat : Hold
   pub of_table : seat.table ≡ table
   pub slots : slots_of (standing (ids_replaced e) v.runs) ≡ seat.slots
 
--- a store opens for so many readers
+-- a store opens for this number of readers
 pub record IsCount (readers : ℕ) : Type 0 where
   pub some : 0 < readers
   pub few : readers ≤ 128

@@ -1,5 +1,7 @@
 pub mod Claims
 pub mod Stores
+pub mod Picking
 pub mod Installing
+pub mod Turns
 pub mod Fronts
 pub mod Rules

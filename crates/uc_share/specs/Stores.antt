@@ -31,11 +31,11 @@ pub record IsNamed (o : Opened) (book : Book) (table : TableId) (base : Stored) 
   pub table_is : o.table ≡ table
   pub base_is : o.version ≡ base
 
--- a store opens for so many readers and seats
+-- whether a store opens for these numbers of readers and seats
 abbrev pub are_counts : ℕ → ℕ → Bool
 are_counts readers seats = nat_lt 0 readers && nat_le readers 128 && nat_le seats 64
 
--- why it isn't opened, if it isn't: for so many readers and seats no store is, or the opening itself is refused
+-- why it isn't opened, if it isn't: for these numbers no store is, or the opening itself is refused
 abbrev pub shared_refusal : openings.Opening → ℕ → ℕ → Option OpenError
 shared_refusal o readers seats = if are_counts readers seats then opening_refusal o else Some BadCount
 
@@ -43,7 +43,7 @@ shared_refusal o readers seats = if are_counts readers seats then opening_refusa
 abbrev pub beginning : openings.Opening → History
 beginning o = record { opening = o; events = [] }
 
--- it begins with the version of an opening, is compacted as that says, and is for so many readers and seats
+-- it begins with the version of an opening, is compacted as that says, and is for these numbers of readers and seats
 pub record IsOpenedSo (store : Opened) (o : openings.Opening) (readers seats : ℕ) : Type 0 where
   pub version_is : store.version ≡ openings.opened o
   pub options_are : store.options ≡ o.options

@@ -73,8 +73,8 @@ impl<N: Name> Book<N> {
         &self.front
     }
 
-    /// Adds an event, and says whether it did. It did not where there are [`MOST_EVENTS`], or where an event was added elsewhere,
-    /// which nobody can do.
+    /// Adds an event, and says whether it did. It does not if there are [`MOST_EVENTS`], or if an event was added elsewhere, which
+    /// nobody can do.
     pub(crate) fn add(&mut self, event: &Event) -> bool
         ensures added { OnTrue result (self.new ≡ self.old ++ event.now ∷ []) }
         ensures as_it_was { OnFalse result (self.new ≡ self.old) }

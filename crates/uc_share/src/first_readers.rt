@@ -1,4 +1,4 @@
-//! [`Publisher::open`]: a store opened for so many readers.
+//! [`Publisher::open`]: a store opened with its readers.
 ghost use Rattle.std.specs.Prelude.{◌≡◌, ◌↔◌, [], replicate, IsTrue, IfOk};
 ghost use Rattle.std.specs.Arc.{arc_value};
 ghost use Rattle.uc_share.specs.Fronts.{moment, IsCount};
@@ -16,7 +16,7 @@ use uc_version_state::Version;
 /// The most readers of a store.
 pub const MOST_READERS: usize = 128;
 
-/// Whether a store opens for so many readers.
+/// Whether a store opens for `readers` readers: 1 to [`MOST_READERS`].
 pub fn is_reader_count(readers: usize) -> bool
     ensures { IsTrue result ↔ IsCount readers }
 {
@@ -24,7 +24,7 @@ pub fn is_reader_count(readers: usize) -> bool
 }
 
 impl<O: Operator, N: Name, W: Wait + Drop> Publisher<O, N, W> {
-    /// So many readers that have seen the opening.
+    /// `count` readers that have seen the opening.
     fn readers(
         &self,
         alloc: Global,

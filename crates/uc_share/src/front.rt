@@ -30,7 +30,7 @@ impl<N: Name> Model for Front<N> {
 }
 
 impl<N: Name> Front<N> {
-    /// What was seen of a history, which has so many events.
+    /// What was seen of a history, which has `count` events.
     pub(crate) fn of(count: u64, seen: Seen<Event, u64, Law>) -> Front<N>
         requires count { count ≡ length seen.log }
         requires book { seen.book ≡ N.book }
@@ -81,7 +81,7 @@ impl<N: Name> Front<N> {
         true
     }
 
-    /// Adds an event to all that was seen, by the word that counts the history, and says whether it did. It did not where the
+    /// Adds an event to all that was seen, by the word that counts the history, and says whether it did. It does not if the
     /// history is longer.
     pub(crate) fn add(&mut self, head: &Word<Event, u64, Law>, event: &Event) -> bool
         requires head { head.now ≡ head_of N.book }

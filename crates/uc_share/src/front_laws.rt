@@ -33,7 +33,7 @@ pub fn fronts_replace_runs_once<O: Operator>()
     runs_are_replaced_once::<O>();
 }
 
-/// Claimed runs stand as they were: where runs with their ids stand as neighbours in a version that comes later in the store's
+/// Claimed runs stand as they were: if runs with their ids stand as neighbours in a version that comes later in the store's
 /// history, these are the claimed runs, with their contents. So no point has to be looked at to know it.
 pub fn claimed_runs_stay_the_same<O: Operator>()
     ensures { (base : Stored) (seen now : List Event) (claimed : List PlacedRun) → IsVersion (fold after base seen) →

@@ -83,7 +83,7 @@ impl<O: Operator, N: Name> Held<O, N> {
         Err((taken, LookError::Moved))
     }
 
-    /// The slots, where the right is given up.
+    /// The slots, if the right is given up.
     pub(crate) fn into_taken(self) -> Taken<O, N>
         ensures { result ≡ self }
     {
@@ -129,8 +129,8 @@ impl<O: Operator, N: Name> Held<O, N> {
 }
 
 impl<O: Operator + Sync, N: Name> Held<O, N> {
-    /// Compacts the claimed runs under the keeps that were pinned, and with the oldest run exactly where the stretch ends with
-    /// the oldest that was pinned. It fails only for want of memory.
+    /// Compacts the claimed runs under the keeps that were pinned, and for the oldest run exactly if the stretch ends with the
+    /// oldest that was pinned.
     pub fn compact(
         &self,
         rt: &(impl Threads + Sync),

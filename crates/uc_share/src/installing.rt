@@ -53,7 +53,7 @@ impl<O: Operator, N: Name, W: Wait + Drop> Desk<O, N, W> {
 
     /// Installs what was compacted of claimed runs, whose event this is, and shows the reader: one publication of exactly this
     /// event, or a refusal that changes nothing that is shown and that the version which the reader then has seen shows. It
-    /// compares no points. Where there was no memory for the event, that is told last.
+    /// compares no points. If there was no memory for the event, that is told last.
     pub(crate) fn install<R: Wait>(
         &mut self,
         rt: &R,
@@ -123,7 +123,7 @@ fn installed<O: Operator, N: Name, W: Wait + Drop, R: Wait>(
     (publisher, Ok(()))
 }
 
-/// Why what is shown, all of which the reader then has seen, refuses what was compacted of claimed runs. Where nothing refuses it,
+/// Why what is shown, all of which the reader then has seen, refuses what was compacted of claimed runs. If nothing refuses it,
 /// the claimed runs stand there as they were claimed, and the event may happen.
 fn refusal<O: Operator, N: Name, W: Wait + Drop, R: Wait>(
     rt: &R,

@@ -9,7 +9,7 @@ ghost use Rattle.uc_version_state.specs.Machine.{IsMadeFor, still_stand};
 use uc_oper::Operator;
 
 /// The machine of `uc_version_state`, of which `never_stale` speaks, asks of its steps what this store asks of its own: a look finds
-/// claimed runs in place exactly where the machine's does, and an output that may be installed is one that the machine's compactor
+/// claimed runs in place exactly if the machine's does, and an output that may be installed is one that the machine's compactor
 /// may publish.
 pub fn steps_are_those_of_the_machine<O: Operator>()
     ensures look { (noted : List PlacedRun) (v : Stored) → (still_stand noted v ≡ true) ↔ AreInPlace v (ids_of noted) }

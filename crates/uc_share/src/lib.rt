@@ -12,8 +12,11 @@
 //! | [`Held`] | `Held::look` | and found its runs in place in a version that was shown after that |
 //! | [`Seat`] | [`Store::install`], [`Store::abandon`] | published, to which the slots are lent, or not; and given them back |
 //!
-//! Read `specs/Claims.antt` and `specs/Installing.antt` first, then `opening.rt`, `taken.rt`, `held.rt`, `store.rt` and
-//! `installing.rt`.
+//! [`Store::compact_once`] takes a whole turn, and says by a [`Turn`] what came of it. An `Err(AllocError)` or `Memory` comes only
+//! if an allocation fails or too many own what is shared.
+//!
+//! Read `specs/Claims.antt`, `specs/Installing.antt` and `specs/Turns.antt` first, then `opening.rt`, `taken.rt`, `held.rt`,
+//! `store.rt`, `installing.rt` and `turn.rt`.
 //!
 //! Below that stands the history. A [`Front`] is a beginning of it that somebody has seen, a `Book` the history with the right
 //! to add to it, and a [`Name`] says which store it is. What is shown to readers is a version with the history that leads to it
@@ -38,6 +41,8 @@ mod share;
 mod shown;
 mod store;
 mod taken;
+mod turn;
+mod turn_gate;
 mod words;
 
 pub use first_readers::MOST_READERS;
@@ -52,5 +57,7 @@ pub use opening::{MOST_SEATS, Opening};
 pub use pin::Pin;
 pub use reader::Reader;
 pub use store::Store;
+pub use turn::Turn;
+pub use turn_gate::{TurnGate, Ungated};
 pub use uc_claims::Seat;
 pub use uc_version::{ClaimError, InstallError, OpenError, Options, Stretch, Version};

@@ -28,7 +28,7 @@ use uc_version_open::no_refusal_is_leave_to_open;
 /// The most seats of a store.
 pub const MOST_SEATS: usize = 64;
 
-/// Whether a store opens for so many readers and seats.
+/// Whether a store opens for `readers` readers, from 1 to [`MOST_READERS`], and `seats` seats, up to [`MOST_SEATS`].
 fn are_counts(readers: usize, seats: usize) -> bool
     ensures { result ≡ stores.are_counts readers seats }
 {
@@ -66,7 +66,8 @@ impl<O: Operator> Model for Opening<O> {
     } };
 
     ghost invariant = { λ o. All (λ seat. seat.table ≡ o.words) o.seats.items
-        × (are_counts o.readers (length o.seats.items) ≡ true) × (are_good o.options ≡ true) };
+        × (are_counts o.readers (length o.seats.items) ≡ true) × (are_good o.options ≡ true)
+        × (length o.seats.items ≡ 1 → All (λ seat. seat.whole ≡ true) o.seats.items) };
 }
 
 impl<O: Operator> Opening<O> {
@@ -113,7 +114,7 @@ impl<O: Operator> Opening<O> {
     /// A store of these writes, which keeps these sequences and the last one, for 1 to [`MOST_READERS`] readers and up to
     /// [`MOST_SEATS`] seats. It begins with the version that one owner's store would (`uc_version::open_plain`), and its history
     /// with that opening. It is refused for the first of these: a number of readers or seats out of its range, an option out of
-    /// its range, a sequence above the last one, more runs than slots; and for want of memory.
+    /// its range, a sequence above the last one, more runs than slots, want of memory.
     pub fn open(
         alloc: Global,
         writes: &Writes,
@@ -152,7 +153,8 @@ impl<O: Operator> Opening<O> {
         &self.version
     }
 
-    /// The store under its name, with its readers, which have seen the opening, and its seats. Want of memory hands the opening
+    /// The store under its name, with its readers, which have seen the opening, and its seats. One seat alone is whole: what it asks
+    /// of slots is exact, since nobody else takes any. Want of memory hands the opening
     /// back, which then wants another name. The store keeps the handle, since what shows readers the next version waits for them
     /// also when it is dropped.
     pub fn named<N: Name, W: Wait + Drop>(
@@ -165,6 +167,7 @@ impl<O: Operator> Opening<O> {
         ensures readers { IfOk result (λ named. named.1.items ≡ replicate self.readers []) }
         ensures seats { IfOk result (λ named.
             (length named.2.items ≡ self.seats) × All (λ seat. seat.table ≡ named.0.table) named.2.items) }
+        ensures alone { self.seats ≡ 1 → IfOk result (λ named. All (λ seat. seat.whole ≡ true) named.2.items) }
         ensures back { IfErr result (λ refused. refused.0 ≡ record self { book = refused.0.book }) }
     {
         let Opening {

@@ -65,7 +65,7 @@ fn next_shares<O: Operator>(
 }
 
 impl<O: Operator, N: Name, W: Wait + Drop> Publisher<O, N, W> {
-    /// Shows the version that a store is opened with, to so many readers. It queues an entry that is shown again, so that the
+    /// Shows the version that a store is opened with, to `readers` readers. It queues an entry that is shown again, so that the
     /// queue has room for each later publication.
     pub(crate) fn new(
         alloc: Global,
@@ -91,7 +91,7 @@ impl<O: Operator, N: Name, W: Wait + Drop> Publisher<O, N, W> {
         Ok(Publisher { writer, book, rt })
     }
 
-    /// A reader that has seen the opening, with this number. It is refused where as many as there may be are there already.
+    /// A reader that has seen the opening, with this number. It is refused if as many as there may be are there already.
     pub(crate) fn reader(&self, front: Front<N>, number: usize) -> Result<Reader<O, N>, AllocError>
         requires { front ≡ [] }
         ensures { IfOk result (λ reader. reader ≡ []) }
@@ -172,7 +172,7 @@ fn queued<O: Operator, N: Name, W: Wait>(
     unreachable!()
 }
 
-/// Shows readers what comes next, in place of what they were shown. It copies what comes next, which is refused only where too
+/// Shows readers what comes next, in place of what they were shown. It copies what comes next, which is refused only if too
 /// many own it: then it is tried again, since the history has the event.
 fn show<O: Operator, N: Name, W: Wait>(
     rt: &W,

@@ -88,7 +88,7 @@ impl<O: Operator, N: Name> Reader<O, N> {
     }
 
     /// Pins what is shown now: the version after a history that begins with all that this reader had seen. It waits for
-    /// nobody. It is refused where too many own the version, and the reader has seen no more then.
+    /// nobody. It is refused if too many own the version, and the reader has seen no more then.
     pub fn pin(&mut self) -> Result<Pin<O, N>, AllocError>
         ensures seen { IsPrefix self.old self.new }
         ensures legal { MayFollow O.meaning N.base self.new }
@@ -108,8 +108,8 @@ impl<O: Operator, N: Name> Reader<O, N> {
         Ok(pin)
     }
 
-    /// Pins until it has seen what is shown, of which a front is given. Nothing else is shown meanwhile where the caller has
-    /// what shows it, so that the first turn is the last; a refused pin is tried again.
+    /// Pins until it has seen `shown`, the front of what is shown. Nothing else is shown meanwhile if the caller has what shows
+    /// it, so that the first turn is the last; a refused pin is tried again.
     pub fn sees(&mut self, rt: &impl Wait, shown: &Front<N>)
         ensures seen { IsPrefix self.old self.new }
         ensures legal { MayFollow O.meaning N.base self.new }

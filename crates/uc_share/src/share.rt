@@ -36,7 +36,7 @@ impl Share {
         })
     }
 
-    /// The same share once more. It fails only where too many hold it.
+    /// The same share once more. It fails only if too many hold it.
     pub(crate) fn again(&self) -> Result<Share, AllocError>
         ensures { IfOk result (λ share. share ≡ self.now) }
     {
@@ -73,7 +73,7 @@ impl Model for Shares {
 }
 
 impl Shares {
-    /// A version, with a share for each of so many readers.
+    /// A version, with a share for each of `readers` readers.
     pub(crate) fn new(
         alloc: Global,
         version: Arc<Version>,

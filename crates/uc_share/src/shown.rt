@@ -50,7 +50,7 @@ impl Shown {
         }
     }
 
-    /// A copy, which has the same shares. It fails only where too many hold them.
+    /// A copy, which has the same shares. It fails only if too many hold them.
     pub(crate) fn again(&self) -> Result<Shown, AllocError>
         ensures { IfOk result (λ copy. copy ≡ self.now) }
     {
@@ -66,7 +66,7 @@ impl Shown {
         self.shares.readers()
     }
 
-    /// What the reader with this number holds on to. It fails only where its pins of this version are too many.
+    /// What the reader with this number holds on to. It fails only if its pins of this version are too many.
     pub(crate) fn pin<O: Operator, N: Name>(&self, number: usize) -> Result<Pin<O, N>, AllocError>
         requires { IsMoment O.meaning N.book N.base self.now }
         ensures { IfOk result (λ pin. pin ≡ self.now) }

@@ -1,18 +1,17 @@
 //! [`Store`]: a store that threads share.
-ghost use Rattle.std.specs.Prelude.{◌≡◌, ◌<◌, ℕ, Bool, List, None, false, true, fold, length, slice_index_or};
+ghost use Rattle.std.specs.Prelude.{◌≡◌, ◌<◌, [], None, false, true, fold, length};
 ghost use Rattle.std.specs.Prelude.{IfOk, IfErr, IfSome, OnOk, OnErr};
 ghost use mathlib.Core.List.{IsPrefix};
 ghost use Rattle.uc_claims.specs.Holding.{free_seat};
 ghost use Rattle.uc_claims.specs.declared.table.TheConstants.{MOST_SLOTS};
-ghost use Rattle.uc_version_state.specs.Picks.{picked};
 ghost use Rattle.uc_version_state.specs.Options.{are_good};
 ghost use Rattle.uc_version_state.specs.Versions.{ids_of};
 ghost use Rattle.uc_version_state.specs.Refusals.{AreInPlace};
 ghost use Rattle.uc_version_state.specs.Histories.{MayFollow, after};
 ghost use Rattle.uc_version.specs.Claiming.{range_refusal};
-ghost use Rattle.uc_version.specs.Picking.{candidates_of};
 ghost use Rattle.uc_version.specs.declared.claim_error.ClaimError.TheVariants.{Memory};
 ghost use Rattle.uc_share.specs.Fronts.{moment};
+ghost use Rattle.uc_share.specs.Picking.{AreFlags, IsPick};
 ghost use Rattle.uc_share.specs.Claims as claims;
 ghost use Rattle.uc_share.specs.Claims.{claim_of, claimed_runs, IsClaimRefused};
 ghost use Rattle.uc_share.specs.Installing.{event_of, EndsWith, ShowsRefusal};
@@ -86,7 +85,8 @@ impl<O: Operator, N: Name, W: Wait + Drop> Store<O, N, W> {
     /// A flag for each slot: whether it is taken, each at a moment during the call.
     fn busy_slots(&self, seat: &mut Seat) -> [bool; MOST_SLOTS]
         requires { seat.old.table ≡ self.now.table }
-        ensures { seat.new ≡ seat.old }
+        ensures seat { seat.new ≡ seat.old }
+        ensures whole { AreFlags seat.old.whole result }
     {
         let mut busy = [false; MOST_SLOTS];
         for slot in 0..MOST_SLOTS {
@@ -95,13 +95,12 @@ impl<O: Operator, N: Name, W: Wait + Drop> Store<O, N, W> {
         busy
     }
 
-    /// Which stretch of a pinned version is compacted next, where the slots that are found taken are claimed already. It waits
-    /// for nobody.
+    /// Which stretch of a pinned version is compacted next, if the runs whose slots it finds taken are claimed already. A whole
+    /// seat finds none taken. It waits for nobody.
     pub fn pick(&self, pin: &Pin<O, N>, seat: &mut Seat) -> Option<Stretch>
         requires { seat.old.table ≡ self.now.table }
         ensures seat { seat.new ≡ seat.old }
-        ensures picked { (flags : List Bool) × (result ≡
-            picked self.now.options (candidates_of pin.now.version (λ slot. slice_index_or flags slot false))) }
+        ensures picked { IsPick self.now.options seat.old.whole pin.now.version result }
         ensures claimable { IfSome result (λ stretch. range_refusal (length pin.now.version.runs) stretch ≡ None) }
     {
         picks_are_unclaimed_runs();
@@ -135,7 +134,8 @@ impl<O: Operator, N: Name, W: Wait + Drop> Store<O, N, W> {
             AreInPlace (fold after N.base reader.new) (ids_of (claimed_runs held))) }
         ensures err { IfErr result (λ refused. (refused.0 ≡ seat) × (refused.1 ≡ pin)) }
         ensures refused { IfErr result (λ refused.
-            IsClaimRefused pin stretch (fold after N.base reader.new) refused.2) }
+            IsClaimRefused seat pin stretch (fold after N.base reader.new) refused.2) }
+        ensures was_empty { OnOk result (seat.slots ≡ []) }
         ensures unseen { IfErr result (λ refused. refused.2 ≡ Memory → reader.new ≡ reader.old) }
     {
         reader.recall();
@@ -154,7 +154,7 @@ impl<O: Operator, N: Name, W: Wait + Drop> Store<O, N, W> {
     }
 
     /// Pins what is shown now: the version after a history that begins with all that this reader had seen. It waits for nobody.
-    /// It is refused where too many own the version, and the reader has seen no more then.
+    /// It is refused if too many own the version, and the reader has seen no more then.
     pub fn pin(&self, reader: &mut Reader<O, N>) -> Result<Pin<O, N>, AllocError>
         ensures seen { IsPrefix reader.old reader.new }
         ensures legal { MayFollow O.meaning N.base reader.new }
@@ -166,7 +166,7 @@ impl<O: Operator, N: Name, W: Wait + Drop> Store<O, N, W> {
     }
 
     /// Puts what was compacted of the claimed runs in their place, for all readers at once, and shows it to this one. Of several
-    /// refusals the first of these is answered: `WrongInputs`, `WrongKeeps`, `Stale`, `IdsSpent`; and `Memory` only where none of
+    /// refusals the first of these is answered: `WrongInputs`, `WrongKeeps`, `Stale`, `IdsSpent`; and `Memory` only if none of
     /// these holds. The inputs' points are compared before the lock is taken, and none behind it. It waits for other installs,
     /// and for readers that still look at the version before.
     pub fn install(

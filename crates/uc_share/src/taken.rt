@@ -1,5 +1,5 @@
 //! [`Taken`]: the slots of a stretch, before anybody has looked whether its runs still stand.
-ghost use Rattle.std.specs.Prelude.{◌≡◌, ◌≤◌, IfOk, IfErr, length};
+ghost use Rattle.std.specs.Prelude.{◌≡◌, ◌≤◌, [], IfOk, IfErr, OnOk, length};
 ghost use Rattle.uc_claims.specs.Holding.{free_seat};
 ghost use Rattle.uc_claims.specs.declared.table.TheConstants.{MOST_SLOTS};
 ghost use Rattle.uc_version_state.specs.Versions.{Stored};
@@ -43,7 +43,8 @@ impl<O: Operator, N: Name> Taken<O, N> {
         requires { seat.table ≡ words.now }
         ensures ok { IfOk result (λ taken. taken ≡ claim_of seat pin stretch) }
         ensures err { IfErr result (λ refused. (refused.0 ≡ seat) × (refused.1 ≡ pin)) }
-        ensures refused { IfErr result (λ refused. (v : Stored) → IsClaimRefused pin stretch v refused.2) }
+        ensures refused { IfErr result (λ refused. (v : Stored) → IsClaimRefused seat pin stretch v refused.2) }
+        ensures was_empty { OnOk result (seat.slots ≡ []) }
     {
         pin.version().recall();
         let runs = match runs_of(pin.version().runs(), stretch) {

@@ -1,5 +1,5 @@
 //! [`Words`]: the claim words of a store.
-ghost use Rattle.std.specs.Prelude.{◌≡◌, ◌<◌, ◌≤◌, All, Contains, IfOk, IfErr, length, true, false};
+ghost use Rattle.std.specs.Prelude.{◌≡◌, ◌<◌, ◌≤◌, All, Contains, IfOk, IfErr, IsOk, [], length, true, false};
 ghost use Rattle.std.specs.List.{AllByRecursion};
 ghost use Rattle.uc_claims.specs.Holding.{free_seat, AreDistinct};
 ghost use Rattle.uc_claims.specs.declared.table.TheConstants.{MOST_SLOTS};
@@ -29,32 +29,38 @@ impl Model for Words {
     ghost invariant = { λ w. w.table.count ≡ MOST_SLOTS };
 }
 
-/// So many seats of one table: none, or the seat that it came with, split.
+/// `count` seats of one table. One seat alone is the whole one that the table came with, and several are split off it.
 fn split_seats(
     alloc: Global,
     table: &ClaimTable,
     seat: Seat,
     count: usize,
 ) -> Result<Vec<Seat>, AllocError>
-    requires { seat.table ≡ table.now.table }
-    ensures { IfOk result (λ seats.
+    requires { seat ≡ free_seat table.now.table true }
+    ensures seats { IfOk result (λ seats.
         (length seats.items ≡ count) × All (λ seat. seat.table ≡ table.now.table) seats.items) }
+    ensures alone { count ≡ 1 → IfOk result (λ seats. All (λ seat. seat.whole ≡ true) seats.items) }
 {
     let mut seats = Vec::with_capacity(alloc, count)?;
+    if count == 0 {
+        return Ok(seats);
+    }
     let mut rest = seat;
-    for _ in 0..count {
+    for _ in 1..count {
         let (one, other) = table.split(rest);
         seats.push(one)?;
         rest = other;
     }
+    seats.push(rest)?;
     Ok(seats)
 }
 
 impl Words {
-    /// Free words for all slots, and so many seats.
+    /// Free words for all slots, and `seats` seats. One seat alone is whole.
     pub(crate) fn new(alloc: Global, seats: usize) -> Result<(Words, Vec<Seat>), AllocError>
-        ensures { IfOk result (λ made.
+        ensures seats { IfOk result (λ made.
             (length made.1.items ≡ seats) × All (λ seat. seat.table ≡ made.0) made.1.items) }
+        ensures alone { seats ≡ 1 → IfOk result (λ made. All (λ seat. seat.whole ≡ true) made.1.items) }
     {
         let (table, seat) = ClaimTable::new(alloc, MOST_SLOTS)?;
         let seats = split_seats(alloc, &table, seat, seats)?;
@@ -71,7 +77,8 @@ impl Words {
         self.table.busy(seat, slot)
     }
 
-    /// Takes the slots of runs, the newest first, or none of them where one is taken, which is named.
+    /// Takes the slots of runs, the newest first, or none of them if one is taken, which is named. A whole seat
+    /// takes what it asks for.
     pub(crate) fn take(&self, seat: Seat, runs: &[Placed]) -> Result<HeldSlots, (Seat, Busy)>
         requires table { seat.table ≡ self.now }
         requires few { length runs.now ≤ MOST_SLOTS }
@@ -80,6 +87,8 @@ impl Words {
         ensures ok { IfOk result (λ held. held ≡ record seat { slots = versions.slots_of runs.now }) }
         ensures err { IfErr result (λ refused.
             (refused.0 ≡ seat) × Contains (versions.slots_of runs.now) refused.1.0) }
+        ensures was_empty { seat.slots ≡ [] }
+        ensures whole { seat.whole ≡ true → IsOk result }
     {
         let slots = slots_of(runs);
         self.table.take(seat, &slots[..runs.len()])

@@ -8,7 +8,7 @@ use std::sync::Wait;
 use std::test::Fail;
 use std::thread::Threads;
 use uc_oper::Operator;
-use uc_share::{Name, Opening, Reader, Seat, Store};
+use uc_share::{Name, Opening, Reader, Store, Turn};
 use uc_tests_compactors::worker::{Pair, Worker, next_pair};
 
 /// A store, two compactors, and its other readers.
@@ -28,36 +28,6 @@ pub(crate) fn opened<O: Operator, N: Name, W: Wait + Drop>(
     Ok((store, readers, pair))
 }
 
-/// Picks, claims, compacts and installs once. The seat comes back, with whether something was installed.
-fn compacts_once<O: Operator + Sync, N: Name, W: Wait + Drop>(
-    rt: &(impl Threads + Wait + Sync),
-    alloc: Global,
-    store: &Store<O, N, W>,
-    mut seat: Seat,
-    reader: &mut Reader<O, N>,
-) -> (Seat, bool)
-    requires { seat.table ≡ store.now.table }
-    ensures { result.0.table ≡ store.now.table }
-{
-    let Ok(pin) = store.pin(reader) else {
-        return (seat, false);
-    };
-    let Some(stretch) = store.pick(&pin, &mut seat) else {
-        return (seat, false);
-    };
-    let held = match store.claim(seat, pin, reader, stretch) {
-        Err((seat, _pin, _error)) => return (seat, false),
-        Ok(held) => held,
-    };
-    let Ok(made) = held.compact(rt, alloc) else {
-        return (store.abandon(held).0, false);
-    };
-    match store.install(rt, alloc, held, made, reader) {
-        Ok(seat) => (seat, true),
-        Err((held, _made, _error)) => (store.abandon(held).0, false),
-    }
-}
-
 /// Compacts until nothing is picked. The seat is given back, with how many compactions were installed.
 pub(crate) fn compacts<O: Operator + Sync, N: Name, W: Wait + Drop>(
     rt: &(impl Threads + Wait + Sync),
@@ -70,9 +40,9 @@ pub(crate) fn compacts<O: Operator + Sync, N: Name, W: Wait + Drop>(
 {
     let (mut reader, mut seat) = compactor;
     for installs in 0..16 {
-        let (free, done) = compacts_once(rt, alloc, store, seat, &mut reader);
+        let (free, came) = store.compact_once(rt, alloc, seat, &mut reader);
         seat = free;
-        if !done {
+        if came != Ok(Turn::Installed) {
             return ((reader, seat), installs);
         }
     }

@@ -1,5 +1,5 @@
 //! Two compactors beside one who asks, for 200 turns each: no install is refused, and all answers are those of the plain writes.
-ghost use Rattle.std.specs.Prelude.{◌≡◌, IfSome, All};
+ghost use Rattle.std.specs.Prelude.{◌≡◌, All};
 ghost use Rattle.uc_share.specs.Stores.{IsNamed};
 
 use crate::soak::pins_alike;
@@ -13,9 +13,8 @@ use uc_batch::Writes;
 use uc_bytes::{Bytes, OpRef, WriteRef};
 use uc_oper::{Append, Operator};
 use uc_query_read::{Answer, Query, answer_writes};
-use uc_share::{Name, Opening, Options, Reader, Seat, Store};
+use uc_share::{Name, Opening, Options, Reader, Seat, Store, Turn};
 use uc_tests_compactors::drawn::small_runs;
-use uc_tests_compactors::steps::installed;
 use uc_tests_compactors::turns::shows_installs;
 use uc_tests_compactors::worker::{Worker, next_pair};
 
@@ -34,29 +33,8 @@ fn pairs_of_runs() -> Options {
     }
 }
 
-/// A turn of a compactor: it pins a version, and claims, compacts and installs what is picked of it. How many installs it made;
-/// none at all is said where one was refused, which happens to nobody who claims first.
-fn turn<O: Operator + Sync, N: Name, W: Wait + Drop>(
-    rt: &(impl Threads + Wait + Sync),
-    alloc: Global,
-    store: &Store<O, N, W>,
-    mut seat: Seat,
-    reader: &mut Reader<O, N>,
-) -> Option<(Seat, u64)>
-    requires { seat.table ≡ store.now.table }
-    ensures { IfSome result (λ done. done.0.table ≡ store.now.table) }
-{
-    let pin = store.pin(reader).ok()?;
-    let Some(stretch) = store.pick(&pin, &mut seat) else {
-        return Some((seat, 0));
-    };
-    match store.claim(seat, pin, reader, stretch) {
-        Err((seat, _pin, _error)) => Some((seat, 0)),
-        Ok(held) => Some((installed(rt, alloc, store, held, reader)?, 1)),
-    }
-}
-
-/// The turns of a compactor. How many installs it made.
+/// The turns of a compactor. How many compactions it installed; none at all is said if one was refused, which happens to nobody
+/// who claims first.
 fn compacts<O: Operator + Sync, N: Name, W: Wait + Drop>(
     rt: &(impl Threads + Wait + Sync),
     alloc: Global,
@@ -68,9 +46,11 @@ fn compacts<O: Operator + Sync, N: Name, W: Wait + Drop>(
     let (mut reader, mut seat) = worker;
     let mut installs = 0_u64;
     for _ in 0..TURNS {
-        let (back, made) = turn(rt, alloc, store, seat, &mut reader)?;
+        let (back, came) = store.compact_once(rt, alloc, seat, &mut reader);
         seat = back;
-        installs = installs.saturating_add(made);
+        if came.ok()? == Turn::Installed {
+            installs = installs.saturating_add(1);
+        }
     }
     Some(installs)
 }

@@ -11,7 +11,7 @@ use std::test::Fail;
 use std::thread::Threads;
 use uc_bytes::OpRef;
 use uc_oper::Append;
-use uc_tool_ask::{CrewGate, ask_through, is_plan};
+use uc_tool_ask::{TurnGate, ask_through, is_plan};
 use uc_tool_io::Done;
 use uc_tool_play::report_log;
 use uc_version_state::Options;
@@ -155,7 +155,7 @@ fn crews_install_all_that_is_due(rt: HostRuntime) -> Result<(), Fail> {
 }
 
 /// How one worker ends beside so many compactors that pass a gate, and how many compactions they install, where that is a plan.
-fn run_through<G: CrewGate, W: Write>(
+fn run_through<G: TurnGate, W: Write>(
     rt: &(impl Threads + Wait + Sync),
     alloc: Global,
     input: &[u8],
@@ -181,7 +181,7 @@ fn run_through<G: CrewGate, W: Write>(
 }
 
 /// Whether two compactors that pass a gate install all that is due, and what was asked is answered beside them.
-fn two_pass<G: CrewGate>(
+fn two_pass<G: TurnGate>(
     rt: &(impl Threads + Wait + Sync),
     alloc: Global,
     gate: &G,
@@ -199,7 +199,7 @@ struct PickTwice {
     picks: Count,
 }
 
-impl CrewGate for PickTwice {
+impl TurnGate for PickTwice {
     fn picked(&self) {
         let _ = self.picks.raise();
         self.picks.wait_for(2);
@@ -228,7 +228,7 @@ struct PickFirst {
     picks: Count,
 }
 
-impl CrewGate for PickFirst {
+impl TurnGate for PickFirst {
     fn picked(&self) {
         match self.picks.raise() {
             1 => self.picks.wait_for(3),
@@ -273,7 +273,7 @@ impl Meeting {
     }
 }
 
-impl CrewGate for Meeting {
+impl TurnGate for Meeting {
     fn picked(&self) {}
 
     fn claimed(&self) {

@@ -19,7 +19,6 @@ ghost use Rattle.uc_tool_ask.specs.Plans.{IsPlan};
 
 use crate::answering::print_answers;
 use crate::compacting::{Compactor, all_installs};
-use crate::gate::{CrewGate, Ungated};
 use crate::plan::Plan;
 use std::alloc::{AllocError, Global};
 use std::io::{Read, Write};
@@ -29,7 +28,7 @@ use std::thread::{Threads, join_mut};
 use uc_batch::Ended;
 use uc_oper::Operator;
 use uc_script::{Head, ScriptError, Source, read_head};
-use uc_share::{Name, Opening, Options, Reader, Seat, Store};
+use uc_share::{Name, Opening, Options, Reader, Seat, Store, TurnGate as CrewGate, Ungated};
 use uc_tool_io::{
     Done, RunError, finish, finish_without_input, numbered_line, print_refusal, read_input,
 };

@@ -1,15 +1,14 @@
 //! [`Compactor`]: a thread that compacts what is picked, as long as anything is.
 ghost use denote.Param.Send.{IsSync, IsSend};
-ghost use Rattle.std.specs.Prelude.{◌≡◌, All, IfSome};
+ghost use Rattle.std.specs.Prelude.{◌≡◌, All};
 
-use crate::gate::CrewGate;
 use std::alloc::Global;
 use std::marker::{Send, Sync};
 use std::mem;
 use std::sync::Wait;
 use std::thread::{Threads, map_vec};
 use uc_oper::Operator;
-use uc_share::{ClaimError, Held, Name, Reader, Seat, Store};
+use uc_share::{Name, Reader, Seat, Store, Turn, TurnGate};
 
 /// How many turns a compactor has at the most.
 const TURNS: usize = 256;
@@ -21,59 +20,9 @@ pub(crate) struct Compactor<O: Operator, N: Name> {
     pub(crate) reader: Reader<O, N>,
 }
 
-/// Compacts what is claimed and installs what comes of it. Want of memory gives the claim back.
-fn installed<O: Operator + Sync, N: Name, W: Wait + Drop>(
-    rt: &(impl Threads + Wait + Sync),
-    alloc: Global,
-    store: &Store<O, N, W>,
-    held: Held<O, N>,
-    reader: &mut Reader<O, N>,
-) -> Option<Seat>
-    requires { held.seat.table ≡ store.now.table }
-    ensures { IfSome result (λ seat. seat.table ≡ store.now.table) }
-{
-    let Ok(made) = held.compact(rt, alloc) else {
-        store.abandon(held);
-        return None;
-    };
-    match store.install(rt, alloc, held, made, reader) {
-        Ok(seat) => Some(seat),
-        Err((held, _made, _error)) => {
-            store.abandon(held);
-            None
-        }
-    }
-}
-
-/// A turn of a compactor: what is picked is claimed, compacted and installed, and the gate is called in between. The seat comes
-/// back with how many installs that was, which is none where another compactor was faster. `None` where nothing is picked or
-/// memory ran out.
-fn turn<O: Operator + Sync, N: Name, W: Wait + Drop, G: CrewGate>(
-    rt: &(impl Threads + Wait + Sync),
-    alloc: Global,
-    store: &Store<O, N, W>,
-    gate: &G,
-    mut seat: Seat,
-    reader: &mut Reader<O, N>,
-) -> Option<(Seat, u64)>
-    requires { seat.table ≡ store.now.table }
-    ensures { IfSome result (λ done. done.0.table ≡ store.now.table) }
-{
-    let pin = store.pin(reader).ok()?;
-    let stretch = store.pick(&pin, &mut seat)?;
-    gate.picked();
-    match store.claim(seat, pin, reader, stretch) {
-        Ok(held) => {
-            gate.claimed();
-            Some((installed(rt, alloc, store, held, reader)?, 1))
-        }
-        Err((_seat, _pin, ClaimError::Memory)) => None,
-        Err((seat, _pin, _error)) => Some((seat, 0)),
-    }
-}
-
-/// How many installs a compactor makes: it takes turns until nothing is picked, memory runs out, or its turns are over.
-fn installs_of<O: Operator + Sync, N: Name, W: Wait + Drop, G: CrewGate>(
+/// How many compactions a compactor installs: it takes turns until nothing is picked, a compaction isn't installed, or its turns
+/// are over.
+fn installs_of<O: Operator + Sync, N: Name, W: Wait + Drop, G: TurnGate>(
     rt: &(impl Threads + Wait + Sync),
     alloc: Global,
     store: &Store<O, N, W>,
@@ -88,19 +37,19 @@ fn installs_of<O: Operator + Sync, N: Name, W: Wait + Drop, G: CrewGate>(
     } = compactor;
     let mut installs = 0_u64;
     for _ in 0..TURNS {
-        match turn(rt, alloc, store, gate, seat, &mut reader) {
-            None => return installs,
-            Some((back, made)) => {
-                seat = back;
-                installs = installs.saturating_add(made);
-            }
+        let (back, came) = store.compact_once_through(rt, alloc, seat, &mut reader, gate);
+        seat = back;
+        match came {
+            Ok(Turn::Installed) => installs = installs.saturating_add(1),
+            Ok(Turn::Late(_)) => {}
+            Ok(Turn::Idle) | Err(_) => return installs,
         }
     }
     installs
 }
 
-/// How many installs a crew of compactors makes, each in a thread of its own where one can be made, and else after another. All
-/// have ended then, and the crew is empty. No install is counted where the list of numbers has no memory.
+/// How many compactions a crew of compactors installs, each in a thread of its own if one can be made, and else after another. All
+/// have ended then, and the crew is empty. None is counted if the list of numbers has no memory.
 pub(crate) fn all_installs<O, N, W, G, R>(
     rt: &R,
     alloc: Global,
@@ -112,7 +61,7 @@ where
     O: Operator + Send + Sync,
     N: Name + Send + Sync,
     W: Wait + Drop + Send,
-    G: CrewGate,
+    G: TurnGate,
     R: Threads + Wait + Sync,
     requires { All (λ x. x.seat.table ≡ store.now.table) crew.old.items }
 {

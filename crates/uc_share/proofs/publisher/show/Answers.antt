@@ -1,4 +1,4 @@
-use Rattle.std.proofs.Common.{rules, ◌≡◌, ◌≤◌, ◌++◌, ◌∷◌, [], List, drop, fold, length, sym, ap, ◌∙◌, subst}
+use Rattle.std.proofs.Common.{◌≡◌, ◌≤◌, List, drop, fold, length, sym, ap, ◌∙◌, subst}
 use Rattle.uc_share.specs.Fronts.{Moment, IsMoment}
 use Rattle.uc_share.proofs.Showing.{rises, last_taken, ok_shows}
 use Rattle.uc_share.proofs.publisher.show.Goals as goal

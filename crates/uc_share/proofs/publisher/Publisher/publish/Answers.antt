@@ -1,8 +1,6 @@
-use Rattle.std.proofs.Common.{rules, ◌≡◌, ◌++◌, ◌∷◌, [], List, sym, ap, ◌∙◌, subst}
+use Rattle.std.proofs.Common.{rules, ◌≡◌, ◌++◌, ◌∷◌, [], sym, ap, ◌∙◌, subst}
 use Rattle.logbook.specs.Pages.{Book}
-use Rattle.uc_version_state.specs.Versions.{Stored}
 use Rattle.uc_version_state.specs.Histories.{MayHappen, after}
-use Rattle.uc_version_state.specs.declared.event.Event.{Event}
 use Rattle.uc_share.specs.Fronts.{Moment, IsMoment, moment, after_event}
 use Rattle.uc_share.proofs.Showing.{grows}
 use Rattle.uc_share.proofs.publisher.Publisher.publish.Goals as goal

@@ -10,6 +10,7 @@ use Rattle.uc_share.proofs.store.Store.pick.Goals as goal
 pub returns-clause-picked : goal.returns-clause-picked
 returns-clause-picked g c = (
   c.busy_slots-busy.result,
+  c.busy_slots-busy.ensures.whole,
   c.pick.ensures
       ∙ (ap (λ (v : Stored). picked c.self.inside.options (candidates_of v (λ slot. slice_index_or c.busy_slots-busy.result slot false))) c.version.ensures
       ∙ ap (λ (s : Shared). picked s.options (candidates_of c.args.pin.now.version (λ slot. slice_index_or c.busy_slots-busy.result slot false))) c.self.view_is),

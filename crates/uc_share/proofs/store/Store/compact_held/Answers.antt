@@ -1,0 +1,10 @@
+use Rattle.std.proofs.Common.{subst}
+use Rattle.uc_compact_rules.specs.Inputs.{Compaction}
+use Rattle.uc_share.specs.Claims.{claimed_runs}
+use Rattle.uc_share.specs.Installing.{EndsWith, event_of}
+use Rattle.uc_share.proofs.store.Store.compact_held.Goals as goal
+
+pub returns-in-Ok-install-clause-installed : goal.returns-in-Ok-install-clause-installed
+returns-in-Ok-install-clause-installed g c =
+    subst (λ (made : Compaction). EndsWith c.args.reader.now (event_of g.O.Operator.meaning (claimed_runs c.args.held) made) c.install.new.reader)
+    c.in-Ok.ensures c.in-Ok-install.ensures.installed
