@@ -144,12 +144,48 @@ measure() { # PART [TIMES]
     done
 }
 
-# Keeps the least time of a row, whose name begins with its program. What has one row of deleted keys is like a compacted store.
+# Keeps the least time of a row, whose name begins with its program, and those of its batches. A program that has one row in a part
+# stands beside our compacted store.
 keep_row() { # PART NAME
-    local time row=
-    if [[ $2 == *_* ]]; then row=${2#*_}; elif [[ $1 == deleted || $1 == ranged ]]; then row=compacted; fi
-    read -r time _ < "$folder/least.$2"
-    keep_ms "$1" "${row//_/ }" "${2%%_*}" "$time"
+    local program=${2%%_*} row= sum times
+    case $1 in
+        hot) row=memtable_1_MiB_trigger_4 ;;
+        deleted | ranged) row=compacted ;;
+    esac
+    if [[ $2 == *_* ]]; then row=${2#*_}; fi
+    row=${row//_/ }
+    read -r sum _ _ _ _ times < "$folder/least.$2"
+    read -ra times <<< "$times"
+    keep_ms "$1" "$row" "$program" "$sum"
+    case $1 in
+        answers | uncompacted)
+            keep_ms "$1, lookups" "$row" "$program" "${times[0]}"
+            keep_ms "$1, scans" "$row" "$program" "${times[1]}"
+            ;;
+        deleted | ranged)
+            keep_ms "$1" "$row, 5,000 rows" "$program" "${times[0]}"
+            keep_ms "$1" "$row, 10,000 rows" "$program" "${times[1]}"
+            keep_ms "$1" "$row, 20,000 rows" "$program" "${times[2]}"
+            ;;
+    esac
+}
+
+# Keeps our time by four workers beside that by one: the least of all turns, and the median.
+keep_four() {
+    local one=ours_pieces_of_16_workers_1 four=ours_pieces_of_16_workers_4
+    if [ ! -f "$folder/least.$four" ]; then return; fi
+    keep_ms 'four workers' '' ours "$(cut -d ' ' -f 1 "$folder/least.$four")"
+    keep_ms 'four workers' '' 'one worker' "$(cut -d ' ' -f 1 "$folder/least.$one")"
+    keep_ms 'four workers, medians' '' ours "$(< "$folder/median.$four")"
+    keep_ms 'four workers, medians' '' 'one worker' "$(< "$folder/median.$one")"
+}
+
+set_goals() {
+    goal answers '*' BTreeMap ms 'at most' 1.2
+    goal answers '*' RocksDB ms 'at most' 0.66
+    goal uncompacted '*' RocksDB ms 'at most' 1.0
+    goal 'four workers' '*' 'one worker' ms 'at least' 3.2
+    goal 'four workers, medians' '*' 'one worker' ms 'at least' 3.2
 }
 
 # Prints a row for each name: its runs and points, and what awk says of it. `sum` is its least time, `time[1]` and on are
@@ -222,6 +258,7 @@ workers() {
         plan "BTreeMap_pieces_of_16_workers_$workers" baseline answers --one-batch --threads "$workers"
     done
     measure workers $((3 * turns))
+    keep_four
     heading 'ms' 'faster' 'median ms' 'faster'
     print_rows 'one = name; sub(/[0-9]+$/, "1", one)
         said = ms(sum) cell("%.2f", sums[one] / sum) ms(median) cell("%.2f", medians[one] / median)'
@@ -311,4 +348,5 @@ if [ -n "$has_lmdb" ]; then echo "LMDB $(dpkg-query -W -f '${Version}' liblmdb-d
 echo
 for part; do "$part"; done
 say_machine
-write_results answers
+set_goals
+write_results_beside answers

@@ -131,14 +131,19 @@ keep_all() {
         esac
         for row in $rows; do keep_run ask "$row compactors" "$name" "$time" "$memory"; done
     done
+    goal ask '*' RocksDB s 'at most' 0.25
+    goal ask '*' RocksDB MiB 'at most' 1.6
 }
 
 hostile() {
+    local time memory
     yes 'get . 0' | head -c 67108856 > "$folder/input"
     echo log >> "$folder/input"
     rm "$folder/figures.compactors0"
     run_once compactors0 "$folder/input"
     awk '{ printf "64 MiB of lookups over an empty log: %.2f seconds, %.1f MiB\n", $1 / 1e6, $2 / 1024 }' "$folder/figures.compactors0"
+    read -r time memory < "$folder/figures.compactors0"
+    keep_run 'lookups over an empty log' '64 MiB' ours "$time" "$memory"
 }
 
 build_all
@@ -149,5 +154,5 @@ measure
 least > "$folder/least" || fail "no figures"
 table < "$folder/least"
 keep_all < "$folder/least"
-write_results ask
 if [ "$ours" != none ]; then hostile; fi
+write_results_beside ask

@@ -4,14 +4,21 @@
 # A round is one take of two of 64 slots and, where it won, their give. Disjoint: two slots of its own for each
 # thread, side by side, so that those of several threads share a cache line. Spaced: these 16 slots apart, so that
 # no line has those of two threads. Contended: the same two for all.
-# Each line has the medians of 9 runs, which take turns.
+# Each line has the medians of 9 runs, which take turns. RESULTS names a file for the figures as JSON.
 set -eu
 here=$(cd "$(dirname "$0")" && pwd)
 ours=${OURS:-$here/../../crates/bench_parts/out/bench_parts}
 rounds=${ROUNDS:-10000000}
 work=$(mktemp -d)
 trap 'rm -r "$work"' EXIT
+folder=$work
+. "$here/../results.sh"
 rustc -O "$here/baseline.rs" -o "$work/baseline"
+
+keep_rate() { # PROGRAM LINE: the rounds a second by that line's time
+    keep claims "$threads $layout" "$1" M/s "$(awk -v line="$2" -v all=$((threads * rounds)) '
+        NR == line { printf "%.1f", all * 1000 / $1 }' "$work/one")"
+}
 
 grep -m1 'model name' /proc/cpuinfo || true
 printf '%-8s %-10s %14s %14s %8s %14s %14s\n' threads layout 'ours M/s' 'rust M/s' ratio 'ours won M/s' 'rust won M/s'
@@ -33,5 +40,9 @@ for layout in disjoint spaced contended; do
                     all * 1000 / time[1], all * 1000 / time[2], time[1] / time[2],
                     won[1] * 1000 / time[1], won[2] * 1000 / time[2]
             }' "$work/one"
+        keep_rate ours 1
+        keep_rate AtomicU64 2
     done
 done
+goal claims '*' AtomicU64 M/s 'at most' 1.5
+write_results claims

@@ -6,12 +6,15 @@
 # key, operands of 10 bytes. ranges: five keys with a point each, and a range deletion over three of them.
 # Each line has the medians of TURNS runs (9), which take turns, and both programs must come to the same run. A growth is
 # the time over that of a line above with half as many writes. The first lines have the memory of the runs alone.
+# RESULTS names a file for the figures as JSON.
 set -eu
 here=$(cd "$(dirname "$0")" && pwd)
 ours=${OURS:-$here/../../crates/bench_parts/out/bench_parts}
 turns=${TURNS:-9}
 work=$(mktemp -d)
 trap 'rm -r "$work"' EXIT
+folder=$work
+. "$here/../results.sh"
 rustc --edition 2021 -O "$here/baseline.rs" -o "$work/baseline"
 
 run() { # FILE PROGRAM WORDS: appends the figures of one run, and behind them its most memory in KiB
@@ -48,6 +51,18 @@ measure() { # NAME HALF WORDS
         printf "%-30s %8.1f %8.1f %6.2f %8.1f %8.1f %6.2f %s\n", name, one / 1e6, two / 1e6, one / two, memory / 1024,
             other / 1024, memory / other, growth
     }'
+    keep_measured "$*"
+}
+
+keep_measured() { # WORDS: the figures of what `measure` measured
+    for program in ours rust; do
+        called=$program
+        [ "$program" = ours ] || called='plain Rust'
+        keep_ms compaction "$1" "$called" "$(median "$program.$name" 1)"
+        keep_mib compaction "$1" "$called" "$(median "$program.$name" 6)"
+    done
+    [ -n "$half" ] || return 0
+    keep_both_ms 'compaction, twice as much' "$1" "$(median "ours.$name" 1)" 'half of them' "$half_one" 2.2
 }
 
 loads() { # WORDS: the memory of the runs that are compacted, in MiB
@@ -76,3 +91,5 @@ measure append '' append 4 50000 1 newer
 measure append_twice append append 4 100000 1 newer
 measure ranges '' ranges 2 60000 1 newer
 measure ranges_twice ranges ranges 2 120000 1 newer
+goal compaction 'counter 10 130000 *' 'plain Rust' ms 'at most' 1.4
+write_results compact

@@ -3,11 +3,14 @@
 # Needs rustc, and crates/bench_parts/out/bench_parts, which `rt run` in crates/bench_parts builds.
 # A round is the sum of the whole buffer. Each line has the medians of 9 runs, which take turns, and both
 # programs must come to the same checksum. The load is the machine's, over the last minute, 5 and 15.
+# RESULTS names a file for the figures as JSON.
 set -eu
 here=$(cd "$(dirname "$0")" && pwd)
 ours=${OURS:-$here/../../crates/bench_parts/out/bench_parts}
 work=$(mktemp -d)
 trap 'rm -r "$work"' EXIT
+folder=$work
+. "$here/../results.sh"
 rustc --edition 2021 -O "$here/baseline.rs" -o "$work/baseline"
 
 load() {
@@ -34,6 +37,13 @@ measure() { # SIZE_MIB ROUNDS
             printf "%-8s %8s %10.4f %10.4f %11.0f %11.0f %8.2f\n", size, rounds, seconds[1], seconds[2],
                 all / seconds[1], all / seconds[2], seconds[1] / seconds[2]
         }' "$work/one"
+    keep_rate ours 1 "$1" "$2"
+    keep_rate 'plain Rust' 2 "$1" "$2"
+}
+
+keep_rate() { # PROGRAM LINE SIZE_MIB ROUNDS: the MiB a second by that line's time
+    keep CRC-32C "$3 MiB" "$1" MiB/s "$(awk -v line="$2" -v all=$(($3 * $4)) '
+        NR == line { printf "%.0f", all * 1e9 / $1 }' "$work/one")"
 }
 
 grep -m1 'model name' /proc/cpuinfo || true
@@ -43,3 +53,5 @@ measure 1 1024
 measure 8 128
 measure 64 16
 load
+goal CRC-32C '*' 'plain Rust' MiB/s 'at most' 1.1
+write_results crc

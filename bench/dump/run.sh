@@ -7,7 +7,7 @@
 # builds baseline.rs and ../make_log.rs by `rustc -O` in a temporary folder, makes logs of 1, 16 and
 # 64 MiB, checks that both programs print the same bytes with the same status, for damaged logs too, and
 # prints for each the least seconds of three runs into /dev/null, MiB of log a second, and the most memory
-# that a run held.
+# that a run held. RESULTS names a file for the figures as JSON.
 set -u -o pipefail
 
 here=$(cd "$(dirname "${BASH_SOURCE[0]}")" && pwd) || exit 1
@@ -19,6 +19,8 @@ fail() {
     echo "run.sh: $*" >&2
     exit 1
 }
+
+. "$here/../results.sh"
 
 build() { # SOURCE
     local program
@@ -100,12 +102,18 @@ kibibytes() { # PROGRAM LOG: the most memory
 }
 
 measure() { # KIND MIB
-    local log=$folder/$1.$2
+    local log=$folder/$1.$2 case="$1 $2 MiB" size time memory other_time other_memory
     "$folder/make_log" "$1" "$2" > "$log" || fail "no log"
     check_same "$log" "$1 $2 MiB"
-    printf '%s %s %s %s %s %s %s\n' "$1" "$2" "$(stat -c %s "$log")" \
-        "$(seconds ucstore "$log")" "$(kibibytes ucstore "$log")" \
-        "$(seconds baseline "$log")" "$(kibibytes baseline "$log")"
+    size=$(stat -c %s "$log")
+    time=$(seconds ucstore "$log") memory=$(kibibytes ucstore "$log")
+    other_time=$(seconds baseline "$log") other_memory=$(kibibytes baseline "$log")
+    printf '%s %s %s %s %s %s %s\n' "$1" "$2" "$size" "$time" "$memory" "$other_time" "$other_memory"
+    keep dump "$case" ours s "$time"
+    keep dump "$case" 'plain Rust' s "$other_time"
+    keep_mib dump "$case" ours "$memory"
+    keep_mib dump "$case" 'plain Rust' "$other_memory"
+    keep_mib dump "$case" 'the log' $((size / 1024))
     if [ "$2" -eq 1 ]; then check_damaged "$log"; fi
     rm -f "$log"
 }
@@ -130,3 +138,6 @@ for kind in small large; do
         measure $kind $size || exit 1
     done
 done | table
+goal dump '* 64 MiB' 'plain Rust' s 'at most' 1.2
+goal dump '* 64 MiB' 'the log' MiB 'at most' 3
+write_results dump

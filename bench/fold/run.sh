@@ -3,12 +3,14 @@
 # Needs rustc, and crates/bench_parts/out/bench_parts, which `rt run` in crates/bench_parts builds.
 # Append: operands of 10 bytes, joined with a comma. Counter: numbers of 8 bytes, added. Each line has the medians
 # of 25 runs, which take turns, and both programs must come to the same operand. The second line of a kind has twice
-# the operands; its last column is our time over that of the first.
+# the operands; its last column is our time over that of the first. RESULTS names a file for the figures as JSON.
 set -eu
 here=$(cd "$(dirname "$0")" && pwd)
 ours=${OURS:-$here/../../crates/bench_parts/out/bench_parts}
 work=$(mktemp -d)
 trap 'rm -r "$work"' EXIT
+folder=$work
+. "$here/../results.sh"
 rustc --edition 2021 -O "$here/baseline.rs" -o "$work/baseline"
 before=
 
@@ -30,6 +32,8 @@ measure() { # KIND COUNT
         printf "%-8s %9d %10.3f %10.3f %10.1f %10.1f %8.2f %8s\n", kind, count, one / 1e6, two / 1e6,
             one / count, two / count, one / two, growth
     }'
+    keep_both_ms fold "$1 $2" "$one" 'plain Rust' "$two" 1.5
+    if [ -n "$before" ]; then keep_both_ms 'fold, twice the operands' "$1 $2" "$one" 'half of them' "$before" 2.2; fi
     before=$one
 }
 
@@ -41,3 +45,4 @@ measure append 200000
 before=
 measure counter 1000000
 measure counter 2000000
+write_results fold

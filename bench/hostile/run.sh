@@ -8,6 +8,7 @@
 # are printed, what that is of half's, the most memory, and what that is of the input. The goals are at most 2.3 times the
 # time of half the input, 10 seconds, and memory of 6 times the input, of a log 3.5 times, or 16 MiB where that is more; times
 # below 0.05 seconds aren't compared. A row that misses one ends in what it misses. A run that takes a minute or 12 GiB is cut off.
+# RESULTS names a file for the figures as JSON.
 set -u -o pipefail
 
 here=$(cd "$(dirname "${BASH_SOURCE[0]}")" && pwd) || exit 1
@@ -22,6 +23,8 @@ fail() {
     echo "run.sh: $*" >&2
     exit 1
 }
+
+. "$here/../results.sh"
 
 # A line for each row: what is generated, how much of it, and the words of the program.
 rows() {
@@ -95,6 +98,24 @@ print_row() { # NAME BYTES KIND HALF_TIME STATUS WHOLE_TIME MEMORY STATUS
     }'
 }
 
+# Keeps the figures of a row, and its goals. A row whose memory may be 16 MiB has that as its goal.
+keep_row() { # NAME BYTES KIND HALF_TIME WHOLE_TIME MEMORY
+    local input='the input' bound=6
+    if [ "$3" = log ]; then input='the log' bound=3.5; fi
+    keep_seconds 'hostile inputs' "$1" ours "$5"
+    keep_seconds 'twice the input' "$1" ours "$5"
+    keep_seconds 'twice the input' "$1" 'half of it' "$4"
+    keep_mib memory "$1" ours "$6"
+    keep_mib memory "$1" "$input" $(($2 / 1024))
+    goal 'hostile inputs' "$1" ours s 'at most' 10
+    if [ "$5" -ge 50000 ]; then goal 'twice the input' "$1" 'half of it' s 'at most' 2.3; fi
+    if awk -v bytes="$2" -v bound="$bound" 'BEGIN { exit bytes * bound < 16777216 }'; then
+        goal memory "$1" "$input" MiB 'at most' "$bound"
+    else
+        goal memory "$1" ours MiB 'at most' 16
+    fi
+}
+
 rustc --edition 2021 -O -o "$folder/generate" "$here/generate.rs" || fail "generate.rs doesn't build"
 printf '%-34s %8s %9s %6s %9s %6s %s\n' input MiB seconds ratio MiB factor misses
 rows | while read -r input amount subcommand options; do
@@ -111,4 +132,6 @@ rows | while read -r input amount subcommand options; do
     read -r half_time _ half_status <<< "$half"
     read -r whole_time memory status <<< "$whole"
     print_row "$name" "$(stat -c %s "$folder/whole")" "$kind" "$half_time" "$half_status" "$whole_time" "$memory" "$status"
+    keep_row "${name//  / }" "$(stat -c %s "$folder/whole")" "$kind" "$half_time" "$whole_time" "$memory"
 done
+write_results hostile

@@ -84,6 +84,16 @@ timed() { # INPUT COMMAND..
     mib=$(awk '{ printf "%.0f", $1 / 1024 }' "$folder/memory")
 }
 
+# Keeps our seconds beside those of half as many ranges, from 100,000 of them on.
+declare -A our_seconds
+keep_growth() { # KIND COUNT
+    local half=${our_seconds[$1.$(($2 / 2))]:-}
+    our_seconds[$1.$2]=$seconds
+    if [ -z "$half" ] || [ "$2" -lt 200000 ]; then return; fi
+    keep "$1, twice as many" "$2" ours s "$seconds"
+    keep "$1, twice as many" "$2" 'half of them' s "$half"
+}
+
 # Both figures of a program's report, which are kept, unless it was given up before.
 declare -A given_up
 report() { # KIND COUNT NAME COMMAND..
@@ -95,6 +105,7 @@ report() { # KIND COUNT NAME COMMAND..
         figures=$(printf '%9s %6s' "$seconds" "$mib")
         keep "$kind" "$count" "$name" s "$seconds"
         keep "$kind" "$count" "$name" MiB "$mib"
+        if [ "$name" = ours ]; then keep_growth "$kind" "$count"; fi
     else
         given_up[$kind.$name]=yes
         : > "$folder/text"
@@ -137,7 +148,10 @@ plain() {
     for kind in watermarks nested stairs points; do
         if [ "$ours" = none ]; then given_up[$kind.ours]=yes given_up["$kind.one memtable"]=yes; fi
         for count in "${counts[@]}"; do row "$kind" "$count" || exit 1; done
+        goal "$kind, twice as many" '*' 'half of them' s 'at most' 2.3
     done
+    goal watermarks 200000 ours s 'at most' 2
+    goal watermarks 200000 ours MiB 'at most' 250
 }
 
 # The least seconds of a program's reports and the most MiB, which are kept, or nothing where it isn't there or was given up.
@@ -193,4 +207,4 @@ if [ "$ours" != none ]; then ours=$(realpath -e "$ours") || exit 2; fi
 rustc --edition 2021 -O -o "$folder/make_log" "$here/../make_log.rs" || fail "make_log.rs doesn't build"
 say_machine
 for part; do "$part"; done
-write_results ranges
+write_results_beside ranges

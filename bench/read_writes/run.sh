@@ -5,13 +5,16 @@
 #
 # It needs rustc, and crates/bench_parts/out/bench_parts (or OURS), which `rt run` in crates/bench_parts builds. It
 # makes logs of 60 MiB by ../make_log.rs, checks that both programs come to the same writes, and prints the medians of
-# nine runs, which take turns, in seconds of the reading alone, and the most memory that a run held.
+# nine runs, which take turns, in seconds of the reading alone, and the most memory that a run held. RESULTS
+# names a file for the figures as JSON.
 set -u -o pipefail
 
 here=$(cd "$(dirname "${BASH_SOURCE[0]}")" && pwd) || exit 1
 ours=$(realpath -e "${OURS:-$here/../../crates/bench_parts/out/bench_parts}") || exit 2
 folder=$(mktemp -d) || exit 1
 trap 'rm -rf "$folder"' EXIT
+
+. "$here/../results.sh"
 
 rustc --edition 2021 -O -o "$folder/make_log" "$here/../make_log.rs" || exit 1
 rustc --edition 2021 -O -o "$folder/baseline" "$here/baseline.rs" || exit 1
@@ -24,6 +27,10 @@ run() { # NAME PROGRAM WORDS..: a line with nanoseconds, the writes and a checks
 
 median() { # FILE
     sort -n "$1" | sed -n 5p | cut -d ' ' -f 1
+}
+
+keep_program() { # CASE PROGRAM NAME
+    keep_run read_writes "$1" "$2" $(($(median "$folder/$3.lines") / 1000)) "$(median "$folder/$3.memory")"
 }
 
 measure() { # KIND MIB
@@ -43,6 +50,8 @@ measure() { # KIND MIB
         printf "%-5s %3d MiB %7d %9.4f %9.4f %8.2f %10.1f %10.1f %8.2f\n", kind, mib, writes,
             one / 1e9, two / 1e9, one / two, held / 1024, other / 1024, held / other
     }'
+    keep_program "$1 $2 MiB" ours ours
+    keep_program "$1 $2 MiB" 'plain Rust' rust
 }
 
 grep -m1 'model name' /proc/cpuinfo || true
@@ -50,3 +59,6 @@ echo "load: $(cut -d ' ' -f 1-3 /proc/loadavg)"
 printf '%-13s %7s %9s %9s %8s %10s %10s %8s\n' log writes 'ours s' 'rust s' ratio 'ours MiB' 'rust MiB' ratio
 measure small 60
 measure large 60
+goal read_writes '*' 'plain Rust' s 'at most' 1.3
+goal read_writes '*' 'plain Rust' MiB 'at most' 1.3
+write_results read_writes

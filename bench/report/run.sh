@@ -278,7 +278,22 @@ keep_all() {
             *) name=$(name_of "$program") ;;
         esac
         keep_run report "$size MiB" "$name" "$time" "$memory"
+        if [ "$program" = ucstore ]; then keep_growth "$size" "$time"; fi
     done
+    goal report '60 MiB' 'plain Rust' s 'at most' 1.5
+    goal report '60 MiB' RocksDB s 'at most' 0.35
+    goal report '60 MiB' RocksDB MiB 'at most' 1.6
+    goal 'report, twice the log' '*' 'half of it' s 'at most' 2.3
+}
+
+# Keeps our seconds beside those of half the log, if that was measured before.
+declare -A our_times
+keep_growth() { # MIB MICROSECONDS
+    local half=${our_times[$(($1 / 2))]:-}
+    our_times[$1]=$2
+    if [ -z "$half" ] || [ $(($1 % 2)) -ne 0 ]; then return; fi
+    keep_seconds 'report, twice the log' "$1 MiB" ours "$2"
+    keep_seconds 'report, twice the log' "$1 MiB" 'half of it' "$half"
 }
 
 build_all
@@ -294,4 +309,4 @@ for size in "${sizes[@]}"; do
 done > "$folder/least"
 table < "$folder/least"
 keep_all < "$folder/least"
-write_results report
+write_results_beside report

@@ -1,9 +1,11 @@
 # What the scripts share that measure against RocksDB. They read it by `.`, and have a function `fail` and, before they build, a
-# temporary folder in `folder`.
+# temporary folder in `folder`. They keep their figures by ../results.sh.
 #
 # A baseline is built twice: against RocksDB without assertions, which build.sh makes and whose figures count, and against Debian's
 # librocksdb, which has its assertions on and stands in one column beside it. What isn't there is left out. FILTER gives the tables of
 # both a Bloom filter of so many bits a key, as one sets where lookups meet many runs; without it they have none, as ours have none.
+
+. "$here/../results.sh"
 
 export FILTER=${FILTER:-}
 
@@ -85,46 +87,9 @@ say_rocksdb() {
     echo "  by $rocksdb_options"
 }
 
-# Keeps a figure for the file of results. A program's ratio there is ours of the same table, row and unit over its own.
-keep() { # TABLE ROW PROGRAM UNIT VALUE
-    (IFS=$'\t'; echo "$*") >> "$folder/kept"
-}
-
-# Keeps the seconds and the memory of a program's run.
-keep_run() { # TABLE ROW PROGRAM MICROSECONDS KIB
-    keep "$1" "$2" "$3" s "$(awk -v time="$4" 'BEGIN { printf "%.3f", time / 1e6 }')"
-    keep "$1" "$2" "$3" MiB "$(awk -v memory="$5" 'BEGIN { printf "%.1f", memory / 1024 }')"
-}
-
-# Keeps a time.
-keep_ms() { # TABLE ROW PROGRAM NANOSECONDS
-    keep "$1" "$2" "$3" ms "$(awk -v time="$4" 'BEGIN { printf "%.3f", time / 1e6 }')"
-}
-
-# Writes what was kept to RESULTS, where that is set.
-write_results() { # BENCHMARK
-    if [ -z "${RESULTS:-}" ]; then return; fi
-    [ -f "$folder/kept" ] || fail "there are no results"
-    awk -F '\t' -v benchmark="$1" -v date="$(date +%F)" -v processor="$(processor)" -v processors="$(nproc)" \
-        -v libraries="$(libraries | paste -s -d ';')" -v options="$rocksdb_options" '
-        function quoted(text) { gsub(/["\\]/, "\\\\&", text); return "\"" text "\"" }
-        { table[NR] = $1; row[NR] = $2; program[NR] = $3; unit[NR] = $4; value[NR] = $5 }
-        $3 == "ours" { ours[$1, $2, $4] = $5 }
-        END {
-            print "{"
-            print "  \"benchmark\": " quoted(benchmark) ", \"date\": " quoted(date) ","
-            print "  \"processor\": " quoted(processor) ", \"processors\": " processors ","
-            print "  \"libraries\": " quoted(libraries) ","
-            print "  \"options\": " quoted(options) ","
-            print "  \"figures\": ["
-            for (line = 1; line <= NR; line++) {
-                ratio = ""
-                if ((table[line], row[line], unit[line]) in ours && value[line] > 0)
-                    ratio = sprintf(", \"ratio\": %.3f", ours[table[line], row[line], unit[line]] / value[line])
-                printf "    {\"table\": %s, \"row\": %s, \"program\": %s, \"unit\": %s, \"value\": %s%s}%s\n", quoted(table[line]),
-                    quoted(row[line]), quoted(program[line]), quoted(unit[line]), value[line], ratio, line < NR ? "," : ""
-            }
-            print "  ]"
-            print "}"
-        }' "$folder/kept" > "$RESULTS" || fail "no results in $RESULTS"
+# Writes what was kept, and beside which libraries it was measured.
+write_results_beside() { # BENCHMARK
+    local libraries
+    libraries=$(libraries | paste -s -d ';')
+    write_results "$1" "$libraries" "${libraries:+$rocksdb_options}"
 }

@@ -4,18 +4,22 @@
 # Needs rustc, GNU time, and crates/bench_parts/out/bench_parts, which `rt run` in crates/bench_parts builds.
 # The writes have keys of 16 bytes and values of 8, half of them merges, eight to a key. Each line has the medians of
 # TURNS runs (9), which take turns, and both programs must come to the same runs and answers. The second line of a
-# step has twice the writes; its last columns are the times over those of the first.
+# step has twice the writes; its last columns are the times over those of the first. RESULTS names a file for the figures as JSON.
 set -eu
 here=$(cd "$(dirname "$0")" && pwd)
 ours=${OURS:-$here/../../crates/bench_parts/out/bench_parts}
 turns=${TURNS:-9}
 work=$(mktemp -d)
 trap 'rm -r "$work"' EXIT
+folder=$work
+. "$here/../results.sh"
 rustc --edition 2021 -O "$here/baseline.rs" -o "$work/baseline"
 
-run() { # NAME PROGRAM WRITES: appends the figures of one run, and behind them its most memory in KiB
-    /usr/bin/time -f %M -o "$work/memory" "$2" "$3" > "$work/figures"
-    paste -d ' ' "$work/figures" "$work/memory" >> "$work/$1.$3"
+run() { # FILE PROGRAM WORDS: appends the figures of one run, and behind them its most memory in KiB
+    file=$1
+    shift
+    /usr/bin/time -f %M -o "$work/memory" "$@" > "$work/figures"
+    paste -d ' ' "$work/figures" "$work/memory" >> "$work/$file"
 }
 
 check_same() { # WRITES
@@ -31,13 +35,18 @@ median() { # FILE FIELD
 
 measure() { # WRITES
     for _ in $(seq "$turns"); do
-        run ours "$ours" run "$1"
-        run rust "$work/baseline" "$1"
+        run "ours.$1" "$ours" run "$1"
+        run "rust.$1" "$work/baseline" "$1"
     done
     check_same "$1"
 }
 
+keep_in() { # WORK PROGRAM FIGURE: in the unit of the row that is printed
+    keep "$1" "$row_writes writes" "$2" "$row_unit" "$(awk -v figure="$3" -v parts="$row_parts" 'BEGIN { printf "%.1f", figure / parts }')"
+}
+
 row() { # STEP FIELD UNIT WRITES HALF
+    row_unit=${1##* } row_parts=$3 row_writes=$4
     one=$(median "$work/ours.$4" "$2")
     two=$(median "$work/rust.$4" "$2")
     half_one= half_two=
@@ -50,6 +59,13 @@ row() { # STEP FIELD UNIT WRITES HALF
         growth = half_one == "" ? "" : sprintf("%8.2f %8.2f", one / half_one, two / half_two)
         printf "%-10s %8d %10.1f %10.1f %8.2f %s\n", step, writes, one / unit, two / unit, one / two, growth
     }'
+    called=${1% *}
+    [ "$called" != load ] || called='insert and flush'
+    keep_in "$called" ours "$one"
+    keep_in "$called" 'plain Rust' "$two"
+    [ -n "$5" ] || return 0
+    keep_in "$called, twice the writes" ours "$one"
+    keep_in "$called, twice the writes" 'half of them' "$half_one"
 }
 
 grep -m1 'model name' /proc/cpuinfo || true
@@ -63,3 +79,8 @@ row 'lookups ms' 2 1e6 1300000 ''
 row 'lookups ms' 2 1e6 2600000 1300000
 row 'memory MiB' 7 1024 1300000 ''
 row 'memory MiB' 7 1024 2600000 1300000
+goal 'insert and flush' '*' 'plain Rust' ms 'at most' 1.4
+goal lookups '*' 'plain Rust' ms 'at most' 1.3
+goal memory '*' 'plain Rust' MiB 'at most' 1.05
+goal 'insert and flush, twice the writes' '*' 'half of them' ms 'at most' 2.2
+write_results run

@@ -120,11 +120,29 @@ print_batch() { # NAME WORKERS COMPACTORS
 keep_batch() { # NAME
     local row=${1#*_}
     row="workers ${row//_/ }"
+    if [[ $1 == plain_* ]]; then return; fi # stands beside our rows
     keep_ms batches "$row" "${1%%_*}" "$(median "$1" 5)"
     if [[ $1 == *_beside_* ]]; then
         keep_ms "batches behind" "$row" "${1%%_*}" "$(median "$1" 6)"
         keep_ms compactions "$row" "${1%%_*}" "$(median "$1" 7)"
     fi
+    if [[ $1 == ours_*_beside_* ]]; then keep_own "$1" "$row"; fi
+}
+
+# Keeps, beside one of our rows, the batch from one version and the one beside no compactor.
+keep_own() { # NAME CASE
+    local workers=${1#ours_}
+    workers=${workers%%_*}
+    keep_ms batches "$2" "one version" "$(median "plain_$workers" 5)"
+    if [[ $1 != *_beside_0 ]]; then keep_ms batches "$2" "no compactor" "$(median "ours_${workers}_beside_0" 5)"; fi
+}
+
+set_goals() {
+    local share
+    goal batches "workers 2 beside 1" RocksDB ms 'at most' 0.35
+    goal batches "workers 2 beside 1" "no compactor" ms 'at most' 1.25
+    goal batches "* beside 0" "one version" ms 'at most' 1.05
+    for share in median 99 99.9; do goal lookups "beside 1 $share" RocksDB ns 'at most' 0.5; done
 }
 
 # 1. Batches by workers beside compactors.
@@ -203,5 +221,6 @@ say_rocksdb
 echo
 batches
 lookups
+set_goals
 say_machine
-write_results shared
+write_results_beside shared
