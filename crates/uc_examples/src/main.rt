@@ -68,12 +68,18 @@ fn check_script<O: Operator + Sync, R: Files + AllocGlobal + Threads + Sync>(
     };
     let script = fs::read(rt, path_of(alloc, name, ".script")?)?;
     let mut printed = Vec::new(alloc);
-    let done = play::<O, &[u8], Vec<u8>>(rt, alloc, &mut script.as_slice(), &mut printed, &options);
+    let outcome = play::<O, &[u8], Vec<u8>>(
+        rt,
+        alloc,
+        &mut script.as_slice(),
+        &mut printed,
+        &options,
+    );
     check(
         rt,
         path_of(alloc, name, ".expected")?.as_str(),
         &printed,
-        done,
+        outcome.done,
     )
 }
 
@@ -85,7 +91,7 @@ fn check_ask<R: Files + AllocGlobal + Threads + Wait + Sync>(rt: &R) -> Result<(
     let (workers, piece, compactors) = (2, 1, 1);
     ensure!(is_plan(workers, piece, compactors), "it is no plan");
     let mut printed = Vec::new(alloc);
-    let (done, _installs) = ask::<Append<COMMA>, &[u8], Vec<u8>>(
+    let (outcome, _installs) = ask::<Append<COMMA>, &[u8], Vec<u8>>(
         rt,
         alloc,
         &mut input.as_slice(),
@@ -95,7 +101,7 @@ fn check_ask<R: Files + AllocGlobal + Threads + Wait + Sync>(rt: &R) -> Result<(
         piece,
         compactors,
     );
-    check(rt, "ask.expected", &printed, done)
+    check(rt, "ask.expected", &printed, outcome.done)
 }
 
 /// Reports on the example of a log, whose three writes are a run each, and which is compacted at once.
@@ -108,14 +114,14 @@ fn check_report<R: Files + AllocGlobal + Threads + Sync>(rt: &R) -> Result<()> {
         ..Options::usual()
     };
     let mut printed = Vec::new(alloc);
-    let done = report_log::<Append<COMMA>, &[u8], Vec<u8>>(
+    let outcome = report_log::<Append<COMMA>, &[u8], Vec<u8>>(
         rt,
         alloc,
         &mut log.as_slice(),
         &mut printed,
         &options,
     );
-    check(rt, "report.expected", &printed, done)
+    check(rt, "report.expected", &printed, outcome.done)
 }
 
 fn main(rt: HostRuntime) -> Result<()> {

@@ -19,6 +19,7 @@ pub enum Call {
     Pick,
     /// What the store holds, in numbers.
     Report,
-    /// Answer these queries, by so many workers, in pieces of so many queries.
+    /// Answer these queries, by a number of workers, in pieces of a number of queries. One worker is the calling thread, which
+    /// answers each query in turn.
     Ask(Items<Query>, usize, usize),
 }

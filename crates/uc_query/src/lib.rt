@@ -7,6 +7,8 @@
 //!
 //! A [`report`] says what a version holds, in numbers: a line for each run, and their totals. Read `specs/Reports.antt`
 //! first, then `reporting.rt`.
+//!
+//! An `Err(AllocError)` or `Memory` comes only if an allocation fails.
 #![tactic(auto)]
 
 mod asking;

@@ -68,10 +68,10 @@ fn asks<R: Read, W: Write>(
         return Done::Refused;
     }
     let options = small();
-    let (done, _installs) = ask::<Counter, R, W>(
+    let (outcome, _installs) = ask::<Counter, R, W>(
         rt, alloc, reader, writer, &options, workers, piece, compactors,
     );
-    done
+    outcome.done
 }
 
 /// Runs a program.
@@ -83,9 +83,9 @@ fn runs<R: Read, W: Write>(
     writer: &mut W,
 ) -> Done {
     match program {
-        Program::Play => play::<Counter, R, W>(rt, alloc, reader, writer, &small()),
+        Program::Play => play::<Counter, R, W>(rt, alloc, reader, writer, &small()).done,
         Program::Dump => dump(alloc, reader, writer),
-        Program::Report => report_log::<Counter, R, W>(rt, alloc, reader, writer, &small()),
+        Program::Report => report_log::<Counter, R, W>(rt, alloc, reader, writer, &small()).done,
         Program::Ask => asks(rt, alloc, reader, writer),
     }
 }

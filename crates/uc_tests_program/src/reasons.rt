@@ -6,9 +6,7 @@ use std::test::Fail;
 use std::thread::Threads;
 use uc_oper::Counter;
 use uc_tests_shared::options::small;
-use uc_tool::{
-    Options, Reason, ask_with_reason, is_plan, play_with_reason, report_log_with_reason,
-};
+use uc_tool::{Options, Reason, ask, is_plan, play, report_log};
 
 /// A program that tells why it refuses what it reads.
 #[derive(Clone, Copy)]
@@ -161,26 +159,19 @@ static LOGS: [Row; 3] = [
     },
 ];
 
-/// Runs the program of a row, which leaves its own reason in place of an earlier one.
-fn run(rt: &(impl Threads + Wait + Sync), alloc: Global, row: &Row, reason: &mut Option<Reason>) {
+/// Why the program of a row refuses its input.
+fn reason_of(rt: &(impl Threads + Wait + Sync), alloc: Global, row: &Row) -> Option<Reason> {
     let options = Options {
         memtable: row.memtable,
         ..small()
     };
     let (mut reader, mut text) = (row.input, Vec::new(alloc));
-    match row.program {
+    let outcome = match row.program {
         Program::Play => {
-            let _ = play_with_reason::<Counter, &[u8], Vec<u8>>(
-                rt,
-                alloc,
-                &mut reader,
-                &mut text,
-                &options,
-                reason,
-            );
+            play::<Counter, &[u8], Vec<u8>>(rt, alloc, &mut reader, &mut text, &options)
         }
         Program::Ask if is_plan(2, 3, 1) => {
-            let _ = ask_with_reason::<Counter, &[u8], Vec<u8>>(
+            let (outcome, _installs) = ask::<Counter, &[u8], Vec<u8>>(
                 rt,
                 alloc,
                 &mut reader,
@@ -189,21 +180,15 @@ fn run(rt: &(impl Threads + Wait + Sync), alloc: Global, row: &Row, reason: &mut
                 2,
                 3,
                 1,
-                reason,
             );
+            outcome
         }
-        Program::Ask => *reason = None,
+        Program::Ask => return None,
         Program::Report => {
-            let _ = report_log_with_reason::<Counter, &[u8], Vec<u8>>(
-                rt,
-                alloc,
-                &mut reader,
-                &mut text,
-                &options,
-                reason,
-            );
+            report_log::<Counter, &[u8], Vec<u8>>(rt, alloc, &mut reader, &mut text, &options)
         }
-    }
+    };
+    outcome.reason
 }
 
 /// Whether a reader is told this, or nothing where it is empty.
@@ -214,12 +199,10 @@ fn is_told(alloc: Global, reason: &Option<Reason>, said: &str) -> Result<bool, F
     }
 }
 
-/// Each run of these tells its own reason, whatever the run before it told.
+/// Whether each run of these has its own reason.
 fn all_told(rt: &(impl Threads + Wait + Sync), alloc: Global, rows: &[Row]) -> Result<bool, Fail> {
-    let mut reason = None;
     for row in rows {
-        run(rt, alloc, row, &mut reason);
-        if !is_told(alloc, &reason, row.said)? {
+        if !is_told(alloc, &reason_of(rt, alloc, row), row.said)? {
             return Ok(false);
         }
     }

@@ -73,7 +73,7 @@ fn reports_on_logs(rt: HostRuntime) {
         };
         let mut reader = log;
         let mut text = Vec::new(alloc);
-        let done = report_log::<Append<0x2C>, &[u8], Vec<u8>>(
+        let outcome = report_log::<Append<0x2C>, &[u8], Vec<u8>>(
             &rt,
             alloc,
             &mut reader,
@@ -82,6 +82,6 @@ fn reports_on_logs(rt: HostRuntime) {
         );
         let printed = str::from_utf8(&text).unwrap_or("other bytes than text");
         assert_eq!(rt; printed, want);
-        assert_eq!(rt; done, ended);
+        assert_eq!(rt; outcome.done, ended);
     }
 }

@@ -27,12 +27,12 @@ fn a_script_is_played(rt: HostRuntime) -> Result<(), Fail> {
     let mut reader = b"put 6b 0500000000000000\nopen\nget 6b last\n".as_slice();
     let mut text = Vec::new(alloc);
     let options = Options::usual();
-    let done = play::<Counter, &[u8], Vec<u8>>(&rt, alloc, &mut reader, &mut text, &options);
+    let outcome = play::<Counter, &[u8], Vec<u8>>(&rt, alloc, &mut reader, &mut text, &options);
     assert!(rt; options.are_good());
     assert_eq!(rt;
         text.as_slice(),
         b"opened 1\nvalue 0500000000000000\n".as_slice()
     );
-    assert_eq!(rt; done, Done::Fine);
+    assert_eq!(rt; outcome.done, Done::Fine);
     Ok(())
 }

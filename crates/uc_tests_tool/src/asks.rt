@@ -42,7 +42,7 @@ pub(crate) fn run_of<O: Operator + Send + Sync>(
     }
     let mut reader = input;
     let mut text = Vec::new(alloc);
-    let (done, installs) = ask::<O, &[u8], Vec<u8>>(
+    let (outcome, installs) = ask::<O, &[u8], Vec<u8>>(
         rt,
         alloc,
         &mut reader,
@@ -54,7 +54,7 @@ pub(crate) fn run_of<O: Operator + Send + Sync>(
     );
     Some(Run {
         text,
-        done,
+        done: outcome.done,
         installs,
     })
 }

@@ -167,7 +167,7 @@ fn run_through<G: TurnGate, W: Write>(
         return None;
     }
     let mut reader = input;
-    Some(ask_through::<Texts, &[u8], W, G>(
+    let (outcome, installs) = ask_through::<Texts, &[u8], W, G>(
         rt,
         alloc,
         &mut reader,
@@ -177,7 +177,8 @@ fn run_through<G: TurnGate, W: Write>(
         1,
         compactors,
         gate,
-    ))
+    );
+    Some((outcome.done, installs))
 }
 
 /// Whether two compactors that pass a gate install all that is due, and what was asked is answered beside them.

@@ -114,7 +114,7 @@ fn played<O: Operator + Sync>(
     let mut reader = draft.script.as_bytes();
     let mut text = Vec::new(alloc);
     let options = small_runs();
-    let done = play::<O, &[u8], Vec<u8>>(rt, alloc, &mut reader, &mut text, &options);
+    let done = play::<O, &[u8], Vec<u8>>(rt, alloc, &mut reader, &mut text, &options).done;
     let begins = if done == Done::Fine {
         text.iter()
             .position(|byte| *byte == b'\n')

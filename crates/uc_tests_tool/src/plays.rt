@@ -22,8 +22,8 @@ pub fn plays<O: Operator + Sync>(
 ) -> (Vec<u8>, Done) {
     let mut reader = script;
     let mut text = Vec::new(alloc);
-    let done = play::<O, &[u8], Vec<u8>>(rt, alloc, &mut reader, &mut text, options);
-    (text, done)
+    let outcome = play::<O, &[u8], Vec<u8>>(rt, alloc, &mut reader, &mut text, options);
+    (text, outcome.done)
 }
 
 /// Asserts that a script printed what is wanted, and that its run ended so.

@@ -9,13 +9,10 @@
 //! Read `uc_tool_io`'s `specs/Output.antt` first, then the head of the subcommand that matters.
 #![tactic(auto)]
 
-pub use uc_tool_ask::{
-    MOST_COMPACTORS, ask, ask_with_reason, is_plan, queries_are_answered_from_the_log,
-};
+pub use uc_tool_ask::{MOST_COMPACTORS, ask, is_plan, queries_are_answered_from_the_log};
 pub use uc_tool_io::{Done, OperatorName, Refusal, dump};
-pub use uc_tool_opening::Reason;
+pub use uc_tool_opening::{Outcome, Reason};
 pub use uc_tool_play::{
-    compactions_end_where_nothing_is_picked, play, play_with_reason,
-    reads_are_answered_from_plain_writes, report_log, report_log_with_reason,
+    compactions_end_where_nothing_is_picked, play, reads_are_answered_from_plain_writes, report_log,
 };
 pub use uc_version_state::Options;

@@ -1,17 +1,16 @@
 //! `ask`: the queries in front of a log, answered beside compactors.
 ghost use denote.Param.Send.{IsSync, IsSend};
-ghost use Rattle.std.specs.Prelude.{◌≡◌, ◌+◌, ◌≤◌, ◌∷◌, [], All, List, Ok, None, codes, drop, take, length, vec_len};
+ghost use Rattle.std.specs.Prelude.{◌≡◌, ◌+◌, ◌≤◌, All, List, None, drop, take, length, vec_len};
 ghost use Rattle.uc_share.specs.Stores.{IsNamed};
 ghost use Rattle.std.specs.Prelude.{IfOk, OnOk, IfSome};
 ghost use Rattle.uc_batch.specs.Log.{log_writes};
 ghost use Rattle.uc_batch.specs.Rising.{IsRising};
 ghost use Rattle.uc_bytes.specs.declared.write.Write.{Write as WriteOf};
-ghost use Rattle.uc_script.specs.Head.{head_of, queries_in};
+ghost use Rattle.uc_script.specs.Head.{queries_in};
 ghost use Rattle.uc_version_state.specs.Openings.{Opening as OpeningOf};
 ghost use Rattle.uc_version_open.specs.Progress.{progress_of};
 ghost use Rattle.uc_query_shared.specs.Given.{ForEachHistory};
-ghost use Rattle.uc_tool_io.specs.Output.{Prints, HasWritten, refused};
-ghost use Rattle.uc_tool_io.specs.Line as texts;
+ghost use Rattle.uc_tool_io.specs.Output.{Prints, HasWritten};
 ghost use Rattle.uc_tool_opening.specs.Reasons.{IsReason, TellsOpening, opening_cause, log_cause};
 ghost use Rattle.uc_tool_ask.specs.Ask.{ask_of, of_log, of_writes, cause_of};
 ghost use Rattle.uc_tool_ask.specs.Given.{replies_given};
@@ -28,17 +27,47 @@ use std::thread::{Threads, join_mut};
 use uc_batch::Ended;
 use uc_oper::Operator;
 use uc_script::{Head, ScriptError, Source, read_head};
-use uc_share::{Name, Opening, Options, Reader, Seat, Store, TurnGate as CrewGate, Ungated};
-use uc_tool_io::{
-    Done, RunError, finish, finish_without_input, numbered_line, print_refusal, read_input,
-};
+use uc_share::{Name, Opening, Options, Reader, Seat, Store, TurnGate, Ungated};
+use uc_tool_io::{Done, RunError, run_over_input};
 use uc_tool_opening::{
-    Reason, print_bad_log, print_refused_opening, reason_of_line, reason_of_opening,
+    Outcome, Reason, print_bad_log, print_fault, print_refused_opening, reason_of_line,
+    reason_of_opening,
 };
 use uc_version_open::{OpenError, Opener, Recovered, no_refusal_is_leave_to_open, recover};
 
 /// How a run ended, and how many installs its compactors made.
 type Asked = (Result<Done, RunError>, u64);
+
+/// What is told of a run beside how it ended.
+#[derive(Debug, Drop)]
+struct Told {
+    /// Why it was refused.
+    reason: Option<Reason>,
+    /// How many installs its compactors made.
+    installs: u64,
+}
+
+impl Told {
+    /// A reason, if there is one, and no install.
+    fn reason_alone(reason: Option<Reason>) -> Told
+        ensures { result ≡ record { reason = reason; installs = 0 } }
+    {
+        Told {
+            reason,
+            installs: 0,
+        }
+    }
+
+    /// No reason, and no install.
+    fn nothing() -> Told
+        ensures { result ≡ record { reason = None; installs = 0 } }
+    {
+        Told::reason_alone(None)
+    }
+}
+
+/// How a run ended, and what is told of it.
+type Worked = (Result<Done, RunError>, Told);
 
 /// A crew for the seats of a store, each with one of the readers. As many readers are left as there were more.
 fn crew_of<O: Operator, N: Name, W: Wait + Drop>(
@@ -62,8 +91,8 @@ fn crew_of<O: Operator, N: Name, W: Wait + Drop>(
     Ok(crew)
 }
 
-/// Prints the answers to the queries of a head while a crew compacts, which has ended then. The crew is moved to its thread: what is
-/// lent to both closures can be followed through one of them alone.
+/// Prints the answers to the queries of a head while a crew compacts, which has ended when it returns. The crew is moved to its
+/// thread: what is lent to both closures can be followed through one of them alone.
 fn answer_beside_crew<O, N, W, G, R, V>(
     rt: &R,
     alloc: Global,
@@ -80,7 +109,7 @@ where
     O: Operator + Send + Sync,
     N: Name + Send + Sync,
     W: Wait + Drop + Send,
-    G: CrewGate,
+    G: TurnGate,
     R: Threads + Wait + Sync,
     V: Write,
     requires crew { All (λ x. x.seat.table ≡ store.now.table) crew.items }
@@ -114,7 +143,7 @@ fn answer_shared<O, N, G, R, V>(
 where
     O: Operator + Send + Sync,
     N: Name + Send + Sync,
-    G: CrewGate,
+    G: TurnGate,
     R: Threads + Wait + Sync,
     V: Write,
     requires named { IsNamed opening N.book N.table N.base }
@@ -145,9 +174,8 @@ where
     )
 }
 
-/// Opens the store that has taken some writes, and prints why it is refused, or the answers to the queries of a head. Where it is
-/// refused, it tells why.
-fn print_opened<O: Operator + Send + Sync, G: CrewGate, R: Threads + Wait + Sync, V: Write>(
+/// Opens the store that has taken some writes, and prints why it is refused, or the answers to the queries of a head.
+fn print_opened<O: Operator + Send + Sync, G: TurnGate, R: Threads + Wait + Sync, V: Write>(
     rt: &R,
     alloc: Global,
     opener: Opener,
@@ -157,10 +185,8 @@ fn print_opened<O: Operator + Send + Sync, G: CrewGate, R: Threads + Wait + Sync
     plan: Plan,
     gate: &G,
     writer: &mut V,
-    reason: &mut Option<Reason>,
-) -> Asked
-    requires taken { (writes : List WriteOf) × IsRising 0 writes × (opener ≡ progress_of options.now writes) }
-    requires none { reason.old ≡ None }
+) -> Worked
+    requires { (writes : List WriteOf) × IsRising 0 writes × (opener ≡ progress_of options.now writes) }
     ensures printed { (writes : List WriteOf) → IsRising 0 writes → opener ≡ progress_of options.now writes →
         Prints (of_writes O.meaning options.now keeps.now (queries_in head.now) writes).replies
         (V.contents writer.old) (V.contents writer.new) result.0 }
@@ -168,10 +194,10 @@ fn print_opened<O: Operator + Send + Sync, G: CrewGate, R: Threads + Wait + Sync
         IfOk result.0 (λ done. done ≡ (of_writes O.meaning options.now keeps.now (queries_in head.now) writes).done) }
     ensures told { (writes : List WriteOf) → IsRising 0 writes → opener ≡ progress_of options.now writes →
         let opening : OpeningOf = record { writes = writes; keeps = keeps.now; options = options.now } in
-        IsReason (opening_cause opening) reason.new }
+        IsReason (opening_cause opening) result.1.reason }
     ensures opening { (writes : List WriteOf) → IsRising 0 writes → opener ≡ progress_of options.now writes →
         let opening : OpeningOf = record { writes = writes; keeps = keeps.now; options = options.now } in
-        OnOk result.0 (TellsOpening (opening_cause opening) reason.new) }
+        OnOk result.0 (TellsOpening (opening_cause opening) result.1.reason) }
 {
     // A law of the layer below, which does nothing when it runs: what isn't refused may open.
     no_refusal_is_leave_to_open();
@@ -179,19 +205,24 @@ fn print_opened<O: Operator + Send + Sync, G: CrewGate, R: Threads + Wait + Sync
         Ok(version) => {
             let readers = plan.workers + plan.compactors;
             let Ok(opening) = Opening::of(alloc, version, *options, readers, plan.compactors) else {
-                return (Err(RunError::Memory), 0);
+                return (Err(RunError::Memory), Told::nothing());
             };
-            answer_shared::<O, Brand, G, R, V>(rt, alloc, opening, head, plan, gate, writer)
+            let (outcome, installs) = answer_shared::<O, Brand, G, R, V>(
+                rt, alloc, opening, head, plan, gate, writer,
+            );
+            let reason = None;
+            (outcome, Told { reason, installs })
         }
-        Err(OpenError::Memory) => (Err(RunError::Memory), 0),
+        Err(OpenError::Memory) => (Err(RunError::Memory), Told::nothing()),
         Err(error) => {
-            *reason = reason_of_opening(error, options);
-            (print_refused_opening(alloc, error, writer), 0)
+            let outcome = print_refused_opening(alloc, error, writer);
+            let reason = reason_of_opening(error, options);
+            (outcome, Told::reason_alone(reason))
         }
     }
 }
 
-/// A store that is being opened from the log behind a head of so many bytes, and how far that was read, with the bytes of the
+/// A store that is being opened from the log behind a head of `size` bytes, and how far that was read, with the bytes of the
 /// head. The log is let go of.
 fn recover_behind(
     alloc: Global,
@@ -213,7 +244,7 @@ fn recover_behind(
 }
 
 /// Answers the queries of a head over the log that stands behind it.
-fn answer_log<O: Operator + Send + Sync, G: CrewGate, R: Threads + Wait + Sync, V: Write>(
+fn answer_log<O: Operator + Send + Sync, G: TurnGate, R: Threads + Wait + Sync, V: Write>(
     rt: &R,
     alloc: Global,
     input: Vec<u8>,
@@ -222,20 +253,18 @@ fn answer_log<O: Operator + Send + Sync, G: CrewGate, R: Threads + Wait + Sync, 
     plan: Plan,
     gate: &G,
     writer: &mut V,
-    reason: &mut Option<Reason>,
-) -> Asked
-    requires size { head.size ≤ vec_len input }
-    requires none { reason.old ≡ None }
+) -> Worked
+    requires { head.size ≤ vec_len input }
     ensures printed { Prints (of_log O.meaning options.now head.keeps (queries_in (take head.size input.items))
         (log_writes (drop head.size input.items))).replies (V.contents writer.old) (V.contents writer.new) result.0 }
     ensures done { IfOk result.0 (λ done. done ≡ (of_log O.meaning options.now head.keeps
         (queries_in (take head.size input.items)) (log_writes (drop head.size input.items))).done) }
-    ensures told { IsReason (log_cause options.now head.keeps (log_writes (drop head.size input.items))) reason.new }
+    ensures told { IsReason (log_cause options.now head.keeps (log_writes (drop head.size input.items))) result.1.reason }
     ensures opening { OnOk result.0
-        (TellsOpening (log_cause options.now head.keeps (log_writes (drop head.size input.items))) reason.new) }
+        (TellsOpening (log_cause options.now head.keeps (log_writes (drop head.size input.items))) result.1.reason) }
 {
     let Ok((recovered, lines)) = recover_behind(alloc, input, head.size, *options) else {
-        return (Err(RunError::Memory), 0);
+        return (Err(RunError::Memory), Told::nothing());
     };
     let Recovered { opener, ended } = recovered;
     match ended {
@@ -249,24 +278,15 @@ fn answer_log<O: Operator + Send + Sync, G: CrewGate, R: Threads + Wait + Sync, 
             plan,
             gate,
             writer,
-            reason,
         ),
-        Ended::LogFault(..) | Ended::BatchFault(..) => (print_bad_log(alloc, ended, writer), 0),
+        Ended::LogFault(..) | Ended::BatchFault(..) => {
+            (print_bad_log(alloc, ended, writer), Told::nothing())
+        }
     }
 }
 
-/// Prints which line of a head is at fault.
-fn print_fault<V: Write>(alloc: Global, line: u64, writer: &mut V) -> Result<Done, RunError>
-    ensures printed { Prints (refused (texts.numbered_line (codes "fault line ") line)).replies
-        (V.contents writer.old) (V.contents writer.new) result }
-    ensures done { IfOk result (λ done. done ≡ Done.Refused) }
-{
-    let line = numbered_line(alloc, b"fault line ", line)?;
-    print_refusal(&line, writer)
-}
-
-/// Answers the queries in front of a log, or tells why they are refused.
-fn run<O: Operator + Send + Sync, G: CrewGate, R: Threads + Wait + Sync, V: Write>(
+/// Answers the queries in front of a log, or prints why they are refused.
+fn run<O: Operator + Send + Sync, G: TurnGate, R: Threads + Wait + Sync, V: Write>(
     rt: &R,
     alloc: Global,
     input: Vec<u8>,
@@ -274,60 +294,26 @@ fn run<O: Operator + Send + Sync, G: CrewGate, R: Threads + Wait + Sync, V: Writ
     plan: Plan,
     gate: &G,
     writer: &mut V,
-    reason: &mut Option<Reason>,
-) -> Asked
-    requires { reason.old ≡ None }
+) -> Worked
     ensures printed { Prints (ask_of O.meaning options.now input.items).replies
         (V.contents writer.old) (V.contents writer.new) result.0 }
     ensures done { IfOk result.0 (λ done. done ≡ (ask_of O.meaning options.now input.items).done) }
-    ensures told { IsReason (cause_of options.now input.items) reason.new }
-    ensures opening { OnOk result.0 (TellsOpening (cause_of options.now input.items) reason.new) }
+    ensures told { IsReason (cause_of options.now input.items) result.1.reason }
+    ensures opening { OnOk result.0 (TellsOpening (cause_of options.now input.items) result.1.reason) }
 {
     match read_head(alloc, &input) {
-        Ok(head) => answer_log::<O, G, R, V>(
-            rt, alloc, input, head, options, plan, gate, writer, reason,
-        ),
+        Ok(head) => answer_log::<O, G, R, V>(rt, alloc, input, head, options, plan, gate, writer),
         Err(ScriptError::Fault(line)) => {
-            *reason = reason_of_line(alloc, Source::Head, &input, line);
-            (print_fault(alloc, line, writer), 0)
+            let reason = reason_of_line(alloc, Source::Head, &input, line);
+            let outcome = print_fault(alloc, line, writer);
+            (outcome, Told::reason_alone(reason))
         }
-        Err(ScriptError::Memory) => (Err(RunError::Memory), 0),
+        Err(ScriptError::Memory) => (Err(RunError::Memory), Told::nothing()),
     }
 }
 
-/// Answers the queries in front of a log by a plan, with a gate for its compactors, and tells why they are refused.
-fn ask_by_plan<O: Operator + Send + Sync, R: Read, W: Write, G: CrewGate>(
-    rt: &(impl Threads + Wait + Sync),
-    alloc: Global,
-    reader: &mut R,
-    writer: &mut W,
-    options: &Options,
-    plan: Plan,
-    gate: &G,
-    reason: &mut Option<Reason>,
-) -> (Done, u64)
-    ensures written { IfSome (R.remaining reader.old) (λ input.
-        HasWritten (ask_of O.meaning options.now input) input (W.contents writer.old) (W.contents writer.new) result.0) }
-    ensures told { IfSome (R.remaining reader.old) (λ input. IsReason (cause_of options.now input) reason.new) }
-    ensures opening { result.0 ≡ Done.Refused →
-        IfSome (R.remaining reader.old) (λ input. TellsOpening (cause_of options.now input) reason.new) }
-{
-    *reason = None;
-    match read_input(alloc, reader) {
-        Ok(input) => {
-            let (outcome, installs) = run::<O, G, _, W>(
-                rt, alloc, input, options, plan, gate, writer, reason,
-            );
-            (finish(writer, outcome), installs)
-        }
-        Err(error) => (finish_without_input(writer, error), 0),
-    }
-}
-
-/// Answers the queries in front of a log as [`ask`] does. Where they are refused for a fault of the head or at the opening, it
-/// gives the reason too, which is that of the line that was at fault or of the opening that was refused, and else none. Where
-/// there is no memory for what is said of a line, it gives none, and prints and ends all the same.
-pub fn ask_with_reason<O: Operator + Send + Sync, R: Read, W: Write>(
+/// Answers the queries in front of a log as [`ask`] does. The gate is called by each compactor in each of its turns.
+pub fn ask_through<O: Operator + Send + Sync, R: Read, W: Write, G: TurnGate>(
     rt: &(impl Threads + Wait + Sync),
     alloc: Global,
     reader: &mut R,
@@ -336,32 +322,38 @@ pub fn ask_with_reason<O: Operator + Send + Sync, R: Read, W: Write>(
     workers: usize,
     piece: usize,
     compactors: usize,
-    reason: &mut Option<Reason>,
-) -> (Done, u64)
+    gate: &G,
+) -> (Outcome, u64)
     requires { IsPlan workers piece compactors }
     ensures written { IfSome (R.remaining reader.old) (λ input.
-        HasWritten (ask_of O.meaning options.now input) input (W.contents writer.old) (W.contents writer.new) result.0) }
-    ensures told { IfSome (R.remaining reader.old) (λ input. IsReason (cause_of options.now input) reason.new) }
-    ensures opening { result.0 ≡ Done.Refused →
-        IfSome (R.remaining reader.old) (λ input. TellsOpening (cause_of options.now input) reason.new) }
+        HasWritten (ask_of O.meaning options.now input) input (W.contents writer.old) (W.contents writer.new) result.0.done) }
+    ensures told { IfSome (R.remaining reader.old) (λ input. IsReason (cause_of options.now input) result.0.reason) }
+    ensures opening { result.0.done ≡ Done.Refused →
+        IfSome (R.remaining reader.old) (λ input. TellsOpening (cause_of options.now input) result.0.reason) }
 {
     let plan = Plan {
         workers,
         piece,
         compactors,
     };
-    ask_by_plan::<O, R, W, Ungated>(rt, alloc, reader, writer, options, plan, &Ungated, reason)
+    let (done, told) = run_over_input(alloc, reader, writer, |input: Vec<u8>, writer: &mut W| {
+        run::<O, G, _, W>(rt, alloc, input, options, plan, gate, writer)
+    });
+    let Told { reason, installs } = told.unwrap_or(Told::nothing());
+    (Outcome { done, reason }, installs)
 }
 
 /// Answers the queries in front of a log: reads all of the input, checks its head, opens a store from the log behind that, and
-/// prints the answers in the order of the queries. So many workers answer pieces of so many queries, from the versions that are
-/// shown meanwhile, while so many compactors compact what universal compaction picks, each until nothing is picked, memory runs
-/// out, or it took 256 turns. All have ended when it returns. The number counts the installs that the compactors made.
+/// prints the answers in the order of the queries. `workers` threads answer pieces of `piece` queries, from the versions that are
+/// shown meanwhile, while `compactors` threads compact what universal compaction picks, each until nothing is picked, an
+/// allocation fails, or it took 256 turns. All have ended when it returns. The number is that of the installs that the compactors
+/// made.
 ///
 /// What is written is the text of `ask_of`, a function of the bytes that were read, the operator's meaning and the options:
 /// not of workers, pieces or compactors. A fault of the head is refused with the line that it stands in, then a log with a fault,
-/// and then an opening. After want of memory it is some whole first replies of that text, and then `out of memory`; where the
-/// reader or the writer fails, or the input is longer than 64 MiB, it is a front of a text that says so or of that one.
+/// and then an opening. If an allocation fails it is some whole first replies of that text, and then `out of memory`; if the
+/// reader or the writer fails, or the input is longer than 64 MiB, it is a front of a text that says so or of that one. A head
+/// or an opening that is refused has a reason.
 ///
 /// [`is_plan`](crate::is_plan) says which numbers go together.
 pub fn ask<O: Operator + Send + Sync, R: Read, W: Write>(
@@ -373,46 +365,15 @@ pub fn ask<O: Operator + Send + Sync, R: Read, W: Write>(
     workers: usize,
     piece: usize,
     compactors: usize,
-) -> (Done, u64)
+) -> (Outcome, u64)
     requires { IsPlan workers piece compactors }
-    ensures { IfSome (R.remaining reader.old) (λ input.
-        HasWritten (ask_of O.meaning options.now input) input (W.contents writer.old) (W.contents writer.new) result.0) }
+    ensures written { IfSome (R.remaining reader.old) (λ input.
+        HasWritten (ask_of O.meaning options.now input) input (W.contents writer.old) (W.contents writer.new) result.0.done) }
+    ensures told { IfSome (R.remaining reader.old) (λ input. IsReason (cause_of options.now input) result.0.reason) }
+    ensures opening { result.0.done ≡ Done.Refused →
+        IfSome (R.remaining reader.old) (λ input. TellsOpening (cause_of options.now input) result.0.reason) }
 {
-    let mut reason = None;
-    ask_with_reason::<O, R, W>(
-        rt,
-        alloc,
-        reader,
-        writer,
-        options,
-        workers,
-        piece,
-        compactors,
-        &mut reason,
+    ask_through::<O, R, W, Ungated>(
+        rt, alloc, reader, writer, options, workers, piece, compactors, &Ungated,
     )
-}
-
-/// Answers the queries in front of a log as [`ask`] does. The gate is called by each compactor in each of its turns.
-pub fn ask_through<O: Operator + Send + Sync, R: Read, W: Write, G: CrewGate>(
-    rt: &(impl Threads + Wait + Sync),
-    alloc: Global,
-    reader: &mut R,
-    writer: &mut W,
-    options: &Options,
-    workers: usize,
-    piece: usize,
-    compactors: usize,
-    gate: &G,
-) -> (Done, u64)
-    requires { IsPlan workers piece compactors }
-    ensures { IfSome (R.remaining reader.old) (λ input.
-        HasWritten (ask_of O.meaning options.now input) input (W.contents writer.old) (W.contents writer.new) result.0) }
-{
-    let mut reason = None;
-    let plan = Plan {
-        workers,
-        piece,
-        compactors,
-    };
-    ask_by_plan::<O, R, W, G>(rt, alloc, reader, writer, options, plan, gate, &mut reason)
 }

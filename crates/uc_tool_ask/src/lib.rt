@@ -16,7 +16,7 @@ mod compacting;
 mod laws;
 mod plan;
 
-pub use asking::{ask, ask_through, ask_with_reason};
+pub use asking::{ask, ask_through};
 pub use laws::queries_are_answered_from_the_log;
 pub use plan::{MOST_COMPACTORS, is_plan};
 pub use uc_share::TurnGate;

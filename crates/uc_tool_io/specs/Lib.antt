@@ -1,4 +1,5 @@
 pub mod Input
+pub mod Works
 pub mod Output
 pub mod Writing
 pub mod Texts

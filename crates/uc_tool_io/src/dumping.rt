@@ -10,10 +10,9 @@ ghost use Rattle.uc_tool_io.specs.Output.{Prints, HasWritten};
 ghost use Rattle.uc_tool_io.specs.Writing.{AppendsFront};
 
 use crate::done::Done;
-use crate::ending::{finish, finish_without_input};
-use crate::input::read_input;
 use crate::logs::{ended_line, push_write};
 use crate::run_error::RunError;
+use crate::whole_run::run_over_input;
 use crate::writing::write_bytes;
 use std::alloc::Global;
 use std::io;
@@ -35,8 +34,8 @@ fn print_lines<W: io::Write>(lines: &mut Vec<u8>, writer: &mut W) -> Result<(), 
     Ok(())
 }
 
-/// Prints the writes of a batch, a line each. Lines are put together in a buffer, which is written out as soon as it is full,
-/// however many writes the batch has. Its bytes are of no use before or after.
+/// Prints the writes of a batch, a line each. Lines are put together in the buffer `lines`, which is written out as soon as it
+/// is full, however many writes the batch has. Its bytes are of no use before or after.
 fn print_writes<W: io::Write>(
     lines: &mut Vec<u8>,
     writes: BatchWrites<'_>,
@@ -54,7 +53,7 @@ fn print_writes<W: io::Write>(
     print_lines(lines, writer)
 }
 
-/// Prints the writes of a log, up to its first fault, and gives how far it was read. A write is printed from
+/// Prints the writes of a log, up to its first fault, and returns how far it was read. A write is printed from
 /// the bytes where it stands in the log.
 fn print_log<W: io::Write>(alloc: Global, input: &[u8], writer: &mut W) -> Result<Ended, RunError>
     ensures printed { Prints (map write_line (log_writes input.now).list) (W.contents writer.old)
@@ -95,18 +94,15 @@ fn run<W: io::Write>(alloc: Global, input: &[u8], writer: &mut W) -> Result<Done
 /// Prints what stands in a write-ahead log: a line for each write before its first fault, and one that
 /// says whether the log ended there, was torn, or is faulty.
 ///
-/// What is written is the text of `dump_of`, a function of the bytes that were read. After want of memory it is some
-/// whole first lines of that text, and then `out of memory`; where the reader or the writer fails, or the input is longer
+/// What is written is the text of `dump_of`, a function of the bytes that were read. If an allocation fails it is some
+/// whole first lines of that text, and then `out of memory`; if the reader or the writer fails, or the input is longer
 /// than 64 MiB, it is a front of a text that says so or of that one.
 pub fn dump<R: Read, W: io::Write>(alloc: Global, reader: &mut R, writer: &mut W) -> Done
     ensures { IfSome (R.remaining reader.old) (λ input.
         HasWritten (dump_of input) input (W.contents writer.old) (W.contents writer.new) result) }
 {
-    match read_input(alloc, reader) {
-        Ok(input) => {
-            let outcome = run(alloc, &input, writer);
-            finish(writer, outcome)
-        }
-        Err(error) => finish_without_input(writer, error),
-    }
+    let (done, _told) = run_over_input(alloc, reader, writer, |input: Vec<u8>, writer: &mut W| {
+        (run(alloc, &input, writer), ())
+    });
+    done
 }

@@ -3,8 +3,12 @@
 //! A subcommand reads all of its input, up to a limit, prints replies one after the other, and ends in a [`Done`], whose
 //! number is the exit status. What it may have written by then is `HasWritten`, a relation between its `Output`, which is a
 //! function of the bytes that it read, and what the writer holds. Read `specs/Output.antt` first, then `input.rt` and
-//! `writing.rt`, which are the two ends, and `ending.rt`. The lemmas in `proofs/` are for the loops of the subcommands:
-//! `Printing.antt` if each turn prints one reply, `Parts.antt` if it prints several, and `Written.antt` at the end of a run.
+//! `writing.rt`, which are the two ends, and `ending.rt`. [`run_over_input`] is a whole run, from the first byte read to the
+//! flush, over any work: each subcommand is this function over its own work. Read `specs/Works.antt`, then `whole_run.rt`.
+//! The lemmas in `proofs/` are for the loops of the subcommands: `Printing.antt` if each turn prints one reply, `Parts.antt` if
+//! it prints several, and `Written.antt` at the end of a run.
+//!
+//! An `Err(AllocError)` or `Memory` comes only if an allocation fails.
 //!
 //! [`OperatorName`] is a merge operator by its word: what the parser of the command line lets through and what the program runs
 //! both come from it, so that no word is let through that names nothing. [`Refusal`] says why there may be no words to
@@ -31,6 +35,7 @@ mod operator_name;
 mod refusal;
 mod refusing;
 mod run_error;
+mod whole_run;
 mod writing;
 
 pub use done::Done;
@@ -45,4 +50,5 @@ pub use operator_name::OperatorName;
 pub use refusal::Refusal;
 pub use refusing::print_refusal;
 pub use run_error::RunError;
+pub use whole_run::run_over_input;
 pub use writing::write_bytes;

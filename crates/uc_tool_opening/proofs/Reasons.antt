@@ -1,28 +1,39 @@
 -- What is told of what was read is told of what the reader gives.
-use Rattle.std.proofs.Common.{◌≡◌, ℕ, List, Option, Some, None, Result, Ok, Err, subst, inl, inr}
-use Rattle.std.specs.Prelude.{IfSome, OnOk}
-use Rattle.uc_tool_io.specs.Ending.{Finishes, FinishesWithoutInput}
+use Rattle.std.proofs.Common.{◌≡◌, ℕ, ◌≤◌, List, Option, Some, None, Result, Ok, Err, vec_len, refl, subst, inl, inr}
+use Rattle.std.specs.Prelude.{◌≢◌, IfSome, IfNone, OnOk}
+use Rattle.std.specs.Option.{option_flatten}
+use Rattle.std.specs.Global.{Vec}
+use Rattle.std.specs.Fn.{Once}
+use denote.Ref.{MutBor}
+use Rattle.uc_tool_io.specs.Ending.{Finishes}
+use Rattle.uc_tool_io.specs.Works.{WasDone}
 use Rattle.uc_tool_io.specs.declared.done.Done.{Done}
 use Rattle.uc_tool_io.specs.declared.done.Done.TheVariants.{Refused}
-use Rattle.uc_tool_io.specs.declared.input.InputError.{InputError}
-use Rattle.uc_tool_io.specs.declared.input.InputError.TheVariants as unread
+use Rattle.uc_tool_io.specs.declared.input.TheConstants.{INPUT_LIMIT}
 use Rattle.uc_tool_io.specs.declared.run_error.RunError.{RunError}
 use Rattle.uc_tool_io.specs.declared.run_error.RunError.TheVariants as run_error
 use Rattle.uc_tool_opening.specs.Reasons.{Cause, IsReason, TellsOpening}
 use Rattle.uc_tool_opening.specs.declared.reason.Reason.{Reason}
 
--- where all of it was read
-pub told_of_input : (cause : List ℕ → Option Cause) (remaining : Option (List ℕ)) (read : List ℕ) (told : Option Reason)
-    → IfSome remaining (λ bytes. read ≡ bytes) → IsReason (cause read) told → IfSome remaining (λ input. IsReason (cause input) told)
-told_of_input cause None read told whole is = tt
-told_of_input cause (Some input) read told whole is = subst (λ (bytes : List ℕ). IsReason (cause bytes) told) whole is
+-- the reason in what work told, if any was done
+abbrev pub reason_in : {T : Type 0} → (T → Option Reason) → Option T → Option Reason
+reason_in reason_of None = None
+reason_in reason_of (Some told) = reason_of told
 
--- where the input couldn't be read
-pub told_of_unread : (cause : List ℕ → Option Cause) (remaining : Option (List ℕ)) → IfSome remaining (λ input. IsReason (cause input) None)
-told_of_unread cause None = tt
-told_of_unread cause (Some input) = tt
+-- work that tells a reason alone
+pub reason_alone : (told : Option (Option Reason)) → reason_in (λ reason. reason) told ≡ option_flatten told
+reason_alone None = refl
+reason_alone (Some reason) = refl
 
--- ---- what stands against an opening
+-- what holds of the bytes that were read holds of those that the reader gives
+of_bytes : (P : List ℕ → Type 0) (remaining : Option (List ℕ)) (read : List ℕ) → IfSome remaining (λ bytes. read ≡ bytes) → P read → IfSome remaining P
+of_bytes P None read whole p = tt
+of_bytes P (Some input) read whole p = subst P whole p
+
+-- what holds of any bytes
+of_any : (P : List ℕ → Type 0) (remaining : Option (List ℕ)) → ((input : List ℕ) → P input) → IfSome remaining P
+of_any P None p = tt
+of_any P (Some input) p = p input
 
 -- a run that ends as refused had printed its line
 of_refused : (outcome : Result Done RunError) (old new : Option (List ℕ)) (result : Done) (P : Type 0) → Finishes outcome old new result → result ≡ Refused → OnOk outcome P → P
@@ -31,16 +42,24 @@ of_refused (Err run_error.Device) old new result P ends is p = absurd cc
 of_refused (Err run_error.Memory) old new result P (inl ends) is p = absurd cc
 of_refused (Err run_error.Memory) old new result P (inr ends) is p = absurd cc
 
-pub opening_of_input : (cause : List ℕ → Option Cause) (remaining : Option (List ℕ)) (read : List ℕ) (told : Option Reason) (outcome : Result Done RunError) (old new : Option (List ℕ)) (result : Done)
-    → IfSome remaining (λ bytes. read ≡ bytes) → OnOk outcome (TellsOpening (cause read) told) → Finishes outcome old new result → result ≡ Refused
-    → IfSome remaining (λ input. TellsOpening (cause input) told)
-opening_of_input cause None read told outcome old new result whole tells ends is = tt
-opening_of_input cause (Some input) read told outcome old new result whole tells ends is =
-    subst (λ (bytes : List ℕ). TellsOpening (cause bytes) told) whole (of_refused outcome old new result (TellsOpening (cause read) told) ends is tells)
+-- ---- a whole run over its input
 
--- a run without its input doesn't end so
-pub opening_of_unread : (error : InputError) (old new : Option (List ℕ)) (result : Done) (P : Type 0) → FinishesWithoutInput error old new result → result ≡ Refused → P
-opening_of_unread unread.Memory old new result P (inl ends) is = absurd cc
-opening_of_unread unread.Memory old new result P (inr ends) is = absurd cc
-opening_of_unread unread.Fault old new result P ends is = absurd cc
-opening_of_unread unread.TooLong old new result P ends is = absurd cc
+module _ {F W T : Type 0} (g : Once F (Vec ℕ × (MutBor W × Unit {0})) ((Result Done RunError × T) × (MutBor W × Unit {0}))) (f : F) (contents : W → Option (List ℕ)) (remaining old new : Option (List ℕ)) (done : Done) (cause : List ℕ → Option Cause) (reason_of : T → Option Reason) where
+  -- the reason is told of its input
+  abbrev pub Tells : Type 0
+  Tells =
+      (input : Vec ℕ) (before after : MutBor W) (outcome : Result Done RunError) (told : T) → vec_len input ≤ INPUT_LIMIT
+      → g.post f (input, (before, tt)) ((outcome, told), (after, tt))
+      → IsReason (cause input.items) (reason_of told) × OnOk outcome (TellsOpening (cause input.items) (reason_of told))
+
+  pub told_after : (told : Option T) → IfSome told (WasDone g f contents remaining old new done) → Tells → IfSome remaining (λ input. IsReason (cause input) (reason_in reason_of told))
+  told_after None w tells = of_any (λ input. IsReason (cause input) None) remaining (λ input. tt)
+  told_after (Some told) w tells =
+      of_bytes (λ input. IsReason (cause input) (reason_of told)) remaining w.input.items w.whole (tells w.input w.before w.after w.outcome told w.short w.call).0
+
+  pub opening_after : (told : Option T) → IfSome told (WasDone g f contents remaining old new done) → IfNone told (done ≢ Refused) → Tells → done ≡ Refused
+      → IfSome remaining (λ input. TellsOpening (cause input) (reason_in reason_of told))
+  opening_after None w none tells is = absurd (none is)
+  opening_after (Some told) w none tells is =
+      let tells_opening = (tells w.input w.before w.after w.outcome told w.short w.call).1 in
+      of_bytes (λ input. TellsOpening (cause input) (reason_of told)) remaining w.input.items w.whole (of_refused w.outcome (contents w.after.now) new done (TellsOpening (cause w.input.items) (reason_of told)) w.ends is tells_opening)

@@ -1,12 +1,15 @@
 //! What the subcommands that open a store share: opening one from a log, saying why none is opened, and the lines of replies.
 //!
 //! `recover_log` reads a log into a store that is being opened, and says how far the log could be read; `open_ops` opens a
-//! store from a script's writes, by way of a log of them; `print_refused_opening` and `print_bad_log` end a run
+//! store from a script's writes, by way of a log of them; `print_fault`, `print_refused_opening` and `print_bad_log` end a run
 //! that opened none with the one line that says why. Nothing here claims, compacts or answers: that is left to the
 //! subcommands above.
 //!
 //! Beside that line a reader may be told more: [`Reason`] is what is wrong with the first line at fault, or the option or
-//! number that stands against the opening. `specs/Reasons.antt` says which reason a run has.
+//! number that stands against the opening. `specs/Reasons.antt` says which reason a run has. An [`Outcome`] is how a run ended,
+//! with its reason.
+//!
+//! An `Err(AllocError)` or `Memory` comes only if an allocation fails.
 //!
 //! [`query_of`] says what a line that reads asks, for scripts and for what stands in front of a log alike.
 //!
@@ -21,6 +24,7 @@ mod answers;
 mod asked;
 mod opening;
 mod opening_fault;
+mod outcome;
 mod reason;
 mod refusals;
 mod refusing;
@@ -31,8 +35,9 @@ pub use answers::push_answer_lines;
 pub use asked::query_of;
 pub use opening::{open_ops, recover_log};
 pub use opening_fault::{OpeningFault, fault_of_opening, option_fault};
+pub use outcome::Outcome;
 pub use reason::{Reason, reason_of_line, reason_of_opening};
 pub use refusals::{claim_refusal_line, install_refusal_line};
-pub use refusing::{opening_refusal_line, print_bad_log, print_refused_opening};
+pub use refusing::{opening_refusal_line, print_bad_log, print_fault, print_refused_opening};
 pub use replies::{answers_lines, compacted_line, reply_lines};
 pub use reports::report_lines;

@@ -22,7 +22,7 @@ pub enum Reason {
     Opening(OpeningFault),
 }
 
-/// Why a text of this kind is refused whose first line at fault has this number, where there is memory to say it.
+/// Why a text of this kind is refused whose first line at fault has this number. It is `None` if an allocation fails.
 pub fn reason_of_line(alloc: Global, source: Source, text: &[u8], number: u64) -> Option<Reason>
     ensures { IsReason (Some (AtLine source text.now number)) result }
 {
@@ -31,7 +31,7 @@ pub fn reason_of_line(alloc: Global, source: Source, text: &[u8], number: u64) -
         .map(Reason::Line)
 }
 
-/// Why an opening under these options is refused so. It is `None` where [`fault_of_opening`] is.
+/// Why an opening under these options is refused with this error. It is `None` if [`fault_of_opening`] is.
 pub fn reason_of_opening(error: OpenError, options: &Options) -> Option<Reason>
     ensures { result ≡ reasons.reason_of_opening error options.now }
 {

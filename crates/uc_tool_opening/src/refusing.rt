@@ -1,6 +1,7 @@
 //! Runs that open no store, and the line that says why.
 
-ghost use Rattle.std.specs.Prelude.{◌≡◌, IfOk};
+ghost use Rattle.std.specs.Prelude.{◌≡◌, codes, IfOk};
+ghost use Rattle.uc_tool_io.specs.Line as texts;
 ghost use Rattle.uc_tool_io.specs.Output.{Prints, refused};
 ghost use Rattle.uc_tool_opening.specs.Refusals as lines;
 ghost use Rattle.uc_tool_opening.specs.Refusals.{bad_log};
@@ -22,6 +23,16 @@ pub fn opening_refusal_line(alloc: Global, error: OpenError) -> Result<Vec<u8>, 
         OpenError::TooManyRuns => Vec::from_slice(alloc, b"refused too many runs\n"),
         OpenError::Memory => Vec::from_slice(alloc, b"out of memory\n"),
     }
+}
+
+/// Prints which line of a text is at fault.
+pub fn print_fault<W: Write>(alloc: Global, line: u64, writer: &mut W) -> Result<Done, RunError>
+    ensures printed { Prints (refused (texts.numbered_line (codes "fault line ") line)).replies
+        (W.contents writer.old) (W.contents writer.new) result }
+    ensures done { IfOk result (λ done. done ≡ Done.Refused) }
+{
+    let line = numbered_line(alloc, b"fault line ", line)?;
+    print_refusal(&line, writer)
 }
 
 /// Prints why a store isn't opened.

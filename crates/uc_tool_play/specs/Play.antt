@@ -6,8 +6,6 @@ use Rattle.uc_query_read.specs.declared.query.Query.{Query}
 use Rattle.uc_script.specs.Script.{script_of}
 use Rattle.uc_script.specs.declared.call.Call.{Call}
 use Rattle.uc_script.specs.declared.call.Call.TheVariants.{Read, Claim, Install, Abandon, Compact, Pick, Report}
-use Rattle.uc_script.specs.declared.error.ScriptError.{ScriptError}
-use Rattle.uc_script.specs.declared.error.ScriptError.TheVariants as errors
 use Rattle.uc_script.specs.declared.script.Script.{Script}
 use Rattle.uc_script.specs.declared.part.Source.TheVariants as source
 use Rattle.uc_version_state.specs.declared.options.Options.{Options}
@@ -73,11 +71,6 @@ played m options (Ok script) = script_output m options script
 -- what a run of a script's bytes prints, under an operator and options
 abbrev pub play_of : Operation → Options → List ℕ → Output
 play_of m options input = played m options (script_of input)
-
--- what refuses a script whose reading failed so
-abbrev pub fault_cause : List ℕ → ScriptError → Option Cause
-fault_cause input errors.Memory = None
-fault_cause input (errors.Fault line) = Some (AtLine source.Script input line)
 
 -- what refuses a script, by what is read of its bytes
 abbrev pub script_cause : Options → List ℕ → Result Script ℕ → Option Cause

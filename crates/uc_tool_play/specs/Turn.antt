@@ -5,6 +5,9 @@ use Rattle.uc_query.specs.Names.{State}
 use Rattle.uc_query.specs.Turns.{turn_of}
 use Rattle.uc_query.specs.declared.call.Call.{Call}
 use Rattle.uc_query.specs.declared.reply.Reply.{Reply}
+use Rattle.uc_tool_play.specs.Play.{asked_alone}
+use Rattle.uc_tool_play.specs.declared.calling.Asked.{Asked}
+use Rattle.uc_tool_play.specs.declared.calling.Asked.TheVariants.{Answer, Work}
 use Rattle.uc_tool_opening.specs.ReplyLines.{reply_lines}
 
 -- the lines are those of the reply to the call, and the store is left as the call leaves it
@@ -12,3 +15,8 @@ pub record Turns (m : Operation) (old : State) (call : Call) (lines : List ℕ) 
   pub reply : Reply
   pub turn : turn_of m old call ≡ Ok (record { reply = reply; state = new })
   pub lines_are : lines ≡ reply_lines reply
+
+-- the call to a store that asks this: a query is asked alone
+abbrev pub store_call : Asked → Call
+store_call (Answer query) = asked_alone query
+store_call (Work call) = call

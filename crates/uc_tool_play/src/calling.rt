@@ -1,7 +1,8 @@
 //! The calls of a script to a store, and what is printed for them.
 
-ghost use Rattle.std.specs.Prelude.{◌≡◌, All, None, replicate, IfOk};
+ghost use Rattle.std.specs.Prelude.{◌≡◌, All, List, Option, None, replicate, IfOk};
 ghost use Rattle.uc_version.specs.declared.held_stretch.TheConstants.{MOST_CLAIMS};
+ghost use Rattle.uc_version.specs.Claiming.{Claim};
 ghost use Rattle.uc_script.specs.Calls.{calls_in};
 ghost use Rattle.uc_script.specs.Names.{NameIsGood};
 ghost use Rattle.uc_query.specs.Names.{AreHeld, named};
@@ -9,48 +10,64 @@ ghost use Rattle.uc_query.specs.Running.{unnamed};
 ghost use Rattle.uc_tool_io.specs.Output.{Prints};
 ghost use Rattle.uc_tool_play.specs.Play as plays;
 ghost use Rattle.uc_tool_play.specs.Play.{replies_of};
-ghost use Rattle.uc_tool_play.specs.Turn.{Turns};
+ghost use Rattle.uc_tool_play.specs.Turn.{Turns, store_call};
 
 use std::alloc::{AllocError, Global};
 use std::io::Write;
 use std::marker::Sync;
 use std::thread::Threads;
-use uc_bytes::Items;
 use uc_oper::Operator;
-use uc_query::{AskError, NamedClaims, Query};
+use uc_query::{AskError, NamedClaims, Query, answer_one};
 use uc_script::{Call, CallReader};
 use uc_tool_io::{RunError, write_bytes};
-use uc_tool_opening::{query_of, reply_lines};
+use uc_tool_opening::{push_answer_lines, query_of, reply_lines};
 use uc_version::Owned;
 use uc_version_state::Stretch;
 
-/// A query alone, for one worker.
-fn asked_alone(alloc: Global, query: Query) -> Result<uc_query::Call, AllocError>
-    ensures { IfOk result (λ call. call ≡ plays.asked_alone query) }
-{
-    let mut queries = Vec::new(alloc);
-    queries.push(query)?;
-    Ok(uc_query::Call::Ask(Items::from(queries), 1, 1))
+/// What a script's call asks of the store.
+#[derive(Debug, Drop)]
+enum Asked {
+    /// An answer, which changes nothing.
+    Answer(Query),
+    /// A call that may change what is claimed and what the store holds.
+    Work(uc_query::Call),
 }
 
-/// What a script's call asks of the store.
-fn call_of(alloc: Global, last: u64, call: Call) -> Result<uc_query::Call, AllocError>
-    ensures { IfOk result (λ asked. asked ≡ plays.call_of last call) }
+/// What a script's call asks of the store, if `last` is the last sequence at opening.
+fn asked_of(last: u64, call: Call) -> Asked
+    ensures { store_call result ≡ plays.call_of last call }
 {
     match call {
-        Call::Read(asked) => asked_alone(alloc, query_of(last, asked)),
+        Call::Read(asked) => Asked::Answer(query_of(last, asked)),
         Call::Claim { name, first, count } => {
-            Ok(uc_query::Call::Claim(name, Stretch { first, count }))
+            Asked::Work(uc_query::Call::Claim(name, Stretch { first, count }))
         }
-        Call::Install { name } => Ok(uc_query::Call::Install(name)),
-        Call::Abandon { name } => Ok(uc_query::Call::Abandon(name)),
-        Call::Compact { first, count } => Ok(uc_query::Call::Compact(Stretch { first, count })),
-        Call::Pick => Ok(uc_query::Call::Pick),
-        Call::Report => Ok(uc_query::Call::Report),
+        Call::Install { name } => Asked::Work(uc_query::Call::Install(name)),
+        Call::Abandon { name } => Asked::Work(uc_query::Call::Abandon(name)),
+        Call::Compact { first, count } => {
+            Asked::Work(uc_query::Call::Compact(Stretch { first, count }))
+        }
+        Call::Pick => Asked::Work(uc_query::Call::Pick),
+        Call::Report => Asked::Work(uc_query::Call::Report),
     }
 }
 
-/// Carries a script's call out, and gives the lines of its reply.
+/// The lines of the answer to a query.
+fn answer_to<O: Operator>(
+    alloc: Global,
+    owned: &Owned<O>,
+    query: &Query,
+) -> Result<Vec<u8>, AllocError>
+    ensures { (names : List (Option Claim)) → IfOk result (λ lines.
+        Turns O.meaning (named owned.now names) (plays.asked_alone query.now) lines.items (named owned.now names)) }
+{
+    let answer = answer_one::<O>(alloc, owned.version(), query)?;
+    let mut lines = Vec::new(alloc);
+    push_answer_lines(&mut lines, &answer)?;
+    Ok(lines)
+}
+
+/// Carries a script's call out, and returns the lines of its reply.
 fn reply_to<O: Operator + Sync>(
     rt: &(impl Threads + Sync),
     alloc: Global,
@@ -66,10 +83,14 @@ fn reply_to<O: Operator + Sync>(
         Turns O.meaning (named owned.old claims.old) (plays.call_of last call) lines.items
         (named owned.new claims.new)) }
 {
-    let call = call_of(alloc, last, call)?;
+    let call = match asked_of(last, call) {
+        Asked::Answer(query) => return answer_to(alloc, owned, &query),
+        Asked::Work(call) => call,
+    };
     match claims.call(rt, alloc, owned, &call) {
         Ok(reply) => reply_lines(alloc, &reply),
         Err(AskError::Memory) => Err(AllocError),
+        // A batch alone has workers and pieces.
         Err(AskError::BadWorkers | AskError::BadPiece) => unreachable!(),
     }
 }

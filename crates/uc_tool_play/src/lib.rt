@@ -12,7 +12,8 @@
 //! picked, or no id is left. Read `specs/Report.antt` first, then `reporting.rt` and, for the loop of compactions,
 //! `compacting.rt` with `specs/Compacting.antt`.
 //!
-//! Opening, refusing and the lines of replies and reports stand in `uc_tool_opening`.
+//! Opening, refusing and the lines of replies and reports stand in `uc_tool_opening`. An `Err(AllocError)` or `Memory` comes
+//! only if an allocation fails.
 #![tactic(auto)]
 
 mod calling;
@@ -23,6 +24,6 @@ mod report_laws;
 mod reporting;
 
 pub use laws::reads_are_answered_from_plain_writes;
-pub use playing::{play, play_with_reason};
+pub use playing::play;
 pub use report_laws::compactions_end_where_nothing_is_picked;
-pub use reporting::{report_log, report_log_with_reason};
+pub use reporting::report_log;

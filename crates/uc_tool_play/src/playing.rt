@@ -1,6 +1,6 @@
 //! `play`: a store over the writes of a script, and the replies to its calls.
 
-ghost use Rattle.std.specs.Prelude.{◌≡◌, ◌≤◌, All, Ok, None, true, length, drop, vec_len, IfOk, IfErr, OnOk, IfSome};
+ghost use Rattle.std.specs.Prelude.{◌≡◌, ◌≤◌, All, true, length, drop, vec_len, IfOk, OnOk, IfSome};
 ghost use Rattle.uc_script.specs.Calls.{calls_in, script_with};
 ghost use Rattle.uc_script.specs.Names.{NameIsGood};
 ghost use Rattle.uc_script.specs.Reading.{Gives};
@@ -9,7 +9,7 @@ ghost use Rattle.uc_version_state.specs.Options.{are_good};
 ghost use Rattle.uc_tool_io.specs.declared.input.TheConstants.{INPUT_LIMIT};
 ghost use Rattle.uc_tool_opening.specs.Opening.{FitsLog};
 ghost use Rattle.uc_tool_opening.specs.Reasons.{IsReason, TellsOpening, opening_cause};
-ghost use Rattle.uc_tool_play.specs.Play.{opening_of, output_of, script_output, play_of, fault_cause, cause_of};
+ghost use Rattle.uc_tool_play.specs.Play.{opening_of, output_of, script_output, play_of, cause_of};
 ghost use Rattle.uc_tool_io.specs.Output.{Prints, HasWritten};
 
 use crate::calling::print_replies;
@@ -22,38 +22,31 @@ use uc_script::{
     Preamble, ScriptError, Source, a_script_names_no_more_than_it_has, judge_script,
     names_are_in_range,
 };
-use uc_tool_io::{
-    Done, RunError, finish, finish_without_input, numbered_line, print_refusal, read_input,
-    write_bytes,
+use uc_tool_io::{Done, RunError, numbered_line, run_over_input, write_bytes};
+use uc_tool_opening::{
+    Outcome, Reason, open_ops, print_fault, print_refused_opening, reason_of_line,
+    reason_of_opening,
 };
-use uc_tool_opening::{Reason, open_ops, print_refused_opening, reason_of_line, reason_of_opening};
 use uc_version::Owned;
 use uc_version_open::OpenError;
 use uc_version_state::{Options, Version};
 
-/// Judges a script, and reads what stands up to its `open`. Where it has a fault, it tells why.
-fn judged(alloc: Global, input: &[u8], reason: &mut Option<Reason>) -> Result<Preamble, ScriptError>
-    requires short { length input.now ≤ INPUT_LIMIT }
-    requires none { reason.old ≡ None }
+/// Judges a script, and reads what stands up to its `open`.
+fn judged(alloc: Global, input: &[u8]) -> Result<Preamble, ScriptError>
+    requires { length input.now ≤ INPUT_LIMIT }
     ensures read { Gives (λ preamble. script_with preamble (drop preamble.size input.now)) result (script_of input.now) }
     ensures within { IfOk result (λ preamble. preamble.size ≤ length input.now) }
     ensures fits { IfOk result (λ preamble. FitsLog preamble.ops) }
     ensures names { IfOk result (λ preamble. All NameIsGood (calls_in (drop preamble.size input.now))) }
-    ensures none { OnOk result (reason.new ≡ None) }
-    ensures told { IfErr result (λ error. IsReason (fault_cause input.now error) reason.new) }
 {
     // Laws of the layer below, which do nothing when they run: no write is longer than the script, and no name is
     // above what a store has.
     a_script_names_no_more_than_it_has();
     names_are_in_range();
-    let preamble = judge_script(alloc, input);
-    if let Err(ScriptError::Fault(number)) = &preamble {
-        *reason = reason_of_line(alloc, Source::Script, input, *number);
-    }
-    preamble
+    judge_script(alloc, input)
 }
 
-/// What stands behind so many bytes of a text, in the memory that the text had.
+/// What stands behind the first `size` bytes of a text, in the memory that the text had.
 fn behind(mut text: Vec<u8>, size: usize) -> Vec<u8>
     requires { size ≤ vec_len text }
     ensures { result.items ≡ drop size text.items }
@@ -89,7 +82,7 @@ fn print_opened<O: Operator + Sync, W: Write>(
 }
 
 /// Opens the store that a script asks for, and prints why it is refused, or that it opened and the replies to the calls that
-/// the lines behind `open` name.
+/// `lines` name, which stand behind `open`. It returns the reason beside its outcome.
 fn print_script<O: Operator + Sync, W: Write>(
     rt: &(impl Threads + Sync),
     alloc: Global,
@@ -97,25 +90,26 @@ fn print_script<O: Operator + Sync, W: Write>(
     lines: &[u8],
     options: &Options,
     writer: &mut W,
-    reason: &mut Option<Reason>,
-) -> Result<Done, RunError>
+) -> (Result<Done, RunError>, Option<Reason>)
     requires fits { FitsLog preamble.ops }
     requires names { All NameIsGood (calls_in lines.now) }
-    requires none { reason.old ≡ None }
     ensures printed { Prints (script_output O.meaning options.now (script_with preamble lines.now)).replies
-        (W.contents writer.old) (W.contents writer.new) result }
-    ensures done { IfOk result (λ done. done ≡ (script_output O.meaning options.now (script_with preamble lines.now)).done) }
-    ensures told { IsReason (opening_cause (opening_of options.now (script_with preamble lines.now))) reason.new }
-    ensures opening { OnOk result
-        (TellsOpening (opening_cause (opening_of options.now (script_with preamble lines.now))) reason.new) }
+        (W.contents writer.old) (W.contents writer.new) result.0 }
+    ensures done { IfOk result.0 (λ done. done ≡ (script_output O.meaning options.now (script_with preamble lines.now)).done) }
+    ensures told { IsReason (opening_cause (opening_of options.now (script_with preamble lines.now))) result.1 }
+    ensures opening { OnOk result.0
+        (TellsOpening (opening_cause (opening_of options.now (script_with preamble lines.now))) result.1) }
 {
     let Preamble { ops, keeps, .. } = preamble;
     match open_ops(alloc, ops, keeps, *options) {
-        Ok(version) => print_opened::<O, W>(rt, alloc, version, options, lines, writer),
-        Err(OpenError::Memory) => Err(RunError::Memory),
+        Ok(version) => {
+            let outcome = print_opened::<O, W>(rt, alloc, version, options, lines, writer);
+            (outcome, None)
+        }
+        Err(OpenError::Memory) => (Err(RunError::Memory), None),
         Err(error) => {
-            *reason = reason_of_opening(error, options);
-            print_refused_opening(alloc, error, writer)
+            let outcome = print_refused_opening(alloc, error, writer);
+            (outcome, reason_of_opening(error, options))
         }
     }
 }
@@ -127,53 +121,24 @@ fn run<O: Operator + Sync, W: Write>(
     input: Vec<u8>,
     options: &Options,
     writer: &mut W,
-    reason: &mut Option<Reason>,
-) -> Result<Done, RunError>
-    requires short { vec_len input ≤ INPUT_LIMIT }
-    requires none { reason.old ≡ None }
+) -> (Result<Done, RunError>, Option<Reason>)
+    requires { vec_len input ≤ INPUT_LIMIT }
     ensures printed { Prints (play_of O.meaning options.now input.items).replies
-        (W.contents writer.old) (W.contents writer.new) result }
-    ensures done { IfOk result (λ done. done ≡ (play_of O.meaning options.now input.items).done) }
-    ensures told { IsReason (cause_of options.now input.items) reason.new }
-    ensures opening { OnOk result (TellsOpening (cause_of options.now input.items) reason.new) }
+        (W.contents writer.old) (W.contents writer.new) result.0 }
+    ensures done { IfOk result.0 (λ done. done ≡ (play_of O.meaning options.now input.items).done) }
+    ensures told { IsReason (cause_of options.now input.items) result.1 }
+    ensures opening { OnOk result.0 (TellsOpening (cause_of options.now input.items) result.1) }
 {
-    match judged(alloc, &input, reason) {
+    match judged(alloc, &input) {
         Ok(preamble) => {
             let lines = behind(input, preamble.size);
-            print_script::<O, W>(rt, alloc, preamble, &lines, options, writer, reason)
+            print_script::<O, W>(rt, alloc, preamble, &lines, options, writer)
         }
         Err(ScriptError::Fault(line)) => {
-            let line = numbered_line(alloc, b"fault line ", line)?;
-            print_refusal(&line, writer)
+            let reason = reason_of_line(alloc, Source::Script, &input, line);
+            (print_fault(alloc, line, writer), reason)
         }
-        Err(ScriptError::Memory) => Err(RunError::Memory),
-    }
-}
-
-/// Runs a script as [`play`] does. Where it is refused for a fault of the script or at its opening, it gives the reason too,
-/// which is that of the line that was at fault or of the opening that was refused, and else none. Where there is no memory for
-/// what is said of a line, it gives none, and prints and ends all the same.
-pub fn play_with_reason<O: Operator + Sync, R: Read, W: Write>(
-    rt: &(impl Threads + Sync),
-    alloc: Global,
-    reader: &mut R,
-    writer: &mut W,
-    options: &Options,
-    reason: &mut Option<Reason>,
-) -> Done
-    ensures written { IfSome (R.remaining reader.old) (λ input.
-        HasWritten (play_of O.meaning options.now input) input (W.contents writer.old) (W.contents writer.new) result) }
-    ensures told { IfSome (R.remaining reader.old) (λ input. IsReason (cause_of options.now input) reason.new) }
-    ensures opening { result ≡ Done.Refused →
-        IfSome (R.remaining reader.old) (λ input. TellsOpening (cause_of options.now input) reason.new) }
-{
-    *reason = None;
-    match read_input(alloc, reader) {
-        Ok(input) => {
-            let outcome = run::<O, W>(rt, alloc, input, options, writer, reason);
-            finish(writer, outcome)
-        }
-        Err(error) => finish_without_input(writer, error),
+        Err(ScriptError::Memory) => (Err(RunError::Memory), None),
     }
 }
 
@@ -181,21 +146,32 @@ pub fn play_with_reason<O: Operator + Sync, R: Read, W: Write>(
 /// carries out its calls in order, under an operator, printing each reply as soon as it is there.
 ///
 /// What is written is the text of `play_of`, a function of the bytes that were read, the operator's
-/// meaning and the options. After want of memory it is some whole first replies of that text, and then
-/// `out of memory`; where the reader or the writer fails, or the input is longer than 64 MiB, it is a
-/// front of a text that says so or of that one. It reads at most 64 MiB and a byte, in at most 2^27 reads.
-/// Of the script, its changes, their log and the store no two are held but while the one is made from the other, apart from
-/// the lines behind `open`: they are held to the end, and each call is read from them when its turn comes.
+/// meaning and the options. If an allocation fails it is some whole first replies of that text, and then
+/// `out of memory`; if the reader or the writer fails, or the input is longer than 64 MiB, it is a
+/// front of a text that says so or of that one. A script that is refused for a fault of a line or at its opening has a reason.
+///
+/// It reads at most 64 MiB and a byte, in at most 2^27 reads. Of the script, its changes, their log and the store no two are
+/// held but while the one is made from the other, apart from the lines behind `open`: they are held to the end, and each call
+/// is read from them when its turn comes.
 pub fn play<O: Operator + Sync, R: Read, W: Write>(
     rt: &(impl Threads + Sync),
     alloc: Global,
     reader: &mut R,
     writer: &mut W,
     options: &Options,
-) -> Done
-    ensures { IfSome (R.remaining reader.old) (λ input.
-        HasWritten (play_of O.meaning options.now input) input (W.contents writer.old) (W.contents writer.new) result) }
+) -> Outcome
+    ensures written { IfSome (R.remaining reader.old) (λ input.
+        HasWritten (play_of O.meaning options.now input) input (W.contents writer.old) (W.contents writer.new) result.done) }
+    ensures told { IfSome (R.remaining reader.old) (λ input. IsReason (cause_of options.now input) result.reason) }
+    ensures opening { result.done ≡ Done.Refused →
+        IfSome (R.remaining reader.old) (λ input. TellsOpening (cause_of options.now input) result.reason) }
 {
-    let mut reason = None;
-    play_with_reason::<O, R, W>(rt, alloc, reader, writer, options, &mut reason)
+    let work = |input: Vec<u8>, writer: &mut W| -> (Result<Done, RunError>, Option<Reason>)
+        requires { vec_len input ≤ INPUT_LIMIT }
+    { run::<O, W>(rt, alloc, input, options, writer) };
+    let (done, told) = run_over_input(alloc, reader, writer, work);
+    Outcome {
+        done,
+        reason: told.flatten(),
+    }
 }

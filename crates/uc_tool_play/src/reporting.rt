@@ -1,6 +1,6 @@
 //! `report_log`: what a store holds that opens from a log, before and after its compaction.
 
-ghost use Rattle.std.specs.Prelude.{◌≡◌, [], ◌∷◌, List, None, true, IfOk, OnOk, IfSome};
+ghost use Rattle.std.specs.Prelude.{◌≡◌, [], ◌∷◌, List, true, IfOk, OnOk, IfSome};
 ghost use Rattle.uc_batch.specs.Rising.{IsRising};
 ghost use Rattle.uc_version_open.specs.Progress.{progress_of};
 ghost use Rattle.uc_version_state.specs.Options.{are_good};
@@ -19,9 +19,10 @@ use std::thread::Threads;
 use uc_batch::Ended;
 use uc_oper::Operator;
 use uc_query::report;
-use uc_tool_io::{Done, RunError, finish, finish_without_input, read_input, write_bytes};
+use uc_tool_io::{Done, RunError, run_over_input, write_bytes};
 use uc_tool_opening::{
-    Reason, print_bad_log, print_refused_opening, reason_of_opening, recover_log, report_lines,
+    Outcome, Reason, print_bad_log, print_refused_opening, reason_of_opening, recover_log,
+    report_lines,
 };
 use uc_version::Owned;
 use uc_version_open::{OpenError, Opener, Recovered};
@@ -61,34 +62,36 @@ fn print_reports<O: Operator + Sync, W: Write>(
     Ok(Done::Fine)
 }
 
-/// Opens the store that has taken some writes, and prints why it is refused, or the reports.
+/// Opens the store that has taken some writes, and prints why it is refused, or the reports. It returns the reason beside its
+/// outcome.
 fn print_opened<O: Operator + Sync, W: Write>(
     rt: &(impl Threads + Sync),
     alloc: Global,
     opener: Opener,
     options: &Options,
     writer: &mut W,
-    reason: &mut Option<Reason>,
-) -> Result<Done, RunError>
-    requires taken { (writes : List WriteOf) × IsRising 0 writes × (opener ≡ progress_of options.now writes) }
-    requires none { reason.old ≡ None }
+) -> (Result<Done, RunError>, Option<Reason>)
+    requires { (writes : List WriteOf) × IsRising 0 writes × (opener ≡ progress_of options.now writes) }
     ensures printed { (writes : List WriteOf) → IsRising 0 writes → opener ≡ progress_of options.now writes →
-        Prints (of_writes O.meaning options.now writes).replies (W.contents writer.old) (W.contents writer.new) result }
+        Prints (of_writes O.meaning options.now writes).replies (W.contents writer.old) (W.contents writer.new) result.0 }
     ensures done { (writes : List WriteOf) → IsRising 0 writes → opener ≡ progress_of options.now writes →
-        IfOk result (λ done. done ≡ (of_writes O.meaning options.now writes).done) }
+        IfOk result.0 (λ done. done ≡ (of_writes O.meaning options.now writes).done) }
     ensures told { (writes : List WriteOf) → IsRising 0 writes → opener ≡ progress_of options.now writes →
         let opening : Opening = record { writes = writes; keeps = []; options = options.now } in
-        IsReason (opening_cause opening) reason.new }
+        IsReason (opening_cause opening) result.1 }
     ensures opening { (writes : List WriteOf) → IsRising 0 writes → opener ≡ progress_of options.now writes →
         let opening : Opening = record { writes = writes; keeps = []; options = options.now } in
-        OnOk result (TellsOpening (opening_cause opening) reason.new) }
+        OnOk result.0 (TellsOpening (opening_cause opening) result.1) }
 {
     match opener.finish(alloc, &[]) {
-        Ok(version) => print_reports::<O, W>(rt, alloc, version, options, writer),
-        Err(OpenError::Memory) => Err(RunError::Memory),
+        Ok(version) => {
+            let outcome = print_reports::<O, W>(rt, alloc, version, options, writer);
+            (outcome, None)
+        }
+        Err(OpenError::Memory) => (Err(RunError::Memory), None),
         Err(error) => {
-            *reason = reason_of_opening(error, options);
-            print_refused_opening(alloc, error, writer)
+            let outcome = print_refused_opening(alloc, error, writer);
+            (outcome, reason_of_opening(error, options))
         }
     }
 }
@@ -100,47 +103,21 @@ fn run<O: Operator + Sync, W: Write>(
     input: Vec<u8>,
     options: &Options,
     writer: &mut W,
-    reason: &mut Option<Reason>,
-) -> Result<Done, RunError>
-    requires { reason.old ≡ None }
+) -> (Result<Done, RunError>, Option<Reason>)
     ensures printed { Prints (report_of O.meaning options.now input.items).replies
-        (W.contents writer.old) (W.contents writer.new) result }
-    ensures done { IfOk result (λ done. done ≡ (report_of O.meaning options.now input.items).done) }
-    ensures told { IsReason (cause_of options.now input.items) reason.new }
-    ensures opening { OnOk result (TellsOpening (cause_of options.now input.items) reason.new) }
+        (W.contents writer.old) (W.contents writer.new) result.0 }
+    ensures done { IfOk result.0 (λ done. done ≡ (report_of O.meaning options.now input.items).done) }
+    ensures told { IsReason (cause_of options.now input.items) result.1 }
+    ensures opening { OnOk result.0 (TellsOpening (cause_of options.now input.items) result.1) }
 {
-    let Recovered { opener, ended } = recover_log(alloc, input, *options)?;
+    let Ok(Recovered { opener, ended }) = recover_log(alloc, input, *options) else {
+        return (Err(RunError::Memory), None);
+    };
     match ended {
         Ended::Clean | Ended::Torn(_) => {
-            print_opened::<O, W>(rt, alloc, opener, options, writer, reason)
+            print_opened::<O, W>(rt, alloc, opener, options, writer)
         }
-        Ended::LogFault(..) | Ended::BatchFault(..) => print_bad_log(alloc, ended, writer),
-    }
-}
-
-/// Reports on a log as [`report_log`] does. Where the opening is refused, it gives the reason too, which is that of this
-/// opening, and else none.
-pub fn report_log_with_reason<O: Operator + Sync, R: Read, W: Write>(
-    rt: &(impl Threads + Sync),
-    alloc: Global,
-    reader: &mut R,
-    writer: &mut W,
-    options: &Options,
-    reason: &mut Option<Reason>,
-) -> Done
-    ensures written { IfSome (R.remaining reader.old) (λ input.
-        HasWritten (report_of O.meaning options.now input) input (W.contents writer.old) (W.contents writer.new) result) }
-    ensures told { IfSome (R.remaining reader.old) (λ input. IsReason (cause_of options.now input) reason.new) }
-    ensures opening { result ≡ Done.Refused →
-        IfSome (R.remaining reader.old) (λ input. TellsOpening (cause_of options.now input) reason.new) }
-{
-    *reason = None;
-    match read_input(alloc, reader) {
-        Ok(input) => {
-            let outcome = run::<O, W>(rt, alloc, input, options, writer, reason);
-            finish(writer, outcome)
-        }
-        Err(error) => finish_without_input(writer, error),
+        Ended::LogFault(..) | Ended::BatchFault(..) => (print_bad_log(alloc, ended, writer), None),
     }
 }
 
@@ -148,19 +125,28 @@ pub fn report_log_with_reason<O: Operator + Sync, R: Read, W: Write>(
 /// as long as it picks anything, printing a line for each compaction, and reports again.
 ///
 /// What is written is the text of `report_of`, a function of the bytes that were read, the operator's meaning and the
-/// options. A log with a fault is refused with the line that says so, and an opening with the line that says why. After
-/// want of memory it is some whole first replies of that text, and then `out of memory`; where the reader or the writer
-/// fails, or the input is longer than 64 MiB, it is a front of a text that says so or of that one.
+/// options. A log with a fault is refused with the line that says so, and an opening with the line that says why. If an
+/// allocation fails it is some whole first replies of that text, and then `out of memory`; if the reader or the writer
+/// fails, or the input is longer than 64 MiB, it is a front of a text that says so or of that one. An opening that is refused
+/// has a reason.
 pub fn report_log<O: Operator + Sync, R: Read, W: Write>(
     rt: &(impl Threads + Sync),
     alloc: Global,
     reader: &mut R,
     writer: &mut W,
     options: &Options,
-) -> Done
-    ensures { IfSome (R.remaining reader.old) (λ input.
-        HasWritten (report_of O.meaning options.now input) input (W.contents writer.old) (W.contents writer.new) result) }
+) -> Outcome
+    ensures written { IfSome (R.remaining reader.old) (λ input.
+        HasWritten (report_of O.meaning options.now input) input (W.contents writer.old) (W.contents writer.new) result.done) }
+    ensures told { IfSome (R.remaining reader.old) (λ input. IsReason (cause_of options.now input) result.reason) }
+    ensures opening { result.done ≡ Done.Refused →
+        IfSome (R.remaining reader.old) (λ input. TellsOpening (cause_of options.now input) result.reason) }
 {
-    let mut reason = None;
-    report_log_with_reason::<O, R, W>(rt, alloc, reader, writer, options, &mut reason)
+    let (done, told) = run_over_input(alloc, reader, writer, |input: Vec<u8>, writer: &mut W| {
+        run::<O, W>(rt, alloc, input, options, writer)
+    });
+    Outcome {
+        done,
+        reason: told.flatten(),
+    }
 }

@@ -17,10 +17,7 @@ use std::sync::Wait;
 use std::thread::Threads;
 use uc_command::{Plan, Shown};
 use uc_oper::{Append, Counter, Maximum};
-use uc_tool::{
-    Done, OperatorName, Reason, Refusal, ask_with_reason, dump, is_plan, play_with_reason,
-    report_log_with_reason,
-};
+use uc_tool::{Done, OperatorName, Outcome, Refusal, ask, dump, is_plan, play, report_log};
 
 /// The delimiter of `--operator append`.
 const COMMA: u8 = b',';
@@ -32,21 +29,16 @@ fn play_script<R: Read, W: Write>(
     matches: &ArgMatches<'_>,
     reader: &mut R,
     writer: &mut W,
-    reason: &mut Option<Reason>,
-) -> Done {
+) -> Outcome {
     let options = uc_command::options(matches);
     match uc_command::operator_name(matches) {
-        Some(OperatorName::Counter) => play_with_reason::<Counter, R, W>(
-            rt, alloc, reader, writer, &options, reason,
+        Some(OperatorName::Counter) => play::<Counter, R, W>(rt, alloc, reader, writer, &options),
+        Some(OperatorName::Append) => play::<Append<COMMA>, R, W>(
+            rt, alloc, reader, writer, &options,
         ),
-        Some(OperatorName::Append) => play_with_reason::<Append<COMMA>, R, W>(
-            rt, alloc, reader, writer, &options, reason,
-        ),
-        Some(OperatorName::Maximum) => play_with_reason::<Maximum, R, W>(
-            rt, alloc, reader, writer, &options, reason,
-        ),
+        Some(OperatorName::Maximum) => play::<Maximum, R, W>(rt, alloc, reader, writer, &options),
         // The parser lets no other name through.
-        None => Done::Refused,
+        None => Outcome::without_reason(Done::Refused),
     }
 }
 
@@ -57,8 +49,7 @@ fn ask_log<R: Read, W: Write>(
     matches: &ArgMatches<'_>,
     reader: &mut R,
     writer: &mut W,
-    reason: &mut Option<Reason>,
-) -> Done {
+) -> Outcome {
     let options = uc_command::options(matches);
     let Plan {
         workers,
@@ -67,22 +58,22 @@ fn ask_log<R: Read, W: Write>(
     } = uc_command::plan_of(matches);
     // The parser lets no other numbers through.
     if !is_plan(workers, piece, compactors) {
-        return Done::Refused;
+        return Outcome::without_reason(Done::Refused);
     }
-    let (done, _installs) = match uc_command::operator_name(matches) {
-        Some(OperatorName::Counter) => ask_with_reason::<Counter, R, W>(
-            rt, alloc, reader, writer, &options, workers, piece, compactors, reason,
+    let (outcome, _installs) = match uc_command::operator_name(matches) {
+        Some(OperatorName::Counter) => ask::<Counter, R, W>(
+            rt, alloc, reader, writer, &options, workers, piece, compactors,
         ),
-        Some(OperatorName::Append) => ask_with_reason::<Append<COMMA>, R, W>(
-            rt, alloc, reader, writer, &options, workers, piece, compactors, reason,
+        Some(OperatorName::Append) => ask::<Append<COMMA>, R, W>(
+            rt, alloc, reader, writer, &options, workers, piece, compactors,
         ),
-        Some(OperatorName::Maximum) => ask_with_reason::<Maximum, R, W>(
-            rt, alloc, reader, writer, &options, workers, piece, compactors, reason,
+        Some(OperatorName::Maximum) => ask::<Maximum, R, W>(
+            rt, alloc, reader, writer, &options, workers, piece, compactors,
         ),
         // The parser lets no other name through.
-        None => (Done::Refused, 0),
+        None => (Outcome::without_reason(Done::Refused), 0),
     };
-    done
+    outcome
 }
 
 /// Reports on a log under the operator that the words name.
@@ -92,21 +83,20 @@ fn report<R: Read, W: Write>(
     matches: &ArgMatches<'_>,
     reader: &mut R,
     writer: &mut W,
-    reason: &mut Option<Reason>,
-) -> Done {
+) -> Outcome {
     let options = uc_command::options(matches);
     match uc_command::operator_name(matches) {
         Some(OperatorName::Counter) => {
-            report_log_with_reason::<Counter, R, W>(rt, alloc, reader, writer, &options, reason)
+            report_log::<Counter, R, W>(rt, alloc, reader, writer, &options)
         }
-        Some(OperatorName::Append) => report_log_with_reason::<Append<COMMA>, R, W>(
-            rt, alloc, reader, writer, &options, reason,
+        Some(OperatorName::Append) => report_log::<Append<COMMA>, R, W>(
+            rt, alloc, reader, writer, &options,
         ),
         Some(OperatorName::Maximum) => {
-            report_log_with_reason::<Maximum, R, W>(rt, alloc, reader, writer, &options, reason)
+            report_log::<Maximum, R, W>(rt, alloc, reader, writer, &options)
         }
         // The parser lets no other name through.
-        None => Done::Refused,
+        None => Outcome::without_reason(Done::Refused),
     }
 }
 
@@ -121,22 +111,21 @@ fn explain(rt: &(impl Print + Eprint), error: &Error) -> Done {
     }
 }
 
-/// Runs the subcommand that the words name. Why its script, queries or log are refused is put in `reason`.
+/// Runs the subcommand that the words name.
 fn run_subcommand<R: Read, W: Write>(
     rt: &(impl Threads + Wait + Sync),
     alloc: Global,
     matches: &ArgMatches<'_>,
     reader: &mut R,
     writer: &mut W,
-    reason: &mut Option<Reason>,
-) -> Done {
+) -> Outcome {
     match matches.subcommand() {
-        Some(("play", words)) => play_script(rt, alloc, words, reader, writer, reason),
-        Some(("ask", words)) => ask_log(rt, alloc, words, reader, writer, reason),
-        Some(("report", words)) => report(rt, alloc, words, reader, writer, reason),
-        Some(("dump", _)) => dump(alloc, reader, writer),
+        Some(("play", words)) => play_script(rt, alloc, words, reader, writer),
+        Some(("ask", words)) => ask_log(rt, alloc, words, reader, writer),
+        Some(("report", words)) => report(rt, alloc, words, reader, writer),
+        Some(("dump", _)) => Outcome::without_reason(dump(alloc, reader, writer)),
         // The parser requires a subcommand, and lets no other name through.
-        _ => Done::Refused,
+        _ => Outcome::without_reason(Done::Refused),
     }
 }
 
@@ -155,14 +144,13 @@ fn run_buffered<R: Read, W: Write + Drop>(
     matches: &ArgMatches<'_>,
     reader: &mut R,
     inner: W,
-    reason: &mut Option<Reason>,
-) -> Result<Done, Refusal> {
+) -> Result<Outcome, Refusal> {
     let Ok(mut writer) = BufWriter::new(alloc, inner) else {
         return Err(Refusal::Memory);
     };
-    let done = run_subcommand(rt, alloc, matches, reader, &mut writer, reason);
-    let_go(writer, done);
-    Ok(done)
+    let outcome = run_subcommand(rt, alloc, matches, reader, &mut writer);
+    let_go(writer, outcome.done);
+    Ok(outcome)
 }
 
 /// Runs it from standard input to standard output, and says on standard error why it is refused.
@@ -170,9 +158,8 @@ fn run_matches<R: Eprint + Print + Input + AllocGlobal + Threads + Wait + Sync>(
     rt: &R,
     matches: &ArgMatches<'_>,
 ) -> Result<Done, Refusal> {
-    let (mut reader, mut reason) = (rt.reader(), None);
-    let inner = io::writer(rt);
-    let done = run_buffered(rt, rt.alloc(), matches, &mut reader, inner, &mut reason)?;
+    let (mut reader, writer) = (rt.reader(), io::writer(rt));
+    let Outcome { done, reason } = run_buffered(rt, rt.alloc(), matches, &mut reader, writer)?;
     if let Some(reason) = reason {
         let _ = eprintln!(rt; "error: {reason}");
     }

@@ -119,7 +119,7 @@ fn dump_into(
     let words = ["ucstore", "dump"];
     let matches = uc_command::ucstore(alloc, &shown)?.try_get_matches_from(&words)?;
     let mut log = b"".as_slice();
-    Ok(run_buffered(rt, alloc, &matches, &mut log, sink, &mut None)?)
+    Ok(run_buffered(rt, alloc, &matches, &mut log, sink)?.done)
 }
 
 /// What goes out is a front of the text, and the buffer isn't written again behind the write that failed.

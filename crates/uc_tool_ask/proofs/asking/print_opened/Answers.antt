@@ -11,4 +11,4 @@ returns-in-Ok-of-clause-printed g c writes rising from =
     let ok = c.in-Ok.ensures.ok c.args.options.now writes rising from in
     let opening : Opening = record { writes = writes; keeps = c.args.keeps.now; options = c.args.options.now } in
     let may = (c.no_refusal_is_leave_to_open.ensures opening rising).0 ok.1 in
-    printed_of_writes m c.args.options.now c.args.keeps.now (queries_in c.args.head.now) writes ok.1 c.in-Ok-of.opening.version (c.in-Ok-of.ensures.version ∙ ok.0) may (contents c.args.writer.now) (contents c.answer_shared.new.writer) c.answer_shared.result.0 c.answer_shared.ensures.printed
+    printed_of_writes m c.args.options.now c.args.keeps.now (queries_in c.args.head.now) writes ok.1 c.in-Ok-of.opening.version (c.in-Ok-of.ensures.version ∙ ok.0) may (contents c.args.writer.now) (contents c.answer_shared-outcome.new.writer) c.answer_shared-outcome.result.0 c.answer_shared-outcome.ensures.printed

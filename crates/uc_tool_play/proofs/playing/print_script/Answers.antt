@@ -10,4 +10,4 @@ returns-in-Ok-clause-printed g c =
     let contents = g.W.Write.contents in
     let script = script_with c.args.preamble c.args.lines.now in
     let is = opens g.O.Operator.meaning (opening_of c.args.options.now script) c.in-Ok.version script.calls c.in-Ok.ensures.ok.0 c.in-Ok.ensures.ok.1 in
-    subst (λ (out : Output). Prints out.replies (contents c.args.writer.now) (contents c.print_opened.new.writer) c.print_opened.result) is c.print_opened.ensures.printed
+    subst (λ (out : Output). Prints out.replies (contents c.args.writer.now) (contents c.print_opened-outcome.new.writer) c.print_opened-outcome.result) is c.print_opened-outcome.ensures.printed
