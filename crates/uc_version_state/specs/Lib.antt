@@ -1,4 +1,7 @@
 pub mod Versions
+pub mod Flushes
+pub mod Feeds
+pub mod Snapshots
 pub mod Openings
 pub mod Installs
 pub mod Histories

@@ -1,12 +1,10 @@
--- What refuses an event.
+-- What refuses an install.
 use Rattle.std.specs.Prelude.{◌≡◌, ℕ, Bool, not, ◌&&◌, ◌==◌, List, [], ◌∷◌, Option, Some, None, nat_lt, if◌then◌else◌}
 use Rattle.std.specs.List.{list_any}
 use Rattle.uc_oper.specs.Operation.{Operation}
 use Rattle.uc_compact_rules.specs.Output.{output_of}
 use Rattle.uc_version_state.specs.Versions.{Stored, ids_of}
 use Rattle.uc_version_state.specs.Installs.{Install, Terms, KeepsKnown, NothingBelow, IdLeft, MayReplace, standing, behind, compaction_in}
-use Rattle.uc_version_state.specs.declared.event.Event.{Event}
-use Rattle.uc_version_state.specs.declared.event.Event.TheVariants.{Installed}
 use Rattle.uc_version_state.specs.declared.refusal.Refusal.{Refusal}
 use Rattle.uc_version_state.specs.declared.refusal.Refusal.TheVariants.{OlderBehind, UnknownKeep, NotInPlace, IdsSpent}
 
@@ -39,10 +37,10 @@ IsRefused v ids t IdsSpent = NothingBelow (behind ids v.runs) t × KeepsKnown v.
 abbrev pub terms_in : Install → Terms
 terms_in i = record { keeps = i.keeps; oldest = i.oldest; high = i.output.high }
 
--- an event's output is what it is made of, which no look at ids can tell
-abbrev pub IsMade : Operation → Stored → Event → Type 0
-IsMade m v (Installed i) = i.output ≡ output_of m (compaction_in i v)
+-- an install's output is what it is made of, which no look at ids can tell
+abbrev pub IsMade : Operation → Stored → Install → Type 0
+IsMade m v i = i.output ≡ output_of m (compaction_in i v)
 
--- why an event may not happen
-abbrev pub IsEventRefused : Stored → Event → Refusal → Type 0
-IsEventRefused v (Installed i) refusal = IsRefused v i.ids (terms_in i) refusal
+-- why an install may not happen
+abbrev pub IsInstallRefused : Stored → Install → Refusal → Type 0
+IsInstallRefused v i refusal = IsRefused v i.ids (terms_in i) refusal

@@ -15,12 +15,14 @@ pub record PlacedRun : Type 0 where
   pub slot : ℕ
   pub run : Contents
 
--- runs, the newest first; the sequences of reads; the last sequence; and the number of the next run
+-- runs, the newest first; the sequences of reads; the last sequence; the number of the next run; and the size from which
+-- on a memtable is flushed
 pub record Stored : Type 0 where
   pub runs : List PlacedRun
   pub keeps : List ℕ
   pub last : ℕ
   pub next_id : ℕ
+  pub limit : ℕ
 
 abbrev pub contents_of : List PlacedRun → List Contents
 contents_of runs = map (λ p. p.run) runs
@@ -50,3 +52,4 @@ pub record IsVersion (v : Stored) : Type 0 where
   pub ids_apart : AreDistinct (ids_of v.runs)
   pub ids_given : AllByRecursion (λ id. id < v.next_id) (ids_of v.runs)
   pub id_below : v.next_id < 2 ^ 64
+  pub limit_some : 1 ≤ v.limit
