@@ -33,6 +33,7 @@ pub use cursor::Cursor;
 pub use laws::{flush_keeps_every_effect, flushed_writes_are_a_run};
 pub use memtable::Memtable;
 pub use run::Run;
+pub use size::op_size;
 pub use uc_run_entry::{
     Entry, Fragment, Fragments, Range, What, WhatRef, covering_fragment, cut_ranges,
     fragments_are_in_order, fragments_cover_what_ranges_cover, is_run,

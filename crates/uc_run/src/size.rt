@@ -47,7 +47,7 @@ fn parts_size(kind: OpKind, first: &[u8], second: &[u8]) -> u64
 }
 
 /// The lengths of a change's texts, and 8; at most 2^64 - 1; 0 for a range without keys.
-pub(crate) fn op_size(op: &OpRef<'_>) -> u64
+pub fn op_size(op: &OpRef<'_>) -> u64
     ensures { result ≡ min (size.op_size op.now) (2 ^ 64 - 1) }
 {
     let (kind, first, second) = op.parts();

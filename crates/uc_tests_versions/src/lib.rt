@@ -1,6 +1,6 @@
 //! How a store begins, what is compacted next and with what outcome, worked by hand.
 //!
-//! `openings.rt` has openings from plain writes, `recoveries.rt` openings from short logs, `picks.rt` picks by hand,
+//! `versions.rt` has versions of a few runs, `openings.rt` has openings from plain writes, `recoveries.rt` openings from short logs, `picks.rt` picks by hand,
 //! `drawn_picks.rt` random ones compared with a plain slow program, and `reports.rt` reports on what a store holds.
 //! `stores.rt` opens stores of a few runs, `at_once.rt` compacts stretches of them at once, and `installs.rt` installs
 //! compactions that the store didn't make.
@@ -33,5 +33,7 @@ mod reports;
 mod step_runs;
 #[cfg(test)]
 mod stores;
+#[cfg(test)]
+mod versions;
 #[cfg(test)]
 mod worked_steps;

@@ -6,7 +6,7 @@ use Rattle.uc_run_entry.specs.Run.{Contents}
 use Rattle.uc_run.specs.Flush.{flushed}
 use Rattle.uc_version_state.specs.declared.options.Options.{Options}
 use Rattle.uc_version_state.specs.Options.{are_good}
-use Rattle.uc_version_state.specs.Openings.{memtables}
+use Rattle.uc_version_state.specs.Flushes.{memtables}
 use Rattle.uc_version_open.specs.Refusal.{are_few}
 
 -- memtables in turn: the runs of all but the newest, the oldest first, and the writes of the newest

@@ -3,7 +3,8 @@ use Rattle.std.specs.Prelude.{ℕ, Bool, true, false, List, Option, Some, None, 
 use Rattle.uc_batch.specs.Rising.{last_of}
 use Rattle.uc_claims.specs.declared.table.TheConstants.{MOST_SLOTS}
 use Rattle.uc_version_state.specs.Options.{are_good}
-use Rattle.uc_version_state.specs.Openings.{Opening, memtables}
+use Rattle.uc_version_state.specs.Flushes.{memtables}
+use Rattle.uc_version_state.specs.Openings.{Opening}
 use Rattle.uc_version_open.specs.declared.open_error.OpenError.{OpenError}
 use Rattle.uc_version_open.specs.declared.open_error.OpenError.TheVariants.{BadOption, SnapshotAhead, TooManyRuns}
 

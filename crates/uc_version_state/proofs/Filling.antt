@@ -7,7 +7,7 @@ use Rattle.std.proofs.lemmas.List.Sums.{sum_by-append}
 use Rattle.std.proofs.Math.Nat.{min-le_left, min-le_right, le-min}
 use Rattle.uc_bytes.specs.declared.write.Write.{Write}
 use Rattle.uc_run.specs.Size.{write_size, memtable_size}
-use Rattle.uc_version_state.specs.Openings.{memtables_from, memtables}
+use Rattle.uc_version_state.specs.Flushes.{memtables_from, memtables}
 use Rattle.uc_version_state.proofs.Memtables.{some_from}
 
 -- what holds of all of a list holds of each element

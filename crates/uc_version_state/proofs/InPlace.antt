@@ -38,16 +38,21 @@ pub ended : (left all : List PlacedRun) (first i count : ℕ) → i ≡ count �
 ended left all first i count same is = is ∙ ap (λ n. take first all ++ drop (first + n) all) same
 
 -- a version that is built from its parts, with a run in place of others
-pub replaced_is : (v : Stored) (first count : ℕ) → 0 < count → first + count ≤ length v.runs → (runs : List PlacedRun) (d : PlacedRun) (slot id : ℕ) (run given : Contents) (all : List PlacedRun) (keeps : List ℕ) (last : ℕ) →
-    runs ≡ v.runs → d ≡ get_or runs first d → slot ≡ d.slot → id ≡ v.next_id → run ≡ given → all ≡ take first runs ++ record { id = id; slot = slot; run = run } ∷ drop (first + count) runs → keeps ≡ v.keeps → last ≡ v.last →
-    record { runs = all; keeps = keeps; last = last; next_id = id + 1 } ≡ replaced first count given v
-replaced_is v first count some within runs d slot id run given all keeps last runs_are at slot_is id_is run_is all_are keeps_are last_is =
-    ap (λ (ps : List PlacedRun). record { runs = ps; keeps = keeps; last = last; next_id = id + 1 }) (all_are ∙ ap (λ (ps : List PlacedRun). take first ps ++ record { id = id; slot = slot; run = run } ∷ drop (first + count) ps) runs_are)
-    ∙ ap (λ (ks : List ℕ). record { runs = parts id slot run; keeps = ks; last = last; next_id = id + 1 }) keeps_are
-    ∙ ap (λ n. record { runs = parts id slot run; keeps = v.keeps; last = n; next_id = id + 1 }) last_is
-    ∙ ap (λ n. record { runs = parts n slot run; keeps = v.keeps; last = v.last; next_id = n + 1 }) id_is
-    ∙ ap (λ n. record { runs = parts v.next_id n run; keeps = v.keeps; last = v.last; next_id = v.next_id + 1 }) slot_there
-    ∙ ap (λ (r : Contents). record { runs = parts v.next_id (slot_of (part_of first count v.runs)) r; keeps = v.keeps; last = v.last; next_id = v.next_id + 1 }) run_is
+pub replaced_is : (v : Stored) (first count : ℕ) → 0 < count → first + count ≤ length v.runs → (runs : List PlacedRun) (d : PlacedRun) (slot id : ℕ) (run given : Contents) (all : List PlacedRun) (keeps : List ℕ) (last limit : ℕ) →
+    runs ≡ v.runs → d ≡ get_or runs first d → slot ≡ d.slot → id ≡ v.next_id → run ≡ given → all ≡ take first runs ++ record { id = id; slot = slot; run = run } ∷ drop (first + count) runs → keeps ≡ v.keeps → last ≡ v.last → limit ≡ v.limit →
+    record { runs = all; keeps = keeps; last = last; next_id = id + 1; limit = limit } ≡ replaced first count given v
+replaced_is v first count some within runs d slot id run given all keeps last limit runs_are at slot_is id_is run_is all_are keeps_are last_is limit_is i = record {
+  runs =
+      (all_are
+      ∙ ap (λ (ps : List PlacedRun). take first ps ++ record { id = id; slot = slot; run = run } ∷ drop (first + count) ps) runs_are
+      ∙ ap (λ n. parts n slot run) id_is
+      ∙ ap (λ n. parts v.next_id n run) slot_there
+      ∙ ap (λ (r : Contents). parts v.next_id (slot_of (part_of first count v.runs)) r) run_is) i;
+  keeps = keeps_are i;
+  last = last_is i;
+  next_id = ap (λ n. n + 1) id_is i;
+  limit = limit_is i;
+}
   where
     parts : ℕ → ℕ → Contents → List PlacedRun
     parts n s r = take first v.runs ++ record { id = n; slot = s; run = r } ∷ drop (first + count) v.runs

@@ -157,6 +157,7 @@ module _ (m : Operation) (laws : IsLawful m) (v : Stored) (i : Install) (is_vers
     ids_apart = distinct-from_times (ids_of (installed i v).runs) ids_once;
     ids_given = stays (λ p. p.id) (λ id. id < v.next_id + 1) (all-map (λ id. id < v.next_id) (λ id. id < v.next_id + 1) (λ id lt. omega (arith, lt)) (ids_of v.runs) is_version.ids_given) (omega arith);
     id_below = below_last v.next_id is_version.id_below may.may.id_left;
+    limit_some = is_version.limit_some;
   }
     where
       below_last : (n : ℕ) → n < 2 ^ 64 → n ≢ 2 ^ 64 - 1 → n + 1 < 2 ^ 64

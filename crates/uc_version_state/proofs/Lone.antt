@@ -9,6 +9,7 @@ use Rattle.uc_claims.proofs.Times.{new_at, times-append, times-distinct}
 use Rattle.uc_version_state.specs.Versions.{PlacedRun, Stored, IsVersion, ids_of, slots_of}
 use Rattle.uc_version_state.specs.Openings.{Opening, MayOpen, opened}
 use Rattle.uc_version_state.specs.declared.event.Event.TheVariants.{Installed}
+use Rattle.uc_version_state.proofs.Placing.{FlushesAreRuns}
 use Rattle.uc_version_state.proofs.Once.{distinct-from_times}
 use Rattle.uc_version_state.proofs.Parts.{in_parts}
 use Rattle.uc_version_state.proofs.Found.{standing_is}
@@ -36,7 +37,7 @@ own_ids (p ∷ ps) = ap (λ b. b && have_ids ps (ids_of ps)) (eq-eqb p.id p.id r
 pub stands_still : (v : Stored) (noted : List PlacedRun) → standing (ids_of noted) v.runs ≡ noted → still_stand noted v ≡ true
 stands_still v noted same = ap (λ (ps : List PlacedRun). have_ids ps (ids_of noted)) same ∙ own_ids noted
 
-module _ (m : Operation) (laws : IsLawful m) (h : History) (noted : List PlacedRun) (distinct : AreDistinct (slots_of noted)) where
+module _ (is_run : FlushesAreRuns) (m : Operation) (laws : IsLawful m) (h : History) (noted : List PlacedRun) (distinct : AreDistinct (slots_of noted)) where
   abbrev slot_at : ℕ → ℕ
   slot_at j = get_or (slots_of noted) j 0
 
@@ -52,7 +53,7 @@ module _ (m : Operation) (laws : IsLawful m) (h : History) (noted : List PlacedR
       ap (λ b. cond b (lone h (set words (slot_at j) 1) (taking noted (j + 1))) (lone h words (giving (take j (slots_of noted))))) (is_free words j keeps lt)
 
   on : (words : List ℕ) (j : ℕ) → Keeps m (lone h words (Taking noted j)) → j < length noted → Keeps m (lone h (set words (slot_at j) 1) (taking noted (j + 1)))
-  on words j keeps lt = subst (Keeps m) (after_take words j keeps lt) (keeps_on m laws (lone h words (Taking noted j)) (Acts 0 Take) keeps (omega arith, tt))
+  on words j keeps lt = subst (Keeps m) (after_take words j keeps lt) (keeps_on is_run m laws (lone h words (Taking noted j)) (Acts 0 Take) keeps (omega arith, tt))
 
   one_more : (words : List ℕ) (j : ℕ) (p : Phase) → Keeps m (lone h words (Taking noted j)) → j < length noted → taking noted (j + 1) ≡ p →
       Leads m (lone h (set words (slot_at j) 1) p) h (Taken noted) → Leads m (lone h words (Taking noted j)) h (Taken noted)
@@ -98,7 +99,7 @@ part_distinct v is_version first count = distinct-from_times (slots_of (part_of 
         let b : times k (slots_of (part_of first count v.runs ++ drop (first + count) v.runs)) ≡ times k (slots_of (part_of first count v.runs)) + times k (slots_of (drop (first + count) v.runs)) = ap (times k) (map-append (λ (p : PlacedRun). p.slot) (part_of first count v.runs) (drop (first + count) v.runs)) ∙ times-append k (slots_of (part_of first count v.runs)) (slots_of (drop (first + count) v.runs)) in
         omega (arith, le, all, a, b)
 
-module _ (m : Operation) (laws : IsLawful m) (o : Opening) (may : MayOpen o) (opens : IsVersion (opened o)) (first count : ℕ) (two : 2 ≤ count) (within : first + count ≤ length (opened o).runs) where
+module _ (is_run : FlushesAreRuns) (m : Operation) (laws : IsLawful m) (o : Opening) (may : MayOpen o) (opens : IsVersion (opened o)) (first count : ℕ) (two : 2 ≤ count) (within : first + count ≤ length (opened o).runs) where
   abbrev mine : List PlacedRun
   mine = part_of first count (opened o).runs
 
@@ -112,13 +113,13 @@ module _ (m : Operation) (laws : IsLawful m) (o : Opening) (may : MayOpen o) (op
   may_pin = ((omega arith, record { shown = omega arith; two = two; within = within }), tt)
 
   pinned : Keeps m (lone start (started o 1).words (Taking mine 0))
-  pinned = keeps_on m laws (started o 1) (Acts 0 (Pin 0 first count)) keeps_start may_pin.0
+  pinned = keeps_on is_run m laws (started o 1) (Acts 0 (Pin 0 first count)) keeps_start may_pin.0
 
   many : length mine ≡ count
   many = length-take-le count (drop first (opened o).runs) (let e = length-drop first (opened o).runs in omega (arith, e, within))
 
   by_count : (n : ℕ) → suc n ≡ count → Leads m (lone start (started o 1).words (Taking mine 0)) start (Taken mine)
-  by_count n e = takes_all m laws start mine (part_distinct (opened o) opens first count) n 0 (started o 1).words pinned (let l = many in omega (arith, l, e))
+  by_count n e = takes_all is_run m laws start mine (part_distinct (opened o) opens first count) n 0 (started o 1).words pinned (let l = many in omega (arith, l, e))
 
   pred_count : (n : ℕ) → 2 ≤ n → (k : ℕ) × (suc k ≡ n)
   pred_count zero le = absurd (omega (arith, le))

@@ -6,7 +6,7 @@ use Rattle.std.proofs.lemmas.List.{append_assoc}
 use Rattle.uc_bytes.specs.declared.write.Write.{Write}
 use Rattle.uc_batch.specs.Rising.{IsRising, last_of}
 use Rattle.uc_run.specs.Size.{memtable_size}
-use Rattle.uc_version_state.specs.Openings.{memtables_from, memtables}
+use Rattle.uc_version_state.specs.Flushes.{memtables_from, memtables}
 
 -- all parts, one behind the other
 abbrev pub joined : List (List Write) → List Write
@@ -55,8 +55,8 @@ pub parts_rise : (last : ℕ) (ps : List (List Write)) → AllByRecursion (λ (p
 parts_rise last [] some h = tt
 parts_rise last (p ∷ ps) some h = (some.0, rising-front last p (joined ps) h, parts_rise (last_of last p) ps some.1 (rising-behind last p (joined ps) h))
 
-pub memtables_rise : (limit : ℕ) (ws : List Write) → IsRising 0 ws → PartsRise 0 (memtables limit ws)
-memtables_rise limit ws h = parts_rise 0 (memtables limit ws) (some_from limit [] ws) (subst (IsRising 0) (sym (joined_from limit [] ws)) h)
+pub memtables_rise : (limit last : ℕ) (ws : List Write) → IsRising last ws → PartsRise last (memtables limit ws)
+memtables_rise limit last ws h = parts_rise last (memtables limit ws) (some_from limit [] ws) (subst (IsRising last) (sym (joined_from limit [] ws)) h)
 
 -- the last sequence of parts one behind the other
 pub last-joined : (last : ℕ) (p : List Write) (ps : List (List Write)) → last_of last (joined (p ∷ ps)) ≡ last_of (last_of last p) (joined ps)

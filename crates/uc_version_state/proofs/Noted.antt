@@ -12,11 +12,11 @@ use Rattle.uc_version_state.specs.Versions.{PlacedRun, Stored, IsVersion, ids_of
 use Rattle.uc_version_state.specs.Openings.{opened}
 use Rattle.uc_version_state.specs.Installs.{part_of, place_of, newest_id, standing}
 use Rattle.uc_version_state.specs.declared.event.Event.{Event}
-use Rattle.uc_version_state.specs.declared.event.Event.TheVariants.{Installed}
 use Rattle.uc_version_state.specs.Histories.{after, History, IsLegal, version_after}
 use Rattle.uc_version_state.proofs.Parts.{in_parts, all-front, all-behind}
+use Rattle.uc_version_state.proofs.Placing.{FlushesAreRuns}
 use Rattle.uc_version_state.proofs.Along.{is_version}
-use Rattle.uc_version_state.proofs.SameRuns.{same_run, was_there, begins, fold-behind}
+use Rattle.uc_version_state.proofs.SameRuns.{ids_rise, same_run, was_there, begins, fold-behind}
 use Rattle.uc_version_state.proofs.Found.{place_within, part_count, standing_is}
 use Rattle.uc_version_state.specs.Machine.{version_at, IsStretch, have_ids, still_stand}
 use Rattle.uc_version_state.proofs.Places.{Stands}
@@ -65,9 +65,6 @@ slot_there P runs p all has = All-contains (λ (q : PlacedRun). P q.slot) runs p
     unmapped [] h = tt
     unmapped (q ∷ qs) h = (h.0, unmapped qs h.1)
 
-ids_rise : (v : Stored) (e : Event) → v.next_id ≤ (after v e).next_id
-ids_rise v (Installed i) = omega arith
-
 all_ids_rise : (v : Stored) (es : List Event) → v.next_id ≤ (fold after v es).next_id
 all_ids_rise v [] = omega arith
 all_ids_rise v (e ∷ es) = let here = ids_rise v e in let rest = all_ids_rise (after v e) es in omega (arith, here, rest)
@@ -84,7 +81,7 @@ module _ (m : Operation) where
   pub noted_on : (v : Stored) (e : Event) (noted : List PlacedRun) → IsNoted v noted → IsNoted (after v e) noted
   noted_on v e noted is = record { two = is.two; known = all-map (Known v) (Known (after v e)) (known_on v e) noted is.known }
 
-  module _ (laws : IsLawful m) (h : History) (legal : IsLegal m h) (opens : IsVersion (opened h.opening)) (seen : ℕ) where
+  module _ (is_run : FlushesAreRuns) (laws : IsLawful m) (h : History) (legal : IsLegal m h) (opens : IsVersion (opened h.opening)) (seen : ℕ) where
     abbrev shown : History
     shown = record h { events = take seen h.events }
 
@@ -98,7 +95,7 @@ module _ (m : Operation) where
     legal_whole = subst (λ (g : History). IsLegal m g) (sym is_whole) legal
 
     shown_version : IsVersion (version_after shown)
-    shown_version = is_version m laws shown (begins m shown (drop seen h.events) legal_whole) opens
+    shown_version = is_version is_run m laws shown (begins m shown (drop seen h.events) legal_whole) opens
 
     up : (version_at seen h).next_id ≤ (version_after h).next_id
     up =
@@ -111,7 +108,7 @@ module _ (m : Operation) where
     known_since p has = record {
       given = let lt = id_there (λ id. id < (version_at seen h).next_id) (version_at seen h).runs p shown_version.ids_given has in let le = up in omega (arith, lt, le);
       same = λ q there id.
-          sym (same_run m laws shown (drop seen h.events) legal_whole opens p q has (subst (λ (g : History). Contains (version_after g).runs q) (sym is_whole) there) (sym id));
+          sym (same_run m is_run laws shown (drop seen h.events) legal_whole opens p q has (subst (λ (g : History). Contains (version_after g).runs q) (sym is_whole) there) (sym id));
       slot = slot_there (λ slot. slot < MOST_SLOTS) (version_at seen h).runs p shown_version.slots_below has;
     }
 

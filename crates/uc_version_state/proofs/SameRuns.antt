@@ -5,14 +5,19 @@ use Rattle.uc_model.proofs.Members.{contains_first, contains_later, contains_cas
 use Rattle.uc_oper.specs.Operation.{Operation, IsLawful}
 use Rattle.uc_claims.specs.Claims.{times}
 use Rattle.uc_claims.proofs.Times.{times-distinct, times-cons, one_same, Contains-from_times}
-use Rattle.uc_version_state.specs.Versions.{PlacedRun, Stored, IsVersion, ids_of}
+use Rattle.uc_bytes.specs.declared.write.Write.{Write}
+use Rattle.uc_run.specs.Flush.{flushed}
+use Rattle.uc_version_state.specs.Versions.{PlacedRun, Stored, IsVersion, ids_of, slots_of}
+use Rattle.uc_version_state.specs.Flushes.{least_free, with_run, flushed_onto}
+use Rattle.uc_version_state.specs.Feeds.{memtables_in}
 use Rattle.uc_version_state.specs.Openings.{opened}
 use Rattle.uc_version_state.specs.Installs.{part_of, slot_of, place_in, inputs_in, older_in}
 use Rattle.uc_version_state.specs.declared.event.Event.{Event}
-use Rattle.uc_version_state.specs.declared.event.Event.TheVariants.{Installed}
+use Rattle.uc_version_state.specs.declared.event.Event.TheVariants.{Installed, Flushed, Kept, Released}
 use Rattle.uc_version_state.specs.Histories.{MayHappen, after, ids_replaced, History, MayFollow, IsLegal, version_after}
 use Rattle.uc_version_state.proofs.Once.{times_of_all}
 use Rattle.uc_version_state.proofs.Parts.{in_parts}
+use Rattle.uc_version_state.proofs.Placing.{FlushesAreRuns}
 use Rattle.uc_version_state.proofs.Along.{versions_stay}
 
 -- ---- lists
@@ -74,6 +79,27 @@ of_back v first count p has =
     subst (λ (ps : List PlacedRun). Contains ps p) (in_parts first count v.runs)
     (in_back p (take first v.runs) (part_of first count v.runs ++ drop (first + count) v.runs) (in_back p (part_of first count v.runs) (drop (first + count) v.runs) has))
 
+-- the next id never falls
+pub ids_rise : (v : Stored) (e : Event) → v.next_id ≤ (after v e).next_id
+ids_rise v (Installed i) = omega arith
+ids_rise v (Flushed ws) = omega arith
+ids_rise v Kept = omega arith
+ids_rise v (Released seq) = omega arith
+
+-- runs that are flushed come before those that are there
+stays_behind : (id : ℕ) (runs : List PlacedRun) (ps : List (List Write)) (p : PlacedRun) → Contains runs p → Contains (flushed_onto id runs ps) p
+stays_behind id runs [] p has = has
+stays_behind id runs (part ∷ ps) p has =
+    stays_behind (id + 1) (with_run id runs (flushed part)) ps p (contains_later (record { id = id; slot = least_free (slots_of runs); run = flushed part }) p runs has)
+
+-- and have ids of their own
+was_behind : (id : ℕ) (runs : List PlacedRun) (ps : List (List Write)) (p : PlacedRun) → Contains (flushed_onto id runs ps) p → p.id < id → Contains runs p
+was_behind id runs [] p has old = has
+was_behind id runs (part ∷ ps) p has old =
+    let new : PlacedRun = record { id = id; slot = least_free (slots_of runs); run = flushed part } in
+    ⊎_elim (λ (same : new ≡ p). let e = ap (λ (q : PlacedRun). q.id) same in absurd (omega (arith, old, e))) (λ (b : Contains runs p). b)
+    (contains_cases new p runs (was_behind (id + 1) (with_run id runs (flushed part)) ps p has (omega (arith, old))))
+
 module _ (m : Operation) where
   -- a run that isn't replaced stays
   pub stays : (v : Stored) (e : Event) (p : PlacedRun) → MayHappen m v e → Contains v.runs p → (Contains (ids_replaced e) p.id → ⊥) → Contains (after v e).runs p
@@ -92,6 +118,9 @@ module _ (m : Operation) where
 
       id_in : (ps : List PlacedRun) (q : PlacedRun) → Contains ps q → Contains (ids_of ps) q.id
       id_in ps q there = Contains-from_times q.id (ids_of ps) (has_id ps q there)
+  stays v (Flushed ws) p may has kept = stays_behind v.next_id v.runs (memtables_in v ws) p has
+  stays v Kept p may has kept = has
+  stays v (Released seq) p may has kept = has
 
   -- a run was there before, or has an id that wasn't given yet
   pub was_there : (v : Stored) (e : Event) (p : PlacedRun) → Contains (after v e).runs p → p.id < v.next_id → Contains v.runs p
@@ -105,9 +134,9 @@ module _ (m : Operation) where
     where
       new : PlacedRun
       new = record { id = v.next_id; slot = slot_of (inputs_in i v); run = i.output }
-
-  ids_rise : (v : Stored) (e : Event) → v.next_id ≤ (after v e).next_id
-  ids_rise v (Installed i) = omega arith
+  was_there v (Flushed ws) p has old = was_behind v.next_id v.runs (memtables_in v ws) p has old
+  was_there v Kept p has old = has
+  was_there v (Released seq) p has old = has
 
   -- ---- some events
 
@@ -129,9 +158,9 @@ module _ (m : Operation) where
 
   -- ---- along two histories of which one begins with the other
 
-  module _ (laws : IsLawful m) (h : History) (fs : List Event) (legal : IsLegal m (record h { events = h.events ++ fs })) (opens : IsVersion (opened h.opening)) where
+  module _ (is_run : FlushesAreRuns) (laws : IsLawful m) (h : History) (fs : List Event) (legal : IsLegal m (record h { events = h.events ++ fs })) (opens : IsVersion (opened h.opening)) where
     is_version : IsVersion (version_after h)
-    is_version = versions_stay m laws (opened h.opening) h.events opens (begins h fs legal).follow
+    is_version = versions_stay is_run m laws (opened h.opening) h.events opens (begins h fs legal).follow
 
     pub same_run : (p q : PlacedRun) → Contains (version_after h).runs p → Contains (version_after (record h { events = h.events ++ fs })).runs q → p.id ≡ q.id → p ≡ q
     same_run p q has_p has_q same =
@@ -139,7 +168,3 @@ module _ (m : Operation) where
         let given = times_of_all (λ id. id < v.next_id) (ids_of v.runs) is_version.ids_given p.id (has_id v.runs p has_p) in
         let later = subst (λ (w : Stored). Contains w.runs q) (fold-behind (opened h.opening) h.events fs) has_q in
         one_run v.runs p q (λ k. times-distinct (ids_of v.runs) is_version.ids_apart k) has_p (were_there v fs q later (omega (arith, given, same))) same
-
--- events of today change neither the keeps nor the last sequence
-pub keeps_and_last : (v : Stored) (e : Event) → ((after v e).keeps ≡ v.keeps) × ((after v e).last ≡ v.last)
-keeps_and_last v (Installed i) = (refl, refl)

@@ -17,7 +17,8 @@ use Rattle.uc_version_state.specs.Openings.{Opening, opened}
 use Rattle.uc_version_state.specs.Installs.{Install, MayInstall, MayReplace, part_of, standing, behind, replaced, terms_of}
 use Rattle.uc_version_state.specs.declared.event.Event.TheVariants.{Installed}
 use Rattle.uc_version_state.specs.Histories.{after, IsLegal, version_after}
-use Rattle.uc_version_state.proofs.Along.{version_stays}
+use Rattle.uc_version_state.proofs.Installed.{installed_is_version}
+use Rattle.uc_version_state.proofs.Placing.{FlushesAreRuns}
 use Rattle.uc_version_state.proofs.Growing.{follow-append, after-append}
 use Rattle.uc_version_state.proofs.Found.{first_is, count_is}
 use Rattle.uc_version_state.specs.Machine.{Phase, Idle, Taking, Taken, Checked, Giving, Machine, Action, Pin, Take, Check, Publish, Abandon, Give, present, version_at, phase_of, slots_held, IsMadeFor, MayAct, still_stand, compaction_for, giving, taking, enters, tried, after_action}
@@ -245,13 +246,13 @@ module _ (m : Operation) (v : Stored) (is_version : IsVersion v) (noted : List P
 
 -- ---- every step
 
-module _ (m : Operation) (laws : IsLawful m) where
+module _ (is_run : FlushesAreRuns) (m : Operation) (laws : IsLawful m) where
   module _ (s : Machine) (keeps : Keeps m s) (c : ℕ) (lt : c < length s.phases) where
     publishes : (noted : List PlacedRun) (i : Install) → phase_of c s ≡ Checked noted → IsMadeFor m (present s) noted i → Keeps m (after_action c s (Checked noted) (Publish i))
     publishes noted i is made = record {
       legal = record { opens = keeps.legal.opens; follow = follow-append m (opened s.history.opening) s.history.events (Installed i) keeps.legal.follow may };
       opens = keeps.opens;
-      version = subst IsVersion (sym grown) (version_stays m laws (present s) (Installed i) keeps.version may);
+      version = subst IsVersion (sym grown) (installed_is_version m laws (present s) i keeps.version may);
       a_word_each = keeps.a_word_each;
       counted = λ k.
           let e = sum_by-set (held_times k) s.phases c (giving (slots_of noted)) Idle lt in
@@ -291,7 +292,7 @@ module _ (m : Operation) (laws : IsLawful m) where
 
     acts : (phase : Phase) (action : Action) → phase_of c s ≡ phase → MayAct m s phase action → Keeps m (after_action c s phase action)
     acts Idle (Pin seen first count) is may =
-        let noted = noted_at m laws s.history keeps.legal keeps.opens seen first count may in
+        let noted = noted_at m is_run laws s.history keeps.legal keeps.opens seen first count may in
         stays m s keeps c lt Idle (Taking (part_of first count (version_at seen s.history).runs) 0) is (λ k. refl) (noted, let two = noted.two in omega (arith, two))
     acts (Taking noted taken) Take is may = tries m s keeps c lt noted taken is
     acts (Taken noted) Check is may = checks noted is (still_stand noted (present s)) refl

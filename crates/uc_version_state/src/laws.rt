@@ -1,20 +1,22 @@
 //! What holds of versions and of what happens to them.
-ghost use Rattle.std.specs.Prelude.{◌≡◌, ◌≢◌, ◌≤◌, ◌<◌, ◌⊎◌, ◌↔◌, ◌+◌, ◌++◌, ◌∷◌, [], ℕ, List, Contains, length};
+ghost use Rattle.std.specs.Prelude.{◌≡◌, ◌≢◌, ◌≤◌, ◌<◌, ◌⊎◌, ◌↔◌, ◌+◌, ◌++◌, ◌∷◌, [], ℕ, List, None, Contains, length};
 ghost use Rattle.std.specs.List.{flat_map};
 ghost use Rattle.std.specs.List.Sorted.{IsStrictlySortedBy};
 ghost use Rattle.std.specs.Ordering.{nat_cmp};
 ghost use Rattle.uc_bytes.specs.declared.write.Write.{Write};
-ghost use Rattle.uc_batch.specs.Rising.{last_of};
+ghost use Rattle.uc_batch.specs.Rising.{IsRising, last_of};
 ghost use Rattle.uc_claims.specs.Holding.{AreDistinct};
 ghost use Rattle.uc_model.specs.Meaning.{effect_on, value_of};
 ghost use Rattle.uc_run.specs.Size.{memtable_size};
 ghost use Rattle.uc_compact_rules.specs.Reading.{IsReadAt};
 ghost use Rattle.uc_version_state.specs.Versions.{PlacedRun, Stored, IsVersion, ids_of, writes_in};
-ghost use Rattle.uc_version_state.specs.Openings.{Opening, MayOpen, memtables, opened};
+ghost use Rattle.uc_version_state.specs.Flushes.{memtables, least_free};
+ghost use Rattle.uc_version_state.specs.Feeds.{MayFeed, fed, feed_refusal};
+ghost use Rattle.uc_version_state.specs.Openings.{Opening, MayOpen, opened};
 ghost use Rattle.uc_version_state.specs.Installs.{Install, MayInstall, installed, part_of, standing};
 ghost use Rattle.uc_version_state.specs.declared.event.Event.{Event};
-ghost use Rattle.uc_version_state.specs.Histories.{MayHappen, after, ids_replaced, History, IsLegal};
-ghost use Rattle.uc_version_state.specs.Histories.{version_after, writes_given, all_ids_given};
+ghost use Rattle.uc_version_state.specs.Histories.{MayHappen, after, ids_replaced, History, IsLegal, known};
+ghost use Rattle.uc_version_state.specs.Histories.{version_after, writes_brought, writes_given, all_ids_given};
 ghost use Rattle.uc_version_state.specs.Histories.{all_ids_replaced};
 
 use uc_oper::Operator;
@@ -71,24 +73,39 @@ pub fn install_gives_a_version<O: Operator>()
 /// After an event there is a version again.
 pub fn events_give_versions<O: Operator>()
     ensures { (v : Stored) (e : Event) → IsVersion v → MayHappen O.meaning v e → IsVersion (after v e) }
-{}
+{
+    flushed_writes_are_a_run();
+}
 
-/// Whatever happened to a store, it holds a version, and at each of its keeps every key has the value that the plain
-/// writes give it.
+/// Whatever happened to a store, it holds a version. At each of its keeps, and from its last sequence on, every key has
+/// the value that the plain writes give it.
 pub fn histories_keep_what_is_read<O: Operator>()
     ensures version { (h : History) → IsLegal O.meaning h → IsVersion (version_after h) }
-    ensures values { (h : History) (key : List ℕ) (at : ℕ) → IsLegal O.meaning h → Contains (version_after h).keeps at →
+    ensures values { (h : History) (key : List ℕ) (at : ℕ) → IsLegal O.meaning h →
+        IsReadAt (version_after h).keeps (version_after h).last at →
         value_of O.meaning (writes_in (version_after h)) key at ≡ value_of O.meaning (writes_given h) key at }
 {
+    flushed_writes_are_a_run();
+    flush_keeps_every_effect::<O>();
     opening_gives_a_version();
     opening_keeps_every_effect::<O>();
 }
+
+/// What a store has taken, and what it keeps, is known without a look at its runs: the writes of a history rise, up to
+/// the last sequence of the version after it, which has the keeps that are known.
+pub fn histories_say_writes_and_keeps<O: Operator>()
+    ensures writes { (h : History) → (known h).writes ≡ writes_given h }
+    ensures rising { (h : History) → IsLegal O.meaning h → IsRising 0 (writes_given h) }
+    ensures last { (h : History) → IsLegal O.meaning h → last_of 0 (writes_given h) ≡ (version_after h).last }
+    ensures keeps { (h : History) → IsLegal O.meaning h → (known h).keeps ≡ (version_after h).keeps }
+{}
 
 /// Whatever happened to a store, no id was given twice, and no run was replaced twice.
 pub fn runs_are_replaced_once<O: Operator>()
     ensures given { (h : History) → IsLegal O.meaning h → AreDistinct (all_ids_given h) }
     ensures replaced { (h : History) → IsLegal O.meaning h → AreDistinct (all_ids_replaced h) }
 {
+    flushed_writes_are_a_run();
     opening_gives_a_version();
 }
 
@@ -121,12 +138,35 @@ pub fn runs_keep_their_contents<O: Operator>()
         Contains (version_after h).runs run → Contains (version_after (record h { events = h.events ++ later })).runs again →
         run.id ≡ again.id → run ≡ again }
 {
+    flushed_writes_are_a_run();
     opening_gives_a_version();
 }
 
-/// An event changes neither the keeps nor the last sequence.
-pub fn events_keep_keeps_and_last()
-    ensures { (v : Stored) (e : Event) → ((after v e).keeps ≡ v.keeps) × ((after v e).last ≡ v.last) }
+/// Which event changes what: the keeps are changed by a keep and a release alone, the last sequence by a feed alone, and
+/// from how many bytes on a memtable is flushed by none.
+pub fn events_change_what_they_say()
+    ensures keeps_installed { (v : Stored) (i : Install) → (installed i v).keeps ≡ v.keeps }
+    ensures keeps_fed { (v : Stored) (ws : List Write) → (fed ws v).keeps ≡ v.keeps }
+    ensures last { (v : Stored) (e : Event) → (after v e).last ≡ last_of v.last (writes_brought e) }
+    ensures limit { (v : Stored) (e : Event) → (after v e).limit ≡ v.limit }
+{}
+
+/// No writes change nothing, and are never refused.
+pub fn no_writes_change_nothing()
+    ensures same { (v : Stored) → fed [] v ≡ v }
+    ensures may { (v : Stored) → IsVersion v → MayFeed v [] }
+{}
+
+/// Writes, which rise, may be fed exactly if nothing refuses them.
+pub fn no_refusal_is_leave_to_feed()
+    ensures { (v : Stored) (ws : List Write) → IsRising 0 ws → (feed_refusal v ws ≡ None) ↔ MayFeed v ws }
+{}
+
+/// The slot of a flushed run is the least that no run holds.
+pub fn flushed_runs_take_the_least_slots()
+    ensures free { (slots : List ℕ) → ¬ Contains slots (least_free slots) }
+    ensures least { (slots : List ℕ) (slot : ℕ) → slot < least_free slots → Contains slots slot }
+    ensures within { (slots : List ℕ) → least_free slots ≤ length slots }
 {}
 
 /// Neighbours are found by their ids: as many runs as there are ids, from the one with the newest id on, are these

@@ -17,7 +17,10 @@
 #![tactic(auto)]
 
 mod candidate;
+mod cuts;
 mod event;
+mod feed_error;
+mod feeds;
 mod install;
 mod laws;
 mod options;
@@ -27,6 +30,7 @@ mod placed;
 mod refusal;
 mod refusing;
 mod replace;
+mod snapshots;
 mod standing;
 mod step_laws;
 mod stretch;
@@ -34,14 +38,18 @@ mod terms;
 mod version;
 
 pub use candidate::Candidate;
+pub use cuts::memtable_count;
 pub use event::Event;
+pub use feed_error::FeedError;
 pub use install::Install;
 pub use laws::{
-    beginnings_are_legal, events_give_versions, events_keep_keeps_and_last,
-    histories_grow_by_events, histories_keep_what_is_read, install_gives_a_version,
-    install_keeps_what_is_read, memtables_are_filled_in_turn, neighbours_stand_where_their_ids_say,
-    opened_keeps_are_those_given, opening_gives_a_version, opening_keeps_every_effect,
-    runs_are_replaced_once, runs_keep_their_contents, runs_stay_until_replaced,
+    beginnings_are_legal, events_change_what_they_say, events_give_versions,
+    flushed_runs_take_the_least_slots, histories_grow_by_events, histories_keep_what_is_read,
+    histories_say_writes_and_keeps, install_gives_a_version, install_keeps_what_is_read,
+    memtables_are_filled_in_turn, neighbours_stand_where_their_ids_say,
+    no_refusal_is_leave_to_feed, no_writes_change_nothing, opened_keeps_are_those_given,
+    opening_gives_a_version, opening_keeps_every_effect, runs_are_replaced_once,
+    runs_keep_their_contents, runs_stay_until_replaced,
 };
 pub use options::Options;
 pub use pick_laws::{
@@ -57,6 +65,3 @@ pub use step_laws::{a_lone_compactor_installs, never_stale};
 pub use stretch::Stretch;
 pub use terms::Terms;
 pub use version::Version;
-
-#[cfg(test)]
-mod tests;

@@ -1,5 +1,5 @@
 //! [`Placed`]: a run with its place in a store.
-ghost use Rattle.std.specs.Prelude.{◌≡◌, IfOk};
+ghost use Rattle.std.specs.Prelude.{◌≡◌, ◌++◌, IfOk, OnOk};
 ghost use Rattle.std.specs.Arc.{arc_value};
 
 use std::alloc::AllocError;
@@ -59,4 +59,14 @@ impl Placed {
     {
         &self.run
     }
+}
+
+/// Pushes the runs, shared, after those that are there.
+pub(crate) fn push_shared(all: &mut Vec<Placed>, runs: &[Placed]) -> Result<(), AllocError>
+    ensures { OnOk result (all.new.items ≡ all.old.items ++ runs.now) }
+{
+    for placed in runs {
+        all.push(placed.shared()?)?;
+    }
+    Ok(())
 }

@@ -1,6 +1,6 @@
-//! [`Refusal`]: why an event may not happen to a version.
+//! [`Refusal`]: why an install may not happen to a version.
 
-/// Why an event may not happen to a version: the first of these reasons that holds.
+/// Why an install may not happen to a version: the first of these reasons that holds.
 #[derive(Clone, Copy, Debug, PartialEq, Eq)]
 pub enum Refusal {
     /// It was made for the oldest run of all, but older runs come after its inputs.

@@ -1,12 +1,10 @@
-//! What refuses an event.
+//! What refuses an install.
 ghost use Rattle.std.specs.Prelude.{◌≡◌, ◌↔◌, [], IsTrue, IfSome, IfNone};
 ghost use Rattle.uc_oper.specs.Operation.{Operation};
-ghost use Rattle.uc_version_state.specs.Installs.{KeepsKnown, NothingBelow, behind};
-ghost use Rattle.uc_version_state.specs.Histories.{MayHappen};
+ghost use Rattle.uc_version_state.specs.Installs.{KeepsKnown, MayInstall, NothingBelow, behind};
 ghost use Rattle.uc_version_state.specs.Refusals as refusals;
-ghost use Rattle.uc_version_state.specs.Refusals.{AreReplaceable, IsRefused, IsMade, IsEventRefused, terms_in};
+ghost use Rattle.uc_version_state.specs.Refusals.{AreReplaceable, IsRefused, IsMade, IsInstallRefused, terms_in};
 
-use crate::event::Event;
 use crate::install::Install;
 use crate::placed::Placed;
 use crate::refusal::Refusal;
@@ -71,8 +69,8 @@ impl Version {
         None
     }
 
-    /// The first reason why an install may not happen to the version, or `None`.
-    fn install_refusal(&self, install: &Install) -> Option<Refusal>
+    /// The first reason why an install's runs may not be replaced, or `None`.
+    fn terms_refusal(&self, install: &Install) -> Option<Refusal>
         ensures none { IfNone result (AreReplaceable self.now install.now.ids (terms_in install.now)) }
         ensures some { IfSome result (λ refusal. IsRefused self.now install.now.ids (terms_in install.now) refusal) }
     {
@@ -81,14 +79,13 @@ impl Version {
         self.replace_refusal(install.ids(), &terms)
     }
 
-    /// The first reason against the event, or `None`. `None` leaves one thing unchecked: that the output was compacted
+    /// The first reason against the install, or `None`. `None` leaves one thing unchecked: that the output was compacted
     /// from these inputs. It compares no points and doesn't allocate.
-    pub fn refusal(&self, event: &Event) -> Option<Refusal>
-        ensures none { IfNone result ((m : Operation) → IsMade m self.now event.now → MayHappen m self.now event.now) }
-        ensures some { IfSome result (λ refusal. IsEventRefused self.now event.now refusal) }
+    pub fn refusal(&self, install: &Install) -> Option<Refusal>
+        ensures none { IfNone result ((m : Operation) → IsMade m self.now install.now → MayInstall m self.now install.now) }
+        ensures some { IfSome result (λ refusal. IsInstallRefused self.now install.now refusal) }
     {
-        let install = event.install();
         install.recall();
-        self.install_refusal(install)
+        self.terms_refusal(install)
     }
 }

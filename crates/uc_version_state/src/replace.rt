@@ -1,15 +1,13 @@
-//! A run that replaces neighbouring ones, and the version after an event.
-ghost use Rattle.std.specs.Prelude.{◌≡◌, ◌+◌, ◌<◌, ◌≤◌, ◌∷◌, ◌++◌, IfOk, OnOk, length, take, drop};
+//! A run that replaces neighbouring ones, and the version after an install.
+ghost use Rattle.std.specs.Prelude.{◌≡◌, ◌+◌, ◌<◌, ◌≤◌, ◌∷◌, ◌++◌, IfOk, length, take, drop};
 ghost use Rattle.std.specs.Arc.{arc_value};
 ghost use Rattle.uc_version_state.specs.Versions.{IsVersion};
 ghost use Rattle.uc_version_state.specs.Installs as installs;
-ghost use Rattle.uc_version_state.specs.Installs.{part_of, slot_of};
-ghost use Rattle.uc_version_state.specs.Histories as histories;
-ghost use Rattle.uc_version_state.specs.Histories.{MayHappen};
+ghost use Rattle.uc_version_state.specs.Installs.{MayInstall, part_of, slot_of};
 
-use crate::event::Event;
-use crate::laws::events_give_versions;
-use crate::placed::Placed;
+use crate::install::Install;
+use crate::laws::install_gives_a_version;
+use crate::placed::{Placed, push_shared};
 use crate::standing::{newest_id, place_of};
 use crate::version::Version;
 use std::alloc::{AllocError, Global};
@@ -44,16 +42,6 @@ fn replace_runs(runs: &mut Vec<Placed>, first: usize, count: usize, id: u64, run
     let slot = runs[first].slot;
     runs[first] = Placed { id, slot, run };
     remove_runs(runs, first + 1, count - 1);
-}
-
-/// Pushes the runs, shared, after those that are there.
-fn push_shared(all: &mut Vec<Placed>, runs: &[Placed]) -> Result<(), AllocError>
-    ensures { OnOk result (all.new.items ≡ all.old.items ++ runs.now) }
-{
-    for placed in runs {
-        all.push(placed.shared()?)?;
-    }
-    Ok(())
 }
 
 /// The runs, shared, with one that replaces `count` others after the first ones. It gets an id of its own and the slot
@@ -111,17 +99,20 @@ impl Version {
         };
         let runs = replaced_runs(alloc, runs, first, count, new)?;
         let keeps = self.keeps().to_vec(alloc)?;
-        Ok(Version::new(runs, keeps, self.last(), id + 1))
+        Ok(Version::new(runs, keeps, self.last(), id + 1, self.limit()))
     }
 
-    /// The version after an event, as a new one that shares the runs.
-    pub fn after<O: Operator>(&self, alloc: Global, event: &Event) -> Result<Version, AllocError>
-        requires { MayHappen O.meaning self.now event.now }
-        ensures { IfOk result (λ version. version ≡ histories.after self.now event.now) }
+    /// The version after an install, as a new one that shares the runs.
+    pub fn installed<O: Operator>(
+        &self,
+        alloc: Global,
+        install: &Install,
+    ) -> Result<Version, AllocError>
+        requires { MayInstall O.meaning self.now install.now }
+        ensures { IfOk result (λ version. version ≡ installs.installed install.now self.now) }
     {
         self.recall();
-        events_give_versions::<O>();
-        let install = event.install();
+        install_gives_a_version::<O>();
         let first = place_of(self.runs(), newest_id(install.ids()));
         self.with_replaced(alloc, first, install.ids().len(), install.output())
     }

@@ -11,6 +11,7 @@ ghost use Rattle.uc_version_state.specs.Machine.{Checked, IsMadeFor, present, ph
 ghost use Rattle.uc_version_state.specs.Courses.{Course, IsPossible, machine_after, InstallsAlone};
 
 use crate::laws::opening_gives_a_version;
+use uc_run::flushed_writes_are_a_run;
 
 /// A checked compactor is never displaced, whatever steps any number of compactors make, in any order. The runs that a
 /// checked compactor noted are in the present version, the same, as neighbours and in order. No slot is held by two
@@ -33,6 +34,7 @@ pub fn never_stale()
     ensures legal { (m : Operation) (course : Course) →
         IsLawful m → IsPossible m course → IsLegal m (machine_after course).history }
 {
+    flushed_writes_are_a_run();
     opening_gives_a_version();
 }
 
@@ -43,5 +45,6 @@ pub fn a_lone_compactor_installs()
         2 ≤ count → first + count ≤ length (opened o).runs →
         IsMadeFor m (opened o) (part_of first count (opened o).runs) i → InstallsAlone m o i }
 {
+    flushed_writes_are_a_run();
     opening_gives_a_version();
 }

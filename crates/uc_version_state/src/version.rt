@@ -6,13 +6,15 @@ use crate::placed::Placed;
 use std::marker::Model;
 
 /// What a store holds at a moment (RocksDB wiki, "Universal Compaction", "Snapshot"): sorted runs, the newest first;
-/// the keeps, at which reads are made; the last sequence; and the number of the next run.
+/// the keeps, at which reads are made; the last sequence; the number of the next run; and from how many bytes on a
+/// memtable is flushed.
 #[derive(Debug, Drop)]
 pub struct Version {
     pub(crate) runs: Vec<Placed>,
-    keeps: Vec<u64>,
-    last: u64,
+    pub(crate) keeps: Vec<u64>,
+    pub(crate) last: u64,
     pub(crate) next_id: u64,
+    limit: u64,
 }
 
 impl Model for Version {
@@ -27,16 +29,19 @@ impl Model for Version {
 }
 
 impl Version {
-    /// A version of these runs, the newest first, and keeps, which rise.
-    pub fn new(runs: Vec<Placed>, keeps: Vec<u64>, last: u64, next_id: u64) -> Version
-        requires { IsVersion (record { runs = runs.items; keeps = keeps.items; last = last; next_id = next_id }) }
-        ensures { result ≡ record { runs = runs.items; keeps = keeps.items; last = last; next_id = next_id } }
+    /// A version of these runs, the newest first, and keeps, which rise. A memtable is flushed from `limit` bytes on.
+    pub fn new(runs: Vec<Placed>, keeps: Vec<u64>, last: u64, next_id: u64, limit: u64) -> Version
+        requires { IsVersion
+            (record { runs = runs.items; keeps = keeps.items; last = last; next_id = next_id; limit = limit }) }
+        ensures { result ≡
+            record { runs = runs.items; keeps = keeps.items; last = last; next_id = next_id; limit = limit } }
     {
         Version {
             runs,
             keeps,
             last,
             next_id,
+            limit,
         }
     }
 
@@ -66,6 +71,13 @@ impl Version {
         ensures { result ≡ self.now.next_id }
     {
         self.next_id
+    }
+
+    /// From how many bytes on a memtable is flushed: 1 or more. No event changes it.
+    pub fn limit(&self) -> u64
+        ensures { result ≡ self.now.limit }
+    {
+        self.limit
     }
 
     /// What holds of every version: its runs are runs and come newest first, no two have one slot or one id, and its

@@ -14,7 +14,7 @@ new-requires c =
     let run : arc_value c.in_ok-clone.field-0 ≡ arc_value c.args.run.now = search rules in
     let keeps : c.in_ok-keeps.keeps.items ≡ v.keeps = search rules in
     let slot = c.slot.ensures ∙ ap (λ (p : PlacedRun). p.slot) c.index-runs-first.is in
-    let is = replaced_is v first count some within c.runs-runs.result.now c.index-runs-first.result _ _ _ _ _ _ _ c.runs-runs.ensures c.index-runs-first.is c.slot.ensures c.next_id-id.ensures run c.in_ok-runs.ensures keeps c.last.ensures in
+    let is = replaced_is v first count some within c.runs-runs.result.now c.index-runs-first.result _ _ _ _ _ _ _ _ c.runs-runs.ensures c.index-runs-first.is c.slot.ensures c.next_id-id.ensures run c.in_ok-runs.ensures keeps c.last.ensures c.limit.ensures in
     subst IsVersion (sym is) c.requires.version
 
 pub returns : goal.returns
@@ -26,4 +26,4 @@ returns c =
     let within = c.requires.within in
     let run : arc_value c.in_ok-clone.field-0 ≡ arc_value c.args.run.now = search rules in
     let keeps : c.in_ok-keeps.keeps.items ≡ v.keeps = search rules in
-    c.new.ensures ∙ replaced_is v first count some within c.runs-runs.result.now c.index-runs-first.result _ _ _ _ _ _ _ c.runs-runs.ensures c.index-runs-first.is c.slot.ensures c.next_id-id.ensures run c.in_ok-runs.ensures keeps c.last.ensures
+    c.new.ensures ∙ replaced_is v first count some within c.runs-runs.result.now c.index-runs-first.result _ _ _ _ _ _ _ _ c.runs-runs.ensures c.index-runs-first.is c.slot.ensures c.next_id-id.ensures run c.in_ok-runs.ensures keeps c.last.ensures c.limit.ensures

@@ -3,7 +3,7 @@ use Rattle.std.specs.Prelude.{IfSome}
 use Rattle.uc_run_entry.specs.Run.{Contents}
 use Rattle.uc_version_state.specs.Installs.{Terms}
 use Rattle.uc_version_state.specs.Refusals.{IsRefused, terms_in}
-use Rattle.uc_version_state.proofs.version.Version.install_refusal.Goals as goal
+use Rattle.uc_version_state.proofs.version.Version.terms_refusal.Goals as goal
 
 pub returns-clause-some : goal.returns-clause-some
 returns-clause-some c =

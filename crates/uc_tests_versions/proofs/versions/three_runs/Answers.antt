@@ -4,7 +4,7 @@ use Rattle.std.specs.Arc.{arc_value}
 use Rattle.std.proofs.lemmas.Bool.Decides.{nat_tests}
 use Rattle.uc_run_entry.specs.Run.{Contents, IsRun}
 use Rattle.uc_version_state.specs.Versions.{PlacedRun, IsVersion}
-use Rattle.uc_version_state.proofs.tests.three_runs.Goals as goal
+use Rattle.uc_tests_versions.proofs.versions.three_runs.Goals as goal
 
 abbrev is_run : Contents → Type 0
 is_run r = IsRun r.low r.high r.points r.fragments
@@ -13,7 +13,7 @@ abbrev placed : Contents → Contents → Contents → List PlacedRun
 placed newest middle oldest = record { id = 6; slot = 2; run = newest } ∷ record { id = 4; slot = 5; run = middle } ∷ record { id = 3; slot = 0; run = oldest } ∷ []
 
 three : (newest middle oldest : Contents) → is_run newest → is_run middle → is_run oldest → newest.high ≤ 5 → middle.high < newest.low → oldest.high < middle.low →
-    IsVersion (record { runs = placed newest middle oldest; keeps = 2 ∷ 5 ∷ []; last = 5; next_id = 8 })
+    IsVersion (record { runs = placed newest middle oldest; keeps = 2 ∷ 5 ∷ []; last = 5; next_id = 8; limit = 1 })
 unfolding IsStrictlySortedBy
 three newest middle oldest n m o below first second =
     let n_range = n.range in
@@ -30,6 +30,7 @@ three newest middle oldest n m o below first second =
       ids_apart = (refl, (refl, (refl, tt)));
       ids_given = (omega arith, (omega arith, (omega arith, tt)));
       id_below = omega arith;
+      limit_some = omega arith;
     }
 
 pub new-requires-2 : goal.new-requires-2
@@ -45,6 +46,6 @@ new-requires-2 c =
     let below : newest.high ≤ 5 = grind (arith, nat_tests) in
     let first : middle.high < newest.low = grind (arith, nat_tests) in
     let second : oldest.high < middle.low = grind (arith, nat_tests) in
-    subst (λ (keeps : List ℕ). IsVersion (record { runs = c.in_ok-runs.runs.items; keeps = keeps; last = 5; next_id = 8 })) (sym c.in_ok-keeps.ensures.items)
-    (subst (λ (runs : List PlacedRun). IsVersion (record { runs = runs; keeps = 2 ∷ 5 ∷ []; last = 5; next_id = 8 })) (sym c.in_ok-runs.ensures.items)
+    subst (λ (keeps : List ℕ). IsVersion (record { runs = c.in_ok-runs.runs.items; keeps = keeps; last = 5; next_id = 8; limit = 1 })) (sym c.in_ok-keeps.ensures.items)
+    (subst (λ (runs : List PlacedRun). IsVersion (record { runs = runs; keeps = 2 ∷ 5 ∷ []; last = 5; next_id = 8; limit = 1 })) (sym c.in_ok-runs.ensures.items)
     (three newest middle oldest (subst is_run c.deref.ensures c.recall.ensures) (subst is_run c.deref-2.ensures c.recall-2.ensures) (subst is_run c.deref-3.ensures c.recall-3.ensures) below first second))

@@ -1,6 +1,6 @@
 use Rattle.std.proofs.Common.{ℕ, List, [], nat_cmp, sym, subst}
 use Rattle.std.specs.List.Sorted.{IsStrictlySortedBy}
-use Rattle.uc_version_state.proofs.tests.refusal_of.Goals as goal
+use Rattle.uc_tests_versions.proofs.versions.refusal_of.Goals as goal
 
 none : IsStrictlySortedBy nat_cmp []
 unfolding IsStrictlySortedBy

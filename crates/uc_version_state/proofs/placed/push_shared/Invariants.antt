@@ -1,5 +1,5 @@
 use Rattle.std.proofs.Common.{◌≡◌, ◌++◌, take}
-use Rattle.uc_version_state.proofs.replace.push_shared.Given as goal
+use Rattle.uc_version_state.proofs.placed.push_shared.Given as goal
 
 abbrev pub invariant-loop-placed : goal.invariant-loop-placed
 invariant-loop-placed l = l.all.items ≡ l.initial.all.items ++ take l.placed-index l.runs

@@ -2,7 +2,6 @@
 ghost use Rattle.std.specs.Prelude.{◌≡◌, ◌∷◌, [], IfOk};
 ghost use Rattle.std.specs.Arc.{arc_value};
 
-use super::*;
 use std::alloc::Global;
 use std::process::Abort;
 use std::sync::Arc;
@@ -10,6 +9,15 @@ use std::test::Fail;
 use uc_bytes::{MAX_SEQUENCE, OpRef, WriteRef};
 use uc_oper::Counter;
 use uc_run::{Memtable, Run};
+use uc_version_state::{
+    Install, Placed, Refusal, Version, beginnings_are_legal, events_change_what_they_say,
+    events_give_versions, flushed_runs_take_the_least_slots, histories_grow_by_events,
+    histories_keep_what_is_read, histories_say_writes_and_keeps, install_gives_a_version,
+    install_keeps_what_is_read, memtables_are_filled_in_turn, neighbours_stand_where_their_ids_say,
+    no_refusal_is_leave_to_feed, no_writes_change_nothing, opened_keeps_are_those_given,
+    opening_gives_a_version, opening_keeps_every_effect, runs_are_replaced_once,
+    runs_keep_their_contents, runs_stay_until_replaced,
+};
 
 /// The run of a put at each of some sequences.
 fn run_of(rt: &impl Abort, alloc: Global, seqs: &[u64]) -> Result<Arc<Run>, Fail> {
@@ -41,6 +49,7 @@ fn three_runs(
               ∷ [];
           last = 5;
           next_id = 8;
+          limit = 1;
         }) }
 {
     newest.recall();
@@ -69,7 +78,7 @@ fn three_runs(
     };
     let runs = vec![in alloc; first, second, third]?;
     let keeps = Vec::from_slice(alloc, &[2, 5])?;
-    Ok(Version::new(runs, keeps, 5, 8))
+    Ok(Version::new(runs, keeps, 5, 8, 1))
 }
 
 /// The version with a run that replaces the older two.
@@ -143,7 +152,7 @@ fn refusal_of(
 ) -> Result<Option<Refusal>, Fail> {
     let ids = vec![in alloc; ids.0, ids.1]?;
     let install = Install::new(ids, Vec::new(alloc), oldest, output.clone()?);
-    Ok(version.refusal(&Event::Installed(install)))
+    Ok(version.refusal(&install))
 }
 
 #[test]
@@ -161,7 +170,7 @@ fn runs_are_found_by_their_ids(rt: HostRuntime) -> Result<(), Fail> {
 }
 
 #[test]
-fn events_are_refused_by_a_look_at_ids(rt: HostRuntime) -> Result<(), Fail> {
+fn installs_are_refused_by_a_look_at_ids(rt: HostRuntime) -> Result<(), Fail> {
     let alloc = rt.alloc();
     let newest = run_of(&rt, alloc, &[5])?;
     let middle = run_of(&rt, alloc, &[3, 4])?;
@@ -183,7 +192,7 @@ fn events_are_refused_by_a_look_at_ids(rt: HostRuntime) -> Result<(), Fail> {
 #[test]
 fn a_version_may_be_empty(rt: HostRuntime) -> Result<(), Fail> {
     let alloc = rt.alloc();
-    let version = Version::new(Vec::new(alloc), Vec::new(alloc), 0, 7);
+    let version = Version::new(Vec::new(alloc), Vec::new(alloc), 0, 7, 1);
     version.recall();
     wants_runs(&rt, &version, &[]);
     wants_numbers(&rt, &version, (&[], 0, 7));
@@ -205,6 +214,10 @@ fn laws_hold_under_an_operator() {
     beginnings_are_legal::<Counter>();
     runs_stay_until_replaced::<Counter>();
     runs_keep_their_contents::<Counter>();
-    events_keep_keeps_and_last();
+    events_change_what_they_say();
+    no_writes_change_nothing();
+    no_refusal_is_leave_to_feed();
+    flushed_runs_take_the_least_slots();
+    histories_say_writes_and_keeps::<Counter>();
     neighbours_stand_where_their_ids_say();
 }

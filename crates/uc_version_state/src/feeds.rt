@@ -1,0 +1,104 @@
+//! Writes that are fed: what refuses them, and the version after them.
+ghost use Rattle.std.specs.Prelude.{◌≡◌, ◌<◌, ◌^◌, ◌+◌, ◌++◌, IfOk, length};
+ghost use Rattle.uc_version_state.specs.Versions.{IsVersion, slots_of};
+ghost use Rattle.uc_version_state.specs.Flushes as flushes;
+ghost use Rattle.uc_version_state.specs.Feeds as feeds;
+
+use crate::cuts::memtable_count;
+use crate::feed_error::FeedError;
+use crate::placed::{Placed, push_shared};
+use crate::version::Version;
+use std::alloc::{AllocError, Global};
+use std::sync::Arc;
+use uc_bytes::Write;
+use uc_claims::MOST_SLOTS;
+use uc_run::Run;
+
+/// Whether the first of some writes is above a sequence.
+fn begin_above(last: u64, writes: &[Write]) -> bool
+    ensures { result ≡ feeds.begin_above last writes.now }
+{
+    match writes.first() {
+        None => true,
+        Some(write) => last < write.seq,
+    }
+}
+
+/// Whether a run has a slot.
+fn is_taken(runs: &[Placed], slot: usize) -> bool
+    ensures { result ≡ flushes.is_taken (slots_of runs.now) slot }
+{
+    for placed in runs {
+        if placed.slot() == slot {
+            return true;
+        }
+    }
+    false
+}
+
+/// The least slot that no run has.
+fn least_free(runs: &[Placed]) -> usize
+    ensures { result ≡ flushes.least_free (slots_of runs.now) }
+{
+    let mut slot = 0;
+    for _ in 0..runs.len() {
+        if !is_taken(runs, slot) {
+            return slot;
+        }
+        slot += 1;
+    }
+    slot
+}
+
+/// Runs with their places before older ones, the newest first. The given ones come oldest first, and get ids from `id` on.
+fn placed_onto(
+    alloc: Global,
+    mut id: u64,
+    mut placed: Vec<Placed>,
+    runs: Vec<Run>,
+) -> Result<Vec<Placed>, AllocError>
+    requires { id + length runs.items < 2 ^ 64 }
+    ensures { IfOk result (λ all. all.items ≡ flushes.placed_onto id placed.items runs.items) }
+{
+    for run in runs {
+        let slot = least_free(&placed);
+        let run = Arc::new(alloc, run)?;
+        placed.insert(0, Placed { id, slot, run })?;
+        id += 1;
+    }
+    Ok(placed)
+}
+
+impl Version {
+    /// Why writes, whose sequences rise, aren't fed to a store that holds this, if they aren't. It goes over the writes,
+    /// and doesn't allocate.
+    pub fn feed_refusal(&self, writes: &[Write]) -> Option<FeedError>
+        ensures { result ≡ feeds.feed_refusal self.now writes.now }
+    {
+        if !begin_above(self.last(), writes) {
+            return Some(FeedError::Back(self.last()));
+        }
+        let count = memtable_count(self.limit(), writes);
+        if count > MOST_SLOTS || self.runs().len() > MOST_SLOTS - count {
+            return Some(FeedError::TooManyRuns);
+        }
+        if count as u64 > u64::MAX - self.next_id() {
+            return Some(FeedError::IdsSpent);
+        }
+        None
+    }
+
+    /// The version with runs before all others, as a new one that shares those. The given ones come oldest first, and
+    /// `last` is their last sequence.
+    pub fn with_runs(&self, alloc: Global, runs: Vec<Run>, last: u64) -> Result<Version, AllocError>
+        requires { IsVersion (feeds.with_runs runs.items last self.now) }
+        ensures { IfOk result (λ version. version ≡ feeds.with_runs runs.items last self.now) }
+    {
+        let count = runs.len() as u64;
+        let mut shared = Vec::with_capacity(alloc, self.runs().len() + runs.len())?;
+        push_shared(&mut shared, self.runs())?;
+        let placed = placed_onto(alloc, self.next_id(), shared, runs)?;
+        let keeps = self.keeps().to_vec(alloc)?;
+        Ok(Version::new(placed, keeps, last, self.next_id() + count, self.limit()))
+    }
+}
