@@ -8,7 +8,8 @@ use Rattle.uc_run.specs.Flush.{flushed}
 use Rattle.uc_run.proofs.Inserted.{last_grown}
 use Rattle.uc_version_state.specs.declared.options.Options.{Options}
 use Rattle.uc_version_state.specs.Options.{are_good}
-use Rattle.uc_version_state.specs.Openings.{memtables_from, memtables}
+use Rattle.uc_version_state.specs.Flushes.{memtables_from, memtables}
+use Rattle.uc_version_state.proofs.Opened.{limit_good}
 use Rattle.uc_version_open.specs.Refusal.{are_few}
 use Rattle.uc_version_open.specs.Progress.{Flushing, Progress, flushing_of, held_of, progress_of}
 use Rattle.uc_version_open.specs.Steps.{is_full, is_spent, begun, grown, with_write, held_with}
@@ -77,7 +78,7 @@ module _ (limit : ℕ) where
     grown_some (p ∷ []) w = grown_some-one p w (leb limit (memtable_size p))
     grown_some (p ∷ q ∷ ps) w = λ e. absurd cc
 
-    flushing_grown : (ps : List (List Write)) (w : Write) → with_write limit (flushing_of ps) w ≡ flushing_of (grown_parts ps w)
+    pub flushing_grown : (ps : List (List Write)) (w : Write) → with_write limit (flushing_of ps) w ≡ flushing_of (grown_parts ps w)
     flushing_grown [] w = ap (λ b. cond b (begun (flushing_of []) w) (grown (flushing_of []) w)) none_full
     flushing_grown (p ∷ []) w = one_more p w (leb limit (memtable_size p))
     flushing_grown (p ∷ q ∷ ps) w =
@@ -135,14 +136,6 @@ module _ (limit : ℕ) where
         let lt = leb-false (length ps) MOST_SLOTS e in
         let le = grows ps w in
         sym (ap (λ b. cond b (Some (flushing_of (grown_parts ps w))) None) (lt-leb (length (grown_parts ps w)) MOST_SLOTS (omega (arith, lt, le))))
-
-and_first : (a b : Bool) → (a && b) ≡ true → a ≡ true
-and_first true b e = refl
-and_first false b e = absurd cc
-
--- the size from which a memtable is full isn't 0 where options are good
-pub limit_good : (o : Options) → are_good o ≡ true → 1 ≤ o.memtable
-limit_good o good = leb-true 1 o.memtable (and_first _ _ (and_first _ _ (and_first _ _ (and_first _ _ (and_first _ _ good)))))
 
 held-good : (o : Options) (ps : List (List Write)) (w : Write) (good : Bool) → are_good o ≡ good →
     held_with o.memtable (cond (good && are_few (length ps)) (Some (flushing_of ps)) None) w ≡ cond (good && are_few (length (grown_parts o.memtable ps w))) (Some (flushing_of (grown_parts o.memtable ps w))) None

@@ -4,3 +4,4 @@ pub mod Ended
 pub mod Refused
 pub mod Taken
 pub mod Inserting
+pub mod Feeding

@@ -6,11 +6,11 @@ use Rattle.uc_bytes.specs.declared.write.Write.{Write}
 use Rattle.uc_batch.specs.Rising.{last_of}
 use Rattle.uc_version_state.specs.declared.options.Options.{Options}
 use Rattle.uc_version_state.specs.Options.{are_good}
-use Rattle.uc_version_state.specs.Openings.{memtables}
+use Rattle.uc_version_state.specs.Flushes.{memtables}
 use Rattle.uc_version_state.proofs.Memtables.{joined, joined_from, some_from, last-joined, last_of_some}
+use Rattle.uc_version_state.proofs.Opened.{limit_good}
 use Rattle.uc_version_open.specs.Refusal.{are_few}
 use Rattle.uc_version_open.specs.Progress.{Flushing, flushing_of, held_of}
-use Rattle.uc_version_open.proofs.Grown.{limit_good}
 
 joined_some : (p : List Write) (ps : List (List Write)) → p ≢ [] → joined (p ∷ ps) ≢ []
 joined_some [] ps some = absurd (some refl)

@@ -6,7 +6,8 @@ use Rattle.std.proofs.lemmas.Bool.{leb-true, leb-false, le-leb, lt-leb}
 use Rattle.uc_batch.specs.Rising.{IsRising, last_of}
 use Rattle.uc_claims.specs.declared.table.TheConstants.{MOST_SLOTS}
 use Rattle.uc_version_state.specs.Options.{are_good}
-use Rattle.uc_version_state.specs.Openings.{Opening, MayOpen, memtables}
+use Rattle.uc_version_state.specs.Flushes.{memtables}
+use Rattle.uc_version_state.specs.Openings.{Opening, MayOpen}
 use Rattle.uc_version_open.specs.declared.open_error.OpenError.TheVariants.{BadOption, SnapshotAhead, TooManyRuns}
 use Rattle.uc_version_open.specs.Refusal.{first_ahead, are_few, first_refusal, opening_refusal}
 use Rattle.uc_version_open.specs.Progress.{Flushing, Progress, flushing_of, progress_of}

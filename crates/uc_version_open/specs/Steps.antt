@@ -1,11 +1,13 @@
--- What a write changes in an opening's memtables, and their final runs.
-use Rattle.std.specs.Prelude.{ℕ, ◌+◌, ◌-◌, Bool, List, [], ◌∷◌, ◌++◌, length, fold, Option, Some, None, ◌&&◌, nat_le, if◌then◌else◌}
+-- What a write changes in memtables, and their final runs.
+use Rattle.std.specs.Prelude.{ℕ, ◌+◌, ◌-◌, Bool, List, [], ◌∷◌, ◌++◌, length, Option, Some, None, ◌&&◌, nat_le, if◌then◌else◌}
 use Rattle.uc_bytes.specs.declared.write.Write.{Write}
 use Rattle.uc_claims.specs.declared.table.TheConstants.{MOST_SLOTS}
 use Rattle.uc_run_entry.specs.Run.{Contents}
 use Rattle.uc_run.specs.Size.{memtable_size}
 use Rattle.uc_run.specs.Flush.{flushed}
-use Rattle.uc_version_state.specs.Versions.{PlacedRun, Stored}
+use Rattle.uc_version_state.specs.declared.options.Options.{Options}
+use Rattle.uc_version_state.specs.Versions.{Stored}
+use Rattle.uc_version_state.specs.Flushes.{placed_onto}
 use Rattle.uc_version_state.specs.Openings.{rising}
 use Rattle.uc_version_open.specs.Progress.{Flushing}
 
@@ -42,19 +44,12 @@ rest_run (w ∷ ws) = flushed (w ∷ ws) ∷ []
 abbrev pub all_runs : Flushing → List Contents
 all_runs f = f.runs ++ rest_run f.newest
 
--- a run before older ones: ids go on from the first, and slots from 0
-abbrev pub with_run : ℕ → List PlacedRun → Contents → List PlacedRun
-with_run first_id older run = record { id = first_id + length older; slot = length older; run = run } ∷ older
-
--- runs with their places, the newest first; the given ones come oldest first
-abbrev pub placed_runs : ℕ → List Contents → List PlacedRun
-placed_runs first_id runs = fold (with_run first_id) [] runs
-
 -- the version of memtables
-abbrev pub version_of : ℕ → ℕ → Flushing → List ℕ → Stored
-version_of first_id last f keeps = record {
-  runs = placed_runs first_id (all_runs f);
+abbrev pub version_of : Options → ℕ → Flushing → List ℕ → Stored
+version_of options last f keeps = record {
+  runs = placed_onto options.first_id [] (all_runs f);
   keeps = rising (keeps ++ last ∷ []);
   last = last;
-  next_id = first_id + length (all_runs f);
+  next_id = options.first_id + length (all_runs f);
+  limit = options.memtable;
 }

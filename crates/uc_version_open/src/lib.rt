@@ -5,21 +5,24 @@
 //! refused opening. Read `specs/Refusal.antt` first, which says when a store isn't opened, then `specs/Progress.antt`
 //! and `opener.rt`. A store opens with `opened` of `uc_version_state`.
 //!
+//! Writes that are fed to a store later fill the same memtables: [`flush_writes`].
+//!
 //! [`recover`] goes once through a write-ahead log and hands each write, borrowed from the log's bytes, to an opener.
 //! Read `recovery.rt`.
 //!
 //! An `Err(AllocError)`, or a variant `Memory`, comes only if an allocation fails.
 #![tactic(auto)]
 
+mod flushes;
 mod keeping;
 mod laws;
 mod memtables;
 mod open_error;
 mod opener;
 mod opening;
-mod placing;
 mod recovery;
 
+pub use flushes::flush_writes;
 pub use laws::no_refusal_is_leave_to_open;
 pub use open_error::OpenError;
 pub use opener::Opener;

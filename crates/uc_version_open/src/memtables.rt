@@ -1,4 +1,4 @@
-//! [`Memtables`]: the memtables of an opening, all but the newest flushed.
+//! [`Memtables`]: the memtables of writes, all but the newest flushed.
 ghost use Rattle.std.specs.Prelude.{◌≡◌, ◌≢◌, ◌≤◌, ◌<◌, ◌^◌, [], IfOk, IfSome, OnOk, OnErr};
 ghost use Rattle.uc_batch.specs.Rising.{last_of};
 ghost use Rattle.uc_version_open.specs.Steps as steps;
@@ -11,7 +11,7 @@ use uc_bytes::WriteRef;
 use uc_claims::MOST_SLOTS;
 use uc_run::{Memtable, Run};
 
-/// The memtables of an opening. A full one is flushed when the next write comes, so all that can fail comes before the
+/// The memtables of writes that come one after the other. A full one is flushed when the next write comes, so all that can fail comes before the
 /// first change.
 #[derive(Debug, Drop)]
 pub(crate) struct Memtables {
@@ -77,7 +77,12 @@ impl Memtables {
     }
 
     /// Inserts a write. An `Err` changes nothing.
-    fn insert(&mut self, alloc: Global, limit: u64, write: &WriteRef<'_>) -> Result<(), AllocError>
+    pub(crate) fn insert(
+        &mut self,
+        alloc: Global,
+        limit: u64,
+        write: &WriteRef<'_>,
+    ) -> Result<(), AllocError>
         requires limit { 1 ≤ limit }
         requires above { last_of 0 self.old.newest < write.now.seq }
         requires below { write.now.seq < 2 ^ 56 }

@@ -14,11 +14,10 @@ use crate::keeping::{first_ahead, kept};
 use crate::laws::no_refusal_is_leave_to_open;
 use crate::memtables::{Memtables, hold_write};
 use crate::open_error::OpenError;
-use crate::placing::placed_runs;
 use std::alloc::{AllocError, Global};
 use std::marker::Model;
 use uc_bytes::WriteRef;
-use uc_version_state::{Options, Version, opening_gives_a_version};
+use uc_version_state::{Options, Version, opening_gives_a_version, placed_onto};
 
 /// A store that is being opened, by the writes of a log one after the other.
 ///
@@ -45,19 +44,20 @@ impl Model for Opener {
 /// The version of memtables.
 fn version_of(
     alloc: Global,
-    first_id: u64,
+    options: &Options,
     last: u64,
     memtables: Memtables,
     keeps: &[u64],
 ) -> Result<Version, AllocError>
-    requires { IsVersion (steps.version_of first_id last memtables keeps.now) }
-    ensures { IfOk result (λ version. version ≡ steps.version_of first_id last memtables keeps.now) }
+    requires { IsVersion (steps.version_of options.now last memtables keeps.now) }
+    ensures { IfOk result (λ version. version ≡ steps.version_of options.now last memtables keeps.now) }
 {
+    let first_id = options.first_id;
     let runs = memtables.into_runs(alloc)?;
     let next_id = first_id + runs.len() as u64;
-    let runs = placed_runs(alloc, first_id, runs)?;
+    let runs = placed_onto(alloc, first_id, Vec::new(alloc), runs)?;
     let keeps = kept(alloc, keeps, last)?;
-    Ok(Version::new(runs, keeps, last, next_id))
+    Ok(Version::new(runs, keeps, last, next_id, options.memtable))
 }
 
 impl Opener {
@@ -130,6 +130,6 @@ impl Opener {
         let Some(memtables) = memtables else {
             return Err(OpenError::TooManyRuns);
         };
-        Ok(version_of(alloc, options.first_id, last, memtables, keeps)?)
+        Ok(version_of(alloc, &options, last, memtables, keeps)?)
     }
 }

@@ -50,8 +50,9 @@ fn least_free(runs: &[Placed]) -> usize
     slot
 }
 
-/// Runs with their places before older ones, the newest first. The given ones come oldest first, and get ids from `id` on.
-fn placed_onto(
+/// Runs with their places before older ones, the newest first. The given ones come oldest first. They get ids from `id`
+/// on, and each the least slot that none of those behind it has.
+pub fn placed_onto(
     alloc: Global,
     mut id: u64,
     mut placed: Vec<Placed>,

@@ -41,6 +41,7 @@ pub use candidate::Candidate;
 pub use cuts::memtable_count;
 pub use event::Event;
 pub use feed_error::FeedError;
+pub use feeds::placed_onto;
 pub use install::Install;
 pub use laws::{
     beginnings_are_legal, events_change_what_they_say, events_give_versions,
