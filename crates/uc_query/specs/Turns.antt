@@ -6,8 +6,8 @@ use Rattle.uc_version_state.specs.declared.stretch.Stretch.{Stretch}
 use Rattle.uc_version_state.specs.Picks.{picked}
 use Rattle.uc_version_state.specs.Versions.{Stored}
 use Rattle.uc_version.specs.declared.held_stretch.TheConstants.{MOST_CLAIMS}
-use Rattle.uc_version.specs.declared.claim_error.ClaimError.{ClaimError}
-use Rattle.uc_version.specs.declared.install_error.InstallError.TheVariants.{IdsSpent}
+use Rattle.uc_version_compact.specs.declared.claim_error.ClaimError.{ClaimError}
+use Rattle.uc_version_compact.specs.declared.install_error.InstallError.TheVariants.{IdsSpent}
 use Rattle.uc_version.specs.Owners.{Owner, is_busy}
 use Rattle.uc_version.specs.Picking.{candidates_of}
 use Rattle.uc_version.specs.Claiming.{Claim, claim_refusal, claim_of, with_claim, without_claim}

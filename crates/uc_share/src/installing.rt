@@ -20,8 +20,8 @@ use std::alloc::{AllocError, Global};
 use std::sync::Wait;
 use uc_compact::Compacted;
 use uc_oper::Operator;
-use uc_version::{Event, InstallError, error_of, present_refusal, what_fits_may_be_installed};
-use uc_version_state::Refusal;
+use uc_version_compact::{InstallError, error_of, present_refusal, what_fits_may_be_installed};
+use uc_version_state::{Event, Refusal};
 
 /// What was pinned is a beginning of what is shown, since it was shown before. It does nothing: a pin of what isn't shown yet can't
 /// be made, which no clause of a reader's says, so it would wait.

@@ -3,7 +3,7 @@ ghost use Rattle.std.specs.Prelude.{◌≡◌, ◌↔◌, List, true};
 ghost use Rattle.uc_compact_rules.specs.Inputs.{Compaction, Stand};
 ghost use Rattle.uc_version_state.specs.Versions.{PlacedRun, Stored, ids_of};
 ghost use Rattle.uc_version_state.specs.Refusals.{AreInPlace};
-ghost use Rattle.uc_version.specs.Compacting.{IsInstallable, install_for};
+ghost use Rattle.uc_version_compact.specs.Compacting.{IsInstallable, install_for};
 ghost use Rattle.uc_version_state.specs.Machine.{IsMadeFor, still_stand};
 
 use uc_oper::Operator;

@@ -22,8 +22,8 @@ use std::sync::{Arc, Mutex, Wait};
 use uc_batch::Writes;
 use uc_claims::Seat;
 use uc_oper::Operator;
-use uc_version::{OpenError, Options, Version, open_version};
-use uc_version_open::no_refusal_is_leave_to_open;
+use uc_version_open::{OpenError, no_refusal_is_leave_to_open, open_version};
+use uc_version_state::{Options, Version};
 
 /// The most seats of a store.
 pub const MOST_SEATS: usize = 64;

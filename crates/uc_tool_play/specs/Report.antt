@@ -17,7 +17,7 @@ use Rattle.uc_query.specs.Reports as reports
 use Rattle.uc_version.specs.Owners.{Owner, is_busy, unclaimed}
 use Rattle.uc_version.specs.Picking.{candidates_of}
 use Rattle.uc_version.specs.AtOnce.{after_compaction}
-use Rattle.uc_version.specs.declared.install_error.InstallError.TheVariants.{IdsSpent}
+use Rattle.uc_version_compact.specs.declared.install_error.InstallError.TheVariants.{IdsSpent}
 use Rattle.uc_query.specs.Turns.{has_id}
 use Rattle.uc_tool_opening.specs.RefusalLines.{install_refusal_line}
 use Rattle.uc_tool_opening.specs.ReplyLines.{compacted_line}

@@ -1,13 +1,12 @@
 -- What is read of slots, whichever list of them is looked at.
 use Rattle.std.proofs.Common.{◌≡◌, ℕ, zero, suc, ◌+◌, ◌<◌, Bool, true, false, cond, eqb, ltb, List, [], ◌∷◌, ◌++◌, length, get_or, set, take, drop, refl, sym, ap, ◌∙◌, subst, ⊎_elim, get_or-set_same, get_or-set_other, arith}
 use Rattle.std.specs.Prelude.{◌↔◌, IsTrue, Option, Some, None, Contains, map}
-use Rattle.std.specs.List.{AllByRecursion, list_any}
+use Rattle.std.specs.List.{list_any}
 use Rattle.std.proofs.lemmas.Bool.{cases_eq, false≢true}
 use Rattle.std.proofs.lemmas.Bool.Decides.{nat_tests}
 use Rattle.uc_claims.specs.Claims.{times}
 use Rattle.uc_claims.specs.Holding.{IsFirstHeld}
 use Rattle.uc_claims.proofs.Times.{times-append, times-from_Contains, Contains-from_times, list_any-times}
-use Rattle.uc_version_state.specs.Versions.{PlacedRun, slots_of}
 use Rattle.uc_version.specs.Claiming.{first_busy}
 use Rattle.uc_version.proofs.HeldClaims.{none_held}
 
@@ -72,12 +71,6 @@ changed {X} f xs ys y i d lt is new =
     ∙ ap (λ (zs : List X). set zs i (f (get_or zs i d))) is
     ∙ changed_one f xs i d lt
     ∙ ap (λ n. map f (take n xs) ++ drop n xs) (one_more i)
-
--- what holds of all slots of runs holds of that of one
-pub slot_of_one : (P : ℕ → Type 0) (runs : List PlacedRun) (i : ℕ) (d : PlacedRun) → AllByRecursion P (slots_of runs) → i < length runs → P (get_or runs i d).slot
-slot_of_one P [] i d h lt = absurd (omega (arith, lt))
-slot_of_one P (p ∷ ps) zero d h lt = h.0
-slot_of_one P (p ∷ ps) (suc i) d h lt = slot_of_one P ps i d h.1 (omega (arith, lt))
 
 -- one flag more is set
 pub flag_set : (flags : List Bool) (held : List ℕ) (slot : ℕ) (flag : Bool) → slot < length flags → flag ≡ list_any (λ s. eqb s slot) held →

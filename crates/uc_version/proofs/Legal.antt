@@ -1,34 +1,18 @@
 -- An install for a claim is an event that may happen.
-use Rattle.std.proofs.Common.{◌≡◌, ℕ, ◌+◌, ◌≤◌, List, length, set, map, refl, sym, ap, ◌∙◌, subst, arith}
+use Rattle.std.proofs.Common.{◌≡◌, ℕ, ◌+◌, ◌≤◌, List, length, set, map, refl, sym, ap, ◌∙◌, arith}
 use Rattle.std.specs.Prelude.{Option, None}
-use Rattle.std.proofs.lemmas.List.{length-map}
 use Rattle.uc_oper.specs.Operation.{Operation}
-use Rattle.uc_run_entry.specs.Run.{Contents}
-use Rattle.uc_compact_rules.specs.Inputs.{Compaction, Stand, high_of}
+use Rattle.uc_compact_rules.specs.Inputs.{Compaction, Stand}
 use Rattle.uc_compact_rules.specs.Output.{output_of}
-use Rattle.uc_version_state.specs.Versions.{PlacedRun, Stored, IsVersion, contents_of, ids_of}
-use Rattle.uc_version_state.specs.Installs.{Install, MayInstall, MayReplace as MayBeReplaced, standing, older_in, replaced, installed}
+use Rattle.uc_version_state.specs.Versions.{Stored, IsVersion, contents_of}
+use Rattle.uc_version_state.specs.Installs.{Install, MayInstall, replaced, installed}
 use Rattle.uc_version_state.proofs.Found.{first_is, count_is, standing_is}
 use Rattle.uc_version.specs.declared.held_stretch.HeldStretch.{HeldStretch}
 use Rattle.uc_version.specs.Owners.{Owner, runs_held}
 use Rattle.uc_version.specs.Claiming.{Claim}
-use Rattle.uc_version.specs.Compacting.{IsInstallable, install_for}
 use Rattle.uc_version.specs.Installing.{stretch_of, MayReplace, moved_up, after_install, install_of}
-use Rattle.uc_version.proofs.HeldClaims.{part_length}
-
--- what is installable may be installed, where the runs that stand there are those that were claimed
-pub may_install : (m : Operation) (v : Stored) (claimed : List PlacedRun) (made : Compaction) → 2 ≤ length claimed → Stand made.inputs made.keeps →
-    contents_of (standing (ids_of claimed) v.runs) ≡ contents_of claimed → IsInstallable v claimed made → MayInstall m v (install_for m claimed made)
-may_install m v claimed made two stand same fits =
-    let i = install_for m claimed made in
-    let inputs : made.inputs ≡ contents_of (standing (ids_of claimed) v.runs) = fits.inputs ∙ sym same in
-    record {
-      two = let e = length-map claimed (λ (p : PlacedRun). p.id) in omega (arith, e, two);
-      neighbours = fits.there.in_place;
-      keeps_rise = stand.keeps_rise;
-      may = subst (λ (rs : List Contents). MayBeReplaced v (older_in i v) (record { keeps = made.keeps; oldest = made.oldest; high = high_of rs })) inputs fits.there.may;
-      output_made = ap (λ (rs : List Contents). output_of m (record { inputs = rs; keeps = made.keeps; oldest = made.oldest })) inputs;
-    }
+use Rattle.uc_version_compact.proofs.Fitting.{may_install}
+use Rattle.uc_version_compact.proofs.PartSlots.{part_length}
 
 module _ (m : Operation) (v : Stored) (is_version : IsVersion v) (h : HeldStretch) (two : 2 ≤ h.count) (within : h.first + h.count ≤ length v.runs)
     (made : Compaction) (stand : Stand made.inputs made.keeps) (may : MayReplace v h made) where

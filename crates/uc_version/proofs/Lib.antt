@@ -1,12 +1,10 @@
-pub mod Few
 pub mod HeldClaims
 pub mod Flags
-pub mod Inputs
+pub mod Oldest
 pub mod Taking
 pub mod ClaimMade
 pub mod Legal
 pub mod Moving
-pub mod Standing
 pub mod PickedClaims
 pub mod Staying
 pub mod KeptClaims

@@ -1,34 +1,20 @@
 -- A stretch of unclaimed runs can be claimed.
-use Rattle.std.proofs.Common.{◌≡◌, ℕ, ◌+◌, ◌-◌, ◌≤◌, Bool, true, false, not, cond, eqb, ltb, ◌||◌, ◌&&◌, List, [], ◌∷◌, length, take, drop, map, refl, sym, ap, ◌∙◌, arith}
+use Rattle.std.proofs.Common.{◌≡◌, ℕ, ◌+◌, ◌≤◌, Bool, true, false, not, cond, eqb, ◌&&◌, List, [], ◌∷◌, length, take, drop, map, refl, sym, ap, ◌∙◌, arith}
 use Rattle.std.specs.Prelude.{Option, Some, None, option_map}
 use Rattle.std.specs.Option.{option_or}
 use Rattle.std.specs.List.{list_any}
-use Rattle.std.proofs.lemmas.Bool.Decides.{nat_tests}
 use Rattle.std.proofs.lemmas.List.{length-map, drop-map}
 use Rattle.std.specs.List.{take-map}
 use Rattle.uc_version_state.specs.declared.stretch.Stretch.{Stretch}
 use Rattle.uc_version_state.specs.Picks.{are_unclaimed}
 use Rattle.uc_version_state.specs.Versions.{PlacedRun, slots_of}
 use Rattle.uc_version_state.specs.Installs.{part_of}
-use Rattle.uc_version.specs.declared.claim_error.ClaimError.{ClaimError}
-use Rattle.uc_version.specs.declared.claim_error.ClaimError.TheVariants.{OutOfRange, TooNarrow, Busy}
+use Rattle.uc_version_compact.specs.declared.claim_error.ClaimError.{ClaimError}
+use Rattle.uc_version_compact.specs.declared.claim_error.ClaimError.TheVariants.{Busy}
 use Rattle.uc_version.specs.Owners.{Owner, claimed_slots, is_busy}
-use Rattle.uc_version.specs.Picking.{candidate_of, candidates_of}
-use Rattle.uc_version.specs.Claiming.{first_busy, range_refusal, claim_refusal}
-
--- a stretch of two runs or more that is there
-pub in_range : (n : ℕ) (s : Stretch) → 2 ≤ s.count → s.first + s.count ≤ n → range_refusal n s ≡ None
-in_range n s two within =
-    let first : ltb n s.first ≡ false = grind (arith, nat_tests) in
-    let count : ltb (n - s.first) s.count ≡ false = grind (arith, nat_tests) in
-    let wide : ltb s.count 2 ≡ false = grind (arith, nat_tests) in
-    by_tests (ltb n s.first) (ltb (n - s.first) s.count) (ltb s.count 2) first count wide
-  where
-    by_tests : (a b c : Bool) → a ≡ false → b ≡ false → c ≡ false → cond (a || b) (Some OutOfRange) (cond c (Some TooNarrow) None) ≡ None
-    by_tests false false false ea eb ec = refl
-    by_tests true b c ea eb ec = absurd cc
-    by_tests false true c ea eb ec = absurd cc
-    by_tests false false true ea eb ec = absurd cc
+use Rattle.uc_version_compact.specs.Picking.{candidate_of, candidates_of}
+use Rattle.uc_version.specs.Claiming.{first_busy, claim_refusal}
+use Rattle.uc_version_compact.proofs.InRange.{in_range}
 
 -- no run of it is claimed
 none_busy : (claimed : List ℕ) (runs : List PlacedRun) → are_unclaimed (map (candidate_of (λ slot. list_any (λ s. eqb s slot) claimed)) runs) ≡ true → first_busy claimed (slots_of runs) ≡ None

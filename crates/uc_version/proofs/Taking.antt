@@ -1,6 +1,6 @@
 -- Claims that are taken and given back.
-use Rattle.std.proofs.Common.{◌≡◌, ℕ, zero, suc, ◌+◌, ◌<◌, ◌≤◌, Bool, true, false, not, cond, ltb, List, ◌++◌, length, get_or, set, refl, sym, ap, ◌∙◌, subst, arith}
-use Rattle.std.specs.Prelude.{Option, Some, None, Contains, All, ◌||◌, ◌-◌}
+use Rattle.std.proofs.Common.{◌≡◌, ℕ, zero, suc, ◌+◌, ◌<◌, ◌≤◌, true, false, not, cond, ltb, List, ◌++◌, length, get_or, set, refl, sym, ap, ◌∙◌, subst, arith}
+use Rattle.std.specs.Prelude.{Option, Some, None, Contains, All}
 use Rattle.std.specs.List.{flat_map}
 use Rattle.std.proofs.lemmas.Bool.Decides.{nat_tests}
 use Rattle.std.proofs.lemmas.List.{length-set}
@@ -8,26 +8,14 @@ use Rattle.std.proofs.lemmas.List.Elements.{All-from_recursion}
 use Rattle.uc_claims.specs.Claims.{times}
 use Rattle.uc_claims.specs.Holding.{NoneHeld, without}
 use Rattle.uc_claims.proofs.Times.{times-append, times-filter, list_any-times, Contains-from_times}
-use Rattle.uc_version_state.specs.declared.stretch.Stretch.{Stretch}
 use Rattle.uc_version_state.specs.Versions.{slots_of}
 use Rattle.uc_version_state.proofs.Once.{distinct-from_times, all-from_times}
 use Rattle.uc_version.specs.declared.held_stretch.HeldStretch.{HeldStretch}
-use Rattle.uc_version.specs.declared.claim_error.ClaimError.TheVariants.{OutOfRange, TooNarrow}
 use Rattle.uc_version.specs.Owners.{Owner, IsOwner, NotesItsRuns, Stands, runs_held, slots_held, claimed_slots}
-use Rattle.uc_version.specs.Claiming.{Claim, range_refusal, free_number, has_ids, is_held}
+use Rattle.uc_version.specs.Claiming.{Claim, free_number, has_ids, is_held}
 use Rattle.uc_version.specs.Installing.{stretch_in, stretch_of}
-use Rattle.uc_version.proofs.HeldClaims.{part_once, times-set, all-set, all_at, held_below, none_held, claimed_once, number_free}
-
--- a stretch that isn't refused for its range
-pub range_holds : (n : ℕ) (s : Stretch) → range_refusal n s ≡ None → (2 ≤ s.count) × (s.first + s.count ≤ n)
-range_holds n s fine = by_tests (ltb n s.first) (ltb (n - s.first) s.count) (ltb s.count 2) refl refl refl fine
-  where
-    by_tests : (a b c : Bool) → ltb n s.first ≡ a → ltb (n - s.first) s.count ≡ b → ltb s.count 2 ≡ c →
-        (cond (a || b) (Some OutOfRange) (cond c (Some TooNarrow) None)) ≡ None → (2 ≤ s.count) × (s.first + s.count ≤ n)
-    by_tests true b c ea eb ec e = absurd cc
-    by_tests false true c ea eb ec e = absurd cc
-    by_tests false false true ea eb ec e = absurd cc
-    by_tests false false false ea eb ec e = (grind (arith, nat_tests), grind (arith, nat_tests))
+use Rattle.uc_version_compact.proofs.PartSlots.{part_once}
+use Rattle.uc_version.proofs.HeldClaims.{times-set, all-set, all_at, held_below, none_held, claimed_once, number_free}
 
 -- a slot list holds all of another
 pub all_there : (held asked : List ℕ) → ((k : ℕ) → 0 < times k asked → 0 < times k held) → All (Contains held) asked

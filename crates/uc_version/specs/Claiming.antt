@@ -1,13 +1,14 @@
 -- Claims of stretches.
-use Rattle.std.specs.Prelude.{ℕ, ◌-◌, suc, ◌==◌, Bool, false, ◌&&◌, ◌||◌, List, [], ◌∷◌, Option, Some, None, option_map, length, nat_lt, slice_set, slice_index_or, if◌then◌else◌}
+use Rattle.std.specs.Prelude.{ℕ, suc, ◌==◌, Bool, false, ◌&&◌, List, [], ◌∷◌, Option, Some, None, option_map, length, slice_set, slice_index_or, if◌then◌else◌}
 use Rattle.std.specs.List.{list_any}
 use Rattle.std.specs.Option.{option_or}
 use Rattle.uc_version_state.specs.declared.stretch.Stretch.{Stretch}
 use Rattle.uc_version_state.specs.Versions.{ids_of, slots_of}
 use Rattle.uc_version_state.specs.Installs.{part_of, newest_id}
+use Rattle.uc_version_compact.specs.Ranges.{range_refusal}
 use Rattle.uc_version.specs.declared.held_stretch.HeldStretch.{HeldStretch}
-use Rattle.uc_version.specs.declared.claim_error.ClaimError.{ClaimError}
-use Rattle.uc_version.specs.declared.claim_error.ClaimError.TheVariants.{OutOfRange, TooNarrow, Busy}
+use Rattle.uc_version_compact.specs.declared.claim_error.ClaimError.{ClaimError}
+use Rattle.uc_version_compact.specs.declared.claim_error.ClaimError.TheVariants.{Busy}
 use Rattle.uc_version.specs.Owners.{Owner, claimed_slots, last_id}
 
 -- a claim as its holder has it: its number, and the ids of the newest and the oldest run of its stretch
@@ -21,13 +22,7 @@ abbrev pub first_busy : List ℕ → List ℕ → Option ℕ
 first_busy claimed [] = None
 first_busy claimed (slot ∷ slots) = if list_any (λ s. s == slot) claimed then Some slot else first_busy claimed slots
 
--- why a stretch among `n` runs can't be claimed, whoever has them: it isn't all there, or it has fewer than two runs
-abbrev pub range_refusal : ℕ → Stretch → Option ClaimError
-range_refusal n s =
-    if nat_lt n s.first || nat_lt (n - s.first) s.count then Some OutOfRange
-    else if nat_lt s.count 2 then Some TooNarrow else None
-
--- Why a stretch can't be claimed: for that, or because runs of it are claimed, of which the newest is named.
+-- Why a stretch can't be claimed: its range is refused, or runs of it are claimed, of which the newest is named.
 abbrev pub claim_refusal : Owner → Stretch → Option ClaimError
 claim_refusal o s =
     option_or (range_refusal (length o.version.runs) s)

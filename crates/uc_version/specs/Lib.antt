@@ -1,7 +1,8 @@
+pub use Rattle.uc_version_compact.specs.Compacting
+pub use Rattle.uc_version_compact.specs.Picking
+pub use Rattle.uc_version_compact.specs.Ranges
 pub mod Owners
 pub mod Claiming
-pub mod Compacting
 pub mod Installing
 pub mod AtOnce
-pub mod Picking
 pub mod HeldOwners

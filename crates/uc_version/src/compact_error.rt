@@ -2,9 +2,9 @@
 ghost use Rattle.std.specs.Prelude.{◌≡◌};
 ghost use Rattle.uc_version.specs.declared.compact_error.CompactError.TheVariants.{Memory};
 
-use crate::claim_error::ClaimError;
 use std::alloc::AllocError;
 use thiserror::Error;
+use uc_version_compact::ClaimError;
 
 /// Why a stretch isn't compacted at once.
 #[derive(Clone, Copy, Debug, PartialEq, Eq, Error)]

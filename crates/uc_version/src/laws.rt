@@ -1,31 +1,21 @@
 //! What holds of owners.
-ghost use Rattle.std.specs.Prelude.{◌≡◌, ◌≢◌, ◌≤◌, List, Some, None, true, length};
+ghost use Rattle.std.specs.Prelude.{◌≡◌, ◌≢◌, Some, None, true};
 ghost use Rattle.uc_version_state.specs.declared.stretch.Stretch.{Stretch};
 ghost use Rattle.uc_version_state.specs.Picks.{picked};
 ghost use Rattle.uc_compact_rules.specs.Inputs.{Compaction, Stand};
-ghost use Rattle.uc_version_state.specs.Versions.{PlacedRun, Stored, contents_of, ids_of};
-ghost use Rattle.uc_version_state.specs.Installs.{MayInstall, installed, newest_id, standing};
+ghost use Rattle.uc_version_state.specs.Versions.{ids_of};
+ghost use Rattle.uc_version_state.specs.Installs.{MayInstall, installed, newest_id};
 ghost use Rattle.uc_version.specs.Owners.{Owner, IsOwner, is_busy, last_id};
-ghost use Rattle.uc_version.specs.Picking.{candidates_of};
+ghost use Rattle.uc_version_compact.specs.Picking.{candidates_of};
 ghost use Rattle.uc_version.specs.Claiming.{Claim, is_held, claim_refusal, claim_of, with_claim, without_claim};
-ghost use Rattle.uc_version.specs.Compacting.{IsInstallable, install_for};
 ghost use Rattle.uc_version.specs.Installing.{stretch_of, claimed_runs, compaction_of, IdLeft, MayReplace};
 ghost use Rattle.uc_version.specs.Installing.{IsRefused, after_install, install_of};
 ghost use Rattle.uc_version.specs.AtOnce.{install_at, after_compaction};
-ghost use Rattle.uc_version.specs.declared.install_error.InstallError.{InstallError};
-ghost use Rattle.uc_version.specs.declared.install_error.InstallError.TheVariants.{IdsSpent};
+ghost use Rattle.uc_version_compact.specs.declared.install_error.InstallError.{InstallError};
+ghost use Rattle.uc_version_compact.specs.declared.install_error.InstallError.TheVariants.{IdsSpent};
 
 use uc_oper::Operator;
 use uc_version_state::{install_gives_a_version, picks_are_unclaimed_runs};
-
-/// If a version still has the claimed runs under their ids, and a compaction of them is installable there, its install
-/// is an event that may happen to that version.
-pub fn what_fits_may_be_installed<O: Operator>()
-    ensures { (v : Stored) (claimed : List PlacedRun) (made : Compaction) → 2 ≤ length claimed →
-        Stand made.inputs made.keeps →
-        contents_of (standing (ids_of claimed) v.runs) ≡ contents_of claimed → IsInstallable v claimed made →
-        MayInstall O.meaning v (install_for O.meaning claimed made) }
-{}
 
 /// An install for a held claim is an event that may happen to the version, and leaves the version after it.
 pub fn installs_are_events<O: Operator>()

@@ -2,45 +2,37 @@
 //!
 //! An [`Owned`] has a version, and the claims of those who compact stretches of its runs. Read `specs/Owners.antt`
 //! first, then `specs/Claiming.antt`, `specs/Installing.antt` and `owned.rt`; and `specs/AtOnce.antt` with
-//! `at_once.rt`. `specs/Compacting.antt`, `stretches.rt` and `refusal.rt` are about compactions of any version's runs,
-//! and their installs, whoever claims them. Versions and the picker are in `uc_version_state`. This crate re-exports
-//! its public items.
+//! `at_once.rt`. Compactions of any version's runs, and their installs, are in `uc_version_compact`, whoever claims
+//! them; versions are in `uc_version_state`. This crate re-exports the public items of both.
 //!
 //! An `Err(AllocError)`, or a variant `Memory`, comes only if an allocation fails.
 #![tactic(auto)]
 
 mod at_once;
-mod claim_error;
 mod claims;
 mod compact_error;
 mod held_stretch;
-mod install_error;
 mod laws;
 mod opening;
 mod owned;
 mod owned_claim;
-mod picking;
-mod refusal;
 mod runs;
 mod slots;
-mod stretches;
 
-pub use claim_error::ClaimError;
 pub use compact_error::CompactError;
 pub use held_stretch::{HeldStretch, MOST_CLAIMS};
-pub use install_error::InstallError;
 pub use laws::{
     claimable_stretches_can_be_compacted, claims_are_held, claims_can_be_compacted,
     claims_keep_their_runs, installs_are_events, owners_stay_owners, picks_can_be_claimed,
-    what_fits_may_be_installed,
 };
 pub use opening::open_plain;
 pub use owned::Owned;
 pub use owned_claim::OwnedClaim;
-pub use picking::pick;
-pub use refusal::{are_inputs, error_of, install_refusal, present_refusal};
-pub use runs::{run_ids, runs_of, slots_of, stretch_runs};
-pub use stretches::{compact_stretch, install_event};
 pub use uc_claims::MOST_SLOTS;
+pub use uc_version_compact::{
+    ClaimError, InstallError, are_inputs, compact_stretch, error_of, install_event,
+    install_refusal, pick, present_refusal, run_ids, runs_of, slots_of, stretch_runs,
+    what_fits_may_be_installed,
+};
 pub use uc_version_open::{OpenError, Opener, open_version};
 pub use uc_version_state::{Candidate, Event, Install, Options, Placed, Refusal, Stretch, Version};

@@ -4,26 +4,24 @@ ghost use Rattle.uc_claims.specs.declared.table.TheConstants.{MOST_SLOTS};
 ghost use Rattle.uc_version_state.specs.Picks.{picked};
 ghost use Rattle.uc_version_state.specs.Options.{are_good};
 ghost use Rattle.uc_version.specs.Owners.{IsOwner, is_busy, unclaimed};
-ghost use Rattle.uc_version.specs.Picking.{candidates_of};
+ghost use Rattle.uc_version_compact.specs.Picking.{candidates_of};
 ghost use Rattle.uc_version.specs.Claiming as claiming;
 ghost use Rattle.uc_version.specs.Installing as installing;
 
-use crate::claim_error::ClaimError;
 use crate::claims::{free_number, held_by, held_stretch, move_up};
 use crate::held_stretch::{HeldStretch, MOST_CLAIMS};
-use crate::install_error::InstallError;
 use crate::owned_claim::OwnedClaim;
-use crate::picking::pick;
-use crate::refusal::install_refusal;
-use crate::runs::{held_runs, last_id, newest_id, runs_of};
+use crate::runs::{held_runs, last_id, newest_id};
 use crate::slots::{busy_slots, claim_slots, give_slots};
-use crate::stretches::compact_stretch;
 use std::alloc::{AllocError, Global};
 use std::marker::{Model, PhantomData, Sync};
 use std::thread::Threads;
 use uc_claims::{ClaimTable, HeldSlots, MOST_SLOTS};
 use uc_compact::Compacted;
 use uc_oper::Operator;
+use uc_version_compact::{
+    ClaimError, InstallError, compact_stretch, install_refusal, pick, runs_of,
+};
 use uc_version_state::{Options, Stretch, Version, install_gives_a_version};
 
 /// A store with one owner: a version, and the claims of stretches of its runs.

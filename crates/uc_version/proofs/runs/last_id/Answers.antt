@@ -1,5 +1,5 @@
 use Rattle.std.proofs.Common.{◌∙◌}
-use Rattle.uc_version.proofs.Inputs.{last_is}
+use Rattle.uc_version.proofs.Oldest.{last_is}
 use Rattle.uc_version.proofs.runs.last_id.Goals as goal
 
 pub returns-in-Some : goal.returns-in-Some
