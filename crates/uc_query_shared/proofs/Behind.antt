@@ -4,10 +4,9 @@ use Rattle.std.proofs.lemmas.List.{append-nil}
 use Rattle.std.specs.List.{flat_map}
 use Rattle.uc_oper.specs.Operation.{Operation}
 use Rattle.uc_query_read.specs.Answers.{answer_of}
-use Rattle.uc_query_read.specs.declared.answer.Answer.{Answer}
 use Rattle.uc_query_read.specs.declared.query.Query.{Query}
-use Rattle.uc_query_workers.specs.Pieces.{Batch, piece_of, piece_answers}
-use Rattle.uc_query_shared.specs.Given.{ForEachHistory, piece_given}
+use Rattle.uc_query_workers.specs.Asking.{answers_of}
+use Rattle.uc_query_shared.specs.Given.{ForEachHistory, answers_given}
 use Rattle.uc_version_state.specs.Versions.{Stored, writes_in}
 use Rattle.uc_version_state.specs.declared.event.Event.{Event}
 use Rattle.uc_version_state.specs.declared.event.Event.TheVariants.{Installed}
@@ -30,9 +29,8 @@ map_same : {A B : Type 0} (f g : A → B) (xs : List A) → ((x : A) → f x ≡
 map_same f g [] same = refl
 map_same f g (x ∷ xs) same = ap (λ y. y ∷ map f xs) (same x) ∙ ap (λ ys. g x ∷ ys) (map_same f g xs same)
 
--- the answers from a version that stands behind every history with which the store may have opened
-pub pushed_as_given : (m : Operation) (base : Stored) (events : List Event) (v : Stored) (batch : Batch) (number : ℕ) (old new : List Answer) → v ≡ fold after base events → ((h : History) (query : Query) → IsLegal m h → version_after h ≡ base → answer_of m (writes_in (fold after base events)) (fold after base events).keeps query ≡ answer_of m (writes_given h) (version_after h).keeps query) → new ≡ old ++ piece_answers m v batch number → ForEachHistory m base (λ h. new ≡ old ++ piece_given m h batch number)
-pushed_as_given m base events v batch number old new v_is alike pushed h legal is =
-    pushed
-    ∙ ap (λ (w : Stored). old ++ piece_answers m w batch number) v_is
-    ∙ ap (λ xs. old ++ xs) (map_same _ _ (piece_of batch number) (λ query. alike h query legal is))
+-- the answers of a version that stands behind every history with which the store may have opened
+pub answers_as_given : (m : Operation) (base : Stored) (events : List Event) (v : Stored) (queries : List Query) → v ≡ fold after base events → ((h : History) (query : Query) → IsLegal m h → version_after h ≡ base → answer_of m (writes_in (fold after base events)) (fold after base events).keeps query ≡ answer_of m (writes_given h) (version_after h).keeps query) → ForEachHistory m base (λ h. answers_of m v queries ≡ answers_given m h queries)
+answers_as_given m base events v queries v_is alike h legal is =
+    ap (λ (w : Stored). answers_of m w queries) v_is
+    ∙ map_same _ _ queries (λ query. alike h query legal is)

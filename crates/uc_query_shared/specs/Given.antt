@@ -1,20 +1,15 @@
 -- The answers to a batch from the plain writes that a store was given.
-use Rattle.std.specs.Prelude.{◌≡◌, ℕ, List, map}
+use Rattle.std.specs.Prelude.{◌≡◌, List, map}
 use Rattle.uc_oper.specs.Operation.{Operation}
 use Rattle.uc_query_read.specs.declared.query.Query.{Query}
 use Rattle.uc_query_read.specs.declared.answer.Answer.{Answer}
 use Rattle.uc_query_read.specs.Answers.{answer_of}
-use Rattle.uc_query_workers.specs.Pieces.{Batch, piece_of}
 use Rattle.uc_version_state.specs.Versions.{Stored}
 use Rattle.uc_version_state.specs.Histories.{History, IsLegal, version_after, writes_given}
 
 -- the answers to queries, in their order: what the writes of a history give, at the sequences that it keeps
 abbrev pub answers_given : Operation → History → List Query → List Answer
 answers_given m h queries = map (answer_of m (writes_given h) (version_after h).keeps) queries
-
--- those to the piece with a number
-abbrev pub piece_given : Operation → History → Batch → ℕ → List Answer
-piece_given m h batch number = answers_given m h (piece_of batch number)
 
 -- it holds of every legal history that leads to a version
 abbrev pub ForEachHistory : Operation → Stored → (History → Type 0) → Type 0

@@ -1,4 +1,2 @@
 pub mod Asking
-pub mod Drawing
 pub mod Given
-pub mod Draws

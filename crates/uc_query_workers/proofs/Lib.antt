@@ -1,1 +1,7 @@
-pub mod Joining
+pub mod Draws
+pub mod Left
+pub mod Ends
+pub mod Moves
+pub mod Pieced
+pub mod Seen
+pub mod Shares

@@ -1,14 +1,10 @@
 //! [`Batch`]: queries, cut into pieces.
-ghost use Rattle.std.specs.Prelude.{◌≡◌, ◌*◌, ◌<◌, ◌≤◌, ◌++◌, length, OnOk};
-ghost use Rattle.uc_query_workers.specs.Asking as asking;
+ghost use Rattle.std.specs.Prelude.{◌≡◌, ◌*◌, ◌^◌, ◌<◌, ◌≤◌, length};
 ghost use Rattle.uc_query_workers.specs.Pieces as pieces;
 ghost use Rattle.uc_query_workers.specs.Pieces.{AreNumbers};
 
-use std::alloc::{AllocError, Global};
 use std::marker::Model;
-use uc_oper::Operator;
-use uc_query_read::{Answer, Query, answer_one};
-use uc_version_state::Version;
+use uc_query_read::Query;
 
 /// Queries, cut into pieces of `piece` queries; the last one may have fewer. A contract sees it as these.
 #[derive(Drop)]
@@ -26,23 +22,6 @@ impl<'a> Model for Batch<'a> {
     ghost view = { λ b. record { queries = b.queries.now; piece = b.piece } };
 
     ghost invariant = { λ b. 0 < b.piece };
-}
-
-/// Appends the answers to queries. After an `Err` some of them are there.
-fn push_each<O: Operator>(
-    alloc: Global,
-    version: &Version,
-    queries: &[Query],
-    answers: &mut Vec<Answer>,
-) -> Result<(), AllocError>
-    ensures { OnOk result
-        (answers.new.items ≡
-        answers.old.items ++ asking.answers_of O.meaning version.now queries.now) }
-{
-    for query in queries {
-        answers.push(answer_one::<O>(alloc, version, query)?)?;
-    }
-    Ok(())
 }
 
 impl<'a> Batch<'a> {
@@ -65,6 +44,7 @@ impl<'a> Batch<'a> {
     pub fn pieces(&self) -> usize
         ensures numbers { AreNumbers self.now result }
         ensures enough { length self.now.queries ≤ result * self.now.piece }
+        ensures bound { result < 2 ^ 63 }
     {
         self.queries.len().div_ceil(self.piece)
     }
@@ -76,21 +56,5 @@ impl<'a> Batch<'a> {
     {
         let rest = &self.queries[number * self.piece..];
         &rest[..self.piece.min(rest.len())]
-    }
-
-    /// Appends a version's answers to piece `number`. After an `Err` some of them are there.
-    pub fn push_answers<O: Operator>(
-        &self,
-        alloc: Global,
-        version: &Version,
-        number: usize,
-        answers: &mut Vec<Answer>,
-    ) -> Result<(), AllocError>
-        requires { number * self.now.piece < length self.now.queries }
-        ensures { OnOk result
-            (answers.new.items ≡
-            answers.old.items ++ pieces.piece_answers O.meaning version.now self.now number) }
-    {
-        push_each::<O>(alloc, version, self.piece_of(number), answers)
     }
 }

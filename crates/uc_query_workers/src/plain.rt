@@ -1,15 +1,17 @@
 //! [`answer_plain`]: the answers to a batch of queries of a version.
-ghost use Rattle.std.specs.Prelude.{◌≡◌, ◌⊎◌, ◌<◌, None, Some, IfOk, IfErr, length};
+ghost use Rattle.std.specs.Prelude.{◌≡◌, ◌⊎◌, ◌<◌, ◌≤◌, None, Some, IfOk, IfErr};
 ghost use Rattle.uc_query_workers.specs.Asking as asking;
 ghost use Rattle.uc_query_workers.specs.declared.ask_error.AskError.TheVariants.{Memory};
+ghost use Rattle.uc_query_workers.specs.declared.ask_error.TheConstants.{MOST_WORKERS as MOST};
 
+use crate::answered::answers_by_workers;
 use crate::ask_error::{AskError, MOST_WORKERS};
 use crate::batch::Batch;
-use crate::drawing::drawn_by_workers;
-use crate::gathering::joined;
-use crossbeam_utils::atomic::AtomicCell;
+use crate::gate::Free;
+use crate::laws::answers_are_mapped;
+use crate::one_version::OneVersion;
 use std::alloc::{AllocError, Global};
-use std::marker::Sync;
+use std::marker::{PhantomData, Sync};
 use std::thread::Threads;
 use uc_oper::Operator;
 use uc_query_read::{Answer, Query};
@@ -28,11 +30,6 @@ pub fn ask_refusal(workers: usize, piece: usize) -> Option<AskError>
     None
 }
 
-/// The room of each worker's list, in answers: twice its share, since one may draw more than another, and all for one worker.
-fn room_of_each(queries: usize, workers: usize) -> usize {
-    queries.min((queries / workers.max(1)).saturating_mul(2))
-}
-
 /// The answers to queries, in their order, by workers that draw pieces.
 fn answers_of<O: Operator + Sync, R: Threads + Sync>(
     rt: &R,
@@ -42,15 +39,19 @@ fn answers_of<O: Operator + Sync, R: Threads + Sync>(
     workers: usize,
     piece: usize,
 ) -> Result<Vec<Answer>, AllocError>
-    requires { 0 < piece }
+    requires piece { 0 < piece }
+    requires workers { (0 < workers) × (workers ≤ MOST) }
     ensures { IfOk result (λ answers. answers.items ≡ asking.answers_of O.meaning version.now queries.now) }
 {
+    answers_are_mapped::<(), OneVersion<'_, O>>();
+    let source = OneVersion::<O> {
+        version,
+        operator: PhantomData,
+    };
     let batch = Batch::new(queries, piece);
-    let workers = workers.min(batch.pieces());
-    let next = AtomicCell::new(0usize);
-    let room = room_of_each(queries.len(), workers);
-    let drawn = drawn_by_workers::<O, R>(rt, alloc, version, &batch, &next, room, workers)?;
-    joined::<O>(alloc, version, &batch, drawn)
+    let places = vec![in alloc; (); workers]?;
+    let (_, answers) = answers_by_workers(rt, alloc, &batch, workers, &source, &Free, places);
+    answers
 }
 
 /// The answers to a batch of queries of a version, in their order. It is cut into pieces of `piece` queries, which the workers

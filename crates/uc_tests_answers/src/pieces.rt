@@ -1,12 +1,12 @@
 //! Pieces drawn by a lone seat, and by two threads with a seat each.
 ghost use Rattle.std.specs.Prelude.{◌≡◌, ◌<◌, [], true};
-ghost use Rattle.uc_query_shared.specs.Draws.{past};
+ghost use Rattle.uc_query_workers.specs.Draws.{past};
 
 use std::array;
 use std::sync::atomic::{AtomicU64, Ordering};
 use std::test::Fail;
 use std::thread::{Threads, join};
-use uc_query_shared::{PieceCounter, PieceSeat, draw_laws};
+use uc_query_workers::{PieceCounter, PieceSeat, draw_laws};
 
 const PIECES: usize = 1_000;
 

@@ -1,5 +1,5 @@
 use Rattle.std.proofs.Common.{◌≡◌, ◌<◌}
-use Rattle.uc_query_shared.specs.Draws.{past}
+use Rattle.uc_query_workers.specs.Draws.{past}
 use Rattle.uc_tests_answers.proofs.pieces.work.Given as goal
 
 abbrev pub invariant-loop : goal.invariant-loop

@@ -1,0 +1,39 @@
+//! [`Pins`]: a shared store as the source of workers that have a reader each.
+use crate::laws::pinned_versions_answer_as_given;
+use std::alloc::{AllocError, Global};
+use uc_oper::Operator;
+use uc_query_read::{Answer, Query};
+use uc_query_workers::{Source, push_answers};
+use uc_share::{Name, Reader};
+
+/// What is shown to a worker's reader. Each piece is answered from the version that is pinned for it.
+#[derive(Drop)]
+pub(crate) struct Pins;
+
+impl<O: Operator, N: Name> Source<Reader<O, N>> for Pins {
+    ghost use Rattle.std.specs.Prelude.{◌≡◌};
+    ghost use mathlib.Core.List.{IsPrefix};
+    ghost use Rattle.uc_query_shared.specs.Given.{ForEachHistory, answers_given};
+    ghost use Rattle.uc_share.proofs.Prefixes.{prefix_self, prefix_behind};
+
+    ghost gives = { λ source queries given. ForEachHistory O.meaning N.base (λ h.
+        given ≡ answers_given O.meaning h queries) };
+
+    ghost goes_on = { λ before after. IsPrefix before after };
+
+    fn push_answers(
+        &self,
+        place: &mut Reader<O, N>,
+        alloc: Global,
+        queries: &[Query],
+        answers: &mut Vec<Answer>,
+    ) -> Result<(), AllocError> {
+        pinned_versions_answer_as_given::<O>();
+        let pin = place.pin()?;
+        push_answers::<O>(alloc, pin.version(), queries, answers)
+    }
+
+    ghost stays = { λ place. prefix_self place };
+
+    ghost goes_further = { λ first second third so_far then. prefix_behind first second third so_far then };
+}
