@@ -130,7 +130,7 @@ row() { # KIND COUNT
     local kind=$1 count=$2 ours_figures whole_figures
     lines "$kind" "$count" | "$folder/make_log" lines > "$folder/log" || fail "no log"
     report "$kind" "$count" ours "$ours" report --operator counter
-    [ "$ours" = none ] || cp "$folder/text" "$folder/ours"
+    [ "$ours" = none ] || awk -f "$here/../report/plain_fields.awk" "$folder/text" > "$folder/ours"
     ours_figures=$figures
     report "$kind" "$count" "one memtable" "$ours" report --operator counter --memtable 1073741824
     whole_figures=$figures

@@ -51,11 +51,11 @@ build_all() {
     measured+=("${rocksdbs[@]}")
 }
 
-run() { # PROGRAM WORDS: runs it over standard input
+run() { # PROGRAM WORDS: runs it over standard input, and prints what both report
     local program=$1
     shift
     case $program in
-        ucstore) "$ours" report --operator counter "$@" ;;
+        ucstore) "$ours" report --operator counter "$@" | awk -f "$here/plain_fields.awk" ;;
         *) "$folder/$program" "$@" ;;
     esac
 }

@@ -1,6 +1,7 @@
 -- Totals, added field by field. Each sum is at most 2^64 - 1.
-use Rattle.std.specs.Prelude.{◌≡◌, ℕ, ◌+◌, ◌-◌, ◌^◌, ◌<◌, min}
-use Rattle.std.proofs.Common.{arith}
+use Rattle.std.specs.Prelude.{◌≡◌, ℕ, ◌+◌, ◌-◌, ◌^◌, ◌<◌, min, List, [], ◌∷◌, sum_by}
+use Rattle.std.specs.List.{AllByRecursion}
+use Rattle.std.proofs.Common.{arith, refl}
 use Rattle.uc_fold.specs.declared.totals.Totals.{Totals}
 use Rattle.uc_fold.specs.Joining.{IsLawful}
 
@@ -23,6 +24,22 @@ added a b = record {
 -- each number has 64 bits
 abbrev pub IsHeld : Totals → Type 0
 IsHeld t = (t.points < 2 ^ 64) × (t.fragments < 2 ^ 64) × (t.size < 2 ^ 64)
+
+-- the places of totals
+abbrev pub places : List (Totals → ℕ)
+places = (λ t. t.points) ∷ (λ t. t.fragments) ∷ (λ t. t.size) ∷ []
+
+-- in this place a whole has the sum of the parts, but at most 2^64 - 1
+abbrev pub IsHeldSum : List Totals → Totals → (Totals → ℕ) → Type 0
+IsHeldSum parts whole place = place whole ≡ min (sum_by place parts) (2 ^ 64 - 1)
+
+-- a place that is added by itself, from zero
+abbrev pub AddsAlone : (Totals → ℕ) → Type 0
+AddsAlone place = (place nothing ≡ 0) × ((a b : Totals) → place (added a b) ≡ held_sum (place a) (place b))
+
+-- each place is
+pub places_add : AllByRecursion AddsAlone places
+places_add = ((refl, λ a b. refl), ((refl, λ a b. refl), ((refl, λ a b. refl), tt)))
 
 -- totals of three numbers
 abbrev totals : ℕ → ℕ → ℕ → Totals

@@ -1,9 +1,10 @@
 //! What holds of every way to join, of effects and of totals.
-ghost use Rattle.std.specs.Prelude.{◌≡◌, ◌-◌, ◌^◌, min, ℕ, List, Option, ◌++◌, fold, sum_by};
+ghost use Rattle.std.specs.Prelude.{◌≡◌, ℕ, List, Option, ◌++◌, fold};
+ghost use Rattle.std.specs.List.{AllByRecursion};
 ghost use Rattle.uc_oper.specs.declared.effect.Effect.{Effect as EffectOf};
 ghost use Rattle.uc_oper.specs.Composition.{applied, composed};
 ghost use Rattle.uc_fold.specs.declared.totals.Totals.{Totals as TotalsOf};
-ghost use Rattle.uc_fold.specs.Adding.{nothing, added};
+ghost use Rattle.uc_fold.specs.Adding.{nothing, added, places, IsHeldSum};
 ghost use Rattle.uc_fold.specs.Composing.{applied_in_turn};
 
 use crate::joins::Joins;
@@ -34,10 +35,5 @@ pub fn effects_act_in_turn<O: Operator>()
 
 /// Each total is the sum over all parts, but at most 2^64 - 1.
 pub fn sums_are_held()
-    ensures points { (parts : List TotalsOf) →
-        (fold added nothing parts).points ≡ min (sum_by (λ t. t.points) parts) (2 ^ 64 - 1) }
-    ensures fragments { (parts : List TotalsOf) →
-        (fold added nothing parts).fragments ≡ min (sum_by (λ t. t.fragments) parts) (2 ^ 64 - 1) }
-    ensures size { (parts : List TotalsOf) →
-        (fold added nothing parts).size ≡ min (sum_by (λ t. t.size) parts) (2 ^ 64 - 1) }
+    ensures { (parts : List TotalsOf) → AllByRecursion (IsHeldSum parts (fold added nothing parts)) places }
 {}

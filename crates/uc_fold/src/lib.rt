@@ -12,7 +12,6 @@ mod effects;
 mod folding;
 mod joins;
 mod laws;
-mod sums;
 mod totals;
 
 pub use effects::Effects;
@@ -22,5 +21,4 @@ pub use laws::{
     effects_act_in_turn, folds_may_be_cut, joins_are_associative, sums_are_held,
     unit_changes_nothing,
 };
-pub use sums::Sums;
-pub use totals::Totals;
+pub use totals::{Sums, Totals};

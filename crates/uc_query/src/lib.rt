@@ -5,33 +5,35 @@
 //! the calls: read `specs/Turns.antt` first, then `specs/Running.antt`, `named_claims.rt` and `calls.rt`. What a query asks
 //! and what answers it stand in `uc_query_read` and `uc_query_workers`; their public items are given out here too.
 //!
-//! A [`report`] says what a version holds, in numbers: a line for each run, and their totals. Read `specs/Reports.antt`
-//! first, then `reporting.rt`.
+//! A [`report`] says what a version holds, in numbers: a line for each run, and their totals. What is printed of a line is the
+//! list [`RunLine::fields`]. Read `specs/Reports.antt` first, then `run_line.rt` and `reports.rt`.
 //!
 //! An `Err(AllocError)` or `Memory` comes only if an allocation fails.
 #![tactic(auto)]
 
-mod asking;
+mod ask_turn;
 mod call;
 mod calls;
-mod claiming;
-mod installing;
+mod claim_turns;
+mod figure;
+mod install_turns;
 mod laws;
 mod named_claims;
 mod reply;
-mod reporting;
+mod reports;
 mod run_line;
 mod summary;
 
 pub use call::Call;
 pub use calls::run_calls;
+pub use figure::{Field, Figure};
 pub use laws::{
     asks_are_answered_from_plain_writes, calls_extend_histories, installs_replace_what_was_claimed,
 };
 pub use named_claims::NamedClaims;
 pub use reply::Reply;
-pub use reporting::report;
-pub use run_line::RunLine;
+pub use reports::report;
+pub use run_line::{RunLine, total_fields};
 pub use summary::Report;
 pub use uc_fold::Totals;
 pub use uc_query_read::{Answer, Query, Rows, answer_one, answer_writes, get};

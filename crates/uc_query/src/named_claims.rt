@@ -4,12 +4,12 @@ ghost use Rattle.uc_version.specs.declared.held_stretch.TheConstants.{MOST_CLAIM
 ghost use Rattle.uc_query.specs.Names.{AreHeld, named, released};
 ghost use Rattle.uc_query.specs.Turns.{HasName, FailsWith, replied, turn_of};
 
-use crate::asking::answer_batch;
+use crate::ask_turn::answer_batch;
 use crate::call::Call;
-use crate::claiming::{abandon_under, claim_under, give_all_back};
-use crate::installing::{compact_at_once, install_under};
+use crate::claim_turns::{abandon_under, claim_under, give_all_back};
+use crate::install_turns::{compact_at_once, install_under};
 use crate::reply::Reply;
-use crate::reporting::report;
+use crate::reports::report;
 use std::alloc::Global;
 use std::marker::{Model, Sync};
 use std::thread::Threads;

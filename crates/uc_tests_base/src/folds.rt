@@ -33,11 +33,13 @@ fn folds_of(alloc: Global, operands: &[&[u8]], times: usize) -> Result<Vec<Effec
     Ok(parts)
 }
 
+/// These totals, and zero of what else is summed.
 fn totals(points: u64, fragments: u64, size: u64) -> Totals {
     Totals {
         points,
         fragments,
         size,
+        ..Sums::unit()
     }
 }
 

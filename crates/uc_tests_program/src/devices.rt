@@ -7,6 +7,7 @@ use std::process::Abort;
 use std::sync::Wait;
 use std::thread::Threads;
 use uc_oper::Counter;
+use uc_tests_reports::worked::READ_SO_FAR;
 use uc_tests_shared::options::small;
 use uc_tool::{Done, ask, dump, is_plan, play, report_log};
 
@@ -24,35 +25,29 @@ const SCRIPT: &[u8] =
     b"put 6b 0500000000000000\nmerge 6b 0700000000000000\nopen\nget 6b 2\nget 6b 1";
 
 /// What it prints, 48 bytes.
-const PRINTED: &[u8] = b"opened 2\nvalue 0c00000000000000\nnot protected 1\n";
+const PRINTED: &str = "opened 2\nvalue 0c00000000000000\nnot protected 1\n";
 
 /// The log of a batch that sets the key `a` to `1`, and a byte behind it.
 const LOG: &[u8] = b"\xe9\x9f\x78\x19\x11\x00\x01\
     \x01\x00\x00\x00\x00\x00\x00\x00\x01\x00\x00\x00\x01\x01a\x011\x01";
 
 /// What its dump prints.
-const DUMPED: &[u8] = b"1 put 61 31\ntorn 24\n";
-
-/// What the report on it prints.
-const REPORTED: &[u8] = b"run 1 slot 0 points 1 fragments 0 size 10 seqs 1 1\n\
-    total runs 1 points 1 fragments 0 size 10\nkeeps 1\nlast 1\n\
-    run 1 slot 0 points 1 fragments 0 size 10 seqs 1 1\n\
-    total runs 1 points 1 fragments 0 size 10\nkeeps 1\nlast 1\n";
+const DUMPED: &str = "1 put 61 31\ntorn 24\n";
 
 /// The same log behind a head of two queries.
 const ASKED: &[u8] = b"keep 0\nget 61 last\nget 61 0\nlog\n\xe9\x9f\x78\x19\x11\x00\x01\
     \x01\x00\x00\x00\x00\x00\x00\x00\x01\x00\x00\x00\x01\x01a\x011\x01";
 
 /// The answers.
-const ANSWERED: &[u8] = b"value 31\nnone\n";
+const ANSWERED: &str = "value 31\nnone\n";
 
 /// A program, what it reads, and what it prints.
-type Run = (Program, &'static [u8], &'static [u8]);
+type Run = (Program, &'static [u8], &'static str);
 
 const RUNS: [Run; 4] = [
     (Program::Play, SCRIPT, PRINTED),
     (Program::Dump, LOG, DUMPED),
-    (Program::Report, LOG, REPORTED),
+    (Program::Report, LOG, READ_SO_FAR),
     (Program::Ask, ASKED, ANSWERED),
 ];
 
@@ -260,7 +255,7 @@ fn reads_that_fail(rt: HostRuntime) {
                 let told = if good < count {
                     (b"read fault\n".as_slice(), Done::Device)
                 } else {
-                    (printed, Done::Fine)
+                    (printed.as_bytes(), Done::Fine)
                 };
                 reads(&rt, rt.alloc(), program, &mut reader, told);
                 gave_no_more(&rt, &reader);
@@ -333,7 +328,7 @@ fn writes_that_fail(rt: HostRuntime) {
         for good in 0..printed.len() {
             for failure in [Failure::Error, Failure::Nothing] {
                 let (mut reader, mut writer) = (input, failing(rt.alloc(), good, failure));
-                let told = (&printed[..good], Done::Device, 0);
+                let told = (&printed.as_bytes()[..good], Done::Device, 0);
                 writes(&rt, rt.alloc(), program, (&mut reader, &mut writer), told);
             }
         }
@@ -347,7 +342,7 @@ fn flushes_that_fail(rt: HostRuntime) {
         for (failure, done) in [(Failure::Flush, Done::Device), (Failure::Error, Done::Fine)] {
             let mut writer = failing(rt.alloc(), printed.len(), failure);
             let mut reader = input;
-            let told = (printed, done, 1);
+            let told = (printed.as_bytes(), done, 1);
             writes(&rt, rt.alloc(), program, (&mut reader, &mut writer), told);
         }
     }

@@ -5,7 +5,8 @@
 //!
 //! `reports.rt` has reports on logs, `devices.rt` readers and writers that fail, for scripts and for logs, `endings.rt` the
 //! same for the calls that all programs share, `queries.rt` answers to queries by the plain programs, `reply_lines.rt` the
-//! line of each reply, and `reasons.rt` why runs are refused, as a reader is told. It goes through all crates.
+//! line of each reply, and `reasons.rt` why runs are refused, as a reader is told. What reports print stands in
+//! `uc_tests_reports`. It goes through all crates.
 #![tactic(auto)]
 
 #[cfg(test)]

@@ -2,9 +2,9 @@
 use std::alloc::Global;
 use std::test::Fail;
 use uc_bytes::{Bytes, Items};
-use uc_fold::Totals;
-use uc_query::{Reply, Report, RunLine};
+use uc_query::{Reply, Report};
 use uc_query_read::Answer;
+use uc_tests_reports::worked::{Worked, all};
 use uc_tool_opening::{compacted_line, opening_refusal_line, reply_lines};
 use uc_version::{ClaimError, InstallError};
 use uc_version_open::OpenError;
@@ -22,33 +22,11 @@ enum Said {
     NameHeld(u8),
     Compacted(u64),
     Picked(Option<Stretch>),
-    /// The runs, the points of all, the keeps and the last sequence.
-    Reported(&'static [RunLine], u64, &'static [u64], u64),
     Values(&'static [Option<&'static [u8]>]),
     NotProtected(u64),
 }
 
-const NEWER: RunLine = RunLine {
-    id: 12,
-    slot: 1,
-    points: 3,
-    fragments: 2,
-    size: 108,
-    low: 7,
-    high: 10,
-};
-
-const OLDER: RunLine = RunLine {
-    id: 4,
-    slot: 0,
-    points: 5,
-    fragments: 0,
-    size: 60,
-    low: 1,
-    high: 6,
-};
-
-const ROWS: [(Said, &str); 22] = [
+const ROWS: [(Said, &str); 20] = [
     (Said::Claimed(31), "claimed 31\n"),
     (
         Said::Refused(ClaimError::OutOfRange),
@@ -80,16 +58,6 @@ const ROWS: [(Said, &str); 22] = [
         Said::Picked(Some(Stretch { first: 2, count: 4 })),
         "pick 2 4\n",
     ),
-    (
-        Said::Reported(&[], 0, &[], 0),
-        "total runs 0 points 0 fragments 2 size 168\nkeeps\nlast 0\n",
-    ),
-    (
-        Said::Reported(&[NEWER, OLDER], 8, &[2, 10], 10),
-        "run 12 slot 1 points 3 fragments 2 size 108 seqs 7 10\n\
-         run 4 slot 0 points 5 fragments 0 size 60 seqs 1 6\n\
-         total runs 2 points 8 fragments 2 size 168\nkeeps 2 10\nlast 10\n",
-    ),
     (Said::Values(&[]), ""),
     (Said::Values(&[None]), "none\n"),
     (
@@ -112,26 +80,6 @@ fn values(alloc: Global, values: &[Option<&'static [u8]>]) -> Result<Reply, Fail
     Ok(Reply::Answers(Items::from(answers)))
 }
 
-/// A report with these lines, whose runs have two fragments and 168 bytes in all.
-fn reported(
-    alloc: Global,
-    lines: &[RunLine],
-    points: u64,
-    keeps: &[u64],
-    last: u64,
-) -> Result<Reply, Fail> {
-    Ok(Reply::Reported(Report {
-        lines: Items::from(lines.to_vec(alloc)?),
-        total: Totals {
-            points,
-            fragments: 2,
-            size: 168,
-        },
-        keeps: Items::from(keeps.to_vec(alloc)?),
-        last,
-    }))
-}
-
 /// The reply that a row speaks of.
 fn reply_of(alloc: Global, said: Said) -> Result<Reply, Fail> {
     Ok(match said {
@@ -144,7 +92,6 @@ fn reply_of(alloc: Global, said: Said) -> Result<Reply, Fail> {
         Said::NameHeld(name) => Reply::NameHeld(name),
         Said::Compacted(id) => Reply::Compacted(id),
         Said::Picked(stretch) => Reply::Picked(stretch),
-        Said::Reported(lines, points, keeps, last) => reported(alloc, lines, points, keeps, last)?,
         Said::Values(list) => values(alloc, list)?,
         Said::NotProtected(at) => {
             let mut answers = Vec::new(alloc);
@@ -161,6 +108,27 @@ fn replies_have_their_lines(rt: HostRuntime) -> Result<(), Fail> {
         let reply = reply_of(alloc, said)?;
         let lines = reply_lines(alloc, &reply)?;
         assert_eq!(rt; lines.as_slice(), text.as_bytes());
+    }
+    Ok(())
+}
+
+/// The reply that is a report.
+fn reported(alloc: Global, worked: &Worked) -> Result<Reply, Fail> {
+    Ok(Reply::Reported(Report {
+        lines: Items::from(worked.lines.to_vec(alloc)?),
+        total: worked.total,
+        keeps: Items::from(worked.keeps.to_vec(alloc)?),
+        last: worked.last,
+    }))
+}
+
+#[test]
+fn reports_have_their_lines(rt: HostRuntime) -> Result<(), Fail> {
+    let alloc = rt.alloc();
+    for worked in all() {
+        let reply = reported(alloc, worked)?;
+        let lines = reply_lines(alloc, &reply)?;
+        assert_eq!(rt; lines.as_slice(), worked.text.as_bytes());
     }
     Ok(())
 }

@@ -1,6 +1,7 @@
 //! Reports on logs: what is printed of the store that opens, of its compactions, and of what is left.
 use std::str;
 use uc_oper::Append;
+use uc_tests_reports::worked::{LEFT, MADE_ONE, NOTHING_HELD, READ_SO_FAR};
 use uc_tests_shared::options::small;
 use uc_tool::{Done, Options, report_log};
 
@@ -18,35 +19,6 @@ const TORN: &[u8] = b"\xe9\x9f\x78\x19\x11\x00\x01\
 const DAMAGED: &[u8] =
     b"\xfe\xe3\x46\xbd\x11\x00\x01\x01\x00\x00\x00\x00\x00\x00\x00\x01\x00\x00\x00\x01\x01k\x01a\
     \x92\x7a\x83\xf7\x11\x00\x01\x02\x00\x00\x00\x00\x00\x00\x00\x01\x00\x00\x00\x02\x01k\x01c";
-
-/// What is printed of a store that holds nothing.
-const NOTHING_HELD: &str = "total runs 0 points 0 fragments 0 size 0\nkeeps 0\nlast 0\n\
-    total runs 0 points 0 fragments 0 size 0\nkeeps 0\nlast 0\n";
-
-/// What is printed of the three batches where all is compacted into one run.
-const MADE_ONE: &str = "run 3 slot 2 points 1 fragments 0 size 10 seqs 3 3\n\
-    run 2 slot 1 points 1 fragments 0 size 10 seqs 2 2\n\
-    run 1 slot 0 points 1 fragments 0 size 10 seqs 1 1\n\
-    total runs 3 points 3 fragments 0 size 30\nkeeps 3\nlast 3\n\
-    compacted 0 3 4\n\
-    run 4 slot 2 points 1 fragments 0 size 14 seqs 1 3\n\
-    total runs 1 points 1 fragments 0 size 14\nkeeps 3\nlast 3\n";
-
-/// What is printed of the three batches where nothing is due.
-const LEFT: &str = "run 3 slot 2 points 1 fragments 0 size 10 seqs 3 3\n\
-    run 2 slot 1 points 1 fragments 0 size 10 seqs 2 2\n\
-    run 1 slot 0 points 1 fragments 0 size 10 seqs 1 1\n\
-    total runs 3 points 3 fragments 0 size 30\nkeeps 3\nlast 3\n\
-    run 3 slot 2 points 1 fragments 0 size 10 seqs 3 3\n\
-    run 2 slot 1 points 1 fragments 0 size 10 seqs 2 2\n\
-    run 1 slot 0 points 1 fragments 0 size 10 seqs 1 1\n\
-    total runs 3 points 3 fragments 0 size 30\nkeeps 3\nlast 3\n";
-
-/// What is printed of the torn log, whose whole batch is read.
-const READ_SO_FAR: &str = "run 1 slot 0 points 1 fragments 0 size 10 seqs 1 1\n\
-    total runs 1 points 1 fragments 0 size 10\nkeeps 1\nlast 1\n\
-    run 1 slot 0 points 1 fragments 0 size 10 seqs 1 1\n\
-    total runs 1 points 1 fragments 0 size 10\nkeeps 1\nlast 1\n";
 
 /// A log, the size of a memtable, how many runs make a compaction due, what is printed, and how the run ends.
 type Row = (&'static [u8], u64, u32, &'static str, Done);

@@ -1,37 +1,43 @@
 //! Scripts that claim, compact and install stretches of runs, ask for the next pick and for reports, each write in a run of
 //! its own.
-use crate::plays::{Row, all_show, plays, shows};
+use crate::plays::{plays, shows};
 use std::alloc::{AllocError, Global};
 use std::marker::Sync;
 use std::process::Abort;
+use std::str;
 use std::test::Fail;
 use std::thread::Threads;
-use uc_oper::{Append, Counter};
+use uc_oper::{Append, Counter, Operator};
+use uc_tests_reports::worked::{
+    NEWEST_TWO_JOINED, NOTHING, NOTHING_LEFT, NUMBERS_ADDED, NUMBERS_APART, OLDEST_TWO_JOINED,
+    RANGE_ABOVE_A_KEEP, RANGE_IN_ONE_RUN, THREE_KEYS,
+};
 use uc_tests_shared::options::small;
 use uc_tool_io::Done;
 use uc_version_state::Options;
 
+/// A script, what it prints, and the report that it ends with, or nothing.
+type Reported = (&'static str, &'static str, &'static str);
+
 /// Texts that merges join by a comma.
-static JOINED: [Row; 7] = [
+static JOINED: [Reported; 7] = [
     // Nothing is held.
     (
         "open\nget 6b 0\nscan . - 5 0\ncompact 0 0\ncompact 0 1\npick\nreport\n",
-        "opened 0\nnone\nrows 0\nrefused too narrow\nrefused out of range\npick none\n\
-         total runs 0 points 0 fragments 0 size 0\nkeeps 0\nlast 0\n",
+        "opened 0\nnone\nrows 0\nrefused too narrow\nrefused out of range\npick none\n",
+        NOTHING,
     ),
     // Two operands above a put are one.
     (
         "put 6b 61\nmerge 6b 62\nmerge 6b 63\nopen\ncompact 0 2\nget 6b 3\nreport\n",
-        "opened 3\ncompacted 4\nvalue 612c622c63\n\
-         run 4 slot 2 points 1 fragments 0 size 12 seqs 2 3\n\
-         run 1 slot 0 points 1 fragments 0 size 10 seqs 1 1\n\
-         total runs 2 points 2 fragments 0 size 22\nkeeps 3\nlast 3\n",
+        "opened 3\ncompacted 4\nvalue 612c622c63\n",
+        NEWEST_TWO_JOINED,
     ),
     // A delete of the oldest run leaves nothing.
     (
         "put 6b 01\ndelete 6b\nopen\ncompact 0 2\nget 6b 2\nreport\n",
-        "opened 2\ncompacted 3\nnone\nrun 3 slot 1 points 0 fragments 0 size 0 seqs 1 2\n\
-         total runs 1 points 0 fragments 0 size 0\nkeeps 2\nlast 2\n",
+        "opened 2\ncompacted 3\nnone\n",
+        NOTHING_LEFT,
     ),
     // Claims are installed in any order; the second moves up once the first, above it, is one run.
     (
@@ -39,12 +45,14 @@ static JOINED: [Row; 7] = [
          claim 2 1 2\ninstall 0\ninstall 1\nget 6b 4\n",
         "opened 4\nclaimed 0\nclaimed 1\nrefused busy 2\ninstalled 5\ninstalled 6\n\
          value 612c622c632c64\n",
+        "",
     ),
     (
         "put 6b 61\nmerge 6b 62\nmerge 6b 63\nmerge 6b 64\nopen\nclaim 0 0 2\nclaim 1 2 2\n\
          claim 2 1 2\ninstall 1\ninstall 0\nget 6b 4\n",
         "opened 4\nclaimed 0\nclaimed 1\nrefused busy 2\ninstalled 5\ninstalled 6\n\
          value 612c622c632c64\n",
+        "",
     ),
     // Names: none is held, one is held already (which is said before its stretch is looked at), and given back.
     (
@@ -52,62 +60,53 @@ static JOINED: [Row; 7] = [
          abandon 0\ncompact 0 2\n",
         "opened 2\nrefused no claim 2\nrefused no claim 31\nclaimed 0\nrefused name held 0\n\
          refused busy 1\nabandoned 0\ncompacted 3\n",
+        "",
     ),
     // A claim has what is there when it is installed, so the read in between is the same.
     (
         "put 6b 61\nmerge 6b 62\nmerge 6b 63\nopen\nclaim 5 1 2\nget 6b last\npick\ninstall 5\n\
          get 6b last\nreport\n",
-        "opened 3\nclaimed 5\nvalue 612c622c63\npick none\ninstalled 4\nvalue 612c622c63\n\
-         run 3 slot 2 points 1 fragments 0 size 10 seqs 3 3\n\
-         run 4 slot 1 points 1 fragments 0 size 12 seqs 1 2\n\
-         total runs 2 points 2 fragments 0 size 22\nkeeps 3\nlast 3\n",
+        "opened 3\nclaimed 5\nvalue 612c622c63\npick none\ninstalled 4\nvalue 612c622c63\n",
+        OLDEST_TWO_JOINED,
     ),
 ];
 
 /// Numbers that merges add to.
-static COUNTED: [Row; 5] = [
+static COUNTED: [Reported; 5] = [
     // An operand that isn't a number counts as none, and stays as it was where it is alone.
     (
         "put 6a 00\nmerge 6b 010203\nput 6c 00\nopen\nget 6b 3\ncompact 0 2\nget 6b 3\ncompact 0 2\n\
          get 6b 3\nreport\n",
         "opened 3\nvalue 0000000000000000\ncompacted 4\nvalue 0000000000000000\ncompacted 5\n\
-         value 0000000000000000\nrun 5 slot 2 points 3 fragments 0 size 37 seqs 1 3\n\
-         total runs 1 points 3 fragments 0 size 37\nkeeps 3\nlast 3\n",
+         value 0000000000000000\n",
+        THREE_KEYS,
     ),
     // A snapshot between two operands keeps both.
     (
         "put 6a 00\nmerge 6b 0500000000000000\nmerge 6b 0700000000000000\nkeep 2\nopen\n\
          compact 0 2\nget 6b 2\nget 6b 3\nreport\n",
-        "opened 3\ncompacted 4\nvalue 0500000000000000\nvalue 0c00000000000000\n\
-         run 4 slot 2 points 2 fragments 0 size 34 seqs 2 3\n\
-         run 1 slot 0 points 1 fragments 0 size 10 seqs 1 1\n\
-         total runs 2 points 3 fragments 0 size 44\nkeeps 2 3\nlast 3\n",
+        "opened 3\ncompacted 4\nvalue 0500000000000000\nvalue 0c00000000000000\n",
+        NUMBERS_APART,
     ),
     // Without it they are one.
     (
         "put 6a 00\nmerge 6b 0500000000000000\nmerge 6b 0700000000000000\nopen\ncompact 0 2\n\
          get 6b 2\nget 6b 3\nreport\n",
-        "opened 3\ncompacted 4\nnot protected 2\nvalue 0c00000000000000\n\
-         run 4 slot 2 points 1 fragments 0 size 17 seqs 2 3\n\
-         run 1 slot 0 points 1 fragments 0 size 10 seqs 1 1\n\
-         total runs 2 points 2 fragments 0 size 27\nkeeps 3\nlast 3\n",
+        "opened 3\ncompacted 4\nnot protected 2\nvalue 0c00000000000000\n",
+        NUMBERS_ADDED,
     ),
     // A range deletion above a snapshot.
     (
         "put 6b 0a00000000000000\nmerge 6b 0100000000000000\nrange 6a 6c\n\
          merge 6b 0400000000000000\nkeep 2\nopen\ncompact 1 2\nget 6b 2\nget 6b 4\nreport\n",
-        "opened 4\ncompacted 5\nvalue 0b00000000000000\nvalue 0400000000000000\n\
-         run 4 slot 3 points 1 fragments 0 size 17 seqs 4 4\n\
-         run 5 slot 2 points 1 fragments 1 size 27 seqs 2 3\n\
-         run 1 slot 0 points 1 fragments 0 size 17 seqs 1 1\n\
-         total runs 3 points 3 fragments 1 size 61\nkeeps 2 4\nlast 4\n",
+        "opened 4\ncompacted 5\nvalue 0b00000000000000\nvalue 0400000000000000\n",
+        RANGE_ABOVE_A_KEEP,
     ),
     (
         "put 6b 0a00000000000000\nmerge 6b 0100000000000000\nrange 6a 6c\n\
          merge 6b 0400000000000000\nkeep 2\nopen\ncompact 1 2\ncompact 0 3\nget 6b 2\nget 6b 4\nreport\n",
-        "opened 4\ncompacted 5\ncompacted 6\nvalue 0b00000000000000\nvalue 0400000000000000\n\
-         run 6 slot 3 points 2 fragments 1 size 44 seqs 1 4\n\
-         total runs 1 points 2 fragments 1 size 44\nkeeps 2 4\nlast 4\n",
+        "opened 4\ncompacted 5\ncompacted 6\nvalue 0b00000000000000\nvalue 0400000000000000\n",
+        RANGE_IN_ONE_RUN,
     ),
 ];
 
@@ -120,15 +119,34 @@ fn eager() -> Options {
     }
 }
 
+/// Asserts that a script printed what is wanted, and then the report.
+fn wants(rt: &impl Abort, (script, want, report): Reported, printed: &[u8], done: Done) {
+    let printed = str::from_utf8(printed).unwrap_or("other bytes than text");
+    assert_eq!(rt; printed.strip_suffix(report), Some(want), "after {script}");
+    assert_eq!(rt; done, Done::Fine, "after {script}");
+}
+
+/// Asserts what each script prints, with its report.
+fn all_report<O: Operator + Sync>(
+    rt: &(impl Abort + Threads + Sync),
+    alloc: Global,
+    rows: &[Reported],
+) {
+    for row in rows {
+        let (text, done) = plays::<O>(rt, alloc, &small(), row.0.as_bytes());
+        wants(rt, *row, &text, done);
+    }
+}
+
 #[test]
 fn stretches_of_texts(rt: HostRuntime) -> Result<(), Fail> {
-    all_show::<Append<b','>>(&rt, rt.alloc(), &JOINED);
+    all_report::<Append<b','>>(&rt, rt.alloc(), &JOINED);
     Ok(())
 }
 
 #[test]
 fn stretches_of_numbers(rt: HostRuntime) -> Result<(), Fail> {
-    all_show::<Counter>(&rt, rt.alloc(), &COUNTED);
+    all_report::<Counter>(&rt, rt.alloc(), &COUNTED);
     Ok(())
 }
 

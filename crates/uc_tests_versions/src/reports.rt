@@ -1,10 +1,11 @@
 //! Reports worked by hand.
-use std::alloc::Global;
+use std::alloc::{AllocError, Global};
 use std::process::Abort;
 use std::test::Fail;
 use uc_batch::Writes;
 use uc_bytes::{OpRef, WriteRef};
-use uc_query::{Report, RunLine, Totals, report};
+use uc_query::{Field, Figure, Report, report, total_fields};
+use uc_tests_reports::worked::{EMPTY, OVERLAP, THREE_PUTS, Worked, all};
 use uc_version_open::open_version;
 use uc_version_state::{Options, Version};
 
@@ -22,10 +23,7 @@ struct Row {
     changes: &'static [Change],
     memtable: u64,
     keeps: &'static [u64],
-    lines: &'static [RunLine],
-    total: Totals,
-    kept: &'static [u64],
-    last: u64,
+    want: Worked,
 }
 
 static ROWS: [Row; 3] = [
@@ -33,57 +31,14 @@ static ROWS: [Row; 3] = [
         changes: &[],
         memtable: 1,
         keeps: &[],
-        lines: &[],
-        total: Totals {
-            points: 0,
-            fragments: 0,
-            size: 0,
-        },
-        kept: &[0],
-        last: 0,
+        want: EMPTY,
     },
     Row {
         changes: &[Put(b"k", b"a"), Put(b"k", b"bc"), Put(b"k", b"")],
         memtable: 1,
         keeps: &[2],
-        lines: &[
-            RunLine {
-                id: 3,
-                slot: 2,
-                points: 1,
-                fragments: 0,
-                size: 9,
-                low: 3,
-                high: 3,
-            },
-            RunLine {
-                id: 2,
-                slot: 1,
-                points: 1,
-                fragments: 0,
-                size: 11,
-                low: 2,
-                high: 2,
-            },
-            RunLine {
-                id: 1,
-                slot: 0,
-                points: 1,
-                fragments: 0,
-                size: 10,
-                low: 1,
-                high: 1,
-            },
-        ],
-        total: Totals {
-            points: 3,
-            fragments: 0,
-            size: 30,
-        },
-        kept: &[2, 3],
-        last: 3,
+        want: THREE_PUTS,
     },
-    // Two ranges that overlap are three fragments with four sequences.
     Row {
         changes: &[
             Put(b"b", b"v"),
@@ -92,22 +47,7 @@ static ROWS: [Row; 3] = [
         ],
         memtable: 1_000,
         keeps: &[],
-        lines: &[RunLine {
-            id: 1,
-            slot: 0,
-            points: 1,
-            fragments: 3,
-            size: 48,
-            low: 1,
-            high: 3,
-        }],
-        total: Totals {
-            points: 1,
-            fragments: 3,
-            size: 48,
-        },
-        kept: &[3],
-        last: 3,
+        want: OVERLAP,
     },
 ];
 
@@ -147,12 +87,12 @@ fn opened(alloc: Global, row: &Row) -> Result<Version, Fail> {
     }
 }
 
-/// Checks the report of a row's version.
-fn wants(rt: &impl Abort, report: &Report, row: &Row) {
-    assert_eq!(rt; report.lines.as_slice(), row.lines);
-    assert_eq!(rt; report.total, row.total);
-    assert_eq!(rt; report.keeps.as_slice(), row.kept);
-    assert_eq!(rt; report.last, row.last);
+/// Checks a report.
+fn wants(rt: &impl Abort, report: &Report, want: &Worked) {
+    assert_eq!(rt; report.lines.as_slice(), want.lines);
+    assert_eq!(rt; report.total, want.total);
+    assert_eq!(rt; report.keeps.as_slice(), want.keeps);
+    assert_eq!(rt; report.last, want.last);
 }
 
 #[test]
@@ -160,7 +100,46 @@ fn versions_in_numbers(rt: HostRuntime) -> Result<(), Fail> {
     let alloc = rt.alloc();
     for row in rows() {
         let version = opened(alloc, row)?;
-        wants(&rt, &report(&rt, alloc, &version)?, row);
+        wants(&rt, &report(&rt, alloc, &version)?, &row.want);
+    }
+    Ok(())
+}
+
+/// Adds words, a number and fields, with a space between any two.
+fn push_line(
+    alloc: Global,
+    text: &mut String,
+    (words, number): (&str, u64),
+    fields: &[Field],
+) -> Result<(), AllocError> {
+    text.push_str(format!(in alloc; "{words} {number}")?.as_str())?;
+    for (name, figure) in fields {
+        let field = match figure {
+            Figure::Number(number) => format!(in alloc; " {name} {number}")?,
+            Figure::Range(low, high) => format!(in alloc; " {name} {low} {high}")?,
+        };
+        text.push_str(field.as_str())?;
+    }
+    text.push_str("\n")
+}
+
+/// The lines of a report's runs, and of all of them together, by their fields.
+fn lines_of(alloc: Global, worked: &Worked) -> Result<String, AllocError> {
+    let mut text = String::new(alloc);
+    for line in worked.lines {
+        push_line(alloc, &mut text, ("run", line.id), &line.fields())?;
+    }
+    let runs = worked.lines.len() as u64;
+    let fields = total_fields(&worked.total);
+    push_line(alloc, &mut text, ("total runs", runs), &fields)?;
+    Ok(text)
+}
+
+#[test]
+fn fields_have_their_names(rt: HostRuntime) -> Result<(), Fail> {
+    for worked in all() {
+        let lines = lines_of(rt.alloc(), worked)?;
+        assert!(rt; worked.text.starts_with(lines.as_str()));
     }
     Ok(())
 }

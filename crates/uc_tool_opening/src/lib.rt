@@ -13,7 +13,7 @@
 //!
 //! [`query_of`] says what a line that reads asks, for scripts and for what stands in front of a log alike.
 //!
-//! Read `specs/Opening.antt` and `specs/Refusals.antt` first, then `opening.rt` and `refusing.rt`. That the log of a
+//! Read `specs/Opening.antt` and `specs/Refusals.antt` first, then `opening.rt` and `refused_runs.rt`. That the log of a
 //! script's writes gives them back is proved in `proofs/LogAgain.antt`.
 //!
 //! A reply is printed as one line or several whole ones, each a stated function of what it prints. Read `uc_tool_io`'s
@@ -27,7 +27,7 @@ mod opening_fault;
 mod outcome;
 mod reason;
 mod refusals;
-mod refusing;
+mod refused_runs;
 mod replies;
 mod reports;
 
@@ -38,6 +38,6 @@ pub use opening_fault::{OpeningFault, fault_of_opening, option_fault};
 pub use outcome::Outcome;
 pub use reason::{Reason, reason_of_line, reason_of_opening};
 pub use refusals::{claim_refusal_line, install_refusal_line};
-pub use refusing::{opening_refusal_line, print_bad_log, print_fault, print_refused_opening};
+pub use refused_runs::{opening_refusal_line, print_bad_log, print_fault, print_refused_opening};
 pub use replies::{answers_lines, compacted_line, reply_lines};
 pub use reports::report_lines;
