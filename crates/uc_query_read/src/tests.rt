@@ -310,7 +310,7 @@ fn version_of(alloc: Global, run: Arc<Run>) -> Result<Version, Fail> {
     };
     let runs = vec![in alloc; placed]?;
     let keeps = Vec::from_slice(alloc, &KEEPS)?;
-    Ok(Version::new(runs, keeps, 5, 1))
+    Ok(Version::new(runs, keeps, 5, 1, 1))
 }
 
 /// Whether a version returns the expected answer.

@@ -3,27 +3,34 @@ use Rattle.std.proofs.Common.{◌≡◌, ℕ, List, [], ◌∷◌, ◌++◌, fol
 use Rattle.std.proofs.lemmas.List.{append-nil}
 use Rattle.std.specs.List.{flat_map}
 use Rattle.uc_oper.specs.Operation.{Operation}
+use Rattle.uc_bytes.specs.declared.write.Write.{Write}
 use Rattle.uc_query_read.specs.Answers.{answer_of}
 use Rattle.uc_query_read.specs.declared.query.Query.{Query}
 use Rattle.uc_query_workers.specs.Asking.{answers_of}
 use Rattle.uc_query_shared.specs.Given.{ForEachHistory, answers_given}
 use Rattle.uc_version_state.specs.Versions.{Stored, writes_in}
 use Rattle.uc_version_state.specs.declared.event.Event.{Event}
-use Rattle.uc_version_state.specs.declared.event.Event.TheVariants.{Installed}
-use Rattle.uc_version_state.specs.Histories.{after, writes_brought, History, IsLegal, version_after, writes_given}
+use Rattle.uc_version_state.specs.declared.event.Event.TheVariants.{Installed, Flushed, Kept, Released}
+use Rattle.uc_version_state.specs.Histories.{AreInstalls, after, writes_brought, History, IsLegal, version_after, writes_given}
 
-none_brought : (es fs : List Event) → flat_map writes_brought (es ++ fs) ≡ flat_map writes_brought es
-none_brought [] [] = refl
-none_brought [] (Installed i ∷ fs) = none_brought [] fs
-none_brought (Installed i ∷ es) fs = none_brought es fs
+none_brought : (es fs : List Event) → AreInstalls fs → flat_map writes_brought (es ++ fs) ≡ flat_map writes_brought es
+none_brought [] [] are = refl
+none_brought [] (Installed i ∷ fs) are = none_brought [] fs are
+none_brought [] (Flushed ws ∷ fs) are = absurd are
+none_brought [] (Kept ∷ fs) are = absurd are
+none_brought [] (Released seq ∷ fs) are = absurd are
+none_brought (e ∷ es) fs are = ap (λ (ws : List Write). writes_brought e ++ ws) (none_brought es fs are)
 
 -- the longer history was given the same writes
-pub same_given : (h : History) (events : List Event) → writes_given (record h { events = h.events ++ events }) ≡ writes_given h
-same_given h events = ap (λ ws. h.opening.writes ++ ws) (none_brought h.events events)
+pub same_given : (h : History) (events : List Event) → AreInstalls events → writes_given (record h { events = h.events ++ events }) ≡ writes_given h
+same_given h events are = ap (λ ws. h.opening.writes ++ ws) (none_brought h.events events are)
 
-pub same_keeps : (v : Stored) (events : List Event) → (fold after v events).keeps ≡ v.keeps
-same_keeps v [] = refl
-same_keeps v (Installed i ∷ es) = same_keeps (after v (Installed i)) es
+pub same_keeps : (v : Stored) (events : List Event) → AreInstalls events → (fold after v events).keeps ≡ v.keeps
+same_keeps v [] are = refl
+same_keeps v (Installed i ∷ es) are = same_keeps (after v (Installed i)) es are
+same_keeps v (Flushed ws ∷ es) are = absurd are
+same_keeps v (Kept ∷ es) are = absurd are
+same_keeps v (Released seq ∷ es) are = absurd are
 
 map_same : {A B : Type 0} (f g : A → B) (xs : List A) → ((x : A) → f x ≡ g x) → map f xs ≡ map g xs
 map_same f g [] same = refl

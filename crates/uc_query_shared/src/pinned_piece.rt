@@ -30,6 +30,7 @@ impl<O: Operator, N: Name> Source<Reader<O, N>> for Pins {
     ) -> Result<(), AllocError> {
         pinned_versions_answer_as_given::<O>();
         let pin = place.pin()?;
+        pin.recall();
         push_answers::<O>(alloc, pin.version(), queries, answers)
     }
 

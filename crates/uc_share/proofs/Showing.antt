@@ -9,13 +9,22 @@ use Rattle.logbook.specs.Pages.{Book}
 use Rattle.uc_oper.specs.Operation.{Operation}
 use Rattle.uc_version_state.specs.Versions.{Stored}
 use Rattle.uc_version_state.specs.declared.event.Event.{Event}
-use Rattle.uc_version_state.specs.Histories.{MayHappen, after}
+use Rattle.uc_version_state.specs.declared.event.Event.TheVariants.{Installed, Flushed, Kept, Released}
+use Rattle.uc_version_state.specs.Installs.{Install, MayInstall}
+use Rattle.uc_version_state.specs.Histories.{AreInstalls, after}
 use Rattle.uc_version_state.proofs.Growing.{follow-append, after-append}
 use Rattle.uc_share.specs.Fronts.{Moment, IsMoment, AllWithin, IsRuled, Tells, after_event}
 
 -- the first reader has seen nothing
 pub first_within : (n : ℕ) → AllWithin n (0 ∷ [])
 first_within n seat v at = ⊎_elim (λ e. absurd (some-ne-none v (sym e))) (λ (e : 0 ≡ v). subst (λ (z : ℕ). z ≤ n) e zero-le) (at_snoc [] 0 v seat at)
+
+installs-append : (es : List Event) (i : Install) → AreInstalls es → AreInstalls (es ++ Installed i ∷ [])
+installs-append [] i are = tt
+installs-append (Installed j ∷ es) i are = installs-append es i are
+installs-append (Flushed ws ∷ es) i are = absurd are
+installs-append (Kept ∷ es) i are = absurd are
+installs-append (Released seq ∷ es) i are = absurd are
 
 module _ (m : Operation) (book : Book) (base : Stored) where
   pub admits : Admits (IsRuled m book base) 0
@@ -36,11 +45,12 @@ module _ (m : Operation) (book : Book) (base : Stored) where
   pub enters : (seat v : ℕ) (x : Moment) → TurnsAt (IsRuled m book base) seat v x x (Tells m book base)
   enters seat v x views h at = rises seat v x x (le_refl (length x.events)) h.0 views h at
 
-  pub grows : (s : Moment) (e : Event) → IsMoment m book base s → MayHappen m s.version e → IsMoment m book base (after_event e s)
-  grows s e is may = record {
+  pub grows : (s : Moment) (i : Install) → IsMoment m book base s → MayInstall m s.version i → IsMoment m book base (after_event (Installed i) s)
+  grows s i is may = record {
     book_is = is.book_is;
-    legal = follow-append m base s.events e is.legal (subst (λ (v : Stored). MayHappen m v e) is.version_is may);
-    version_is = ap (λ (v : Stored). after v e) is.version_is ∙ sym (after-append base s.events e);
+    legal = follow-append m base s.events (Installed i) is.legal (subst (λ (v : Stored). MayInstall m v i) is.version_is may);
+    version_is = ap (λ (v : Stored). after v (Installed i)) is.version_is ∙ sym (after-append base s.events (Installed i));
+    installs = installs-append s.events i is.installs;
   }
 
 -- what is shown next is the last of what was to be shown, whatever a refusal left in front of it

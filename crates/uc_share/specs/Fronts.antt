@@ -8,7 +8,7 @@ use Rattle.atomic_table.specs.Seated.{TableId}
 use Rattle.uc_claims.specs.Holding.{Holding}
 use Rattle.uc_version_state.specs.Versions.{Stored, slots_of}
 use Rattle.uc_version_state.specs.Installs.{standing}
-use Rattle.uc_version_state.specs.Histories.{MayFollow, after, ids_replaced}
+use Rattle.uc_version_state.specs.Histories.{MayFollow, AreInstalls, after, ids_replaced}
 use Rattle.uc_version_state.specs.declared.event.Event.{Event}
 
 -- a version, and the events since the store was opened, of the history in a book
@@ -21,11 +21,12 @@ abbrev pub moment : Book → Stored → List Event → Moment
 moment book v events = record { book = book; version = v; events = events }
 
 -- it is of this book's history; the events may follow one another from the version that the store was opened with, and lead to
--- the version
+-- the version; and they are installs, as a store that threads share takes no writes yet
 pub record IsMoment (m : Operation) (book : Book) (base : Stored) (s : Moment) : Type 0 where
   pub book_is : s.book ≡ book
   pub legal : MayFollow m base s.events
   pub version_is : s.version ≡ fold after base s.events
+  pub installs : AreInstalls s.events
 
 -- no view is above n
 abbrev pub AllWithin : ℕ → List ℕ → Type 0

@@ -1,6 +1,7 @@
 //! [`Book`]: a store's history, and the right to add to it.
 ghost use Rattle.std.specs.Prelude.{◌≡◌, ◌++◌, ◌∷◌, []};
 ghost use Rattle.std.specs.Bool.{OnTrue, OnFalse};
+ghost use Rattle.uc_version_state.specs.declared.event.Event.TheVariants.{Installed};
 ghost use Rattle.uc_share.specs.Rules.{head_of};
 
 use crate::front::Front;
@@ -8,7 +9,7 @@ use crate::name::Name;
 use crate::rule::Law;
 use logbook::{Seen, Start, Word};
 use std::marker::Model;
-use uc_version_state::Event;
+use uc_version_state::{Event, Install};
 
 /// The most events of a history: more than a store that runs for a thousand years has.
 const MOST_EVENTS: u64 = 1 << 61;
@@ -73,14 +74,14 @@ impl<N: Name> Book<N> {
         &self.front
     }
 
-    /// Adds an event, and says whether it did. It does not if there are [`MOST_EVENTS`], or if an event was added elsewhere, which
+    /// Adds an install, and says whether it did. It does not if there are [`MOST_EVENTS`], or if an event was added elsewhere, which
     /// nobody can do.
-    pub(crate) fn add(&mut self, event: &Event) -> bool
-        ensures added { OnTrue result (self.new ≡ self.old ++ event.now ∷ []) }
+    pub(crate) fn add(&mut self, install: &Install) -> bool
+        ensures added { OnTrue result (self.new ≡ self.old ++ Installed install.now ∷ []) }
         ensures as_it_was { OnFalse result (self.new ≡ self.old) }
     {
         let mut front = self.front.again();
-        if front.len() >= MOST_EVENTS || !front.add(&self.head, event) {
+        if front.len() >= MOST_EVENTS || !front.add(&self.head, install) {
             return false;
         }
         self.front = front;

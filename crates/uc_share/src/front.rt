@@ -3,12 +3,13 @@ ghost use Rattle.std.specs.Prelude.{◌≡◌, ◌<◌, ◌≤◌, ◌^◌, ◌+
 ghost use Rattle.std.specs.Bool.{OnTrue};
 ghost use mathlib.Core.List.{IsPrefix};
 ghost use Rattle.uc_share.specs.Rules.{head_of};
+ghost use Rattle.uc_version_state.specs.declared.event.Event.TheVariants.{Installed};
 
 use crate::name::Name;
 use crate::rule::{Add, Law, Nothing};
 use logbook::{Offer, Seen, Word};
 use std::marker::{Model, PhantomData};
-use uc_version_state::Event;
+use uc_version_state::{Event, Install};
 
 /// A beginning of the history that was seen. Contracts see it as its events, of which no list is kept.
 #[derive(Drop)]
@@ -81,16 +82,16 @@ impl<N: Name> Front<N> {
         true
     }
 
-    /// Adds an event to all that was seen, by the word that counts the history, and says whether it did. It does not if the
+    /// Adds an install to all that was seen, by the word that counts the history, and says whether it did. It does not if the
     /// history is longer.
-    pub(crate) fn add(&mut self, head: &Word<Event, u64, Law>, event: &Event) -> bool
+    pub(crate) fn add(&mut self, head: &Word<Event, u64, Law>, install: &Install) -> bool
         requires head { head.now ≡ head_of N.book }
         requires room { length self.old < 2 ^ 62 }
-        ensures { OnTrue result (self.new ≡ self.old ++ event.now ∷ []) }
+        ensures { OnTrue result (self.new ≡ self.old ++ Installed install.now ∷ []) }
     {
         let mut offer: Offer<Event, u64, Law, Nothing> = self
             .seen
-            .plain::<Nothing, Event, Add>(event);
+            .plain::<Nothing, Install, Add>(install);
         let mut pen = self.seen.no_pen();
         let count = self.count;
         let found = head.compare_exchange::<Add, Nothing>(

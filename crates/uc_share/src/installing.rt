@@ -7,6 +7,7 @@ ghost use Rattle.uc_version_state.specs.Refusals.{IsRefused};
 ghost use Rattle.uc_version_state.specs.Histories.{MayFollow, after};
 ghost use Rattle.uc_share.specs.Fronts.{after_event};
 ghost use Rattle.uc_share.specs.Claims.{claimed_runs};
+ghost use Rattle.uc_version_compact.specs.Compacting.{install_for};
 ghost use Rattle.uc_share.specs.Installing.{event_of, EndsWith, MayInstallHere, ShowsRefusal};
 
 use crate::front::Front;
@@ -21,7 +22,7 @@ use std::sync::Wait;
 use uc_compact::Compacted;
 use uc_oper::Operator;
 use uc_version_compact::{InstallError, error_of, present_refusal, what_fits_may_be_installed};
-use uc_version_state::{Event, Refusal};
+use uc_version_state::{Install, Refusal};
 
 /// What was pinned is a beginning of what is shown, since it was shown before. It does nothing: a pin of what isn't shown yet can't
 /// be made, which no clause of a reader's says, so it would wait.
@@ -51,21 +52,21 @@ impl<O: Operator, N: Name, W: Wait + Drop> Desk<O, N, W> {
         }
     }
 
-    /// Installs what was compacted of claimed runs, whose event this is, and shows the reader: one publication of exactly this
+    /// Installs what was compacted of claimed runs, whose install this is, and shows the reader: one publication of exactly its
     /// event, or a refusal that changes nothing that is shown and that the version which the reader then has seen shows. It
-    /// compares no points. If there was no memory for the event, that is told last.
+    /// compares no points. If there was no memory for the install, that is told last.
     pub(crate) fn install<R: Wait>(
         &mut self,
         rt: &R,
         alloc: Global,
         held: &Held<O, N>,
         made: &Compacted<O>,
-        event: Result<Event, AllocError>,
+        install: Result<Install, AllocError>,
         reader: &mut Reader<O, N>,
     ) -> Result<(), InstallError>
         requires table { held.now.seat.table ≡ N.table }
         requires inputs { made.now.inputs ≡ contents_of (claimed_runs held.now) }
-        requires event { IfOk event (λ event. event ≡ event_of O.meaning (claimed_runs held.now) made.now) }
+        requires install { IfOk install (λ install. install ≡ install_for O.meaning (claimed_runs held.now) made.now) }
         ensures published { OnOk result (self.new.publisher ≡
             option_map (after_event (event_of O.meaning (claimed_runs held.now) made.now)) self.old.publisher) }
         ensures unchanged { IfErr result (λ _. self.new.publisher ≡ self.old.publisher) }
@@ -79,7 +80,7 @@ impl<O: Operator, N: Name, W: Wait + Drop> Desk<O, N, W> {
         let Some(publisher) = self.publisher.take() else {
             unreachable!()
         };
-        let (publisher, done) = installed(rt, alloc, publisher, held, made, event, reader);
+        let (publisher, done) = installed(rt, alloc, publisher, held, made, install, reader);
         self.publisher = Some(publisher);
         done
     }
@@ -92,12 +93,12 @@ fn installed<O: Operator, N: Name, W: Wait + Drop, R: Wait>(
     publisher: Publisher<O, N, W>,
     held: &Held<O, N>,
     made: &Compacted<O>,
-    event: Result<Event, AllocError>,
+    install: Result<Install, AllocError>,
     reader: &mut Reader<O, N>,
 ) -> (Publisher<O, N, W>, Result<(), InstallError>)
     requires table { held.now.seat.table ≡ N.table }
     requires inputs { made.now.inputs ≡ contents_of (claimed_runs held.now) }
-    requires event { IfOk event (λ event. event ≡ event_of O.meaning (claimed_runs held.now) made.now) }
+    requires install { IfOk install (λ install. install ≡ install_for O.meaning (claimed_runs held.now) made.now) }
     ensures published { OnOk result.1
         (result.0 ≡ after_event (event_of O.meaning (claimed_runs held.now) made.now) publisher) }
     ensures unchanged { IfErr result.1 (λ _. result.0 ≡ publisher) }
@@ -111,11 +112,11 @@ fn installed<O: Operator, N: Name, W: Wait + Drop, R: Wait>(
     if let Some(refusal) = refusal(rt, &publisher, held, made, reader) {
         return (publisher, Err(error_of(refusal)));
     }
-    let Ok(event) = event else {
+    let Ok(install) = install else {
         return (publisher, Err(InstallError::Memory));
     };
     held.recall();
-    let (publisher, done) = publisher.publish(alloc, &event, held.slots());
+    let (publisher, done) = publisher.publish(alloc, &install, held.slots());
     if done.is_err() {
         return (publisher, Err(InstallError::Memory));
     }

@@ -23,5 +23,5 @@ impl Name for Brand {
 
     ghost table = { record { words = 0; slots = 0; views_name = 0; atom = 0; block = 0; offset = 0; slot_names = [] } };
 
-    ghost base = { record { runs = []; keeps = []; last = 0; next_id = 0 } };
+    ghost base = { record { runs = []; keeps = []; last = 0; next_id = 0; limit = 0 } };
 }

@@ -1,7 +1,9 @@
 //! [`Publisher`]: what shows readers the next version.
 ghost use Rattle.std.specs.Prelude.{◌≡◌, ◌≤◌, ◌++◌, ◌∷◌, [], drop, length, IfOk, OnOk, IfErr};
 ghost use Rattle.std.specs.Arc.{arc_value};
-ghost use Rattle.uc_version_state.specs.Histories.{MayHappen, after};
+ghost use Rattle.uc_version_state.specs.Installs.{MayInstall};
+ghost use Rattle.uc_version_state.specs.Histories.{after};
+ghost use Rattle.uc_version_state.specs.declared.event.Event.TheVariants.{Installed};
 ghost use Rattle.uc_share.specs.Fronts.{moment, after_event, IsCount, IsMoment, HoldsReplaced};
 
 use crate::book::Book;
@@ -17,7 +19,7 @@ use std::marker::Model;
 use std::sync::{Arc, Wait};
 use uc_claims::HeldSlots;
 use uc_oper::Operator;
-use uc_version_state::{Event, Version};
+use uc_version_state::{Install, Version};
 
 /// What shows readers the next version. It stands behind the store's lock. It has the store's history, all of which is shown. It
 /// keeps a `Wait` handle, since it waits for readers that still look at a version of before, also when it is dropped. Contracts
@@ -51,16 +53,16 @@ impl<O: Operator, N: Name, W: Wait + Drop> Drop for Publisher<O, N, W> {
     }
 }
 
-/// The version after an event, with a share for each reader.
+/// The version after an install, with a share for each reader.
 fn next_shares<O: Operator>(
     alloc: Global,
     shown: &Shown,
-    event: &Event,
+    install: &Install,
 ) -> Result<Arc<Shares>, AllocError>
-    requires { MayHappen O.meaning shown.now.version event.now }
-    ensures { IfOk result (λ shares. arc_value shares ≡ after shown.now.version event.now) }
+    requires { MayInstall O.meaning shown.now.version install.now }
+    ensures { IfOk result (λ shares. arc_value shares ≡ after shown.now.version (Installed install.now)) }
 {
-    let version = Arc::new(alloc, shown.version().after::<O>(alloc, event)?)?;
+    let version = Arc::new(alloc, shown.version().installed::<O>(alloc, install)?)?;
     Ok(Arc::new(alloc, Shares::new(alloc, version, shown.readers())?)?)
 }
 
@@ -120,18 +122,18 @@ impl<O: Operator, N: Name, W: Wait + Drop> Publisher<O, N, W> {
         self.book.front()
     }
 
-    /// Shows readers the version after an event, whole. Who publishes is lent the slots of the runs that the event replaces, so
-    /// that nobody else has claimed them. A refusal changes nothing that is shown, and adds nothing to the history: all memory
+    /// Shows readers the version after an install, whole. Who publishes is lent the slots of the runs that it replaces, so that
+    /// nobody else has claimed them. A refusal changes nothing that is shown, and adds nothing to the history: all memory
     /// is asked for before that, and behind it the event is shown.
     pub fn publish(
         self,
         alloc: Global,
-        event: &Event,
+        install: &Install,
         slots: &HeldSlots,
     ) -> (Publisher<O, N, W>, Result<(), AllocError>)
-        requires may { MayHappen O.meaning self.version event.now }
-        requires held { HoldsReplaced N.table self.version event.now slots.now }
-        ensures ok { OnOk result.1 (result.0 ≡ after_event event.now self) }
+        requires may { MayInstall O.meaning self.version install.now }
+        requires held { HoldsReplaced N.table self.version (Installed install.now) slots.now }
+        ensures ok { OnOk result.1 (result.0 ≡ after_event (Installed install.now) self) }
         ensures err { IfErr result.1 (λ _. result.0 ≡ self) }
     {
         let _ = slots;
@@ -140,11 +142,11 @@ impl<O: Operator, N: Name, W: Wait + Drop> Publisher<O, N, W> {
             mut book,
             rt,
         } = self;
-        let shares = match next_shares::<O>(alloc, writer.published(), event) {
+        let shares = match next_shares::<O>(alloc, writer.published(), install) {
             Err(error) => return (Publisher { writer, book, rt }, Err(error)),
             Ok(shares) => shares,
         };
-        if !book.add(event) {
+        if !book.add(install) {
             return (Publisher { writer, book, rt }, Err(AllocError));
         }
         let next = Shown::new(shares, book.front().again());

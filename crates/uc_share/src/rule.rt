@@ -14,7 +14,7 @@ use crossbeam_utils::rule::{Outcome, Protocol};
 use logbook::{Gain, Plain, Play, Rule};
 use std::marker::PhantomData;
 use uc_oper::Operator;
-use uc_version_state::Event;
+use uc_version_state::{Event, Install};
 
 /// The rule of the history: the word that threads share is its length.
 pub struct Law;
@@ -55,13 +55,14 @@ impl Play<Event, u64> for Add {
     ghost then = { Adds };
 }
 
-/// What a step asks for: the event.
-impl Plain<Event, Event, u64> for Add {
+/// What a step asks for: the event of an install.
+impl Plain<Install, Event, u64> for Add {
     ghost use Rattle.std.specs.Prelude.{None};
+    ghost use Rattle.uc_version_state.specs.declared.event.Event.TheVariants.{Installed};
 
-    ghost ask = { λ event. event };
+    ghost ask = { λ install. Installed install };
 
-    ghost state = { λ event. None };
+    ghost state = { λ install. None };
 }
 
 /// The rule of what is shown. A view is a number of events: no reader has seen more than is shown.

@@ -30,7 +30,7 @@ use std::sync::{Mutex, Wait};
 use uc_claims::{MOST_SLOTS, Seat};
 use uc_compact::Compacted;
 use uc_oper::Operator;
-use uc_version_compact::{ClaimError, InstallError, are_inputs, install_event, pick};
+use uc_version_compact::{ClaimError, InstallError, are_inputs, install_of, pick};
 use uc_version_state::{Options, Stretch, picks_are_unclaimed_runs};
 
 /// A store that threads share by reference: claim words for the slots of its runs, and behind a lock what shows readers the
@@ -213,9 +213,9 @@ impl<O: Operator, N: Name, W: Wait + Drop> Store<O, N, W> {
         if !are_inputs(made, held.runs()) {
             return Err(InstallError::WrongInputs);
         }
-        let event = install_event(alloc, held.runs(), made);
+        let install = install_of(alloc, held.runs(), made);
         let mut desk = self.desk.lock(rt);
-        desk.install(rt, alloc, held, made, event, reader)
+        desk.install(rt, alloc, held, made, install, reader)
     }
 }
 

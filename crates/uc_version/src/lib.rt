@@ -30,9 +30,9 @@ pub use owned::Owned;
 pub use owned_claim::OwnedClaim;
 pub use uc_claims::MOST_SLOTS;
 pub use uc_version_compact::{
-    ClaimError, InstallError, are_inputs, compact_stretch, error_of, install_event,
+    ClaimError, InstallError, are_inputs, compact_stretch, error_of, install_of,
     install_refusal, pick, present_refusal, run_ids, runs_of, slots_of, stretch_runs,
     what_fits_may_be_installed,
 };
 pub use uc_version_open::{OpenError, Opener, open_version};
-pub use uc_version_state::{Candidate, Event, Install, Options, Placed, Refusal, Stretch, Version};
+pub use uc_version_state::{Candidate, Event, FeedError, Install, Options, Placed, Refusal, Stretch, Version};

@@ -21,4 +21,4 @@ pub use laws::what_fits_may_be_installed;
 pub use picking::pick;
 pub use refusal::{are_inputs, error_of, install_refusal, present_refusal};
 pub use runs::{run_ids, runs_of, slots_of, stretch_runs};
-pub use stretches::{compact_stretch, install_event};
+pub use stretches::{compact_stretch, install_of};

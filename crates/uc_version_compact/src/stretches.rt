@@ -1,6 +1,5 @@
-//! The compaction of a stretch, and the event that installs it.
+//! The compaction of a stretch, and its install.
 ghost use Rattle.std.specs.Prelude.{◌≡◌, ◌+◌, ◌≤◌, ◌==◌, IfOk, length};
-ghost use Rattle.uc_version_state.specs.declared.event.Event.TheVariants as event;
 ghost use Rattle.uc_version_state.specs.Versions.{ids_of};
 ghost use Rattle.uc_version_compact.specs.Compacting.{compaction_at, install_for};
 
@@ -10,7 +9,7 @@ use std::marker::Sync;
 use std::thread::Threads;
 use uc_compact::{Compacted, compact};
 use uc_oper::Operator;
-use uc_version_state::{Event, Install, Placed, Stretch, Version};
+use uc_version_state::{Install, Placed, Stretch, Version};
 
 /// Whether the last run of a stretch is the oldest of all.
 fn has_oldest(version: &Version, stretch: Stretch) -> bool
@@ -50,18 +49,18 @@ fn ids_in(alloc: Global, runs: &[Placed]) -> Result<Vec<u64>, AllocError>
     Ok(ids)
 }
 
-/// The event that replaces claimed runs by what they were compacted to. It shares the run.
-pub fn install_event<O: Operator>(
+/// The install that replaces claimed runs by what they were compacted to. It shares the run.
+pub fn install_of<O: Operator>(
     alloc: Global,
     claimed: &[Placed],
     made: &Compacted<O>,
-) -> Result<Event, AllocError>
+) -> Result<Install, AllocError>
     requires { 2 ≤ length claimed.now }
-    ensures { IfOk result (λ made_event. made_event ≡ event.Installed (install_for O.meaning claimed.now made.now)) }
+    ensures { IfOk result (λ install. install ≡ install_for O.meaning claimed.now made.now) }
 {
     made.recall_standing();
     let ids = ids_in(alloc, claimed)?;
     let keeps = made.keeps().to_vec(alloc)?;
     let output = made.output().clone()?;
-    Ok(Event::Installed(Install::new(ids, keeps, made.oldest(), output)))
+    Ok(Install::new(ids, keeps, made.oldest(), output))
 }

@@ -6,7 +6,7 @@ use Rattle.uc_run_entry.specs.Run.{Contents, IsRun}
 use Rattle.uc_version_state.specs.Versions.{PlacedRun, IsVersion}
 use Rattle.uc_query_read.proofs.tests.version_of.Goals as goal
 
-one_run : (run : Contents) → IsRun run.low run.high run.points run.fragments → run.high ≤ 5 → IsVersion (record { runs = record { id = 0; slot = 0; run = run } ∷ []; keeps = 2 ∷ 5 ∷ []; last = 5; next_id = 1 })
+one_run : (run : Contents) → IsRun run.low run.high run.points run.fragments → run.high ≤ 5 → IsVersion (record { runs = record { id = 0; slot = 0; run = run } ∷ []; keeps = 2 ∷ 5 ∷ []; last = 5; next_id = 1; limit = 1 })
 unfolding IsStrictlySortedBy
 one_run run is below = record {
   runs = (is, tt);
@@ -20,6 +20,7 @@ one_run run is below = record {
   ids_apart = (refl, tt);
   ids_given = (omega arith, tt);
   id_below = omega arith;
+  limit_some = omega arith;
 }
 
 pub new-requires-2 : goal.new-requires-2
@@ -28,5 +29,5 @@ new-requires-2 c =
     let is = subst (λ (r : Contents). IsRun r.low r.high r.points r.fragments) c.deref.ensures c.recall.ensures in
     let same : c.high_seq.result ≡ run.high = c.high_seq.ensures ∙ ap (λ (r : Contents). r.high) c.deref-2.ensures in
     let below : run.high ≤ 5 = grind (arith, nat_tests) in
-    subst (λ (keeps : List ℕ). IsVersion (record { runs = c.in_ok-runs.runs.items; keeps = keeps; last = 5; next_id = 1 })) (sym c.in_ok-keeps.ensures.items)
-    (subst (λ (runs : List PlacedRun). IsVersion (record { runs = runs; keeps = 2 ∷ 5 ∷ []; last = 5; next_id = 1 })) (sym c.in_ok-runs.ensures.items) (one_run run is below))
+    subst (λ (keeps : List ℕ). IsVersion (record { runs = c.in_ok-runs.runs.items; keeps = keeps; last = 5; next_id = 1; limit = 1 })) (sym c.in_ok-keeps.ensures.items)
+    (subst (λ (runs : List PlacedRun). IsVersion (record { runs = runs; keeps = 2 ∷ 5 ∷ []; last = 5; next_id = 1; limit = 1 })) (sym c.in_ok-runs.ensures.items) (one_run run is below))

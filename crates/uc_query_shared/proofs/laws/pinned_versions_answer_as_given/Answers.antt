@@ -6,12 +6,12 @@ use Rattle.uc_query_shared.proofs.Behind.{same_given, same_keeps}
 use Rattle.uc_query_shared.proofs.laws.pinned_versions_answer_as_given.Goals as goal
 
 pub returns : goal.returns
-returns g c h base events query legal is may =
+returns g c h base events query legal is may are =
     let m = g.O.Operator.meaning in
     let longer = record h { events = h.events ++ events } in
     let leads = c.fronts_go_behind_histories.ensures.after h base events is in
-    let keeps = ap (λ (v : Stored). v.keeps) leads ∙ same_keeps base events ∙ ap (λ (v : Stored). v.keeps) (sym is) in
+    let keeps = ap (λ (v : Stored). v.keeps) leads ∙ same_keeps base events are ∙ ap (λ (v : Stored). v.keeps) (sym is) in
     ap (λ (v : Stored). answer_of m (writes_in v) v.keeps query) (sym leads)
     ∙ c.histories_keep_answers.ensures longer query (c.fronts_go_behind_histories.ensures.legal h base events legal is may)
-    ∙ ap (λ writes. answer_of m writes (version_after longer).keeps query) (same_given h events)
+    ∙ ap (λ writes. answer_of m writes (version_after longer).keeps query) (same_given h events are)
     ∙ ap (λ kept. answer_of m (writes_given h) kept query) keeps

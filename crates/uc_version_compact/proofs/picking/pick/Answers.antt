@@ -4,7 +4,7 @@ use Rattle.uc_claims.specs.declared.table.TheConstants.{MOST_SLOTS}
 use Rattle.uc_version_state.specs.Picks.{picked}
 use Rattle.uc_version_state.specs.Versions.{PlacedRun}
 use Rattle.uc_version_compact.specs.Picking.{candidate_of}
-use Rattle.uc_version_compact.proofs.Few.{few_runs}
+use Rattle.uc_version_state.proofs.Few.{few_runs}
 use Rattle.uc_version_compact.proofs.picking.pick.Goals as goal
 
 pub candidates-requires-clause-few : goal.candidates-requires-clause-few
