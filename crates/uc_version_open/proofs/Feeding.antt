@@ -1,12 +1,14 @@
 -- Memtables that writes fill one after the other.
 use Rattle.std.proofs.Common.{◌≡◌, ℕ, ◌+◌, ◌<◌, ◌≤◌, List, ◌∷◌, [], ◌++◌, length, map, get_or, take, sym, ap, ◌∙◌, subst, arith}
 use Rattle.std.specs.Prelude.{◌^◌}
-use Rattle.std.proofs.lemmas.List.{take_more, take_all}
+use Rattle.std.proofs.lemmas.List.{take_more, take_all, length-map}
 use Rattle.uc_bytes.specs.declared.write.Write.{Write}
 use Rattle.uc_batch.specs.Rising.{IsRising, last_of}
 use Rattle.uc_run_entry.specs.Run.{Contents}
 use Rattle.uc_run.specs.Flush.{flushed}
+use Rattle.uc_version_state.specs.Versions.{Stored}
 use Rattle.uc_version_state.specs.Flushes.{memtables}
+use Rattle.uc_version_state.specs.Feeds.{memtables_in, with_runs, fed}
 use Rattle.uc_version_state.proofs.Memtables.{some_from}
 use Rattle.uc_version_open.specs.Progress.{Flushing, flushing_of}
 use Rattle.uc_version_open.specs.Steps.{all_runs, with_write}
@@ -34,3 +36,13 @@ pub all_fed : (limit : ℕ) (ws : List Write) (i : ℕ) (f : Flushing) → f ≡
 all_fed limit ws i f so_far le =
     ap all_runs (so_far ∙ ap (λ (vs : List Write). flushing_of (memtables limit vs)) (take_all i ws le))
     ∙ runs_flushed (memtables limit ws) (some_from limit [] ws)
+
+-- the runs of all, before those of a version
+pub are_fed : (v : Stored) (ws : List Write) (runs : List Contents) (limit last : ℕ) → limit ≡ v.limit → runs ≡ map flushed (memtables limit ws) → last ≡ last_of v.last ws → with_runs runs last v ≡ fed ws v
+are_fed v ws runs limit last limit_is are last_is =
+    ap (λ (rs : List Contents). with_runs rs last v) (are ∙ ap (λ n. map flushed (memtables n ws)) limit_is)
+    ∙ ap (λ n. with_runs (map flushed (memtables_in v ws)) n v) last_is
+    ∙ counted
+  where
+    counted : with_runs (map flushed (memtables_in v ws)) (last_of v.last ws) v ≡ fed ws v
+    counted i = record (fed ws v) { next_id = ap (λ n. v.next_id + n) (length-map (memtables_in v ws) flushed) i }

@@ -1,17 +1,30 @@
-//! [`flush_writes`]: the runs of writes that are fed.
+//! [`fed_version`]: the version after writes that are fed, whose memtables are flushed.
 ghost use Rattle.std.specs.Prelude.{◌≡◌, ◌≤◌, IfOk, map};
+ghost use Rattle.uc_batch.specs.Rising as rising;
 ghost use Rattle.uc_batch.specs.Rising.{IsRising};
 ghost use Rattle.uc_run.specs.Flush.{flushed};
 ghost use Rattle.uc_version_state.specs.Flushes.{memtables as memtables_of};
+ghost use Rattle.uc_version_state.specs.Feeds.{MayFeed, fed};
 
 use crate::memtables::Memtables;
 use std::alloc::{AllocError, Global};
 use uc_bytes::{Write, WriteRef};
 use uc_run::Run;
+use uc_version_state::{Version, feeds_and_keeps_give_versions};
+
+/// The last sequence of writes, or `last` if there is none.
+fn last_of(last: u64, writes: &[Write]) -> u64
+    ensures { result ≡ rising.last_of last writes.now }
+{
+    match writes.last() {
+        None => last,
+        Some(write) => write.seq,
+    }
+}
 
 /// The runs of the memtables that writes fill, the oldest first. A memtable is flushed from `limit` bytes on, and what is
 /// left at the end too. It costs a copy of each text, and a sort of each memtable.
-pub fn flush_writes(alloc: Global, limit: u64, writes: &[Write]) -> Result<Vec<Run>, AllocError>
+fn flush_writes(alloc: Global, limit: u64, writes: &[Write]) -> Result<Vec<Run>, AllocError>
     requires limit { 1 ≤ limit }
     requires rising { IsRising 0 writes.now }
     ensures { IfOk result (λ runs. runs.items ≡ map flushed (memtables_of limit writes.now)) }
@@ -21,4 +34,20 @@ pub fn flush_writes(alloc: Global, limit: u64, writes: &[Write]) -> Result<Vec<R
         memtables.insert(alloc, limit, &WriteRef::of(write))?;
     }
     memtables.into_runs(alloc)
+}
+
+/// The version after writes were fed to it, as a new one that shares the runs which were there. It costs a copy of each
+/// text and a sort of each memtable that the writes fill, and one look at the runs for their slots.
+pub fn fed_version(
+    alloc: Global,
+    version: &Version,
+    writes: &[Write],
+) -> Result<Version, AllocError>
+    requires { MayFeed version.now writes.now }
+    ensures { IfOk result (λ next. next ≡ fed writes.now version.now) }
+{
+    version.recall();
+    feeds_and_keeps_give_versions();
+    let runs = flush_writes(alloc, version.limit(), writes)?;
+    version.with_runs(alloc, runs, last_of(version.last(), writes))
 }

@@ -5,7 +5,7 @@
 //! refused opening. Read `specs/Refusal.antt` first, which says when a store isn't opened, then `specs/Progress.antt`
 //! and `opener.rt`. A store opens with `opened` of `uc_version_state`.
 //!
-//! Writes that are fed to a store later fill the same memtables: [`flush_writes`].
+//! Writes that are fed to a store later fill the same memtables: [`fed_version`].
 //!
 //! [`recover`] goes once through a write-ahead log and hands each write, borrowed from the log's bytes, to an opener.
 //! Read `recovery.rt`.
@@ -22,7 +22,7 @@ mod opener;
 mod opening;
 mod recovery;
 
-pub use flushes::flush_writes;
+pub use flushes::fed_version;
 pub use laws::no_refusal_is_leave_to_open;
 pub use open_error::OpenError;
 pub use opener::Opener;

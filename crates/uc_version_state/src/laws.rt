@@ -12,6 +12,7 @@ ghost use Rattle.uc_compact_rules.specs.Reading.{IsReadAt};
 ghost use Rattle.uc_version_state.specs.Versions.{PlacedRun, Stored, IsVersion, ids_of, writes_in};
 ghost use Rattle.uc_version_state.specs.Flushes.{memtables, least_free};
 ghost use Rattle.uc_version_state.specs.Feeds.{MayFeed, fed, feed_refusal};
+ghost use Rattle.uc_version_state.specs.Snapshots.{kept, released};
 ghost use Rattle.uc_version_state.specs.Openings.{Opening, MayOpen, opened};
 ghost use Rattle.uc_version_state.specs.Installs.{Install, MayInstall, installed, part_of, standing};
 ghost use Rattle.uc_version_state.specs.declared.event.Event.{Event};
@@ -69,6 +70,15 @@ pub fn install_keeps_what_is_read<O: Operator>()
 pub fn install_gives_a_version<O: Operator>()
     ensures { (v : Stored) (i : Install) → IsVersion v → MayInstall O.meaning v i → IsVersion (installed i v) }
 {}
+
+/// After a feed, and with other keeps, there is a version again.
+pub fn feeds_and_keeps_give_versions()
+    ensures fed { (v : Stored) (ws : List Write) → IsVersion v → MayFeed v ws → IsVersion (fed ws v) }
+    ensures kept { (v : Stored) → IsVersion v → IsVersion (kept v) }
+    ensures released { (v : Stored) (seq : ℕ) → IsVersion v → IsVersion (released seq v) }
+{
+    flushed_writes_are_a_run();
+}
 
 /// After an event there is a version again.
 pub fn events_give_versions<O: Operator>()
