@@ -11,17 +11,17 @@
 //! An `Err(AllocError)`, or a variant `Memory`, comes only if an allocation fails.
 #![tactic(auto)]
 
-mod keeping;
+mod first_version;
+mod keeps;
 mod laws;
 mod memtables;
 mod open_error;
 mod opener;
-mod opening;
-mod placing;
+mod places;
 mod recovery;
 
+pub use first_version::open_version;
 pub use laws::no_refusal_is_leave_to_open;
 pub use open_error::OpenError;
 pub use opener::Opener;
-pub use opening::open_version;
 pub use recovery::{Recovered, recover};

@@ -10,11 +10,11 @@ ghost use Rattle.uc_version_open.specs.Refusal.{opening_refusal};
 ghost use Rattle.uc_version_open.specs.Steps as steps;
 ghost use Rattle.uc_version_open.specs.declared.open_error.OpenError.TheVariants.{Memory};
 
-use crate::keeping::{first_ahead, kept};
+use crate::keeps::{first_ahead, kept};
 use crate::laws::no_refusal_is_leave_to_open;
 use crate::memtables::{Memtables, hold_write};
 use crate::open_error::OpenError;
-use crate::placing::placed_runs;
+use crate::places::placed_runs;
 use std::alloc::{AllocError, Global};
 use std::marker::Model;
 use uc_bytes::WriteRef;
