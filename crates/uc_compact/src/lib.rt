@@ -2,7 +2,7 @@
 //!
 //! [`compact`] goes over its inputs' points key by key. Of each stripe, between two neighbouring keeps (snapshots'
 //! sequences), it keeps at most one point. `uc_compact_rules` defines its output; by that crate's laws no read sees a
-//! difference. Read `compacting.rt` first.
+//! difference. Read `compaction.rt` first.
 //!
 //! [`Groups`] merges the inputs' points. It has a cursor in each run, and returns the least key's points next, those of
 //! the newest run first. Read `specs/Groups.antt` first.
@@ -11,7 +11,7 @@
 #![tactic(auto)]
 
 mod compacted;
-mod compacting;
+mod compaction;
 mod cursor;
 mod fragments;
 mod front;
@@ -22,6 +22,6 @@ mod pieces;
 mod points;
 
 pub use compacted::Compacted;
-pub use compacting::compact;
+pub use compaction::compact;
 pub use groups::Groups;
 pub use inputs::inputs_stand;

@@ -12,7 +12,7 @@
 mod ahead;
 mod alike;
 mod falling;
-mod joining;
+mod few_spans;
 mod lists;
 mod newest;
 mod node;
@@ -21,7 +21,7 @@ mod share;
 mod span;
 mod spans;
 mod tree;
-mod walking;
+mod walks;
 mod within;
 
 pub use ahead::SeqsAhead;

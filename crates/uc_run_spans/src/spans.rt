@@ -7,11 +7,11 @@ ghost use Rattle.uc_run_spans.specs.Spans as standing;
 ghost use Rattle.uc_run_spans.specs.Spans.{IsWithin, IsFalling, listed};
 
 use crate::ahead::SeqsAhead;
-use crate::joining::in_few;
+use crate::few_spans::in_few;
 use crate::lists::Lists;
 use crate::span::Span;
 use crate::tree::nodes;
-use crate::walking::{count_over, newest_over};
+use crate::walks::{count_over, newest_over};
 use std::alloc::{AllocError, Global};
 use std::marker::Model;
 

@@ -6,7 +6,7 @@ use Rattle.uc_script.specs.declared.error.ScriptError.TheVariants as errors
 use Rattle.uc_script.specs.declared.call.Call.{Call}
 use Rattle.uc_script.specs.declared.setup_line.SetupLine.TheVariants as setup
 use Rattle.uc_script.specs.declared.call_line.CallLine.TheVariants as asking
-use Rattle.uc_script.specs.declared.reading.Opened.{Opened}
+use Rattle.uc_script.specs.declared.script_text.Opened.{Opened}
 use Rattle.uc_script.specs.Lines.{lines_of}
 use Rattle.uc_bytes.specs.declared.op.Op.{Op}
 

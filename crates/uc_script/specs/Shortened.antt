@@ -1,7 +1,7 @@
 -- A line as it is shown.
 use Rattle.std.specs.Prelude.{ℕ, ◌+◌, ◌/◌, ◌%◌, ◌&&◌, nat_lt, nat_le, Bool, List, [], ◌∷◌, ◌++◌, length, take, codes, if◌then◌else◌}
 use Rattle.std.specs.List.{flat_map}
-use Rattle.uc_script.specs.declared.shortening.TheConstants.{MOST_SHOWN}
+use Rattle.uc_script.specs.declared.shown_line.TheConstants.{MOST_SHOWN}
 
 -- Whether a byte is a printable character of ASCII.
 abbrev pub is_printable : ℕ → Bool

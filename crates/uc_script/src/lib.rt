@@ -8,7 +8,7 @@
 //! A head may come before a log: lines that keep and ask, as in a script, and a line `log`. What follows is the log,
 //! and no lines.
 //!
-//! Read `reading.rt` first: it goes from bytes to a [`Script`], or to its [`Preamble`]; then `call_reader.rt` returns
+//! Read `script_text.rt` first: it goes from bytes to a [`Script`], or to its [`Preamble`]; then `call_reader.rt` returns
 //! its calls one at a time. `head.rt` goes from bytes to a [`Head`], and `query_reader.rt` returns its queries, a few
 //! at a time. `lines.rt` cuts the text, and `field.rt` reads a field. `setup_line.rt` and `call_line.rt` read a line of
 //! either part of a script, and `head_line.rt` one of a head; `query_line.rt` has what the last two share. `digits.rt`
@@ -16,9 +16,9 @@
 //!
 //! Reading returns only the number of the first faulty line. [`explain`] looks at that line once more, and says for a
 //! reader what is there, what is wrong with it and what may be there: an [`Explanation`], which prints as one line.
-//! Read `specs/Faults.antt`, then `explaining.rt`. `word.rt` has the words that lines begin with and what follows each,
-//! `field_kind.rt` what a field may be, and `fault.rt` the kinds of faults. `judging.rt` finds the first fault of a
-//! line, and `shortening.rt` writes a line with only printable characters. `fault_laws.rt` says that an explanation is
+//! Read `specs/Faults.antt`, then `faulty_line.rt`. `word.rt` has the words that lines begin with and what follows each,
+//! `field_kind.rt` what a field may be, and `fault.rt` the kinds of faults. `line_fault.rt` finds the first fault of a
+//! line, and `shown_line.rt` writes a line with only printable characters. `fault_laws.rt` says that an explanation is
 //! one line.
 //!
 //! An `Err(AllocError)`, or a variant `Memory`, comes only if an allocation fails.
@@ -29,36 +29,36 @@ mod call_line;
 mod call_reader;
 mod digits;
 mod error;
-mod explaining;
 mod explanation;
 mod fault;
 mod fault_laws;
+mod faulty_line;
 pub mod field;
 mod field_kind;
 mod head;
 mod head_line;
-mod judging;
 mod laws;
+mod line_fault;
 mod lines;
 mod part;
 mod query;
 mod query_line;
 mod query_reader;
-mod reading;
 mod script;
+mod script_text;
 mod seq;
 mod setup_line;
-mod shortening;
+mod shown_line;
 mod word;
 
 pub use call::{Call, NAMES};
 pub use call_reader::CallReader;
 pub use digits::{push_hex, push_number};
 pub use error::ScriptError;
-pub use explaining::explain;
 pub use explanation::Explanation;
 pub use fault::LineFault;
 pub use fault_laws::{a_shortened_line_is_short, an_explanation_is_one_line};
+pub use faulty_line::explain;
 pub use field_kind::FieldKind;
 pub use head::{Head, read_head};
 pub use laws::{
@@ -69,8 +69,8 @@ pub use lines::{is_skipped, next_field, next_line};
 pub use part::{Part, Source};
 pub use query::Query;
 pub use query_reader::QueryReader;
-pub use reading::{judge_script, read_script};
 pub use script::{Calls, Keeps, Ops, Preamble, Script};
+pub use script_text::{judge_script, read_script};
 pub use seq::Seq;
-pub use shortening::{MOST_SHOWN, shortened};
+pub use shown_line::{MOST_SHOWN, shortened};
 pub use word::Word;

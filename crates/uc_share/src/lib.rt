@@ -16,7 +16,7 @@
 //! if an allocation fails or too many own what is shared.
 //!
 //! Read `specs/Claims.antt`, `specs/Installing.antt` and `specs/Turns.antt` first, then `opening.rt`, `taken.rt`, `held.rt`,
-//! `store.rt`, `installing.rt` and `turn.rt`.
+//! `store.rt`, `desk.rt` and `turn.rt`.
 //!
 //! Below that stands the history. A [`Front`] is a beginning of it that somebody has seen, a `Book` the history with the right
 //! to add to it, and a [`Name`] says which store it is. What is shown to readers is a version with the history that leads to it
@@ -25,11 +25,11 @@
 #![tactic(auto)]
 
 mod book;
+mod desk;
 mod first_readers;
 mod front;
 mod front_laws;
 mod held;
-mod installing;
 mod laws;
 mod name;
 mod opening;

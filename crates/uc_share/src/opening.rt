@@ -9,8 +9,8 @@ ghost use Rattle.uc_share.specs.Stores as stores;
 ghost use Rattle.uc_share.specs.Stores.{IsNamed, IsOpenedSo, beginning, shared_refusal};
 
 use crate::book::EmptyHistory;
+use crate::desk::Desk;
 use crate::first_readers::MOST_READERS;
-use crate::installing::Desk;
 use crate::name::Name;
 use crate::publisher::Publisher;
 use crate::reader::Reader;

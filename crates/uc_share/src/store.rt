@@ -16,8 +16,8 @@ ghost use Rattle.uc_share.specs.Claims as claims;
 ghost use Rattle.uc_share.specs.Claims.{claim_of, claimed_runs, IsClaimRefused};
 ghost use Rattle.uc_share.specs.Installing.{event_of, EndsWith, ShowsRefusal};
 
+use crate::desk::Desk;
 use crate::held::{Held, LookError};
-use crate::installing::Desk;
 use crate::name::Name;
 use crate::pin::Pin;
 use crate::publisher::Publisher;

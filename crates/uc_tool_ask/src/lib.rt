@@ -5,18 +5,18 @@
 //! a function of the bytes that it reads, of the operator and of the options: workers, pieces and compactors aren't in it. The
 //! law `queries_are_answered_from_the_log` says what that means in the words of plain writes.
 //!
-//! Read `specs/Ask.antt` first, then `asking.rt`, `answering.rt` and `compacting.rt`. Tests hold compactors up by a
+//! Read `specs/Ask.antt` first, then `ask_run.rt`, `answers.rt` and `compactor.rt`. Tests hold compactors up by a
 //! [`TurnGate`](uc_share::TurnGate). Recovering, refusing and the lines of answers stand in `uc_tool_opening`, batches in
 //! `uc_query_shared`, and the store with a compactor's turn in `uc_share`.
 #![tactic(auto)]
 
-mod answering;
-mod asking;
-mod compacting;
+mod answers;
+mod ask_run;
+mod compactor;
 mod laws;
 mod plan;
 
-pub use asking::{ask, ask_through};
+pub use ask_run::{ask, ask_through};
 pub use laws::queries_are_answered_from_the_log;
 pub use plan::{MOST_COMPACTORS, is_plan};
 pub use uc_share::TurnGate;

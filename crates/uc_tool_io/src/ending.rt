@@ -6,8 +6,8 @@ ghost use Rattle.uc_tool_io.specs.Ending.{Finishes, FinishesWithoutInput, Flushe
 
 use crate::done::Done;
 use crate::input::InputError;
+use crate::output::write_bytes;
 use crate::run_error::RunError;
-use crate::writing::write_bytes;
 use std::io::Write;
 
 /// Flushes what was written before a run ends so.

@@ -3,7 +3,7 @@
 //! A subcommand reads all of its input, up to a limit, prints replies one after the other, and ends in a [`Done`], whose
 //! number is the exit status. What it may have written by then is `HasWritten`, a relation between its `Output`, which is a
 //! function of the bytes that it read, and what the writer holds. Read `specs/Output.antt` first, then `input.rt` and
-//! `writing.rt`, which are the two ends, and `ending.rt`. [`run_over_input`] is a whole run, from the first byte read to the
+//! `output.rt`, which are the two ends, and `ending.rt`. [`run_over_input`] is a whole run, from the first byte read to the
 //! flush, over any work: each subcommand is this function over its own work. Read `specs/Works.antt`, then `whole_run.rt`.
 //! The lemmas in `proofs/` are for the loops of the subcommands: `Printing.antt` if each turn prints one reply, `Parts.antt` if
 //! it prints several, and `Written.antt` at the end of a run.
@@ -19,27 +19,27 @@
 //! says how far the log was read. Read `specs/Line.antt`, then `specs/LogLines.antt`.
 //!
 //! [`dump`] prints a line for each write before a log's first fault, and one that says whether the log ended there, was torn, or
-//! is faulty: `dump_of`, a function of the bytes that it reads. Read `specs/Dump.antt`, then `dumping.rt`. Its loop goes over a
+//! is faulty: `dump_of`, a function of the bytes that it reads. Read `specs/Dump.antt`, then `dump_run.rt`. Its loop goes over a
 //! reader that is seen by what is ahead: the record that holds of it is `DumpsOn` in `proofs/Dumps.antt`.
 //!
 //! It stands on the formats alone, and not on the store, so that what prints logs doesn't wait for it.
 #![tactic(auto)]
 
 mod done;
-mod dumping;
+mod dump_run;
 mod ending;
 mod input;
 mod line;
 mod logs;
 mod operator_name;
+mod output;
 mod refusal;
-mod refusing;
+mod refused_run;
 mod run_error;
 mod whole_run;
-mod writing;
 
 pub use done::Done;
-pub use dumping::dump;
+pub use dump_run::dump;
 pub use ending::{finish, finish_without_input};
 pub use input::{INPUT_LIMIT, InputError, read_input};
 pub use line::{
@@ -47,8 +47,8 @@ pub use line::{
 };
 pub use logs::{ended_line, push_write};
 pub use operator_name::OperatorName;
+pub use output::write_bytes;
 pub use refusal::Refusal;
-pub use refusing::print_refusal;
+pub use refused_run::print_refusal;
 pub use run_error::RunError;
 pub use whole_run::run_over_input;
-pub use writing::write_bytes;

@@ -9,7 +9,7 @@ use Rattle.uc_tool_io.specs.Writing.{AppendsFront}
 use Rattle.uc_tool_io.specs.Output.{joined, Stops, Prints}
 use Rattle.uc_tool_play.specs.Report.{Compactions, compactions, compactions_of, no_more, last_line, behind_line}
 use Rattle.uc_tool_play.specs.Compacting.{IsStep}
-use Rattle.uc_tool_play.specs.declared.compacting.Step.TheVariants as step
+use Rattle.uc_tool_play.specs.declared.compaction_steps.Step.TheVariants as step
 use Rattle.uc_tool_io.specs.declared.run_error.RunError.{RunError}
 use Rattle.uc_tool_io.specs.declared.run_error.RunError.TheVariants as run_error
 use Rattle.uc_tool_io.proofs.Printing.{GoesOn, all_printed, goes_next, stops_next}

@@ -3,8 +3,8 @@ use Rattle.std.specs.Prelude.{◌≡◌}
 use Rattle.uc_oper.specs.Operation.{Operation}
 use Rattle.uc_version.specs.Owners.{Owner}
 use Rattle.uc_tool_play.specs.Report.{Compactions, no_more, last_line, behind_line, after_pick, pick_of}
-use Rattle.uc_tool_play.specs.declared.compacting.Step.{Step}
-use Rattle.uc_tool_play.specs.declared.compacting.Step.TheVariants as step
+use Rattle.uc_tool_play.specs.declared.compaction_steps.Step.{Step}
+use Rattle.uc_tool_play.specs.declared.compaction_steps.Step.TheVariants as step
 
 -- what a step leads to, where others follow from what is then
 abbrev pub after_step : Step → Owner → (Owner → Compactions) → Compactions

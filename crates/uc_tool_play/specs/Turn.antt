@@ -6,8 +6,8 @@ use Rattle.uc_query.specs.Turns.{turn_of}
 use Rattle.uc_query.specs.declared.call.Call.{Call}
 use Rattle.uc_query.specs.declared.reply.Reply.{Reply}
 use Rattle.uc_tool_play.specs.Play.{asked_alone}
-use Rattle.uc_tool_play.specs.declared.calling.Asked.{Asked}
-use Rattle.uc_tool_play.specs.declared.calling.Asked.TheVariants.{Answer, Work}
+use Rattle.uc_tool_play.specs.declared.replies.Asked.{Asked}
+use Rattle.uc_tool_play.specs.declared.replies.Asked.TheVariants.{Answer, Work}
 use Rattle.uc_tool_opening.specs.ReplyLines.{reply_lines}
 
 -- the lines are those of the reply to the call, and the store is left as the call leaves it

@@ -4,26 +4,26 @@
 //! it is there. What it prints is `play_of`, a function of the bytes that it reads, of the operator and of the options.
 //! The law `reads_are_answered_from_plain_writes` says what that means of the calls that read: whatever is claimed,
 //! compacted and installed in between, they are answered from the plain writes alone. Read `specs/Play.antt` first, then
-//! `playing.rt` and, for the calls, `calling.rt`; `specs/Reading.antt` and `laws.rt` have the law.
+//! `script_run.rt` and, for the calls, `replies.rt`; `specs/Reading.antt` and `laws.rt` have the law.
 //!
 //! `report_log` opens a store from a log, prints a report on it, compacts what universal compaction picks as long as it picks
 //! anything, with a line for each compaction, and prints a report on what is then: `report_of`, again a function of bytes,
 //! operator and options. The law `compactions_end_where_nothing_is_picked` says why the compactions end: nothing more is
-//! picked, or no id is left. Read `specs/Report.antt` first, then `reporting.rt` and, for the loop of compactions,
-//! `compacting.rt` with `specs/Compacting.antt`.
+//! picked, or no id is left. Read `specs/Report.antt` first, then `report_run.rt` and, for the loop of compactions,
+//! `compaction_steps.rt` with `specs/Compacting.antt`.
 //!
 //! Opening, refusing and the lines of replies and reports stand in `uc_tool_opening`. An `Err(AllocError)` or `Memory` comes
 //! only if an allocation fails.
 #![tactic(auto)]
 
-mod calling;
-mod compacting;
+mod compaction_steps;
 mod laws;
-mod playing;
+mod replies;
 mod report_laws;
-mod reporting;
+mod report_run;
+mod script_run;
 
 pub use laws::reads_are_answered_from_plain_writes;
-pub use playing::play;
 pub use report_laws::compactions_end_where_nothing_is_picked;
-pub use reporting::report_log;
+pub use report_run::report_log;
+pub use script_run::play;

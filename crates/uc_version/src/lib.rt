@@ -13,7 +13,7 @@ mod claims;
 mod compact_error;
 mod held_stretch;
 mod laws;
-mod opening;
+mod opened_writes;
 mod owned;
 mod owned_claim;
 mod runs;
@@ -25,7 +25,7 @@ pub use laws::{
     claimable_stretches_can_be_compacted, claims_are_held, claims_can_be_compacted,
     claims_keep_their_runs, installs_are_events, owners_stay_owners, picks_can_be_claimed,
 };
-pub use opening::open_plain;
+pub use opened_writes::open_plain;
 pub use owned::Owned;
 pub use owned_claim::OwnedClaim;
 pub use uc_claims::MOST_SLOTS;

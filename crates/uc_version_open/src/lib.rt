@@ -13,18 +13,18 @@
 //! An `Err(AllocError)`, or a variant `Memory`, comes only if an allocation fails.
 #![tactic(auto)]
 
+mod first_version;
 mod flushes;
-mod keeping;
+mod keeps;
 mod laws;
 mod memtables;
 mod open_error;
 mod opener;
-mod opening;
 mod recovery;
 
+pub use first_version::open_version;
 pub use flushes::fed_version;
 pub use laws::no_refusal_is_leave_to_open;
 pub use open_error::OpenError;
 pub use opener::Opener;
-pub use opening::open_version;
 pub use recovery::{Recovered, recover};

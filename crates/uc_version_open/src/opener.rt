@@ -10,7 +10,7 @@ ghost use Rattle.uc_version_open.specs.Refusal.{opening_refusal};
 ghost use Rattle.uc_version_open.specs.Steps as steps;
 ghost use Rattle.uc_version_open.specs.declared.open_error.OpenError.TheVariants.{Memory};
 
-use crate::keeping::{first_ahead, kept};
+use crate::keeps::{first_ahead, kept};
 use crate::laws::no_refusal_is_leave_to_open;
 use crate::memtables::{Memtables, hold_write};
 use crate::open_error::OpenError;

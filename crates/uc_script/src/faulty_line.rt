@@ -1,0 +1,109 @@
+//! From the number of the faulty line to what is said of it.
+
+ghost use Rattle.std.specs.Prelude.{◌≡◌, ◌-◌, take, drop, [], length, nat_eq, codes, ◌∷◌, IfOk};
+ghost use Rattle.std.specs.List.{list_any, ends_with};
+ghost use Rattle.std.specs.Option.{option_map};
+ghost use Rattle.uc_script.specs.Lines.{lines_of};
+ghost use Rattle.uc_script.specs.Explanations as explanations;
+ghost use Rattle.uc_script.specs.Explanations.{explanation_text, explanation_of, says_open};
+
+use crate::explanation::Explanation;
+use crate::fault::LineFault;
+use crate::line_fault::line_fault;
+use crate::lines::next_line;
+use crate::part::{Part, Source};
+use crate::shown_line::shortened;
+use crate::word::Word;
+use std::alloc::{AllocError, Global};
+
+/// The text after `count` lines, and whether one of those is `open`.
+fn skip_lines(text: &[u8], count: u64) -> (&[u8], bool)
+    ensures rest { lines_of result.0.now ≡ drop count (lines_of text.now) }
+    ensures opened { result.1 ≡ list_any says_open (take count (lines_of text.now)) }
+{
+    let mut rest = text;
+    let mut is_opened = false;
+    for _ in 0..count {
+        if rest.is_empty() {
+            return (rest, is_opened);
+        }
+        let (line, after) = next_line(rest);
+        is_opened = is_opened || line == b"open".as_slice();
+        rest = after;
+    }
+    (rest, is_opened)
+}
+
+/// What is said if the line of this number is missing: nothing after an `open`.
+fn missing(part: Part, number: u64) -> Option<Explanation>
+    ensures { option_map explanation_text result ≡ explanations.missing part number }
+{
+    match part {
+        Part::Setup => Some(Explanation::Missing {
+            number,
+            word: Word::Open,
+        }),
+        Part::Calls => None,
+        Part::Head => Some(Explanation::Missing {
+            number,
+            word: Word::Log,
+        }),
+    }
+}
+
+/// Whether a line that these others follow is the end of a head but for its line feed.
+#[tactic(auto, using(crate::proofs::Passing::same_emptiness))]
+fn lacks_its_end(part: Part, line: &[u8], others: &[u8], is_ended: bool) -> bool
+    ensures { result ≡ explanations.lacks_its_end part line.now (lines_of others.now) is_ended }
+{
+    part == Part::Head && line == b"log".as_slice() && others.is_empty() && !is_ended
+}
+
+/// What is wrong with a line before these others, in a text that ends with LF or doesn't.
+fn fault_before(
+    alloc: Global,
+    part: Part,
+    line: &[u8],
+    others: &[u8],
+    is_ended: bool,
+) -> Result<Option<LineFault>, AllocError>
+    ensures { IfOk result (λ fault.
+        fault ≡ explanations.fault_before part line.now (lines_of others.now) is_ended) }
+{
+    if lacks_its_end(part, line, others, is_ended) {
+        return Ok(Some(LineFault::NoLineFeed));
+    }
+    line_fault(alloc, part, line)
+}
+
+/// What is said of the line of this number, from 1, in a text of this kind: what is there, what is wrong with it and
+/// what may be there, or that it is missing. It is `None` if nothing is wrong with that line, which is never so for a
+/// number from [`read_script`](crate::read_script) or [`read_head`](crate::read_head).
+///
+/// It goes once through the lines up to that one.
+#[tactic(auto, unfolding(crate::specs::Explanations::explanation_of))]
+pub fn explain(
+    alloc: Global,
+    source: Source,
+    text: &[u8],
+    number: u64,
+) -> Result<Option<Explanation>, AllocError>
+    ensures { IfOk result (λ found. option_map explanation_text found ≡ explanation_of source text.now number) }
+{
+    let (rest, is_opened) = skip_lines(text, number.saturating_sub(1));
+    let part = Part::of(source, is_opened);
+    if rest.is_empty() {
+        return Ok(missing(part, number));
+    }
+    let (line, others) = next_line(rest);
+    let is_ended = text.ends_with(b"\n");
+    let Some(fault) = fault_before(alloc, part, line, others, is_ended)? else {
+        return Ok(None);
+    };
+    let line = shortened(alloc, line)?;
+    Ok(Some(Explanation::Line {
+        number,
+        line,
+        fault,
+    }))
+}

@@ -1,5 +1,0 @@
-use Rattle.uc_tool_ask.proofs.asking.print_opened.Given as goal
-
--- the book, the claim words and the version of what was opened
-abbrev pub ghosts-answer_shared : goal.ghosts-answer_shared
-ghosts-answer_shared g a = record { book = a.opening.book; table = a.opening.table; base = a.opening.version }

@@ -1,0 +1,379 @@
+//! `ask`: the queries in front of a log, answered beside compactors.
+ghost use denote.Param.Send.{IsSync, IsSend};
+ghost use Rattle.std.specs.Prelude.{◌≡◌, ◌+◌, ◌≤◌, All, List, None, drop, take, length, vec_len};
+ghost use Rattle.uc_share.specs.Stores.{IsNamed};
+ghost use Rattle.std.specs.Prelude.{IfOk, OnOk, IfSome};
+ghost use Rattle.uc_batch.specs.Log.{log_writes};
+ghost use Rattle.uc_batch.specs.Rising.{IsRising};
+ghost use Rattle.uc_bytes.specs.declared.write.Write.{Write as WriteOf};
+ghost use Rattle.uc_script.specs.Head.{queries_in};
+ghost use Rattle.uc_version_state.specs.Openings.{Opening as OpeningOf};
+ghost use Rattle.uc_version_open.specs.Progress.{progress_of};
+ghost use Rattle.uc_query_shared.specs.Given.{ForEachHistory};
+ghost use Rattle.uc_tool_io.specs.Output.{Prints, HasWritten};
+ghost use Rattle.uc_tool_opening.specs.Reasons.{IsReason, TellsOpening, opening_cause, log_cause};
+ghost use Rattle.uc_tool_ask.specs.Ask.{ask_of, of_log, of_writes, cause_of};
+ghost use Rattle.uc_tool_ask.specs.Given.{replies_given};
+ghost use Rattle.uc_tool_ask.specs.Plans.{IsPlan};
+
+use crate::answers::print_answers;
+use crate::compactor::{Compactor, all_installs};
+use crate::plan::Plan;
+use std::alloc::{AllocError, Global};
+use std::io::{Read, Write};
+use std::marker::{Brand, Send, Sync};
+use std::sync::Wait;
+use std::thread::{Threads, join_mut};
+use uc_batch::Ended;
+use uc_oper::Operator;
+use uc_script::{Head, ScriptError, Source, read_head};
+use uc_share::{Name, Opening, Options, Reader, Seat, Store, TurnGate, Ungated};
+use uc_tool_io::{Done, RunError, run_over_input};
+use uc_tool_opening::{
+    Outcome, Reason, print_bad_log, print_fault, print_refused_opening, reason_of_line,
+    reason_of_opening,
+};
+use uc_version_open::{OpenError, Opener, Recovered, no_refusal_is_leave_to_open, recover};
+
+/// How a run ended, and how many installs its compactors made.
+type Asked = (Result<Done, RunError>, u64);
+
+/// What is told of a run beside how it ended.
+#[derive(Debug, Drop)]
+struct Told {
+    /// Why it was refused.
+    reason: Option<Reason>,
+    /// How many installs its compactors made.
+    installs: u64,
+}
+
+impl Told {
+    /// A reason, if there is one, and no install.
+    fn reason_alone(reason: Option<Reason>) -> Told
+        ensures { result ≡ record { reason = reason; installs = 0 } }
+    {
+        Told {
+            reason,
+            installs: 0,
+        }
+    }
+
+    /// No reason, and no install.
+    fn nothing() -> Told
+        ensures { result ≡ record { reason = None; installs = 0 } }
+    {
+        Told::reason_alone(None)
+    }
+}
+
+/// How a run ended, and what is told of it.
+type Worked = (Result<Done, RunError>, Told);
+
+/// A crew for the seats of a store, each with one of the readers. As many readers are left as there were more.
+fn crew_of<O: Operator, N: Name, W: Wait + Drop>(
+    alloc: Global,
+    store: &Store<O, N, W>,
+    readers: &mut Vec<Reader<O, N>>,
+    seats: Vec<Seat>,
+) -> Result<Vec<Compactor<O, N>>, AllocError>
+    requires tables { All (λ seat. seat.table ≡ store.now.table) seats.items }
+    requires enough { vec_len seats ≤ vec_len readers.old }
+    ensures crew { IfOk result (λ crew. All (λ x. x.seat.table ≡ store.now.table) crew.items) }
+    ensures left { OnOk result (vec_len readers.new + vec_len seats ≡ vec_len readers.old) }
+{
+    let mut crew = Vec::with_capacity(alloc, seats.len())?;
+    for seat in seats {
+        let Some(reader) = readers.pop() else {
+            unreachable!()
+        };
+        crew.push(Compactor { seat, reader })?;
+    }
+    Ok(crew)
+}
+
+/// Prints the answers to the queries of a head while a crew compacts, which has ended when it returns. The crew is moved to its
+/// thread: what is lent to both closures can be followed through one of them alone.
+fn answer_beside_crew<O, N, W, G, R, V>(
+    rt: &R,
+    alloc: Global,
+    store: &Store<O, N, W>,
+    gate: &G,
+    mut crew: Vec<Compactor<O, N>>,
+    readers: &mut Vec<Reader<O, N>>,
+    last: u64,
+    head: &[u8],
+    plan: Plan,
+    writer: &mut V,
+) -> Asked
+where
+    O: Operator + Send + Sync,
+    N: Name + Send + Sync,
+    W: Wait + Drop + Send,
+    G: TurnGate,
+    R: Threads + Wait + Sync,
+    V: Write,
+    requires crew { All (λ x. x.seat.table ≡ store.now.table) crew.items }
+    requires readers { plan.workers ≤ vec_len readers.old }
+    ensures printed { ForEachHistory O.meaning N.base (λ h.
+        Prints (replies_given O.meaning h last (queries_in head.now)) (V.contents writer.old) (V.contents writer.new) result.0) }
+    ensures done { IfOk result.0 (λ done. done ≡ Done.Fine) }
+{
+    let (installs, printed) = join_mut(
+        rt,
+        &mut move || -> u64
+            requires { All (λ x. x.seat.table ≡ store.now.table) crew.items }
+        { all_installs(rt, alloc, store, gate, &mut crew) },
+        &mut || -> Result<Done, RunError>
+            requires { plan.workers ≤ vec_len readers.now }
+        { print_answers(rt, alloc, head, last, plan, readers, writer) },
+    );
+    (printed, installs)
+}
+
+/// Names a store that threads share, and prints the answers to the queries of a head while compactors compact it.
+fn answer_shared<O, N, G, R, V>(
+    rt: &R,
+    alloc: Global,
+    opening: Opening<O>,
+    head: &[u8],
+    plan: Plan,
+    gate: &G,
+    writer: &mut V,
+) -> Asked
+where
+    O: Operator + Send + Sync,
+    N: Name + Send + Sync,
+    G: TurnGate,
+    R: Threads + Wait + Sync,
+    V: Write,
+    requires named { IsNamed opening N.book N.table N.base }
+    requires plan { (opening.readers ≡ plan.workers + plan.compactors) × (opening.seats ≡ plan.compactors) }
+    ensures printed { ForEachHistory O.meaning N.base (λ h.
+        Prints (replies_given O.meaning h opening.version.last (queries_in head.now))
+        (V.contents writer.old) (V.contents writer.new) result.0) }
+    ensures done { IfOk result.0 (λ done. done ≡ Done.Fine) }
+{
+    let last = opening.version().last();
+    let Ok((store, mut readers, seats)) = opening.named::<N, &R>(alloc, rt) else {
+        return (Err(RunError::Memory), 0);
+    };
+    let Ok(crew) = crew_of(alloc, &store, &mut readers, seats) else {
+        return (Err(RunError::Memory), 0);
+    };
+    answer_beside_crew(
+        rt,
+        alloc,
+        &store,
+        gate,
+        crew,
+        &mut readers,
+        last,
+        head,
+        plan,
+        writer,
+    )
+}
+
+/// Opens the store that has taken some writes, and prints why it is refused, or the answers to the queries of a head.
+fn print_opened<O: Operator + Send + Sync, G: TurnGate, R: Threads + Wait + Sync, V: Write>(
+    rt: &R,
+    alloc: Global,
+    opener: Opener,
+    keeps: &[u64],
+    head: &[u8],
+    options: &Options,
+    plan: Plan,
+    gate: &G,
+    writer: &mut V,
+) -> Worked
+    requires { (writes : List WriteOf) × IsRising 0 writes × (opener ≡ progress_of options.now writes) }
+    ensures printed { (writes : List WriteOf) → IsRising 0 writes → opener ≡ progress_of options.now writes →
+        Prints (of_writes O.meaning options.now keeps.now (queries_in head.now) writes).replies
+        (V.contents writer.old) (V.contents writer.new) result.0 }
+    ensures done { (writes : List WriteOf) → IsRising 0 writes → opener ≡ progress_of options.now writes →
+        IfOk result.0 (λ done. done ≡ (of_writes O.meaning options.now keeps.now (queries_in head.now) writes).done) }
+    ensures told { (writes : List WriteOf) → IsRising 0 writes → opener ≡ progress_of options.now writes →
+        let opening : OpeningOf = record { writes = writes; keeps = keeps.now; options = options.now } in
+        IsReason (opening_cause opening) result.1.reason }
+    ensures opening { (writes : List WriteOf) → IsRising 0 writes → opener ≡ progress_of options.now writes →
+        let opening : OpeningOf = record { writes = writes; keeps = keeps.now; options = options.now } in
+        OnOk result.0 (TellsOpening (opening_cause opening) result.1.reason) }
+{
+    // A law of the layer below, which does nothing when it runs: what isn't refused may open.
+    no_refusal_is_leave_to_open();
+    match opener.finish(alloc, keeps) {
+        Ok(version) => {
+            let readers = plan.workers + plan.compactors;
+            let Ok(opening) = Opening::of(alloc, version, *options, readers, plan.compactors) else {
+                return (Err(RunError::Memory), Told::nothing());
+            };
+            let (outcome, installs) = answer_shared::<O, Brand, G, R, V>(
+                rt, alloc, opening, head, plan, gate, writer,
+            );
+            let reason = None;
+            (outcome, Told { reason, installs })
+        }
+        Err(OpenError::Memory) => (Err(RunError::Memory), Told::nothing()),
+        Err(error) => {
+            let outcome = print_refused_opening(alloc, error, writer);
+            let reason = reason_of_opening(error, options);
+            (outcome, Told::reason_alone(reason))
+        }
+    }
+}
+
+/// A store that is being opened from the log behind a head of `size` bytes, and how far that was read, with the bytes of the
+/// head. The log is let go of.
+fn recover_behind(
+    alloc: Global,
+    mut input: Vec<u8>,
+    size: usize,
+    options: Options,
+) -> Result<(Recovered, Vec<u8>), AllocError>
+    requires { size ≤ vec_len input }
+    ensures opener { IfOk result (λ found.
+        found.0.opener ≡ progress_of options (log_writes (drop size input.items)).list) }
+    ensures ended { IfOk result (λ found. found.0.ended ≡ (log_writes (drop size input.items)).ended) }
+    ensures rising { IfOk result (λ _. IsRising 0 (log_writes (drop size input.items)).list) }
+    ensures head { IfOk result (λ found. found.1.items ≡ take size input.items) }
+{
+    let recovered = recover(alloc, &input[size..], options)?;
+    input.truncate(size);
+    input.shrink_to_fit();
+    Ok((recovered, input))
+}
+
+/// Answers the queries of a head over the log that stands behind it.
+fn answer_log<O: Operator + Send + Sync, G: TurnGate, R: Threads + Wait + Sync, V: Write>(
+    rt: &R,
+    alloc: Global,
+    input: Vec<u8>,
+    head: Head,
+    options: &Options,
+    plan: Plan,
+    gate: &G,
+    writer: &mut V,
+) -> Worked
+    requires { head.size ≤ vec_len input }
+    ensures printed { Prints (of_log O.meaning options.now head.keeps (queries_in (take head.size input.items))
+        (log_writes (drop head.size input.items))).replies (V.contents writer.old) (V.contents writer.new) result.0 }
+    ensures done { IfOk result.0 (λ done. done ≡ (of_log O.meaning options.now head.keeps
+        (queries_in (take head.size input.items)) (log_writes (drop head.size input.items))).done) }
+    ensures told { IsReason (log_cause options.now head.keeps (log_writes (drop head.size input.items))) result.1.reason }
+    ensures opening { OnOk result.0
+        (TellsOpening (log_cause options.now head.keeps (log_writes (drop head.size input.items))) result.1.reason) }
+{
+    let Ok((recovered, lines)) = recover_behind(alloc, input, head.size, *options) else {
+        return (Err(RunError::Memory), Told::nothing());
+    };
+    let Recovered { opener, ended } = recovered;
+    match ended {
+        Ended::Clean | Ended::Torn(_) => print_opened::<O, G, R, V>(
+            rt,
+            alloc,
+            opener,
+            head.keeps.as_slice(),
+            &lines,
+            options,
+            plan,
+            gate,
+            writer,
+        ),
+        Ended::LogFault(..) | Ended::BatchFault(..) => {
+            (print_bad_log(alloc, ended, writer), Told::nothing())
+        }
+    }
+}
+
+/// Answers the queries in front of a log, or prints why they are refused.
+fn run<O: Operator + Send + Sync, G: TurnGate, R: Threads + Wait + Sync, V: Write>(
+    rt: &R,
+    alloc: Global,
+    input: Vec<u8>,
+    options: &Options,
+    plan: Plan,
+    gate: &G,
+    writer: &mut V,
+) -> Worked
+    ensures printed { Prints (ask_of O.meaning options.now input.items).replies
+        (V.contents writer.old) (V.contents writer.new) result.0 }
+    ensures done { IfOk result.0 (λ done. done ≡ (ask_of O.meaning options.now input.items).done) }
+    ensures told { IsReason (cause_of options.now input.items) result.1.reason }
+    ensures opening { OnOk result.0 (TellsOpening (cause_of options.now input.items) result.1.reason) }
+{
+    match read_head(alloc, &input) {
+        Ok(head) => answer_log::<O, G, R, V>(rt, alloc, input, head, options, plan, gate, writer),
+        Err(ScriptError::Fault(line)) => {
+            let reason = reason_of_line(alloc, Source::Head, &input, line);
+            let outcome = print_fault(alloc, line, writer);
+            (outcome, Told::reason_alone(reason))
+        }
+        Err(ScriptError::Memory) => (Err(RunError::Memory), Told::nothing()),
+    }
+}
+
+/// Answers the queries in front of a log as [`ask`] does. The gate is called by each compactor in each of its turns.
+pub fn ask_through<O: Operator + Send + Sync, R: Read, W: Write, G: TurnGate>(
+    rt: &(impl Threads + Wait + Sync),
+    alloc: Global,
+    reader: &mut R,
+    writer: &mut W,
+    options: &Options,
+    workers: usize,
+    piece: usize,
+    compactors: usize,
+    gate: &G,
+) -> (Outcome, u64)
+    requires { IsPlan workers piece compactors }
+    ensures written { IfSome (R.remaining reader.old) (λ input.
+        HasWritten (ask_of O.meaning options.now input) input (W.contents writer.old) (W.contents writer.new) result.0.done) }
+    ensures told { IfSome (R.remaining reader.old) (λ input. IsReason (cause_of options.now input) result.0.reason) }
+    ensures opening { result.0.done ≡ Done.Refused →
+        IfSome (R.remaining reader.old) (λ input. TellsOpening (cause_of options.now input) result.0.reason) }
+{
+    let plan = Plan {
+        workers,
+        piece,
+        compactors,
+    };
+    let (done, told) = run_over_input(alloc, reader, writer, |input: Vec<u8>, writer: &mut W| {
+        run::<O, G, _, W>(rt, alloc, input, options, plan, gate, writer)
+    });
+    let Told { reason, installs } = told.unwrap_or(Told::nothing());
+    (Outcome { done, reason }, installs)
+}
+
+/// Answers the queries in front of a log: reads all of the input, checks its head, opens a store from the log behind that, and
+/// prints the answers in the order of the queries. `workers` threads answer pieces of `piece` queries, from the versions that are
+/// shown meanwhile, while `compactors` threads compact what universal compaction picks, each until nothing is picked, an
+/// allocation fails, or it took 256 turns. All have ended when it returns. The number is that of the installs that the compactors
+/// made.
+///
+/// What is written is the text of `ask_of`, a function of the bytes that were read, the operator's meaning and the options:
+/// not of workers, pieces or compactors. A fault of the head is refused with the line that it stands in, then a log with a fault,
+/// and then an opening. If an allocation fails it is some whole first replies of that text, and then `out of memory`; if the
+/// reader or the writer fails, or the input is longer than 64 MiB, it is a front of a text that says so or of that one. A head
+/// or an opening that is refused has a reason.
+///
+/// [`is_plan`](crate::is_plan) says which numbers go together.
+pub fn ask<O: Operator + Send + Sync, R: Read, W: Write>(
+    rt: &(impl Threads + Wait + Sync),
+    alloc: Global,
+    reader: &mut R,
+    writer: &mut W,
+    options: &Options,
+    workers: usize,
+    piece: usize,
+    compactors: usize,
+) -> (Outcome, u64)
+    requires { IsPlan workers piece compactors }
+    ensures written { IfSome (R.remaining reader.old) (λ input.
+        HasWritten (ask_of O.meaning options.now input) input (W.contents writer.old) (W.contents writer.new) result.0.done) }
+    ensures told { IfSome (R.remaining reader.old) (λ input. IsReason (cause_of options.now input) result.0.reason) }
+    ensures opening { result.0.done ≡ Done.Refused →
+        IfSome (R.remaining reader.old) (λ input. TellsOpening (cause_of options.now input) result.0.reason) }
+{
+    ask_through::<O, R, W, Ungated>(
+        rt, alloc, reader, writer, options, workers, piece, compactors, &Ungated,
+    )
+}

@@ -1,0 +1,13 @@
+use Rattle.std.proofs.Common.{subst}
+use Rattle.uc_script.specs.Calls.{script_with}
+use Rattle.uc_tool_io.specs.Output.{Output, Prints}
+use Rattle.uc_tool_play.specs.Play.{opening_of}
+use Rattle.uc_tool_play.proofs.Opened.{opens}
+use Rattle.uc_tool_play.proofs.script_run.print_script.Goals as goal
+
+pub returns-in-Ok-clause-printed : goal.returns-in-Ok-clause-printed
+returns-in-Ok-clause-printed g c =
+    let contents = g.W.Write.contents in
+    let script = script_with c.args.preamble c.args.lines.now in
+    let is = opens g.O.Operator.meaning (opening_of c.args.options.now script) c.in-Ok.version script.calls c.in-Ok.ensures.ok.0 c.in-Ok.ensures.ok.1 in
+    subst (λ (out : Output). Prints out.replies (contents c.args.writer.now) (contents c.print_opened-outcome.new.writer) c.print_opened-outcome.result) is c.print_opened-outcome.ensures.printed
