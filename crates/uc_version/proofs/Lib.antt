@@ -9,3 +9,4 @@ pub mod PickedClaims
 pub mod Staying
 pub mod KeptClaims
 pub mod CompactedNow
+pub mod Feeding

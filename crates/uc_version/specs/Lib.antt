@@ -6,3 +6,4 @@ pub mod Claiming
 pub mod Installing
 pub mod AtOnce
 pub mod HeldOwners
+pub mod Feeding

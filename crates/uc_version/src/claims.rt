@@ -1,7 +1,9 @@
 //! The claims of an owner, by their numbers.
-ghost use Rattle.std.specs.Prelude.{◌≡◌, Some, true, map};
+ghost use Rattle.std.specs.Prelude.{◌≡◌, ◌+◌, ◌<◌, ◌^◌, Some, true, IfSome, map};
+ghost use Rattle.std.specs.List.{AllByRecursion};
 ghost use Rattle.uc_version.specs.Claiming as claiming;
 ghost use Rattle.uc_version.specs.Claiming.{has_ids};
+ghost use Rattle.uc_version.specs.Feeding as feeding;
 ghost use Rattle.uc_version.specs.Installing as installing;
 
 use crate::held_stretch::HeldStretch;
@@ -60,5 +62,29 @@ pub(crate) fn move_up(claims: &mut [Option<HeldStretch>], first: usize, count: u
 {
     for number in 0..claims.len() {
         claims[number] = moved_up(claims[number], first, count);
+    }
+}
+
+/// A held stretch, behind `count` runs more.
+fn moved_down(held: Option<HeldStretch>, count: usize) -> Option<HeldStretch>
+    requires { IfSome held (λ stretch. stretch.first + count < 2 ^ 63) }
+    ensures { result ≡ feeding.moved_down count held }
+{
+    match held {
+        None => None,
+        Some(stretch) => Some(HeldStretch {
+            first: stretch.first + count,
+            ..stretch
+        }),
+    }
+}
+
+/// Moves all stretches down, behind `count` runs more.
+pub(crate) fn move_down(claims: &mut [Option<HeldStretch>], count: usize)
+    requires { AllByRecursion (λ held. IfSome held (λ stretch. stretch.first + count < 2 ^ 63)) claims.old }
+    ensures { claims.new ≡ map (feeding.moved_down count) claims.old }
+{
+    for number in 0..claims.len() {
+        claims[number] = moved_down(claims[number], count);
     }
 }

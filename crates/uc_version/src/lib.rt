@@ -2,7 +2,7 @@
 //!
 //! An [`Owned`] has a version, and the claims of those who compact stretches of its runs. Read `specs/Owners.antt`
 //! first, then `specs/Claiming.antt`, `specs/Installing.antt` and `owned.rt`; and `specs/AtOnce.antt` with
-//! `at_once.rt`. Compactions of any version's runs, and their installs, are in `uc_version_compact`, whoever claims
+//! `at_once.rt`, and `specs/Feeding.antt` with `live.rt`. Compactions of any version's runs, and their installs, are in `uc_version_compact`, whoever claims
 //! them; versions are in `uc_version_state`. This crate re-exports the public items of both.
 //!
 //! An `Err(AllocError)`, or a variant `Memory`, comes only if an allocation fails.
@@ -13,9 +13,11 @@ mod claims;
 mod compact_error;
 mod held_stretch;
 mod laws;
+mod live;
 mod opened_writes;
 mod owned;
 mod owned_claim;
+mod release_error;
 mod runs;
 mod slots;
 
@@ -28,11 +30,13 @@ pub use laws::{
 pub use opened_writes::open_plain;
 pub use owned::Owned;
 pub use owned_claim::OwnedClaim;
+pub use release_error::ReleaseError;
 pub use uc_claims::MOST_SLOTS;
 pub use uc_version_compact::{
-    ClaimError, InstallError, are_inputs, compact_stretch, error_of, install_of,
-    install_refusal, pick, present_refusal, run_ids, runs_of, slots_of, stretch_runs,
-    what_fits_may_be_installed,
+    ClaimError, InstallError, are_inputs, compact_stretch, error_of, install_of, install_refusal,
+    pick, present_refusal, run_ids, runs_of, slots_of, stretch_runs, what_fits_may_be_installed,
 };
 pub use uc_version_open::{OpenError, Opener, open_version};
-pub use uc_version_state::{Candidate, Event, FeedError, Install, Options, Placed, Refusal, Stretch, Version};
+pub use uc_version_state::{
+    Candidate, Event, FeedError, Install, Options, Placed, Refusal, Stretch, Version,
+};

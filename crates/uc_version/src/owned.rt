@@ -27,11 +27,11 @@ use uc_version_state::{Options, Stretch, Version, install_gives_a_version};
 /// A store with one owner: a version, and the claims of stretches of its runs.
 #[derive(Drop)]
 pub struct Owned<O: Operator> {
-    version: Version,
+    pub(crate) version: Version,
     options: Options,
     table: ClaimTable,
     held: HeldSlots,
-    claims: [Option<HeldStretch>; MOST_CLAIMS],
+    pub(crate) claims: [Option<HeldStretch>; MOST_CLAIMS],
     operator: PhantomData<O>,
 }
 

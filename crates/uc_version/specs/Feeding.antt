@@ -1,0 +1,23 @@
+-- What feeding, keeping and releasing do to an owner.
+use Rattle.std.specs.Prelude.{ℕ, ◌+◌, List, Option, Some, None, map, length}
+use Rattle.uc_bytes.specs.declared.write.Write.{Write}
+use Rattle.uc_version_state.specs.Feeds.{memtables_in, fed}
+use Rattle.uc_version_state.specs.Snapshots.{kept, released}
+use Rattle.uc_version.specs.declared.held_stretch.HeldStretch.{HeldStretch}
+use Rattle.uc_version.specs.Owners.{Owner}
+
+-- a held stretch, behind `count` runs more
+abbrev pub moved_down : ℕ → Option HeldStretch → Option HeldStretch
+moved_down count None = None
+moved_down count (Some h) = Some (record h { first = h.first + count })
+
+-- the owner after writes were fed: claims go on to hold their runs, which stand behind the new ones
+abbrev pub after_feed : List Write → Owner → Owner
+after_feed ws o = record o { version = fed ws o.version; claims = map (moved_down (length (memtables_in o.version ws))) o.claims }
+
+-- the owner after the last sequence was kept, and after a keep was released
+abbrev pub after_keep : Owner → Owner
+after_keep o = record o { version = kept o.version }
+
+abbrev pub after_release : ℕ → Owner → Owner
+after_release seq o = record o { version = released seq o.version }

@@ -1,0 +1,71 @@
+//! Writes that are fed to an owner's store, and snapshots that come and go.
+ghost use Rattle.std.specs.Prelude.{◌≡◌, ◌⊎◌, ◌+◌, ◌≤◌, None, Some, Contains, IfOk, IfErr, OnOk, OnErr, length, map};
+ghost use Rattle.uc_version_state.specs.Feeds.{memtables_in, feed_refusal};
+ghost use Rattle.uc_version_state.specs.declared.feed_error.FeedError.TheVariants.{Memory};
+ghost use Rattle.uc_version.specs.Feeding as feeding;
+ghost use Rattle.uc_version.specs.declared.release_error.ReleaseError.TheVariants.{NotKept};
+
+use crate::claims::move_down;
+use crate::owned::Owned;
+use crate::release_error::ReleaseError;
+use std::alloc::{AllocError, Global};
+use uc_batch::Writes;
+use uc_oper::Operator;
+use uc_version_open::fed_version;
+use uc_version_state::{FeedError, feeds_and_keeps_give_versions, no_refusal_is_leave_to_feed};
+
+impl<O: Operator> Owned<O> {
+    /// Feeds writes: they fill memtables, and each becomes a run before all others. Returns how many runs there are more.
+    /// The last sequence becomes theirs; keeps stay, and so do claims, which go on to hold their runs. No writes change
+    /// nothing.
+    ///
+    /// It is refused if the first write isn't above the last sequence, then if a run would have no slot, then if no id is
+    /// left for one, and then for want of memory. The store is as it was then, and nothing is flushed but for the last.
+    /// It costs a copy of each text and a sort of what is fed. It copies no run that is there.
+    pub fn feed(&mut self, alloc: Global, writes: &Writes) -> Result<u64, FeedError>
+        ensures ok { IfOk result (λ count.
+            (feed_refusal self.old.version writes.now.list ≡ None)
+            × (count ≡ length (memtables_in self.old.version writes.now.list))
+            × (self.new ≡ feeding.after_feed writes.now.list self.old)) }
+        ensures err { IfErr result (λ error.
+            (self.new ≡ self.old)
+            × ((feed_refusal self.old.version writes.now.list ≡ Some error)
+            ⊎ ((feed_refusal self.old.version writes.now.list ≡ None) × (error ≡ Memory)))) }
+    {
+        no_refusal_is_leave_to_feed();
+        feeds_and_keeps_give_versions();
+        if let Some(error) = self.version.feed_refusal(writes.list()) {
+            return Err(error);
+        }
+        let next = fed_version(alloc, &self.version, writes.list())?;
+        let count = next.runs().len() - self.version.runs().len();
+        self.version = next;
+        move_down(&mut self.claims, count);
+        Ok(count as u64)
+    }
+
+    /// Takes a snapshot: the last sequence becomes a keep, if it isn't one. Returns it. Keeps aren't counted: one release
+    /// ends a keep that was taken twice. An `Err` changes nothing.
+    pub fn keep(&mut self) -> Result<u64, AllocError>
+        ensures ok { IfOk result (λ seq.
+            (seq ≡ self.old.version.last) × (self.new ≡ feeding.after_keep self.old)) }
+        ensures err { OnErr result (self.new ≡ self.old) }
+    {
+        self.version.keep()?;
+        Ok(self.version.last())
+    }
+
+    /// Releases a snapshot: the sequence is a keep no more. It is refused if it is none.
+    pub fn release(&mut self, seq: u64) -> Result<(), ReleaseError>
+        ensures ok { OnOk result
+            (Contains self.old.version.keeps seq × (self.new ≡ feeding.after_release seq self.old)) }
+        ensures err { IfErr result (λ error.
+            (error ≡ NotKept seq) × ¬ Contains self.old.version.keeps seq × (self.new ≡ self.old)) }
+    {
+        if !self.version.is_kept(seq) {
+            return Err(ReleaseError::NotKept(seq));
+        }
+        self.version.release(seq);
+        Ok(())
+    }
+}
