@@ -2,8 +2,8 @@
 //!
 //! `versions.rt` has versions of a few runs, `openings.rt` has openings from plain writes, `recoveries.rt` openings from short logs, `picks.rt` picks by hand,
 //! `drawn_picks.rt` random ones compared with a plain slow program, and `reports.rt` reports on what a store holds.
-//! `stores.rt` opens stores of a few runs, `at_once.rt` compacts stretches of them at once, and `installs.rt` installs
-//! compactions that the store didn't make.
+//! `stores.rt` opens stores of a few runs, `at_once.rt` compacts stretches of them at once, `installs.rt` installs
+//! compactions that the store didn't make, and `feeds.rt` feeds writes to them, with snapshots that come and go.
 //!
 //! `machine.rt` is the machine of compactors of `uc_version_state`, written as ordinary code. Its runs are only an id
 //! and a slot (`step_runs.rt`). In two variants a compactor makes its steps in a wrong order. `drawn_steps.rt` runs all
@@ -17,6 +17,8 @@ mod at_once;
 mod drawn_picks;
 #[cfg(test)]
 mod drawn_steps;
+#[cfg(test)]
+mod feeds;
 #[cfg(test)]
 mod installs;
 #[cfg(test)]

@@ -45,13 +45,13 @@ fn op_of(change: Change) -> OpRef<'static> {
     }
 }
 
-/// These changes, numbered from 1.
-fn writes_of(alloc: Global, changes: &[Change]) -> Result<Writes, Fail> {
+/// These changes, numbered from `first` on.
+pub(crate) fn numbered(alloc: Global, first: u64, changes: &[Change]) -> Result<Writes, Fail> {
     let mut writes = Vec::new(alloc);
-    let mut seq = 0_u64;
+    let mut seq = first;
     for &change in changes {
-        seq = seq.wrapping_add(1);
         writes.push(WriteRef::new(seq, op_of(change)).to_write(alloc)?)?;
+        seq = seq.wrapping_add(1);
     }
     Ok(Writes::of(writes).ok_or("the sequences don't rise")?)
 }
@@ -68,7 +68,7 @@ pub(crate) fn opened(
         first_id,
         ..Options::usual()
     };
-    match open_plain::<Commas>(alloc, &writes_of(alloc, changes)?, keeps, options) {
+    match open_plain::<Commas>(alloc, &numbered(alloc, 1, changes)?, keeps, options) {
         Ok(store) => Ok(store),
         Err(_) => Err("the store doesn't open")?,
     }

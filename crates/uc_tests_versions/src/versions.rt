@@ -11,12 +11,12 @@ use uc_oper::Counter;
 use uc_run::{Memtable, Run};
 use uc_version_state::{
     Install, Placed, Refusal, Version, beginnings_are_legal, events_change_what_they_say,
-    events_give_versions, feeds_and_keeps_give_versions, flushed_runs_take_the_least_slots, histories_grow_by_events,
-    histories_keep_what_is_read, histories_say_writes_and_keeps, install_gives_a_version,
-    install_keeps_what_is_read, memtables_are_filled_in_turn, neighbours_stand_where_their_ids_say,
-    no_refusal_is_leave_to_feed, no_writes_change_nothing, opened_keeps_are_those_given,
-    opening_gives_a_version, opening_keeps_every_effect, runs_are_replaced_once,
-    runs_keep_their_contents, runs_stay_until_replaced,
+    events_give_versions, feeds_and_keeps_give_versions, flushed_runs_take_the_least_slots,
+    histories_grow_by_events, histories_keep_what_is_read, histories_say_writes_and_keeps,
+    install_gives_a_version, install_keeps_what_is_read, memtables_are_filled_in_turn,
+    neighbours_stand_where_their_ids_say, no_refusal_is_leave_to_feed, no_writes_change_nothing,
+    opened_keeps_are_those_given, opening_gives_a_version, opening_keeps_every_effect,
+    runs_are_replaced_once, runs_keep_their_contents, runs_stay_until_replaced,
 };
 
 /// The run of a put at each of some sequences.

@@ -1,0 +1,275 @@
+//! Writes that are fed to a store, and snapshots that come and go, worked by hand.
+use crate::stores::{
+    Change, Commas, MERGED, Store, claimed, given_back, has_runs, merges, numbered, opened,
+};
+use std::alloc::Global;
+use std::marker::Sync;
+use std::process::Abort;
+use std::test::Fail;
+use std::thread::Threads;
+use uc_batch::Writes;
+use uc_bytes::{Bytes, OpRef, WriteRef};
+use uc_query::{Answer, Query, answer_one};
+use uc_version::{FeedError, InstallError, ReleaseError, Stretch};
+
+/// The two newest runs.
+const NEWEST: Stretch = Stretch { first: 0, count: 2 };
+
+/// Feeds merges with sequences from `first` on.
+fn fed(alloc: Global, store: &mut Store, first: u64, count: usize) -> Result<u64, Fail> {
+    match feed(alloc, store, first, count)? {
+        Ok(runs) => Ok(runs),
+        Err(_) => Err("the feed is refused")?,
+    }
+}
+
+/// What comes of feeding merges with sequences from `first` on.
+fn feed(
+    alloc: Global,
+    store: &mut Store,
+    first: u64,
+    count: usize,
+) -> Result<Result<u64, FeedError>, Fail> {
+    let writes = numbered(alloc, first, &merges(alloc, count)?)?;
+    Ok(store.feed(alloc, &writes))
+}
+
+/// How many runs there are, the id of the first, the first sequence that is fed, how many writes are, what comes of it,
+/// and how many runs there are then.
+type Row = (usize, u64, u64, usize, Result<u64, FeedError>, usize);
+
+/// Worked by hand. Each write is a run, and those that are there have the sequences from 1 on.
+static ROWS: [Row; 14] = [
+    (3, 1, 4, 1, Ok(1), 4),
+    (3, 1, 9, 2, Ok(2), 5),
+    (3, 1, 4, 0, Ok(0), 3),
+    (3, 1, 3, 1, Err(FeedError::Back(3)), 3),
+    (3, 1, 3, 2, Err(FeedError::Back(3)), 3),
+    (63, 1, 64, 1, Ok(1), 64),
+    (63, 1, 64, 2, Err(FeedError::TooManyRuns), 63),
+    (64, 1, 65, 1, Err(FeedError::TooManyRuns), 64),
+    (64, 1, 65, 0, Ok(0), 64),
+    (0, 1, 1, 64, Ok(64), 64),
+    (0, 1, 1, 65, Err(FeedError::TooManyRuns), 0),
+    // The order of refusals, and the last ids.
+    (64, u64::MAX - 64, 65, 1, Err(FeedError::TooManyRuns), 64),
+    (64, u64::MAX - 64, 64, 1, Err(FeedError::Back(64)), 64),
+    (63, u64::MAX - 64, 64, 1, Ok(1), 64),
+];
+
+/// These rows.
+fn rows() -> &'static [Row] {
+    &ROWS
+}
+
+/// The last sequence after a row.
+fn last_of(row: &Row) -> u64 {
+    let (before, _, first, count, outcome, _) = *row;
+    if outcome.is_ok() && count > 0 {
+        first.saturating_add(count as u64 - 1)
+    } else {
+        before as u64
+    }
+}
+
+/// Feeds a row's writes, and checks what came of it.
+fn feeds_row(rt: &impl Abort, alloc: Global, store: &mut Store, row: &Row) -> Result<(), Fail> {
+    let (_, _, first, count, wanted, after) = *row;
+    let outcome = feed(alloc, store, first, count)?;
+    assert_eq!(rt; outcome, wanted);
+    assert_eq!(rt; store.version().runs().len(), after);
+    assert_eq!(rt; store.version().last(), last_of(row));
+    Ok(())
+}
+
+#[test]
+fn feeds_are_accepted_or_refused(rt: HostRuntime) -> Result<(), Fail> {
+    let alloc = rt.alloc();
+    for row in rows() {
+        let (before, first_id, ..) = *row;
+        let changes = merges(alloc, before)?;
+        let mut store = opened(alloc, &changes, &[], first_id)?;
+        feeds_row(&rt, alloc, &mut store, row)?;
+    }
+    Ok(())
+}
+
+/// Installs what is compacted of the two newest runs, and returns the id of the new run.
+fn compacted(rt: &(impl Threads + Sync), alloc: Global, store: &mut Store) -> Result<u64, Fail> {
+    match store.compact_now(rt, alloc, NEWEST) {
+        Ok(id) => Ok(id),
+        Err(_) => Err("the compaction is refused")?,
+    }
+}
+
+#[test]
+fn no_run_gets_the_last_id(rt: HostRuntime) -> Result<(), Fail> {
+    let alloc = rt.alloc();
+    let mut store = opened(alloc, &merges(alloc, 63)?, &[], u64::MAX - 64)?;
+    assert_eq!(rt; compacted(&rt, alloc, &mut store)?, u64::MAX - 1);
+    let spent = feed(alloc, &mut store, 64, 1)?;
+    assert_eq!(rt; spent, Err(FeedError::IdsSpent));
+    assert_eq!(rt; fed(alloc, &mut store, 64, 0)?, 0);
+    Ok(())
+}
+
+#[test]
+fn runs_get_the_least_slots(rt: HostRuntime) -> Result<(), Fail> {
+    let alloc = rt.alloc();
+    let mut store = opened(alloc, &MERGED, &[], 1)?;
+    assert_eq!(rt; compacted(&rt, alloc, &mut store)?, 4);
+    assert!(rt; has_runs(&store, &[(4, 2), (1, 0)]));
+    assert_eq!(rt; fed(alloc, &mut store, 4, 2)?, 2);
+    assert!(rt; has_runs(&store, &[(6, 3), (5, 1), (4, 2), (1, 0)]));
+    Ok(())
+}
+
+/// Installs for a claim of the two newest runs what they became before others were fed.
+fn installs_behind_a_feed(
+    rt: &(impl Threads + Abort + Sync),
+    alloc: Global,
+    store: &mut Store,
+) -> Result<(), Fail> {
+    let claim = claimed(store, NEWEST)?;
+    assert!(rt; store.holds(&claim));
+    let made = store.compact(rt, alloc, &claim)?;
+    assert_eq!(rt; fed(alloc, store, 4, 1)?, 1);
+    assert!(rt; store.busy(2) && store.busy(1) && !store.busy(3));
+    assert!(rt; store.claim(NEWEST).is_err());
+    assert_eq!(rt; store.keep()?, 4);
+    if !store.holds(&claim) {
+        return Err("the claim isn't held")?;
+    }
+    match store.install(claim, made) {
+        Ok(id) => assert_eq!(rt; id, 5),
+        Err(_) => return Err("the install is refused")?,
+    }
+    assert!(rt; has_runs(store, &[(4, 3), (5, 2), (1, 0)]));
+    Ok(())
+}
+
+#[test]
+fn claims_go_on_behind_a_feed(rt: HostRuntime) -> Result<(), Fail> {
+    let alloc = rt.alloc();
+    installs_behind_a_feed(&rt, alloc, &mut opened(alloc, &MERGED, &[], 1)?)
+}
+
+/// A claim of the two newest runs, beside which a keep comes and goes. It can be given back.
+fn keeps_beside_a_claim(rt: &impl Abort, store: &mut Store) -> Result<(), Fail> {
+    let claim = claimed(store, NEWEST)?;
+    assert_eq!(rt; store.keep()?, 3);
+    assert!(rt; store.release(3).is_ok());
+    given_back(store, claim)
+}
+
+#[test]
+fn keeps_come_and_go(rt: HostRuntime) -> Result<(), Fail> {
+    let alloc = rt.alloc();
+    let mut store = opened(alloc, &MERGED, &[1], 1)?;
+    keeps_beside_a_claim(&rt, &mut store)?;
+    assert!(rt; store.version().keeps() == [1].as_slice());
+    let none = store.release(3);
+    assert_eq!(rt; none, Err(ReleaseError::NotKept(3)));
+    assert_eq!(rt; fed(alloc, &mut store, 7, 1)?, 1);
+    assert_eq!(rt; store.keep()?, 7);
+    assert_eq!(rt; store.keep()?, 7);
+    assert!(rt; store.version().keeps() == [1, 7].as_slice());
+    assert!(rt; store.release(1).is_ok());
+    assert!(rt; store.version().keeps() == [7].as_slice());
+    Ok(())
+}
+
+/// Whether a lookup of the key has this value at a keep.
+fn has_value(alloc: Global, store: &Store, at: u64, wanted: &[u8]) -> Result<bool, Fail> {
+    let key = Bytes::from_slice(alloc, b"k")?;
+    let answer = answer_one::<Commas>(alloc, store.version(), &Query::Get { key, at })?;
+    Ok(match answer {
+        Answer::Value(Some(value)) => value.as_slice() == wanted,
+        _ => false,
+    })
+}
+
+/// Whether a lookup of the key is refused.
+fn is_refused(alloc: Global, store: &Store, at: u64) -> Result<bool, Fail> {
+    let key = Bytes::from_slice(alloc, b"k")?;
+    let answer = answer_one::<Commas>(alloc, store.version(), &Query::Get { key, at })?;
+    Ok(matches!(answer, Answer::NotProtected(seq) if seq == at))
+}
+
+/// A snapshot survives a feed and a compaction of all runs, and ends with its release.
+fn reads_at_a_snapshot(
+    rt: &(impl Threads + Sync + Abort),
+    alloc: Global,
+    store: &mut Store,
+) -> Result<(), Fail> {
+    assert_eq!(rt; fed(alloc, store, 4, 1)?, 1);
+    assert!(rt; is_refused(alloc, store, 4)?);
+    assert_eq!(rt; store.keep()?, 4);
+    let all = Stretch { first: 0, count: 4 };
+    assert!(rt; store.compact_now(rt, alloc, all).is_ok());
+    assert!(rt; has_value(alloc, store, 3, b"a,b,c")?);
+    assert!(rt; has_value(alloc, store, 4, b"a,b,c,v")?);
+    assert!(rt; store.release(3).is_ok());
+    assert!(rt; is_refused(alloc, store, 3)?);
+    Ok(())
+}
+
+#[test]
+fn snapshots_survive_feeds_and_compactions(rt: HostRuntime) -> Result<(), Fail> {
+    let alloc = rt.alloc();
+    reads_at_a_snapshot(&rt, alloc, &mut opened(alloc, &MERGED, &[], 1)?)
+}
+
+#[test]
+fn folded_runs_are_read_at_a_later_keep(rt: HostRuntime) -> Result<(), Fail> {
+    let alloc = rt.alloc();
+    let mut store = opened(alloc, &[Change::Put(b"a"), Change::Merge(b"b")], &[], 1)?;
+    assert!(rt; store.release(2).is_ok());
+    assert_eq!(rt; compacted(&rt, alloc, &mut store)?, 3);
+    assert_eq!(rt; store.keep()?, 2);
+    assert!(rt; has_value(alloc, &store, 2, b"a,b")?);
+    Ok(())
+}
+
+#[test]
+fn an_empty_range_takes_a_slot(rt: HostRuntime) -> Result<(), Fail> {
+    let alloc = rt.alloc();
+    let mut store = opened(alloc, &[Change::Put(b"a")], &[], 1)?;
+    let mut writes = Vec::new(alloc);
+    writes.push(WriteRef::new(2, OpRef::delete_range(b"l", b"k")).to_write(alloc)?)?;
+    let writes = Writes::of(writes).ok_or("the sequences don't rise")?;
+    assert_eq!(rt; store.feed(alloc, &writes), Ok(1));
+    assert!(rt; has_runs(&store, &[(2, 1), (1, 0)]));
+    assert_eq!(rt; store.keep()?, 2);
+    Ok(())
+}
+
+/// What a compaction of the two newest runs under no keeps is refused for.
+fn refusal_of(
+    rt: &(impl Threads + Sync),
+    alloc: Global,
+    store: &mut Store,
+) -> Result<InstallError, Fail> {
+    let claim = claimed(store, NEWEST)?;
+    if !store.holds(&claim) {
+        return Err("the claim isn't held")?;
+    }
+    let made = store.compact(rt, alloc, &claim)?;
+    if !store.holds(&claim) {
+        return Err("the claim isn't held")?;
+    }
+    match store.install(claim, made) {
+        Ok(_) => Err("the install isn't refused")?,
+        Err((_claim, _made, error)) => Ok(error),
+    }
+}
+
+#[test]
+fn an_install_needs_an_id_behind_a_feed(rt: HostRuntime) -> Result<(), Fail> {
+    let alloc = rt.alloc();
+    let mut store = opened(alloc, &merges(alloc, 62)?, &[], u64::MAX - 64)?;
+    assert_eq!(rt; fed(alloc, &mut store, 63, 2)?, 2);
+    let error = refusal_of(&rt, alloc, &mut store)?;
+    assert_eq!(rt; error, InstallError::IdsSpent);
+    Ok(())
+}
