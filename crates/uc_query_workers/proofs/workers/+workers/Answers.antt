@@ -1,4 +1,4 @@
-use Rattle.std.proofs.Common.{rules, arith, ◌≡◌, ◌≤◌, ◌∷◌, [], ◌++◌, length, vec_len, vec_capacity}
+use Rattle.std.proofs.Common.{rules, ◌≤◌, vec_capacity}
 use Rattle.std.specs.List.{AllZip}
 use Rattle.uc_query_workers.proofs.Ends.{last_goes, zip_length}
 use Rattle.uc_query_workers.proofs.Seen.{all_same}
