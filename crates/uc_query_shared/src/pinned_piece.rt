@@ -31,7 +31,8 @@ impl<O: Operator, N: Name> Source<Reader<O, N>> for Pins {
         pinned_versions_answer_as_given::<O>();
         let pin = place.pin()?;
         pin.recall();
-        push_answers::<O>(alloc, pin.version(), queries, answers)
+        push_answers::<O>(alloc, pin.version(), queries, answers)?;
+        Ok(())
     }
 
     ghost stays = { λ place. prefix_self place };

@@ -1,5 +1,5 @@
 -- What workers drew, and what is left of it.
-use Rattle.std.proofs.Common.{◌≡◌, ◌≢◌, ℕ, ◌+◌, ◌<◌, ◌≤◌, List, [], ◌∷◌, ◌++◌, length, get_or, set, take, drop, map, sym, subst, ap, ◌∙◌, arith}
+use Rattle.std.proofs.Common.{◌≡◌, ◌≢◌, ℕ, ◌+◌, ◌<◌, List, [], ◌∷◌, ◌++◌, length, get_or, set, take, drop, map, sym, subst, ap, ◌∙◌, arith}
 use Rattle.std.specs.Prelude.{Some, slice_get}
 use Rattle.std.specs.List.{AllByRecursion}
 use Rattle.std.proofs.ByRecursion.{All-set, All-get_or}
@@ -9,7 +9,7 @@ use Rattle.uc_query_read.specs.declared.answer.Answer.{Answer}
 use Rattle.uc_query_read.specs.declared.query.Query.{Query}
 use Rattle.uc_query_workers.specs.InPieces.{Appended, AnswerEach}
 use Rattle.uc_query_workers.specs.Pieces.{Batch, piece_of}
-use Rattle.uc_query_workers.specs.Drawing.{Rises, AllRise, times_in, AnswerNumbers, IsDrawn, HasDrawn, HaveDrawn, AreLeft}
+use Rattle.uc_query_workers.specs.Drawing.{Rises, AnswerNumbers, IsDrawn, HasDrawn, HaveDrawn, AreLeft}
 use Rattle.uc_query_workers.proofs.Left.{none_first, next_once, next_none, lone, one_worker_more}
 use Rattle.uc_query_workers.proofs.Pieced.{first_taken, others_left}
 

@@ -1,9 +1,9 @@
 //! Batches of queries, answered by workers.
 //!
-//! A batch is cut into pieces, which workers draw as they come free, each once: a slow piece holds up nobody. They get
-//! the answers from a [`Source`]: one version, or a shared store, where each worker has a reader. Whatever they draw in whichever
-//! order, each piece is answered once, and the answers stand in the order of the queries. Read `specs/InPieces.antt` and `source.rt` first,
-//! then `answered.rt`, which has the machine, and `plain.rt`, which answers by it from one version.
+//! A batch is cut into pieces, which workers draw as they come free, each once: a slow piece holds up nobody. They get the
+//! answers from a [`Source`]: one version, or a shared store, where each worker has a reader. Whatever they draw in whichever order,
+//! each piece is answered once, and the answers stand in the order of the queries. Read `specs/InPieces.antt` and `source.rt`
+//! first, then `answered.rt`, which has the machine, and `plain.rt`, which answers by it from one version.
 //!
 //! A [`PieceCounter`] has one word, the number of draws so far. A thread acts at it through a [`PieceSeat`], a token that knows
 //! the numbers that it drew. [`PieceCounter::draw`] takes one `fetch_add`; no call takes a lock or waits for another thread.

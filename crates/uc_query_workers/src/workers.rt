@@ -14,6 +14,7 @@ use crate::worker::{Share, drawn_by_one};
 use std::alloc::{AllocError, Global};
 use std::marker::{Send, Sync};
 use std::thread::{Threads, join};
+use uc_query_read::Answer;
 
 /// What workers drew, and the seat that took in those of all of them.
 pub(crate) type Shares = Result<(PieceSeat, Vec<Drawn>), AllocError>;
@@ -73,6 +74,34 @@ fn put_back<P: Drop>(places: &mut Vec<P>, place: P)
     }
 }
 
+/// Lets one worker draw pieces, in the calling thread, and puts its place back behind the others, for which there is room.
+/// `answers` is empty.
+fn drawn_here<P: Drop, S: Source<P>, G: Gate>(
+    alloc: Global,
+    job: &Job<'_, S, G>,
+    seat: PieceSeat,
+    answers: Vec<Answer>,
+    place: P,
+    mut places: Vec<P>,
+) -> (Vec<P>, Shares)
+    requires seat { (seat.table ≡ job.now.counter.now.table) × (0 < seat.parts) × (seat.numbers ≡ []) }
+    requires empty { answers.items ≡ [] }
+    requires room { vec_len places < vec_capacity places }
+    ensures capacity { vec_capacity places ≤ vec_capacity result.0 }
+    ensures go_on { AllZip S.goes_on (places.items ++ place ∷ []) result.0.items }
+    ensures seat { IfOk result.1 (λ shares. shares.0 ≡ record seat { numbers = shares.0.numbers }) }
+    ensures end { IfOk result.1 (λ shares. 0 < past job.now.counter.now.pieces shares.0.numbers) }
+    ensures drawn { IfOk result.1 (λ shares.
+        HaveDrawn (S.gives job.now.source.now) job.now.batch.now job.now.counter.now.pieces shares.0.numbers shares.1.items) }
+{
+    let (place, share) = drawn_by_one(alloc, job, seat, answers, place);
+    put_back(&mut places, place);
+    match share {
+        Err(AllocError) => (places, Err(AllocError)),
+        Ok((seat, drawn)) => (places, alone::<P, S, G>(alloc, job, seat, drawn)),
+    }
+}
+
 /// Lets workers draw pieces, each with one of the places: the calling thread, and a thread of its own for each other one if it
 /// can be made. The seat has as many parts as there are workers. The places come back in their order, also if memory ran out.
 ///
@@ -105,12 +134,7 @@ pub(crate) fn drawn_by_workers<P: Send + Drop, S: Source<P>, G: Gate, R: Threads
         unreachable!()
     };
     if workers <= 1 {
-        let (place, share) = drawn_by_one(alloc, job, seat, answers, place);
-        put_back(&mut places, place);
-        return match share {
-            Err(AllocError) => (places, Err(AllocError)),
-            Ok((seat, drawn)) => (places, alone::<P, S, G>(alloc, job, seat, drawn)),
-        };
+        return drawn_here(alloc, job, seat, answers, place, places);
     }
     let fewer = workers - 1;
     let part = job.counter.split(&mut seat);
