@@ -2,7 +2,6 @@
 use Rattle.std.proofs.Common.{◌≡◌, List, [], ◌∷◌, ◌++◌, fold, map, refl, ap, ◌∙◌}
 use Rattle.std.specs.List.{flat_map}
 use Rattle.uc_oper.specs.Operation.{Operation}
-use Rattle.uc_bytes.specs.declared.write.Write.{Write}
 use Rattle.uc_query_read.specs.Answers.{answer_of}
 use Rattle.uc_query_read.specs.declared.query.Query.{Query}
 use Rattle.uc_query_workers.specs.Asking.{answers_of}
@@ -18,7 +17,7 @@ none_brought [] (Installed i ∷ fs) are = none_brought [] fs are
 none_brought [] (Flushed ws ∷ fs) are = absurd are
 none_brought [] (Kept ∷ fs) are = absurd are
 none_brought [] (Released seq ∷ fs) are = absurd are
-none_brought (e ∷ es) fs are = ap (λ (ws : List Write). writes_brought e ++ ws) (none_brought es fs are)
+none_brought (e ∷ es) fs are = ap (λ ws. writes_brought e ++ ws) (none_brought es fs are)
 
 -- the longer history was given the same writes
 pub same_given : (h : History) (events : List Event) → AreInstalls events → writes_given (record h { events = h.events ++ events }) ≡ writes_given h
