@@ -17,9 +17,7 @@ use uc_version::{Owned, Version};
 fn few_owned(alloc: Global) -> Result<Owned<Counter>> {
     let options = few_options();
     ensure!(options.are_good(), "an option is out of its range");
-    let version = few_writes(alloc)?;
-    ensure!(version.limit() == options.memtable, "another memtable");
-    Ok(Owned::<Counter>::new(alloc, version, options)?)
+    Ok(Owned::<Counter>::new(alloc, few_writes(alloc)?, options)?)
 }
 
 /// Checks that `workers` workers return the same answers as before.

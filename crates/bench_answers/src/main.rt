@@ -47,7 +47,6 @@ fn store_of(
     let options = asked.options;
     ensure!(options.are_good(), "an option is out of its range");
     let version = opened(alloc, log, options)?;
-    ensure!(version.limit() == options.memtable, "another memtable");
     let mut owned = Owned::<Counter>::new(alloc, version, options)?;
     if asked.compacted {
         compact_picked(rt, alloc, &mut owned)?;

@@ -8,7 +8,8 @@ use Rattle.uc_batch.specs.Rising.{last_of}
 use Rattle.uc_version_state.specs.Options.{are_good}
 use Rattle.uc_version_state.specs.declared.options.Options.{Options}
 use Rattle.uc_version_state.specs.Versions.{Stored}
-use Rattle.uc_version_state.specs.Openings.{Opening, opened, memtables}
+use Rattle.uc_version_state.specs.Flushes.{memtables}
+use Rattle.uc_version_state.specs.Openings.{Opening, opened}
 use Rattle.uc_version_open.specs.Refusal.{opening_refusal, first_refusal, first_ahead, are_few}
 use Rattle.uc_version.specs.Owners.{Owner, unclaimed}
 use Rattle.uc_tool_io.specs.Writing.{AppendsFront}

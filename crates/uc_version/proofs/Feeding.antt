@@ -108,7 +108,6 @@ module _ (o : Owner) (is : IsOwner o) where
   owner_fed ws is_version = record {
     version = is_version;
     options_good = is.options_good;
-    limit_is = is.limit_is;
     numbers = length-map o.claims (moved_down (length (memtables_in o.version ws))) ∙ is.numbers;
     stand = all_stand_on o.version ws o.claims is.stand;
     apart = subst AreDistinct (sym (slots_fed ws)) is.apart;
@@ -119,7 +118,6 @@ module _ (o : Owner) (is : IsOwner o) where
   owner_kept = record {
     version = kept_is_version o.version is.version;
     options_good = is.options_good;
-    limit_is = is.limit_is;
     numbers = is.numbers;
     stand = is.stand;
     apart = is.apart;
@@ -129,7 +127,6 @@ module _ (o : Owner) (is : IsOwner o) where
   owner_released seq = record {
     version = released_is_version seq o.version is.version;
     options_good = is.options_good;
-    limit_is = is.limit_is;
     numbers = is.numbers;
     stand = is.stand;
     apart = is.apart;

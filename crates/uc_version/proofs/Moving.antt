@@ -195,7 +195,6 @@ module _ (o : Owner) (is_owner : IsOwner o) (held : List ℕ) (same : (k : ℕ) 
   owner_after is_version = record {
     version = is_version;
     options_good = is_owner.options_good;
-    limit_is = is_owner.limit_is;
     numbers = length-map (set o.claims n None) (moved_up h.first h.count) ∙ length-set o.claims n None ∙ is_owner.numbers;
     stand = stand_on o.version h is_there.0 is_there.1 run (set o.claims n None) all;
     apart = distinct-from_times (claimed_slots after) (λ k. let e = ap (times k) (slots_stay o.version h is_there.0 is_there.1 run (set o.claims n None) all) in let le = once k in omega (arith, e, le));

@@ -70,7 +70,6 @@ module _ (o : Owner) (is_owner : IsOwner o) (held : List ℕ) (same : (k : ℕ) 
       with_one_more notes = record {
         version = is_owner.version;
         options_good = is_owner.options_good;
-        limit_is = is_owner.limit_is;
         numbers = length-set o.claims n (Some h) ∙ is_owner.numbers;
         stand = all-set o.version (Stands o.version) o.claims n (Some h) is_owner.stand (two, within, notes);
         apart = distinct-from_times (flat_map (slots_held o.version) (set o.claims n (Some h))) once_more;
@@ -110,7 +109,6 @@ module _ (o : Owner) (is_owner : IsOwner o) (held : List ℕ) (same : (k : ℕ) 
     with_one_less = record {
       version = is_owner.version;
       options_good = is_owner.options_good;
-      limit_is = is_owner.limit_is;
       numbers = length-set o.claims n None ∙ is_owner.numbers;
       stand = all-set o.version (Stands o.version) o.claims n None is_owner.stand tt;
       apart = distinct-from_times (flat_map (slots_held o.version) fewer) (λ k. let l = less_claimed k in let le = claimed_once o is_owner k in omega (arith, l, le));

@@ -49,8 +49,6 @@ Stands v (Some h) = (2 ≤ h.count) × (h.first + h.count ≤ length v.runs) × 
 pub record IsOwner (o : Owner) : Type 0 where
   pub version : IsVersion o.version
   pub options_good : are_good o.options ≡ true
-  -- memtables are flushed as the options say
-  pub limit_is : o.version.limit ≡ o.options.memtable
   pub numbers : length o.claims ≡ MOST_CLAIMS
   pub stand : AllByRecursion (Stands o.version) o.claims
   -- no run is in two claims

@@ -49,8 +49,7 @@ impl<O: Operator> Model for Owned<O> {
 impl<O: Operator> Owned<O> {
     /// A store with this version and no claims.
     pub fn new(alloc: Global, version: Version, options: Options) -> Result<Owned<O>, AllocError>
-        requires good { are_good options ≡ true }
-        requires limit { version.limit ≡ options.memtable }
+        requires { are_good options ≡ true }
         ensures { IfOk result (λ owned. owned ≡ unclaimed version options) }
     {
         version.recall();

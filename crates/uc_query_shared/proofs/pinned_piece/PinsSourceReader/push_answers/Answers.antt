@@ -9,8 +9,8 @@ use Rattle.uc_query_shared.proofs.pinned_piece.PinsSourceReader.push_answers.Goa
 pub returns-clause-answers : goal.returns-clause-answers
 returns-clause-answers g c =
     let installs = subst (λ (p : Moment). AreInstalls p.events) c.in_ok-pin.ensures.pinned c.recall.ensures.installs in record {
-  given = answers_of g.O.Operator.meaning c.version.result.now c.args.queries.now;
-  are = c.in_ok-push_answers.ensures;
-  as_many = length-map _ _;
-  may_be = answers_as_given g.O.Operator.meaning g.N.Name.base c.pin.new.self c.version.result.now c.args.queries.now (c.version.ensures ∙ ap (λ (p : Moment). p.version) c.in_ok-pin.ensures.pinned) (λ h query legal is. c.pinned_versions_answer_as_given.ensures h g.N.Name.base c.pin.new.self query legal is c.in_ok-pin.ensures.legal installs);
-}
+      given = answers_of g.O.Operator.meaning c.version.result.now c.args.queries.now;
+      are = c.in_ok-push_answers.ensures;
+      as_many = length-map _ _;
+      may_be = answers_as_given g.O.Operator.meaning g.N.Name.base c.pin.new.self c.version.result.now c.args.queries.now (c.version.ensures ∙ ap (λ (p : Moment). p.version) c.in_ok-pin.ensures.pinned) (λ h query legal is. c.pinned_versions_answer_as_given.ensures h g.N.Name.base c.pin.new.self query legal is c.in_ok-pin.ensures.legal installs);
+    }
