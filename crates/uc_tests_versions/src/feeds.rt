@@ -179,14 +179,19 @@ fn keeps_come_and_go(rt: HostRuntime) -> Result<(), Fail> {
     Ok(())
 }
 
+/// Whether an answer is this value.
+fn is_value(answer: &Answer, wanted: &[u8]) -> bool {
+    match answer {
+        Answer::Value(Some(value)) => value.as_slice() == wanted,
+        _ => false,
+    }
+}
+
 /// Whether a lookup of the key has this value at a keep.
 fn has_value(alloc: Global, store: &Store, at: u64, wanted: &[u8]) -> Result<bool, Fail> {
     let key = Bytes::from_slice(alloc, b"k")?;
     let answer = answer_one::<Commas>(alloc, store.version(), &Query::Get { key, at })?;
-    Ok(match answer {
-        Answer::Value(Some(value)) => value.as_slice() == wanted,
-        _ => false,
-    })
+    Ok(is_value(&answer, wanted))
 }
 
 /// Whether a lookup of the key is refused.
