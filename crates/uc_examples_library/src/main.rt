@@ -1,26 +1,44 @@
-//! The store in a program of one's own: opens the write-ahead log on standard input, and reads a key and all rows.
-//!
-//! The README shows this program.
+//! Counts visits: opens the log on standard input, counts on, and reads at a snapshot and at the end. The README shows it.
 #![tactic(auto)]
 
 use anyhow::Result;
+use std::alloc::Global;
 use std::io::Read;
-use std::str;
-use uc_store::{Answer, Append, OpenedLog, Options, get, open_log};
+use std::marker::Sync;
+use std::thread::Threads;
+use uc_store::{Answer, Bytes, Counter, Op, Options, Owned, feed_batch, get, get_last, open_log};
 
-/// Merges join texts by commas.
-type Texts = Append<b','>;
+fn count(alloc: Global, store: &mut Owned<Counter>, visits: u64) -> Result<u64> {
+    let operand = Bytes::from_slice(alloc, &visits.to_le_bytes())?;
+    let op = Op::Merge(Bytes::from_slice(alloc, b"visits")?, operand);
+    Ok(feed_batch(alloc, store, vec![in alloc; op]?)?)
+}
+
+fn number(answer: Answer) -> Result<u64> {
+    match answer {
+        Answer::Value(Some(value)) => Ok(u64::from_le_bytes(value.as_slice().try_into()?)),
+        _ => Ok(0),
+    }
+}
+
+fn run<T: Threads + Sync>(rt: &T, alloc: Global, store: &mut Owned<Counter>) -> Result<(u64, u64)> {
+    let snapshot = store.keep()?;
+    for visits in 1..4 {
+        count(alloc, store, visits)?;
+    }
+    if let Some(stretch) = store.pick() {
+        store.compact_now(rt, alloc, stretch)?;
+    }
+    let before = get::<Counter>(alloc, store.version(), b"visits", snapshot)?;
+    store.release(snapshot)?;
+    Ok((number(before)?, number(get_last(alloc, store, b"visits")?)?))
+}
 
 fn main(rt: HostRuntime) -> Result<()> {
-    let alloc = rt.alloc();
-    let mut log = Vec::new(alloc);
+    let mut log = Vec::new(rt.alloc());
     rt.stdin().read_to_end(&mut log)?;
-    let OpenedLog { store, ended } = open_log::<Texts>(alloc, &log, &[], Options::usual())?;
-    let last = store.version().last();
-    println!(rt; "the last sequence is {last}, and the log ends {ended:?}")?;
-    if let Answer::Value(Some(value)) = get::<Texts>(alloc, store.version(), b"k", last)? {
-        let text = str::from_utf8(value.as_slice())?;
-        println!(rt; "k is {text}")?;
-    }
+    let mut opened = open_log(rt.alloc(), &log, &[], Options::usual())?;
+    let (before, now) = run(&rt, rt.alloc(), &mut opened.store)?;
+    println!(rt; "{before} visits at the snapshot, {now} now")?;
     Ok(())
 }

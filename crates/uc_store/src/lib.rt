@@ -2,18 +2,26 @@
 //!
 //! [`open_log`] opens a store from the bytes of a write-ahead log, and says how far the log could be read. [`get`] looks a key
 //! up at a sequence that a snapshot protects, [`answer_one`] answers any query and [`answer_plain`] a batch of them by many
-//! workers. [`Owned`] picks what to compact, and [`report`] says what a store holds. Begin with `opened_log.rt`; all else is
-//! given out from the crates below.
+//! workers. [`feed_batch`] writes, and [`get_last`] and [`answer_last`] read at the last sequence. [`Owned`] takes snapshots, and
+//! picks what to compact; [`report`] says what a store holds. Begin with `opened_log.rt`, `batches.rt` and `last_reads.rt`; all
+//! else is given out from the crates below.
 #![tactic(auto)]
 
+mod batches;
+mod feed_batch_error;
+mod last_reads;
 mod opened_log;
 
+pub use batches::feed_batch;
+pub use feed_batch_error::FeedBatchError;
+pub use last_reads::{answer_last, get_last};
 pub use opened_log::{OpenedLog, open_log};
-pub use uc_batch::Ended;
+pub use uc_batch::{Ended, Op};
 pub use uc_bytes::Bytes;
 pub use uc_oper::{Append, Counter, Maximum, Operator};
 pub use uc_query::{Answer, AskError, Query, Report, Rows, answer_one, answer_plain, get, report};
 pub use uc_version::{
-    ClaimError, CompactError, InstallError, Options, Owned, OwnedClaim, Placed, Stretch, Version,
+    ClaimError, CompactError, FeedError, InstallError, Options, Owned, OwnedClaim, Placed,
+    ReleaseError, Stretch, Version,
 };
 pub use uc_version_open::OpenError;
