@@ -20,6 +20,7 @@ isnt_there seq keeps none = by_test (is_protected keeps seq) refl
   where
     some_above : (n : ℕ) → ltb 0 n ≡ true → 0 < n
     some_above n e = grind (arith, nat_tests)
+
     by_test : (b : Bool) → is_protected keeps seq ≡ b → b ≡ false
     by_test true e = absurd (none (Contains-from_times seq keeps (some_above (times seq keeps) (sym (list_any-times seq keeps) ∙ e))))
     by_test false e = refl
@@ -53,5 +54,5 @@ out_again seq (k ∷ ks) none = next seq k ks (eqb k seq) (out_again seq ks) non
 pub is_as_before : (o : Owner) → (Contains o.version.keeps o.version.last → ⊥) → after_release o.version.last (after_keep o) ≡ o
 is_as_before o none =
     let keeps : without_keep o.version.last (with_keep o.version.last o.version.keeps) ≡ o.version.keeps =
-      ap (without_keep o.version.last) (sym (is_new o.version.last o.version.keeps none)) ∙ out_again o.version.last o.version.keeps (isnt_there o.version.last o.version.keeps none) in
+    ap (without_keep o.version.last) (sym (is_new o.version.last o.version.keeps none)) ∙ out_again o.version.last o.version.keeps (isnt_there o.version.last o.version.keeps none) in
     ap (λ (ks : List ℕ). record o { version = record o.version { keeps = ks } }) keeps
