@@ -54,6 +54,7 @@ pub fn present_refusal<O: Operator>(
     ensures some { IfSome result (λ refusal.
         IsRefused present.now (versions.ids_of claimed.now) (terms_of made.now) refusal) }
 {
+    made.recall_standing();
     let ids = run_ids(claimed);
     let terms = Terms::new(made.keeps(), made.oldest(), made.output().high_seq());
     present.replace_refusal(&ids[..claimed.len()], &terms)

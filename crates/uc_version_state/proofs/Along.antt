@@ -1,12 +1,12 @@
 -- What stays along a history.
-use Rattle.std.proofs.Common.{◌≡◌, ◌≢◌, ℕ, ◌≤◌, List, [], ◌∷◌, ◌++◌, Contains, inl, inr, ⊎_elim, fold, refl, sym, ap, ◌∙◌, subst, append-nil, arith}
+use Rattle.std.proofs.Common.{◌≡◌, ℕ, ◌≤◌, List, [], ◌∷◌, ◌++◌, Contains, inl, inr, ⊎_elim, fold, sym, ap, ◌∙◌, subst, append-nil, arith}
 use Rattle.std.specs.Prelude.{None}
 use Rattle.std.specs.List.{flat_map}
 use Rattle.std.proofs.lemmas.List.{append_assoc}
 use Rattle.uc_oper.specs.Operation.{Operation, IsLawful}
 use Rattle.uc_oper.specs.Composition.{applied}
 use Rattle.uc_bytes.specs.declared.write.Write.{Write}
-use Rattle.uc_batch.specs.Rising.{IsRising, last_of}
+use Rattle.uc_batch.specs.Rising.{last_of}
 use Rattle.uc_model.specs.Meaning.{effect_on, value_of}
 use Rattle.uc_model.proofs.MeaningLaws.{effect_gives, effect_continues}
 use Rattle.uc_compact_rules.specs.Reading.{IsReadAt}

@@ -1,7 +1,7 @@
 -- What feeding leaves is a version, and none is refused without writes.
-use Rattle.std.proofs.Common.{◌≡◌, ℕ, ◌≤◌, List, [], arith}
+use Rattle.std.proofs.Common.{◌≤◌, List, arith}
 use Rattle.uc_bytes.specs.declared.write.Write.{Write}
-use Rattle.uc_batch.specs.Rising.{IsRising, last_of}
+use Rattle.uc_batch.specs.Rising.{last_of}
 use Rattle.uc_compact_rules.proofs.Lists.{all-map}
 use Rattle.uc_version_state.specs.Versions.{Stored, IsVersion}
 use Rattle.uc_version_state.specs.Feeds.{fed, MayFeed}

@@ -1,5 +1,5 @@
 -- Runs that are placed one after the other.
-use Rattle.std.proofs.Common.{◌≡◌, ℕ, suc, ◌+◌, List, [], ◌∷◌, ◌++◌, length, refl, ap, ◌∙◌, arith}
+use Rattle.std.proofs.Common.{◌≡◌, ℕ, suc, ◌+◌, List, [], ◌∷◌, ◌++◌, length, ap, ◌∙◌, arith}
 use Rattle.uc_run_entry.specs.Run.{Contents}
 use Rattle.uc_version_state.specs.Versions.{PlacedRun}
 use Rattle.uc_version_state.specs.Flushes.{with_run, placed_onto}

@@ -1,10 +1,8 @@
 -- What an opening leaves is a version, which means its writes.
-use Rattle.std.proofs.Common.{◌≡◌, ℕ, ◌+◌, ◌<◌, ◌≤◌, Bool, true, false, leb, List, [], ◌∷◌, ◌++◌, length, refl, arith, leb-true}
+use Rattle.std.proofs.Common.{◌≡◌, ℕ, ◌≤◌, Bool, true, false, List, [], ◌∷◌, ◌++◌, refl, arith, leb-true}
 use Rattle.std.specs.Prelude.{◌^◌, ◌-◌, ◌&&◌}
-use Rattle.std.proofs.lemmas.Bool.Decides.{nat_tests}
 use Rattle.uc_oper.specs.Operation.{Operation, IsLawful}
-use Rattle.uc_bytes.specs.declared.write.Write.{Write}
-use Rattle.uc_batch.specs.Rising.{IsRising, last_of}
+use Rattle.uc_batch.specs.Rising.{last_of}
 use Rattle.uc_model.specs.Meaning.{effect_on}
 use Rattle.uc_compact_rules.proofs.Lists.{all-append}
 use Rattle.uc_version_state.specs.declared.options.Options.{Options}

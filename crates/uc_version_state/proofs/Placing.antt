@@ -1,6 +1,6 @@
 -- The runs of memtables, placed before older ones.
 use Rattle.std.proofs.Common.{◌≡◌, ◌≢◌, ℕ, suc, ◌+◌, ◌<◌, ◌≤◌, List, [], ◌∷◌, ◌++◌, length, refl, sym, ap, ◌∙◌, subst, arith, append-nil}
-use Rattle.std.specs.List.{AllByRecursion, list_any}
+use Rattle.std.specs.List.{AllByRecursion}
 use Rattle.std.proofs.lemmas.List.{append_assoc, length-map}
 use Rattle.uc_oper.specs.Operation.{Operation, IsLawful}
 use Rattle.uc_oper.specs.Composition.{composed}

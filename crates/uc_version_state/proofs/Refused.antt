@@ -1,5 +1,5 @@
 -- Which writes may be fed.
-use Rattle.std.proofs.Common.{◌≡◌, ℕ, suc, ◌+◌, ◌<◌, ◌≤◌, Bool, true, false, List, [], ◌∷◌, length, None, refl, arith}
+use Rattle.std.proofs.Common.{◌≡◌, ℕ, suc, ◌+◌, Bool, true, false, List, [], ◌∷◌, length, None, refl, arith}
 use Rattle.std.specs.Prelude.{◌^◌, ◌↔◌}
 use Rattle.std.proofs.lemmas.Bool.{leb-true, le-leb}
 use Rattle.uc_bytes.specs.declared.write.Write.{Write}
@@ -8,7 +8,6 @@ use Rattle.uc_claims.specs.declared.table.TheConstants.{MOST_SLOTS}
 use Rattle.uc_version_state.specs.Versions.{Stored, IsVersion}
 use Rattle.uc_version_state.specs.Feeds.{memtables_in, fed, MayFeed, begin_above, first_feed_refusal, feed_refusal}
 use Rattle.uc_version_state.proofs.Few.{few_runs}
-use Rattle.uc_version_state.proofs.Memtables.{rising_from_any}
 
 rise_on : (last : ℕ) (ws : List Write) → begin_above last ws ≡ true → IsRising 0 ws → IsRising last ws
 rise_on last [] above h = tt

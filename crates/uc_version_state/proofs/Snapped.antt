@@ -1,5 +1,5 @@
 -- Keeps that come and go leave a version.
-use Rattle.std.proofs.Common.{◌≡◌, ◌⊎◌, inl, inr, ⊎_elim, ℕ, ◌<◌, ◌≤◌, Bool, true, false, cond, eqb, ltb, not, ◌||◌, List, [], ◌∷◌, ◌++◌, Contains, refl, sym, ap, ◌∙◌, subst, arith}
+use Rattle.std.proofs.Common.{◌≡◌, ◌⊎◌, inl, inr, ⊎_elim, ℕ, ◌<◌, ◌≤◌, Bool, true, false, cond, eqb, ltb, not, ◌||◌, List, [], ◌∷◌, ◌++◌, Contains, refl, sym, ◌∙◌, subst, arith}
 use Rattle.std.specs.Prelude.{Result, Ok, Err, OnOk, OnErr}
 use Rattle.std.specs.List.{AllByRecursion, list_any, filter}
 use Rattle.std.specs.List.Sorted.{IsStrictlySortedBy}
@@ -9,7 +9,7 @@ use Rattle.std.proofs.lemmas.Bool.Decides.{nat_tests}
 use Rattle.std.proofs.lemmas.List.Elements.{Contains-push_cases}
 use Rattle.uc_claims.specs.Claims.{times}
 use Rattle.uc_claims.proofs.Times.{list_any-times, times-from_Contains, Contains-from_times, times-filter}
-use Rattle.uc_compact_rules.proofs.Lists.{all-append, all-filter, all-map}
+use Rattle.uc_compact_rules.proofs.Lists.{all-append, all-filter}
 use Rattle.uc_compact_rules.proofs.OutputRun.{sorted-append}
 use Rattle.uc_version_state.specs.Versions.{Stored, IsVersion}
 use Rattle.uc_version_state.specs.Snapshots.{with_keep, without_keep, kept, released}

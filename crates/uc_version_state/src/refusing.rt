@@ -8,6 +8,7 @@ ghost use Rattle.uc_version_state.specs.Refusals.{AreReplaceable, IsRefused, IsM
 use crate::install::Install;
 use crate::placed::Placed;
 use crate::refusal::Refusal;
+use crate::snapshots::is_among;
 use crate::standing::{are_in_place, newest_id, place_of};
 use crate::terms::Terms;
 use crate::version::Version;
@@ -26,11 +27,11 @@ fn is_nothing_below(runs: &[Placed], ids: &[u64], terms: &Terms) -> bool
     !terms.oldest || are_last(runs, ids)
 }
 
-/// Whether a compaction wasn't made for a keep below the greatest sequence of its inputs.
+/// Whether a compaction wasn't made for a keep below the greatest sequence of its inputs. It searches by halves.
 fn is_unknown(terms: &Terms, keep: u64) -> bool
     ensures { result ≡ refusals.is_unknown terms.now keep }
 {
-    keep < terms.high && !terms.keeps.contains(&keep)
+    keep < terms.high && !is_among(terms.keeps, keep)
 }
 
 /// The first of some keeps that a compaction wasn't made for.
@@ -74,6 +75,7 @@ impl Version {
         ensures none { IfNone result (AreReplaceable self.now install.now.ids (terms_in install.now)) }
         ensures some { IfSome result (λ refusal. IsRefused self.now install.now.ids (terms_in install.now) refusal) }
     {
+        install.recall();
         let high = install.output().high_seq();
         let terms = Terms::new(install.keeps(), install.oldest(), high);
         self.replace_refusal(install.ids(), &terms)

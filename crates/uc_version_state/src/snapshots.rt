@@ -8,7 +8,7 @@ use crate::version::Version;
 use std::alloc::AllocError;
 
 /// Whether a sequence is among keeps, which rise. It searches by halves.
-fn is_among(keeps: &[u64], seq: u64) -> bool
+pub(crate) fn is_among(keeps: &[u64], seq: u64) -> bool
     requires { IsStrictlySortedBy nat_cmp keeps.now }
     ensures { IsTrue result ↔ Contains keeps.now seq }
 {

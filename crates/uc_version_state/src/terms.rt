@@ -1,5 +1,7 @@
 //! [`Terms`]: what a compaction requires of a version.
 ghost use Rattle.std.specs.Prelude.{◌≡◌};
+ghost use Rattle.std.specs.List.Sorted.{IsStrictlySortedBy};
+ghost use Rattle.std.specs.Ordering.{nat_cmp};
 
 use std::marker::Model;
 
@@ -13,16 +15,21 @@ pub struct Terms<'a> {
 }
 
 impl<'a> Model for Terms<'a> {
+    ghost use Rattle.std.specs.List.Sorted.{IsStrictlySortedBy};
+    ghost use Rattle.std.specs.Ordering.{nat_cmp};
     ghost use Rattle.uc_version_state.specs.Installs as installs;
 
     ghost Value = { installs.Terms };
 
     ghost view = { λ t. record { keeps = t.keeps.now; oldest = t.oldest; high = t.high } };
+
+    ghost invariant = { λ t. IsStrictlySortedBy nat_cmp t.keeps.now };
 }
 
 impl<'a> Terms<'a> {
-    /// The terms of a compaction.
+    /// The terms of a compaction. Its keeps rise.
     pub fn new(keeps: &'a [u64], oldest: bool, high: u64) -> Terms<'a>
+        requires { IsStrictlySortedBy nat_cmp keeps.now }
         ensures { result ≡ record { keeps = keeps.now; oldest = oldest; high = high } }
     {
         Terms {

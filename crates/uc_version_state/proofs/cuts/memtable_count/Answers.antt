@@ -1,6 +1,6 @@
 use Rattle.std.proofs.Common.{◌≡◌, ◌+◌, ◌-◌, ◌^◌, min, rules}
 use Rattle.uc_run.specs.Size.{write_size}
-use Rattle.uc_version_state.proofs.Counting.{HasCounted, on_full, on_room}
+use Rattle.uc_version_state.proofs.Counting.{on_full, on_room}
 use Rattle.uc_version_state.proofs.cuts.memtable_count.Goals as goal
 use Rattle.uc_version_state.proofs.cuts.memtable_count.Goals.{then-is_empty, else-is_empty}
 

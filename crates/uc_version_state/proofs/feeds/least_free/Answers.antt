@@ -1,4 +1,4 @@
-use Rattle.std.proofs.Common.{length, refl, arith, sym, ◌∙◌, ap}
+use Rattle.std.proofs.Common.{length, refl, arith, ap}
 use Rattle.std.proofs.lemmas.List.{length-map}
 use Rattle.uc_version_state.specs.Versions.{PlacedRun, slots_of}
 use Rattle.uc_version_state.specs.Flushes.{free_from}

@@ -1,5 +1,3 @@
-use Rattle.std.proofs.lemmas.Bool.{false≢true}
-use Rattle.std.proofs.Common.{◌∙◌, sym}
 use Rattle.uc_version_state.proofs.Free.{not_there, is_there, least_within}
 use Rattle.uc_version_state.proofs.laws.flushed_runs_take_the_least_slots.Goals as goal
 

@@ -1,6 +1,5 @@
 use Rattle.std.proofs.Common.{ap, sym, ◌∙◌, subst}
 use Rattle.uc_batch.specs.Rising.{IsRising, last_of}
-use Rattle.uc_version_state.specs.Histories.{known}
 use Rattle.uc_version_state.proofs.Knowing.{is_known, writes_known}
 use Rattle.uc_version_state.proofs.laws.histories_say_writes_and_keeps.Goals as goal
 
