@@ -1,5 +1,5 @@
 -- Claims go on to hold their runs when writes are fed.
-use Rattle.std.proofs.Common.{◌≡◌, ℕ, zero, suc, ◌+◌, ◌<◌, ◌≤◌, List, [], ◌∷◌, ◌++◌, Option, Some, None, length, length-append, map, get_or, take, drop, refl, sym, ap, ◌∙◌, subst, arith}
+use Rattle.std.proofs.Common.{◌≡◌, ℕ, true, zero, suc, ◌+◌, ◌<◌, ◌≤◌, List, [], ◌∷◌, ◌++◌, Option, Some, None, length, length-append, map, get_or, take, drop, refl, sym, ap, ◌∙◌, subst, arith}
 use Rattle.std.specs.Prelude.{◌^◌, Result, Ok, Err, OnOk, OnErr, IfSome}
 use Rattle.std.specs.List.{AllByRecursion, flat_map}
 use Rattle.std.proofs.lemmas.List.{append_assoc, length-map}
@@ -17,7 +17,9 @@ use Rattle.uc_version_state.proofs.Few.{few_runs}
 use Rattle.uc_version_state.proofs.Placing.{count_flushed}
 use Rattle.uc_version_state.proofs.Snapped.{kept_is_version, released_is_version}
 use Rattle.uc_version.specs.declared.held_stretch.HeldStretch.{HeldStretch}
-use Rattle.uc_version.specs.Owners.{Owner, IsOwner, Stands, NotesItsRuns, runs_held, slots_held, claimed_slots, last_id}
+use Rattle.uc_version.specs.Owners.{Owner, IsOwner, Stands, runs_held, slots_held, claimed_slots, last_id}
+use Rattle.uc_version.specs.Claiming.{Claim, has_ids, is_held}
+use Rattle.uc_version.specs.Installing.{stretch_in, claimed_runs}
 use Rattle.uc_version.specs.HeldOwners.{owner, IsOwned}
 use Rattle.uc_version.specs.declared.owned.Owned.TheInside.{Inside}
 use Rattle.uc_version.specs.Feeding.{moved_down, after_feed, after_keep, after_release}
@@ -131,6 +133,31 @@ module _ (o : Owner) (is : IsOwner o) where
     stand = is.stand;
     apart = is.apart;
   }
+
+-- ---- what a claim has
+
+-- what each claim becomes, by its number; none stays none
+at_number : (count : ℕ) (cs : List (Option HeldStretch)) (n : ℕ) → get_or (map (moved_down count) cs) n None ≡ moved_down count (get_or cs n None)
+at_number count [] n = refl
+at_number count (c ∷ cs) zero = refl
+at_number count (c ∷ cs) (suc n) = at_number count cs n
+
+-- a stretch that moves down has its ids
+ids_go_on : (count : ℕ) (found : Option HeldStretch) (c : Claim) → has_ids (moved_down count found) c ≡ has_ids found c
+ids_go_on count None c = refl
+ids_go_on count (Some h) c = refl
+
+runs_go_on : (v : Stored) (ws : List Write) (found : Option HeldStretch) → runs_held (fed ws v) (stretch_in (moved_down (length (memtables_in v ws)) found)) ≡ runs_held v (stretch_in found)
+runs_go_on v ws None = refl
+runs_go_on v ws (Some h) = runs_stay v ws h
+
+pub claim_fed : (o : Owner) (c : Claim) (ws : List Write) → is_held o c ≡ true → (is_held (after_feed ws o) c ≡ true) × (claimed_runs (after_feed ws o) c ≡ claimed_runs o c)
+claim_fed o c ws held =
+    let count = length (memtables_in o.version ws) in
+    let at = at_number count o.claims c.number in (
+      ap (λ (found : Option HeldStretch). has_ids found c) at ∙ ids_go_on count (get_or o.claims c.number None) c ∙ held,
+      ap (λ (found : Option HeldStretch). runs_held (fed ws o.version) (stretch_in found)) at ∙ runs_go_on o.version ws (get_or o.claims c.number None),
+    )
 
 -- ---- what is held
 

@@ -1,21 +1,26 @@
 //! What holds of owners.
-ghost use Rattle.std.specs.Prelude.{◌≡◌, ◌≢◌, Some, None, true};
+ghost use Rattle.std.specs.Prelude.{◌≡◌, ◌≢◌, ℕ, List, Some, None, true};
+ghost use Rattle.uc_bytes.specs.declared.write.Write.{Write};
 ghost use Rattle.uc_version_state.specs.declared.stretch.Stretch.{Stretch};
 ghost use Rattle.uc_version_state.specs.Picks.{picked};
 ghost use Rattle.uc_compact_rules.specs.Inputs.{Compaction, Stand};
 ghost use Rattle.uc_version_state.specs.Versions.{ids_of};
 ghost use Rattle.uc_version_state.specs.Installs.{MayInstall, installed, newest_id};
+ghost use Rattle.uc_version_state.specs.Feeds.{MayFeed};
 ghost use Rattle.uc_version.specs.Owners.{Owner, IsOwner, is_busy, last_id};
 ghost use Rattle.uc_version_compact.specs.Picking.{candidates_of};
 ghost use Rattle.uc_version.specs.Claiming.{Claim, is_held, claim_refusal, claim_of, with_claim, without_claim};
 ghost use Rattle.uc_version.specs.Installing.{stretch_of, claimed_runs, compaction_of, IdLeft, MayReplace};
 ghost use Rattle.uc_version.specs.Installing.{IsRefused, after_install, install_of};
 ghost use Rattle.uc_version.specs.AtOnce.{install_at, after_compaction};
+ghost use Rattle.uc_version.specs.Feeding.{after_feed, after_keep, after_release};
 ghost use Rattle.uc_version_compact.specs.declared.install_error.InstallError.{InstallError};
 ghost use Rattle.uc_version_compact.specs.declared.install_error.InstallError.TheVariants.{IdsSpent};
 
 use uc_oper::Operator;
-use uc_version_state::{install_gives_a_version, picks_are_unclaimed_runs};
+use uc_version_state::{
+    feeds_and_keeps_give_versions, install_gives_a_version, picks_are_unclaimed_runs,
+};
 
 /// An install for a held claim is an event that may happen to the version, and leaves the version after it.
 pub fn installs_are_events<O: Operator>()
@@ -38,7 +43,8 @@ pub fn picks_can_be_claimed()
     picks_are_unclaimed_runs();
 }
 
-/// After a claim, after giving one back and after an install there is an owner again.
+/// After a claim, after giving one back and after an install there is an owner again, and so after a feed, a keep and a
+/// release.
 pub fn owners_stay_owners<O: Operator>()
     ensures claimed { (o : Owner) (s : Stretch) → IsOwner o → claim_refusal o s ≡ None →
         IsOwner (with_claim o (claim_of o s) s) }
@@ -46,17 +52,29 @@ pub fn owners_stay_owners<O: Operator>()
     ensures installed { (o : Owner) (c : Claim) (made : Compaction) → IsOwner o → is_held o c ≡ true →
         Stand made.inputs made.keeps →
         MayReplace o.version (stretch_of o c) made → IsOwner (after_install O.meaning o c made) }
+    ensures fed { (o : Owner) (ws : List Write) → IsOwner o → MayFeed o.version ws → IsOwner (after_feed ws o) }
+    ensures kept { (o : Owner) → IsOwner o → IsOwner (after_keep o) }
+    ensures let_go { (o : Owner) (seq : ℕ) → IsOwner o → IsOwner (after_release seq o) }
 {
     install_gives_a_version::<O>();
+    feeds_and_keeps_give_versions();
 }
 
-/// A claim notes the ids of its newest and its oldest run, and keeps its runs when another claim's are replaced.
+/// A claim notes the ids of its newest and its oldest run, and keeps its runs when another claim's are replaced. It is
+/// held and has its runs after a feed, a keep and a release too.
 pub fn claims_keep_their_runs<O: Operator>()
     ensures notes { (o : Owner) (c : Claim) → IsOwner o → is_held o c ≡ true →
         (c.newest ≡ newest_id (ids_of (claimed_runs o c))) × (c.oldest ≡ last_id (ids_of (claimed_runs o c))) }
     ensures kept { (o : Owner) (c other : Claim) (made : Compaction) → IsOwner o → is_held o c ≡ true →
         is_held o other ≡ true →
         other.number ≢ c.number → claimed_runs (after_install O.meaning o c made) other ≡ claimed_runs o other }
+    ensures over_a_feed { (o : Owner) (c : Claim) (ws : List Write) → IsOwner o → is_held o c ≡ true →
+        MayFeed o.version ws →
+        (is_held (after_feed ws o) c ≡ true) × (claimed_runs (after_feed ws o) c ≡ claimed_runs o c) }
+    ensures over_a_keep { (o : Owner) (c : Claim) → IsOwner o → is_held o c ≡ true →
+        (is_held (after_keep o) c ≡ true) × (claimed_runs (after_keep o) c ≡ claimed_runs o c) }
+    ensures over_a_release { (o : Owner) (c : Claim) (seq : ℕ) → IsOwner o → is_held o c ≡ true →
+        (is_held (after_release seq o) c ≡ true) × (claimed_runs (after_release seq o) c ≡ claimed_runs o c) }
 {}
 
 /// A claim that isn't refused is held after it is made.
