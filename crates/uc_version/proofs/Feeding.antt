@@ -4,6 +4,7 @@ use Rattle.std.specs.Prelude.{◌^◌, Result, Ok, Err, OnOk, OnErr, IfSome}
 use Rattle.std.specs.List.{AllByRecursion, flat_map}
 use Rattle.std.proofs.lemmas.List.{append_assoc, length-map}
 use Rattle.std.proofs.Math.Seq.{drop-append-add}
+use Rattle.std.proofs.Math.ListN.{get_or-map}
 use Rattle.uc_bytes.specs.declared.write.Write.{Write}
 use Rattle.uc_claims.specs.Claims.{times}
 use Rattle.uc_claims.specs.Holding.{AreDistinct}
@@ -136,16 +137,10 @@ module _ (o : Owner) (is : IsOwner o) where
 
 -- ---- what a claim has
 
--- what each claim becomes, by its number; none stays none
-at_number : (count : ℕ) (cs : List (Option HeldStretch)) (n : ℕ) → get_or (map (moved_down count) cs) n None ≡ moved_down count (get_or cs n None)
-at_number count [] n = refl
-at_number count (c ∷ cs) zero = refl
-at_number count (c ∷ cs) (suc n) = at_number count cs n
-
 -- a stretch that moves down has its ids
-ids_go_on : (count : ℕ) (found : Option HeldStretch) (c : Claim) → has_ids (moved_down count found) c ≡ has_ids found c
-ids_go_on count None c = refl
-ids_go_on count (Some h) c = refl
+ids_go_on : (more : ℕ) (found : Option HeldStretch) (c : Claim) → has_ids (moved_down more found) c ≡ has_ids found c
+ids_go_on more None c = refl
+ids_go_on more (Some h) c = refl
 
 runs_go_on : (v : Stored) (ws : List Write) (found : Option HeldStretch) → runs_held (fed ws v) (stretch_in (moved_down (length (memtables_in v ws)) found)) ≡ runs_held v (stretch_in found)
 runs_go_on v ws None = refl
@@ -153,9 +148,9 @@ runs_go_on v ws (Some h) = runs_stay v ws h
 
 pub claim_fed : (o : Owner) (c : Claim) (ws : List Write) → is_held o c ≡ true → (is_held (after_feed ws o) c ≡ true) × (claimed_runs (after_feed ws o) c ≡ claimed_runs o c)
 claim_fed o c ws held =
-    let count = length (memtables_in o.version ws) in
-    let at = at_number count o.claims c.number in (
-      ap (λ (found : Option HeldStretch). has_ids found c) at ∙ ids_go_on count (get_or o.claims c.number None) c ∙ held,
+    let more = length (memtables_in o.version ws) in
+    let at = get_or-map (moved_down more) o.claims c.number None in (
+      ap (λ (found : Option HeldStretch). has_ids found c) at ∙ ids_go_on more (get_or o.claims c.number None) c ∙ held,
       ap (λ (found : Option HeldStretch). runs_held (fed ws o.version) (stretch_in found)) at ∙ runs_go_on o.version ws (get_or o.claims c.number None),
     )
 

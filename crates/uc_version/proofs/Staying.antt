@@ -10,12 +10,12 @@ use Rattle.std.proofs.lemmas.List.Elements.{All-from_recursion}
 use Rattle.uc_oper.specs.Operation.{Operation}
 use Rattle.uc_claims.specs.Claims.{times}
 use Rattle.uc_claims.specs.Holding.{NoneHeld}
-use Rattle.uc_claims.proofs.Times.{times-cons, one_same, times-from_Contains, list_any-times}
+use Rattle.uc_claims.proofs.Times.{times-cons, one_same, times-from_Contains, Contains-from_times, list_any-times}
 use Rattle.uc_version_state.specs.declared.stretch.Stretch.{Stretch}
 use Rattle.uc_compact_rules.specs.Inputs.{Compaction, Stand}
 use Rattle.uc_compact_rules.specs.Output.{output_of}
 use Rattle.uc_version_state.specs.Versions.{Stored, IsVersion, ids_of, slots_of}
-use Rattle.uc_version_state.specs.Installs.{Install, MayInstall, Terms, NothingBelow, terms_of, behind, part_of, installed}
+use Rattle.uc_version_state.specs.Installs.{Install, MayInstall, Terms, KeepsKnown, NothingBelow, terms_of, behind, part_of, installed}
 use Rattle.uc_version_state.specs.Refusals.{AreInPlace, first_unknown}
 use Rattle.uc_version_state.proofs.Found.{standing_is, behind_is}
 use Rattle.uc_version.specs.declared.held_stretch.HeldStretch.{HeldStretch}
@@ -107,18 +107,22 @@ installed_stays m o c made is_owner held stand may gives =
     owner_after o is_owner (claimed_slots o) (λ k. refl) c.number (stretch_of o c) (held_is o c held) (output_of m made)
     (subst IsVersion is (gives o.version (install_of m o.version (stretch_of o c) made) is_owner.version legal))
 
--- no keep of a list is unknown where all of them are the compaction's
-all_own : (t : Terms) (keeps : List ℕ) → ((k : ℕ) → 0 < times k keeps → 0 < times k t.keeps) → first_unknown t keeps ≡ None
+-- no keep is unknown where each below the inputs' greatest sequence is one of the compaction's
+is_own : (t : Terms) (k : ℕ) → (k < t.high → Contains t.keeps k) → (below : Bool) → ltb k t.high ≡ below → (below && not (list_any (λ x. eqb x k) t.keeps)) ≡ false
+is_own t k own false e = refl
+is_own t k own true e =
+    let lt : k < t.high = grind (arith, nat_tests) in
+    ap not (list_any-times k t.keeps ∙ there (times k t.keeps) (times-from_Contains k t.keeps (own lt)))
+
+all_own : (t : Terms) (keeps : List ℕ) → ((k : ℕ) → 0 < times k keeps → k < t.high → Contains t.keeps k) → first_unknown t keeps ≡ None
 all_own t [] own = refl
 all_own t (keep ∷ keeps) own =
     ap (λ b. cond b (Some keep) (first_unknown t keeps))
-    (ap (λ b. ltb keep t.high && not b) (list_any-times keep t.keeps ∙ there (times keep t.keeps) (own keep (let e = times-cons keep keep keeps in let one = one_same keep keep refl in omega (arith, e, one))))
-    ∙ never (ltb keep t.high))
+    (is_own t keep (own keep (let e = times-cons keep keep keeps in let one = one_same keep keep refl in omega (arith, e, one))) (ltb keep t.high) refl)
     ∙ all_own t keeps (λ k some. own k (let e = times-cons k keep keeps in omega (arith, e, some)))
-  where
-    never : (b : Bool) → (b && not true) ≡ false
-    never true = refl
-    never false = refl
+
+pub none_unknown : (t : Terms) (keeps : List ℕ) → KeepsKnown keeps t → first_unknown t keeps ≡ None
+none_unknown t keeps known = all_own t keeps (λ k some lt. known k (Contains-from_times k keeps some) lt)
 
 module _ (v : Stored) (is_version : IsVersion v) (h : HeldStretch) (two : 2 ≤ h.count) (within : h.first + h.count ≤ length v.runs) where
   -- the runs of a stretch are in place
@@ -151,7 +155,7 @@ module _ (v : Stored) (is_version : IsVersion v) (h : HeldStretch) (two : 2 ≤ 
   pub only_ids : (error : InstallError) → IsRefused v h (compaction_of v h) error → (error ≡ IdsSpent) × ¬ IdLeft v
   only_ids WrongInputs refused = absurd (refused.0 own_fits)
   only_ids (WrongKeeps keep) refused =
-      let none : None ≡ Some keep = sym (all_own (terms_of (compaction_of v h)) v.keeps (λ k some. some)) ∙ refused.0.1 in absurd cc
+      let none : None ≡ Some keep = sym (none_unknown (terms_of (compaction_of v h)) v.keeps (λ keep has lt. has)) ∙ refused.0.1 in absurd cc
   only_ids Stale refused = absurd (refused.1 refl)
   only_ids IdsSpent refused = (refl, refused.0.3)
   only_ids Memory refused = absurd refused.0

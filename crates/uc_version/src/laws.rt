@@ -1,5 +1,5 @@
 //! What holds of owners.
-ghost use Rattle.std.specs.Prelude.{◌≡◌, ◌≢◌, ℕ, List, Some, None, true};
+ghost use Rattle.std.specs.Prelude.{◌≡◌, ◌≢◌, ℕ, List, Some, None, true, fold};
 ghost use Rattle.uc_bytes.specs.declared.write.Write.{Write};
 ghost use Rattle.uc_version_state.specs.declared.stretch.Stretch.{Stretch};
 ghost use Rattle.uc_version_state.specs.Picks.{picked};
@@ -7,6 +7,8 @@ ghost use Rattle.uc_compact_rules.specs.Inputs.{Compaction, Stand};
 ghost use Rattle.uc_version_state.specs.Versions.{ids_of};
 ghost use Rattle.uc_version_state.specs.Installs.{MayInstall, installed, newest_id};
 ghost use Rattle.uc_version_state.specs.Feeds.{MayFeed};
+ghost use Rattle.uc_version_state.specs.declared.event.Event.{Event};
+ghost use Rattle.uc_version_state.specs.Histories.{MayFollow, after};
 ghost use Rattle.uc_version.specs.Owners.{Owner, IsOwner, is_busy, last_id};
 ghost use Rattle.uc_version_compact.specs.Picking.{candidates_of};
 ghost use Rattle.uc_version.specs.Claiming.{Claim, is_held, claim_refusal, claim_of, with_claim, without_claim};
@@ -60,14 +62,25 @@ pub fn owners_stay_owners<O: Operator>()
     feeds_and_keeps_give_versions();
 }
 
-/// A claim notes the ids of its newest and its oldest run, and keeps its runs when another claim's are replaced. It is
-/// held and has its runs after a feed, a keep and a release too.
+/// A claim notes the ids of its newest and its oldest run. It is held on and keeps its runs when another claim is made or
+/// given back, when another's runs are replaced, and after a feed, a keep and a release.
 pub fn claims_keep_their_runs<O: Operator>()
     ensures notes { (o : Owner) (c : Claim) → IsOwner o → is_held o c ≡ true →
         (c.newest ≡ newest_id (ids_of (claimed_runs o c))) × (c.oldest ≡ last_id (ids_of (claimed_runs o c))) }
     ensures kept { (o : Owner) (c other : Claim) (made : Compaction) → IsOwner o → is_held o c ≡ true →
         is_held o other ≡ true →
         other.number ≢ c.number → claimed_runs (after_install O.meaning o c made) other ≡ claimed_runs o other }
+    ensures held_on { (o : Owner) (c other : Claim) (made : Compaction) → IsOwner o → is_held o c ≡ true →
+        is_held o other ≡ true →
+        other.number ≢ c.number → is_held (after_install O.meaning o c made) other ≡ true }
+    ensures over_a_claim { (o : Owner) (c : Claim) (s : Stretch) → IsOwner o → is_held o c ≡ true →
+        claim_refusal o s ≡ None →
+        (is_held (with_claim o (claim_of o s) s) c ≡ true)
+        × (claimed_runs (with_claim o (claim_of o s) s) c ≡ claimed_runs o c)
+        × (c.number ≢ (claim_of o s).number) }
+    ensures over_an_abandon { (o : Owner) (c other : Claim) → IsOwner o → is_held o c ≡ true → is_held o other ≡ true →
+        other.number ≢ c.number →
+        (is_held (without_claim o other) c ≡ true) × (claimed_runs (without_claim o other) c ≡ claimed_runs o c) }
     ensures over_a_feed { (o : Owner) (c : Claim) (ws : List Write) → IsOwner o → is_held o c ≡ true →
         MayFeed o.version ws →
         (is_held (after_feed ws o) c ≡ true) × (claimed_runs (after_feed ws o) c ≡ claimed_runs o c) }
@@ -92,6 +105,23 @@ pub fn claims_can_be_compacted()
     ensures refused { (o : Owner) (c : Claim) (error : InstallError) → IsOwner o → is_held o c ≡ true →
         IsRefused o.version (stretch_of o c) (compaction_of o.version (stretch_of o c)) error →
         (error ≡ IdsSpent) × ¬ IdLeft o.version }
+{}
+
+/// What a claim's runs were compacted to may be installed at any later time, while the claim is held and has its runs, if
+/// an id is left. Feeds, keeps, releases and other installs may come between. It is refused for nothing else: it knows
+/// each keep that it has to know, and if it was made for the oldest run, no run comes after its own.
+pub fn own_compactions_are_refused_for_ids_alone<O: Operator>()
+    ensures may { (o p : Owner) (c : Claim) (events : List Event) → IsOwner o → IsOwner p →
+        is_held o c ≡ true → is_held p c ≡ true →
+        MayFollow O.meaning o.version events → p.version ≡ fold after o.version events →
+        claimed_runs p c ≡ claimed_runs o c → IdLeft p.version →
+        MayReplace p.version (stretch_of p c) (compaction_of o.version (stretch_of o c)) }
+    ensures refused { (o p : Owner) (c : Claim) (events : List Event) (error : InstallError) → IsOwner o → IsOwner p →
+        is_held o c ≡ true → is_held p c ≡ true →
+        MayFollow O.meaning o.version events → p.version ≡ fold after o.version events →
+        claimed_runs p c ≡ claimed_runs o c →
+        IsRefused p.version (stretch_of p c) (compaction_of o.version (stretch_of o c)) error →
+        (error ≡ IdsSpent) × ¬ IdLeft p.version }
 {}
 
 /// A stretch that can be claimed can be compacted at once if an id is left. It is claimed, its compaction is an event

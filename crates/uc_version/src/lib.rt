@@ -25,7 +25,8 @@ pub use compact_error::CompactError;
 pub use held_stretch::{HeldStretch, MOST_CLAIMS};
 pub use laws::{
     claimable_stretches_can_be_compacted, claims_are_held, claims_can_be_compacted,
-    claims_keep_their_runs, installs_are_events, owners_stay_owners, picks_can_be_claimed,
+    claims_keep_their_runs, installs_are_events, own_compactions_are_refused_for_ids_alone,
+    owners_stay_owners, picks_can_be_claimed,
 };
 pub use opened_writes::open_plain;
 pub use owned::Owned;

@@ -16,7 +16,8 @@ use uc_version_state::{FeedError, feeds_and_keeps_give_versions, no_refusal_is_l
 
 impl<O: Operator> Owned<O> {
     /// Feeds writes: they fill memtables, and each becomes a run before all others. Returns how many runs there are more.
-    /// The last sequence becomes theirs; keeps stay, and so do claims, which go on to hold their runs. No writes change
+    /// The last sequence becomes theirs; keeps stay, and so do claims, which go on to hold their runs. What was compacted
+    /// for a claim before a feed, a keep or a release can be installed after it, if an id is left. No writes change
     /// nothing.
     ///
     /// It is refused if the first write isn't above the last sequence, then if a run would have no slot, then if no id is

@@ -203,6 +203,9 @@ impl<O: Operator> Owned<O> {
     /// Replaces the claim's runs by what they were compacted to, and gives the claim back. Returns the id of the new
     /// run. It copies no run and doesn't allocate. Before any change it goes over the points of the claim's runs, which
     /// takes up to four tenths of the time of their compaction. A refusal hands back both, and the store is as it was.
+    ///
+    /// What `compact` made for this claim is refused only if no id is left, whatever was fed, kept, released or installed
+    /// since.
     pub fn install(
         &mut self,
         claim: OwnedClaim,

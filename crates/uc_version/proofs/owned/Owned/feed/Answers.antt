@@ -1,8 +1,8 @@
-use Rattle.std.proofs.Common.{◌≡◌, ◌-◌, ℕ, List, None, length, map, ap, sym, ◌∙◌, subst, rules, arith}
+use Rattle.std.proofs.Common.{◌≡◌, ◌-◌, List, None, length, map, ap, ◌∙◌, subst, rules, arith}
 use Rattle.std.specs.List.{AllByRecursion}
 use Rattle.uc_bytes.specs.declared.write.Write.{Write}
 use Rattle.uc_batch.specs.Rising.{IsRising}
-use Rattle.uc_version_state.specs.Versions.{PlacedRun, Stored, IsVersion}
+use Rattle.uc_version_state.specs.Versions.{PlacedRun, Stored}
 use Rattle.uc_version_state.specs.Feeds.{memtables_in, fed, feed_refusal}
 use Rattle.uc_version.specs.Owners.{Owner}
 use Rattle.uc_version.specs.Feeding.{moved_down, after_feed}
