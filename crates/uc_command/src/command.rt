@@ -17,13 +17,15 @@ lines that begin with # are skipped. Keys and values are hexadecimal, . for the 
 
   before open:  put KEY VALUE   delete KEY   merge KEY OPERAND   range BEGIN END   keep SEQUENCE
                 open
-  after it:     get KEY SEQUENCE   scan LOW HIGH LIMIT SEQUENCE
+  after it:     put   delete   merge   range   as before   feed   keep   release SEQUENCE
+                get KEY SEQUENCE   scan LOW HIGH LIMIT SEQUENCE
                 claim NAME FIRST COUNT   install NAME   abandon NAME
                 compact FIRST COUNT   pick   report
 
-Change number i has the sequence i; the store takes none after open. SEQUENCE is a number, or `last`
-after open; it has to be kept or the last one. HIGH is a key or - for none. NAME is a number below 32;
-FIRST counts runs from 0, the newest.
+Change number i has the sequence i. Changes after open are gathered, and `feed` writes them. A `keep`
+after open keeps the last sequence written; `release` ends it. SEQUENCE is a number, or after open
+`last`, the last sequence at opening. It has to be kept to be read, as `last` is until its release.
+HIGH is a key or - for none. NAME is a number below 32; FIRST counts runs from 0, the newest.
 
 A script with a fault prints `fault line N` and nothing else; standard error says what is wrong with
 that line. A refused opening prints `refused` and why; standard error names the option or number.

@@ -137,8 +137,9 @@ fn main(rt: HostRuntime) -> Result<()> {
     check_script::<Counter, _>(&rt, "first", usual)?;
     check_script::<Append<COMMA>, _>(&rt, "merge", usual)?;
     check_script::<Counter, _>(&rt, "compaction", 1)?;
+    check_script::<Append<COMMA>, _>(&rt, "live", 1)?;
     check_ask(&rt)?;
     check_report(&rt)?;
-    println!(rt; "{logs} logs, 3 scripts, queries and a report print what stands beside them")?;
+    println!(rt; "{logs} logs, 4 scripts, queries and a report print what stands beside them")?;
     Ok(())
 }

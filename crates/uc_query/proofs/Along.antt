@@ -10,13 +10,18 @@ use Rattle.uc_query_workers.specs.declared.ask_error.AskError.{AskError}
 use Rattle.uc_query.specs.declared.call.Call.{Call}
 use Rattle.uc_query.specs.declared.reply.Reply.{Reply}
 use Rattle.uc_query.specs.Names.{State}
-use Rattle.uc_query.specs.Turns.{Turn, FailsWith, turn_of}
+use Rattle.uc_query.specs.Turns.{Turn, FailsWith, Rises, turn_of}
 use Rattle.uc_query.specs.Running.{Ran, unless_error, run_of}
 use Rattle.uc_query.specs.Stepping.{RunsTo, Halts}
 
 -- what comes of calls behind others
 abbrev pub behind_all : Ran → Ran → Ran
 behind_all first rest = record { replies = first.replies ++ rest.replies; state = rest.state; error = rest.error }
+
+-- one call more that rises
+rising_on : (xs : List Call) (x : Call) → AllByRecursion Rises xs → Rises x → AllByRecursion Rises (xs ++ x ∷ [])
+rising_on [] x h more = (more, tt)
+rising_on (y ∷ ys) x h more = (h.0, rising_on ys x h.1 more)
 
 module _ (m : Operation) where
   pub run-append : (xs ys : List Call) (s : State) → (run_of m s xs).error ≡ None → run_of m s (xs ++ ys) ≡ behind_all (run_of m s xs) (run_of m (run_of m s xs).state ys)
@@ -36,11 +41,11 @@ module _ (m : Operation) where
   module _ (s : State) where
     -- so far, nothing went wrong
     pub runs_none : RunsTo m s [] [] s
-    runs_none = record { no_error = refl; replied = refl; left = refl }
+    runs_none = record { no_error = refl; replied = refl; left = refl; rising = tt }
 
-    pub runs_on : (calls : List Call) (x : Call) (replies : List Reply) (now next : State) (reply : Reply) → RunsTo m s calls replies now → turn_of m now x ≡ Ok (record { reply = reply; state = next }) →
+    pub runs_on : (calls : List Call) (x : Call) (replies : List Reply) (now next : State) (reply : Reply) → RunsTo m s calls replies now → Rises x → turn_of m now x ≡ Ok (record { reply = reply; state = next }) →
         RunsTo m s (calls ++ x ∷ []) (replies ++ reply ∷ []) next
-    runs_on calls x replies now next reply so_far turn =
+    runs_on calls x replies now next reply so_far rises turn =
         let at = turn_here in
         let last = one_more (run_of m s calls).state x (record { reply = reply; state = next }) at in
         let whole = run-append calls (x ∷ []) s so_far.no_error ∙ ap (behind_all (run_of m s calls)) last in
@@ -48,6 +53,7 @@ module _ (m : Operation) where
           no_error = ap (λ (ran : Ran). ran.error) whole;
           replied = ap (λ (rs : List Reply). rs ++ reply ∷ []) so_far.replied ∙ sym (ap (λ (ran : Ran). ran.replies) whole);
           left = sym (ap (λ (ran : Ran). ran.state) whole);
+          rising = rising_on calls x so_far.rising rises;
         }
       where
         turn_here : turn_of m (run_of m s calls).state x ≡ Ok (record { reply = reply; state = next })
@@ -56,10 +62,10 @@ module _ (m : Operation) where
     -- ---- the loop's steps: the calls before a place were made
 
     module _ (calls : List Call) (i : ℕ) (d : Call) (room : i < length calls) where
-      pub step_on : (replies : List Reply) (now next : State) (reply : Reply) → RunsTo m s (take i calls) replies now → turn_of m now (get_or calls i d) ≡ Ok (record { reply = reply; state = next }) →
+      pub step_on : (replies : List Reply) (now next : State) (reply : Reply) → RunsTo m s (take i calls) replies now → Rises (get_or calls i d) → turn_of m now (get_or calls i d) ≡ Ok (record { reply = reply; state = next }) →
           RunsTo m s (take (i + 1) calls) (replies ++ reply ∷ []) next
-      step_on replies now next reply so_far turn =
-          subst (λ (cs : List Call). RunsTo m s cs (replies ++ reply ∷ []) next) (sym (take_more calls i d room)) (runs_on (take i calls) (get_or calls i d) replies now next reply so_far turn)
+      step_on replies now next reply so_far rises turn =
+          subst (λ (cs : List Call). RunsTo m s cs (replies ++ reply ∷ []) next) (sym (take_more calls i d room)) (runs_on (take i calls) (get_or calls i d) replies now next reply so_far rises turn)
 
       parts : take i calls ++ get_or calls i d ∷ drop (i + 1) calls ≡ calls
       parts = ap (λ (cs : List Call). take i calls ++ cs) (sym (drop_more calls i d room)) ∙ take-append-drop i calls
@@ -74,6 +80,7 @@ module _ (m : Operation) where
         no_error = so_far.no_error;
         why = subst (λ (t : State). FailsWith (turn_of m t (get_or calls i d)) error) so_far.left why;
         left = so_far.left;
+        rising = so_far.rising;
       }
 
     pub runs_whole : (calls : List Call) (i : ℕ) (replies : List Reply) (now : State) → length calls ≤ i → RunsTo m s (take i calls) replies now → RunsTo m s calls replies now

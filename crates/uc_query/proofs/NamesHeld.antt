@@ -9,6 +9,9 @@ use Rattle.uc_claims.specs.Claims.{times}
 use Rattle.uc_claims.specs.Holding.{AreDistinct}
 use Rattle.uc_claims.proofs.Times.{times-cons, one_same, one_other, times-distinct, times-append}
 use Rattle.uc_version_state.proofs.Once.{distinct-from_times, alone}
+use Rattle.uc_bytes.specs.declared.write.Write.{Write}
+use Rattle.uc_version_state.specs.Versions.{Stored}
+use Rattle.uc_version_state.specs.Feeds.{memtables_in}
 use Rattle.uc_version_state.specs.declared.stretch.Stretch.{Stretch}
 use Rattle.uc_version.specs.declared.held_stretch.HeldStretch.{HeldStretch}
 use Rattle.uc_version.specs.declared.held_stretch.TheConstants.{MOST_CLAIMS}
@@ -16,6 +19,7 @@ use Rattle.uc_version.specs.Owners.{Owner}
 use Rattle.uc_version.specs.Claiming.{Claim, free_number, claim_of, has_ids, is_held, without_claim}
 use Rattle.uc_version.specs.Installing.{moved_up}
 use Rattle.uc_version.specs.AtOnce.{after_compaction}
+use Rattle.uc_version.specs.Feeding.{moved_down, after_feed}
 use Rattle.uc_version.proofs.CompactedNow.{free}
 use Rattle.uc_query.specs.Names.{IsNamedHeld, AreHeld, numbers_of, given_back}
 use Rattle.uc_query.specs.Turns.{claimed, compacted}
@@ -31,10 +35,16 @@ not_free o d n held none e =
 pub held_beside : (o : Owner) (d : Claim) (n : ℕ) (x : Option HeldStretch) → is_held o d ≡ true → d.number ≢ n → is_held (record o { claims = set o.claims n x }) d ≡ true
 held_beside o d n x held ne = ap (λ (found : Option HeldStretch). has_ids found d) (get_or-set_other o.claims n d.number x None ne) ∙ held
 
-moved_at : (first count : ℕ) (cs : List (Option HeldStretch)) (i : ℕ) → get_or (map (moved_up first count) cs) i None ≡ moved_up first count (get_or cs i None)
-moved_at first count [] i = refl
-moved_at first count (c ∷ cs) zero = refl
-moved_at first count (c ∷ cs) (suc i) = moved_at first count cs i
+-- what stands at a number when each claim changes, where none stays none
+changed_at : (f : Option HeldStretch → Option HeldStretch) → f None ≡ None → (cs : List (Option HeldStretch)) (i : ℕ) → get_or (map f cs) i None ≡ f (get_or cs i None)
+changed_at f none [] i = sym none
+changed_at f none (c ∷ cs) zero = refl
+changed_at f none (c ∷ cs) (suc i) = changed_at f none cs i
+
+-- a claim is held still where each has the ids that it had
+held_changed : (f : Option HeldStretch → Option HeldStretch) → f None ≡ None → (d : Claim) → ((c : Option HeldStretch) → has_ids (f c) d ≡ has_ids c d) →
+    (cs : List (Option HeldStretch)) → has_ids (get_or cs d.number None) d ≡ true → has_ids (get_or (map f cs) d.number None) d ≡ true
+held_changed f none d ids cs held = ap (λ (found : Option HeldStretch). has_ids found d) (changed_at f none cs d.number) ∙ ids (get_or cs d.number None) ∙ held
 
 moved_ids : (first count : ℕ) (c : Option HeldStretch) (d : Claim) → has_ids (moved_up first count c) d ≡ has_ids c d
 moved_ids first count None d = refl
@@ -46,8 +56,7 @@ moved_ids first count (Some h) d = by_test (ltb first h.first)
 
 -- and where stretches behind some runs move up
 pub held_moved : (o : Owner) (d : Claim) (first count : ℕ) (cs : List (Option HeldStretch)) → has_ids (get_or cs d.number None) d ≡ true → has_ids (get_or (map (moved_up first count) cs) d.number None) d ≡ true
-held_moved o d first count cs held =
-    ap (λ (found : Option HeldStretch). has_ids found d) (moved_at first count cs d.number) ∙ moved_ids first count (get_or cs d.number None) d ∙ held
+held_moved o d first count cs held = held_changed (moved_up first count) refl d (λ c. moved_ids first count c d) cs held
 
 pub held_installed : (m : Operation) (o : Owner) (c d : Claim) → is_held o d ≡ true → d.number ≢ c.number → is_held (compacted m o c) d ≡ true
 held_installed m o c d held ne = moved
@@ -178,6 +187,29 @@ pub held_compacted : (m : Operation) (o : Owner) (s : Stretch) (names : List (Op
 held_compacted m o s names are = record {
   count = are.count;
   held = all_still o (after_compaction m o s) names (λ d some h. held_moved o d s.first s.count o.claims h) are.held;
+  apart = are.apart;
+}
+
+-- ---- writes that are fed
+
+lowered_ids : (count : ℕ) (c : Option HeldStretch) (d : Claim) → has_ids (moved_down count c) d ≡ has_ids c d
+lowered_ids count None d = refl
+lowered_ids count (Some h) d = refl
+
+pub held_fed : (ws : List Write) (o : Owner) (names : List (Option Claim)) → AreHeld o names → AreHeld (after_feed ws o) names
+held_fed ws o names are = record {
+  count = are.count;
+  held = all_still o (after_feed ws o) names
+      (λ d some h. held_changed (moved_down (length (memtables_in o.version ws))) refl d (λ c. lowered_ids (length (memtables_in o.version ws)) c d) o.claims h) are.held;
+  apart = are.apart;
+}
+
+-- ---- another version with the same claims
+
+pub held_beneath : (o : Owner) (v : Stored) (names : List (Option Claim)) → AreHeld o names → AreHeld (record o { version = v }) names
+held_beneath o v names are = record {
+  count = are.count;
+  held = all_still o (record o { version = v }) names (λ d some h. h) are.held;
   apart = are.apart;
 }
 

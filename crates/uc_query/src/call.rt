@@ -1,4 +1,7 @@
 //! [`Call`]: what is asked of a store.
+ghost use Rattle.uc_query.specs.Turns.{Rises};
+
+use uc_batch::Writes;
 use uc_bytes::Items;
 use uc_query_read::Query;
 use uc_version::Stretch;
@@ -22,4 +25,21 @@ pub enum Call {
     /// Answer these queries, by a number of workers, in pieces of a number of queries. One worker is the calling thread, which
     /// answers each query in turn.
     Ask(Items<Query>, usize, usize),
+    /// Feed these writes, which become the newest runs.
+    Feed(Writes),
+    /// Take a snapshot: keep the last sequence.
+    Keep,
+    /// Release a snapshot: keep this sequence no more.
+    Release(u64),
+}
+
+impl Call {
+    /// What it feeds rises, as all [`Writes`] do. It does nothing.
+    pub fn recall(&self)
+        ensures { Rises self.now }
+    {
+        if let Call::Feed(writes) = self {
+            let _rising = writes.list();
+        }
+    }
 }

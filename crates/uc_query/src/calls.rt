@@ -2,7 +2,7 @@
 ghost use Rattle.std.specs.Prelude.{◌≡◌, IfOk, IfErr};
 ghost use Rattle.std.specs.List.{AllByRecursion};
 ghost use Rattle.uc_oper.specs.Operation.{Operation};
-ghost use Rattle.uc_version_state.specs.Histories.{History, IsLegal, version_after};
+ghost use Rattle.uc_version_state.specs.Histories.{History, IsLegal, version_after, known};
 ghost use Rattle.uc_query.specs.Names.{State, AreHeld, named};
 ghost use Rattle.uc_query.specs.Turns.{FailsWith, HasName, turn_of};
 ghost use Rattle.uc_query.specs.Answered.{AreAnswered, LeadsTo};
@@ -51,6 +51,7 @@ fn replies_to<O: Operator + Sync>(
 {
     let mut replies = Vec::new(alloc);
     for call in calls {
+        call.recall();
         // The reply has room before the call changes anything.
         if replies.reserve(1).is_err() {
             return Err(failure_without_memory(call));
@@ -71,7 +72,7 @@ fn replies_to<O: Operator + Sync>(
 /// memory there is.
 ///
 /// Whatever is claimed, compacted and installed in between, each batch has the answers of the plain writes that the store was
-/// given, and the store goes on along its history.
+/// given until then, at the sequences that it keeps then, and the store goes on along its history.
 pub fn run_calls<O: Operator + Sync>(
     rt: &(impl Threads + Sync),
     alloc: Global,
@@ -82,7 +83,7 @@ pub fn run_calls<O: Operator + Sync>(
     ensures ok { IfOk result (λ replies. RunsAll O.meaning owned.old calls.now replies.items owned.new) }
     ensures err { IfErr result (λ error. Stops O.meaning owned.old calls.now error owned.new) }
     ensures answered { (h : History) → IsLegal O.meaning h → owned.old.version ≡ version_after h →
-        IfOk result (λ replies. AreAnswered O.meaning h calls.now replies.items) }
+        IfOk result (λ replies. AreAnswered O.meaning (known h) calls.now replies.items) }
     ensures goes_on { (h : History) → IsLegal O.meaning h → owned.old.version ≡ version_after h →
         LeadsTo O.meaning h owned.new.version }
 {

@@ -1,9 +1,10 @@
 //! Queries of a store, and lists of calls.
 //!
 //! [`run_calls`] goes through a list of calls to a store in one owner's hands: claims under names, installs, compactions,
-//! picks, reports and batches of queries. Its replies are those of a small machine, a function of what the store holds and of
-//! the calls: read `specs/Turns.antt` first, then `specs/Running.antt`, `named_claims.rt` and `calls.rt`. What a query asks
-//! and what answers it stand in `uc_query_read` and `uc_query_workers`; their public items are given out here too.
+//! picks, reports, batches of queries, writes that are fed, and snapshots. Its replies are those of a small machine, a
+//! function of what the store holds and of the calls: read `specs/Turns.antt` first, then `specs/Running.antt`,
+//! `specs/Answered.antt`, `named_claims.rt` and `calls.rt`. What a query asks and what answers it stand in `uc_query_read` and
+//! `uc_query_workers`; their public items are given out here too.
 //!
 //! A [`report`] says what a version holds, in numbers: a line for each run, and their totals. What is printed of a line is the
 //! list [`RunLine::fields`]. Read `specs/Reports.antt` first, then `run_line.rt` and `reports.rt`.
@@ -18,6 +19,7 @@ mod claim_turns;
 mod figure;
 mod install_turns;
 mod laws;
+mod live_turns;
 mod named_claims;
 mod reply;
 mod reports;

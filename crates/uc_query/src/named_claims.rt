@@ -8,6 +8,7 @@ use crate::ask_turn::answer_batch;
 use crate::call::Call;
 use crate::claim_turns::{abandon_under, claim_under, give_all_back};
 use crate::install_turns::{compact_at_once, install_under};
+use crate::live_turns::{feed_writes, keep_last, release_keep};
 use crate::reply::Reply;
 use crate::reports::report;
 use std::alloc::Global;
@@ -74,6 +75,9 @@ impl NamedClaims {
             Call::Ask(queries, workers, piece) => {
                 answer_batch(rt, alloc, owned, queries, *workers, *piece)
             }
+            Call::Feed(writes) => Ok(feed_writes(alloc, owned, writes)?),
+            Call::Keep => Ok(keep_last(owned)?),
+            Call::Release(seq) => Ok(release_keep(owned, *seq)),
         }
     }
 

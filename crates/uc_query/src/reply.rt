@@ -3,6 +3,7 @@ use crate::summary::Report;
 use uc_bytes::Items;
 use uc_query_read::Answer;
 use uc_version::{ClaimError, InstallError, Stretch};
+use uc_version_state::FeedError;
 
 /// What comes of a [`Call`](crate::Call).
 #[derive(Debug, Drop)]
@@ -29,4 +30,14 @@ pub enum Reply {
     Reported(Report),
     /// The answers, in the order of the queries.
     Answers(Items<Answer>),
+    /// The writes are fed, and became so many runs.
+    Fed(u64),
+    /// The writes aren't fed, and the store is as it was. It never says that memory ran out: that ends the list of calls.
+    NotFed(FeedError),
+    /// This sequence, the last one, is a keep.
+    Kept(u64),
+    /// This sequence was a keep, and is none now.
+    Released(u64),
+    /// This sequence is no keep.
+    NotReleased(u64),
 }

@@ -1,15 +1,15 @@
 -- The lines of a script fall under one of the cases, and what it comes to is what the script asks.
-use Rattle.std.proofs.Common.{◌≡◌, ℕ, suc, ◌+◌, true, false, List, [], ◌∷◌, ◌++◌, length, Option, Some, None, Result, Ok, Err, is_none, refl, sym, ap, subst, ◌∙◌, arith, inl, inr}
+use Rattle.std.proofs.Common.{◌≡◌, ℕ, suc, ◌+◌, Bool, true, false, cond, List, [], ◌∷◌, ◌++◌, length, Option, Some, None, Result, Ok, Err, is_none, refl, sym, ap, subst, ◌∙◌, arith, inl, inr}
 use Rattle.std.specs.Prelude.{position, IsSome, ◌⊎◌, filter_map}
 use Rattle.std.specs.List.{cons_option}
-use Rattle.std.specs.Option.{option_map}
+use Rattle.std.specs.Option.{option_map, option_or}
 use Rattle.uc_script.specs.declared.call_line.CallLine.{CallLine}
 use Rattle.uc_script.specs.declared.setup_line.SetupLine.{SetupLine}
 use Rattle.uc_script.specs.declared.setup_line.SetupLine.TheVariants as setup
 use Rattle.uc_script.specs.declared.script.Script.{Script}
-use Rattle.uc_script.specs.Cases.{AreSetup, AreCalls, ComesTo, asks, no_setup, no_open, no_call}
+use Rattle.uc_script.specs.Cases.{AreSetup, AreCalls, ComesTo, asks, no_setup, no_open, no_call, no_feed}
 use Rattle.uc_script.specs.Lines.{lines_of}
-use Rattle.uc_script.specs.Script.{setup_line, call_line, says_open, change_in, keep_in, call_in, fault_at, asked_by, unless_fault, script_of}
+use Rattle.uc_script.specs.Script.{setup_line, call_line, says_open, change_in, keep_in, calls_from, lack_a_feed, fault_behind, fault_at, asked_by, unless_fault, script_of}
 use Rattle.uc_script.proofs.Faults.{refuses_call, made, made-same, fault_at-next, fault_at-here, fault_at-open}
 use Rattle.uc_script.proofs.First.{position-yes, position-no, before_first-yes, before_first-no, after_first-yes, after_first-no}
 
@@ -39,7 +39,7 @@ read-next line lines good =
     let after = after_first-no says_open line lines good.1 in
     ap (λ (o : Option ℕ). unless_fault o (asked_by (line ∷ lines))) (fault_at-next line lines good.1 (not_refused (setup_line line) good.0))
     ∙ behind_of line (fault_at lines) (asked_by lines) (asked_by (line ∷ lines))
-    (made-same _ _ _ _ _ _ (ap (filter_map change_in) before) (ap (filter_map keep_in) before) (ap (filter_map call_in) after))
+    (made-same _ _ _ _ _ _ (ap (filter_map change_in) before) (ap (filter_map keep_in) before) (ap (calls_from []) after))
 
 -- calls without a fault, and with one
 position-calls : (after : List (List ℕ)) → AreCalls after → position refuses_call after ≡ None
@@ -51,15 +51,24 @@ position-no_call [] line rest good bad = position-yes refuses_call line rest (rw
 position-no_call (first ∷ after) line rest good bad =
     position-no refuses_call first (after ++ line ∷ rest) (not_refused (call_line first) good.0) ∙ ap (option_map suc) (position-no_call after line rest good.1 bad)
 
+-- where the first of these is, or what lacks a `feed`
+fault-of : (after : List (List ℕ)) (lacks : Bool) → AreCalls after → lack_a_feed after ≡ lacks → fault_behind after ≡ cond lacks (Some (length after)) None
+fault-of after lacks good is =
+    ap (λ (o : Option ℕ). option_or o (cond (lack_a_feed after) (Some (length after)) None)) (position-calls after good) ∙ ap (λ (b : Bool). cond b (Some (length after)) None) is
+
+fault-no_call : (after : List (List ℕ)) (line : List ℕ) (rest : List (List ℕ)) → AreCalls after → call_line line ≡ None → fault_behind (after ++ line ∷ rest) ≡ Some (length after)
+fault-no_call after line rest good bad =
+    ap (λ (o : Option ℕ). option_or o (cond (lack_a_feed (after ++ line ∷ rest)) (Some (length (after ++ line ∷ rest))) None)) (position-no_call after line rest good bad)
+
 -- the `open`
 read-open : (opening : List ℕ) (lines : List (List ℕ)) → says_open opening ≡ true
-    → read (opening ∷ lines) ≡ unless_fault (option_map (λ k. 0 + 1 + k) (position refuses_call lines)) (made [] [] (filter_map call_in lines))
+    → read (opening ∷ lines) ≡ unless_fault (option_map (λ k. 0 + 1 + k) (fault_behind lines)) (made [] [] (calls_from [] lines))
 read-open opening lines opens =
     let before = before_first-yes says_open opening lines opens in
     let after = after_first-yes says_open opening lines opens in
     ap (λ (o : Option ℕ). unless_fault o (asked_by (opening ∷ lines))) (fault_at-open opening lines opens)
-    ∙ ap (unless_fault (option_map (λ k. 0 + 1 + k) (position refuses_call lines)))
-    (made-same _ _ _ _ _ _ (ap (filter_map change_in) before) (ap (filter_map keep_in) before) (ap (filter_map call_in) after))
+    ∙ ap (unless_fault (option_map (λ k. 0 + 1 + k) (fault_behind lines)))
+    (made-same _ _ _ _ _ _ (ap (filter_map change_in) before) (ap (filter_map keep_in) before) (ap (calls_from []) after))
 
 no_line_opens : (line : List ℕ) → setup_line line ≡ None → says_open line ≡ false
 unfolding says_open
@@ -67,11 +76,18 @@ no_line_opens line bad = rw bad refl
 
 -- ---- what each case comes to
 
-read-asks : (before : List (List ℕ)) (opening : List ℕ) (after : List (List ℕ)) → AreSetup before → says_open opening ≡ true → AreCalls after
-    → read (before ++ opening ∷ after) ≡ Ok (made (filter_map change_in before) (filter_map keep_in before) (filter_map call_in after))
-read-asks [] opening after good opens calls =
-    read-open opening after opens ∙ ap (λ (o : Option ℕ). unless_fault (option_map (λ k. 0 + 1 + k) o) (made [] [] (filter_map call_in after))) (position-calls after calls)
-read-asks (line ∷ before) opening after good opens calls = read-next line (before ++ opening ∷ after) good.0 ∙ ap (behind line) (read-asks before opening after good.1 opens calls)
+read-asks : (before : List (List ℕ)) (opening : List ℕ) (after : List (List ℕ)) → AreSetup before → says_open opening ≡ true → AreCalls after → lack_a_feed after ≡ false
+    → read (before ++ opening ∷ after) ≡ Ok (made (filter_map change_in before) (filter_map keep_in before) (calls_from [] after))
+read-asks [] opening after good opens calls fed =
+    read-open opening after opens ∙ ap (λ (o : Option ℕ). unless_fault (option_map (λ k. 0 + 1 + k) o) (made [] [] (calls_from [] after))) (fault-of after false calls fed)
+read-asks (line ∷ before) opening after good opens calls fed = read-next line (before ++ opening ∷ after) good.0 ∙ ap (behind line) (read-asks before opening after good.1 opens calls fed)
+
+read-no_feed : (before : List (List ℕ)) (opening : List ℕ) (after : List (List ℕ)) → AreSetup before → says_open opening ≡ true → AreCalls after → lack_a_feed after ≡ true
+    → read (before ++ opening ∷ after) ≡ Err (length before + 1 + length after + 1)
+read-no_feed [] opening after good opens calls unfed =
+    read-open opening after opens ∙ ap (λ (o : Option ℕ). unless_fault (option_map (λ k. 0 + 1 + k) o) (made [] [] (calls_from [] after))) (fault-of after true calls unfed)
+read-no_feed (line ∷ before) opening after good opens calls unfed =
+    read-next line (before ++ opening ∷ after) good.0 ∙ ap (behind line) (read-no_feed before opening after good.1 opens calls unfed) ∙ ap Err (omega arith)
 
 read-no_setup : (before : List (List ℕ)) (line : List ℕ) (rest : List (List ℕ)) → AreSetup before → setup_line line ≡ None → read (before ++ line ∷ rest) ≡ Err (length before + 1)
 read-no_setup [] line rest good bad = ap (λ (o : Option ℕ). unless_fault o (asked_by (line ∷ rest))) (fault_at-here line rest (no_line_opens line bad) (rw bad refl))
@@ -85,16 +101,17 @@ read-no_call : (before : List (List ℕ)) (opening : List ℕ) (after : List (Li
     → call_line line ≡ None → read (before ++ opening ∷ (after ++ line ∷ rest)) ≡ Err (length before + 1 + length after + 1)
 read-no_call [] opening after line rest good opens calls bad =
     read-open opening (after ++ line ∷ rest) opens
-    ∙ ap (λ (o : Option ℕ). unless_fault (option_map (λ k. 0 + 1 + k) o) (made [] [] (filter_map call_in (after ++ line ∷ rest)))) (position-no_call after line rest calls bad)
+    ∙ ap (λ (o : Option ℕ). unless_fault (option_map (λ k. 0 + 1 + k) o) (made [] [] (calls_from [] (after ++ line ∷ rest)))) (fault-no_call after line rest calls bad)
 read-no_call (first ∷ before) opening after line rest good opens calls bad =
     read-next first (before ++ opening ∷ (after ++ line ∷ rest)) good.0 ∙ ap (behind first) (read-no_call before opening after line rest good.1 opens calls bad) ∙ ap Err (omega arith)
 
 -- whatever the lines come to is what they ask
 alone : {lines : List (List ℕ)} {outcome : Result Script ℕ} → ComesTo lines outcome → outcome ≡ read lines
-alone (asks before opening after good opens calls) = sym (read-asks before opening after good opens calls)
+alone (asks before opening after good opens calls fed) = sym (read-asks before opening after good opens calls fed)
 alone (no_setup before line rest good bad) = sym (read-no_setup before line rest good bad)
 alone (no_open before good) = sym (read-no_open before good)
 alone (no_call before opening after line rest good opens calls bad) = sym (read-no_call before opening after line rest good opens calls bad)
+alone (no_feed before opening after good opens calls unfed) = sym (read-no_feed before opening after good opens calls unfed)
 
 -- ---- each list of lines falls under a case
 
@@ -102,10 +119,11 @@ abbrev Falls : List (List ℕ) → Type 0
 Falls lines = (outcome : Result Script ℕ) × ComesTo lines outcome
 
 falls-next : (line : List ℕ) {lines : List (List ℕ)} {outcome : Result Script ℕ} → IsSome (setup_line line) × (says_open line ≡ false) → ComesTo lines outcome → Falls (line ∷ lines)
-falls-next line first (asks before opening after good opens calls) = (_, asks (line ∷ before) opening after (first, good) opens calls)
+falls-next line first (asks before opening after good opens calls fed) = (_, asks (line ∷ before) opening after (first, good) opens calls fed)
 falls-next line first (no_setup before bad_line rest good bad) = (_, no_setup (line ∷ before) bad_line rest (first, good) bad)
 falls-next line first (no_open before good) = (_, no_open (line ∷ before) (first, good))
 falls-next line first (no_call before opening after bad_line rest good opens calls bad) = (_, no_call (line ∷ before) opening after bad_line rest (first, good) opens calls bad)
+falls-next line first (no_feed before opening after good opens calls unfed) = (_, no_feed (line ∷ before) opening after (first, good) opens calls unfed)
 
 -- calls, up to one that is none
 abbrev StopsAt : List (List ℕ) → Type 0
@@ -120,8 +138,12 @@ split_calls : (lines : List (List ℕ)) → AreCalls lines ⊎ StopsAt lines
 split_calls [] = inl tt
 split_calls (line ∷ lines) = split_step (call_line line) line lines refl (split_calls lines)
 
+falls_calls : (lacks : Bool) (line : List ℕ) (lines : List (List ℕ)) → says_open line ≡ true → AreCalls lines → lack_a_feed lines ≡ lacks → Falls (line ∷ lines)
+falls_calls true line lines opens calls unfed = (_, no_feed [] line lines tt opens calls unfed)
+falls_calls false line lines opens calls fed = (_, asks [] line lines tt opens calls fed)
+
 falls_open : (line : List ℕ) (lines : List (List ℕ)) → says_open line ≡ true → AreCalls lines ⊎ StopsAt lines → Falls (line ∷ lines)
-falls_open line lines opens (inl calls) = (_, asks [] line lines tt opens calls)
+falls_open line lines opens (inl calls) = falls_calls (lack_a_feed lines) line lines opens calls refl
 falls_open line lines opens (inr s) = subst (λ (ls : List (List ℕ)). Falls (line ∷ ls)) (sym s.5) (_, no_call [] line s.0 s.1 s.2 tt opens s.3 s.4)
 
 falls_step : (said : Option SetupLine) (line : List ℕ) (lines : List (List ℕ)) → setup_line line ≡ said → Falls lines → Falls (line ∷ lines)

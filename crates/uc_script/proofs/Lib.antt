@@ -1,4 +1,5 @@
 pub mod Cuts
+pub mod Leaving
 pub mod Faults
 pub mod First
 pub mod HexPairs

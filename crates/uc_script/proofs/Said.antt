@@ -4,23 +4,24 @@ use Rattle.std.specs.Prelude.{IfSome}
 use Rattle.std.specs.Fmt.{decimal}
 use Rattle.std.specs.List.{list_all, list_any, ends_with}
 use Rattle.std.specs.Option.{option_map}
+use Rattle.uc_script.specs.Leaving.{leaves}
 use Rattle.uc_script.specs.Lines.{lines_of, fields_of, is_skipped}
-use Rattle.uc_script.specs.Explanations.{says_open, missing, lacks_its_end, fault_before, said_of, explanation_of}
+use Rattle.uc_script.specs.Explanations.{says_open, begins_write, takes_writes, missing, lacks_its_end, fault_before, said_of, explanation_of}
 use Rattle.uc_script.specs.Faults.{arguments_fault, word_fault, fields_fault, line_fault}
 use Rattle.uc_script.specs.FieldKinds.{reads, kind_text}
 use Rattle.uc_script.specs.Parts.{part_of, first_words}
 use Rattle.uc_script.specs.Shortened.{is_printable, shortened}
 use Rattle.uc_script.specs.FaultTexts.{fault_text, line_text, missing_text}
-use Rattle.uc_script.specs.Words.{named, stands_in, kinds, form_of}
+use Rattle.uc_script.specs.Words.{named, is_word, kinds, form_of}
 use Rattle.uc_script.specs.declared.fault.LineFault.{LineFault}
-use Rattle.uc_script.specs.declared.fault.LineFault.TheVariants.{Misplaced, TooFew, TooMany, BadField, NoLineFeed}
+use Rattle.uc_script.specs.declared.fault.LineFault.TheVariants.{UnknownWord, Misplaced, TooFew, TooMany, BadField, NoLineFeed}
 use Rattle.uc_script.specs.declared.field_kind.FieldKind.{FieldKind}
 use Rattle.uc_script.specs.declared.field_kind.FieldKind.TheVariants.{Text, High, Number, Name, Seq}
 use Rattle.uc_script.specs.declared.part.Part.{Part}
 use Rattle.uc_script.specs.declared.part.Part.TheVariants.{Setup, Calls, Head}
 use Rattle.uc_script.specs.declared.part.Source.{Source}
 use Rattle.uc_script.specs.declared.word.Word.{Word}
-use Rattle.uc_script.specs.declared.word.Word.TheVariants.{Put, Delete, Merge, Range, Keep, Open, Get, Scan, Claim, Install, Abandon, Compact, Pick, Report, Log}
+use Rattle.uc_script.specs.declared.word.Word.TheVariants.{Put, Delete, Merge, Range, Keep, Open, Feed, KeepLast, Release, Get, Scan, Claim, Install, Abandon, Compact, Pick, Report, Log}
 use Rattle.uc_script.proofs.PrintedFaults.{IsShown, joined, line_shown, number_shown}
 
 -- ---- the fixed words
@@ -44,6 +45,9 @@ form_shown Merge = refl
 form_shown Range = refl
 form_shown Keep = refl
 form_shown Open = refl
+form_shown Feed = refl
+form_shown KeepLast = refl
+form_shown Release = refl
 form_shown Get = refl
 form_shown Scan = refl
 form_shown Claim = refl
@@ -61,6 +65,9 @@ few_kinds Merge = omega arith
 few_kinds Range = omega arith
 few_kinds Keep = omega arith
 few_kinds Open = omega arith
+few_kinds Feed = omega arith
+few_kinds KeepLast = omega arith
+few_kinds Release = omega arith
 few_kinds Get = omega arith
 few_kinds Scan = omega arith
 few_kinds Claim = omega arith
@@ -104,18 +111,17 @@ arguments_shown word number (kind ∷ kinds) [] lt = few_shown word
 arguments_shown word number (kind ∷ kinds) (field ∷ fields) lt =
     field_step (reads kind field) word number kind (arguments_fault word (number + 1) kinds fields) (omega arith) (arguments_shown word (number + 1) kinds fields (omega arith))
 
-place_step : (b : Bool) (part : Part) (later : Option LineFault) → FaultIsShown later → FaultIsShown (cond b later (Some (Misplaced part)))
-place_step true part later is = is
-place_step false part later is = joined (codes "its first word has no place here: ") (first_words part) refl (part_shown part)
+place_step : (b : Bool) (part : Part) → FaultIsShown (cond b (Some (Misplaced part)) (Some (UnknownWord part)))
+place_step true part = joined (codes "its first word has no place here: ") (first_words part) refl (part_shown part)
+place_step false part = joined (codes "its first word is unknown: ") (first_words part) refl (part_shown part)
 
-word_shown : (part : Part) (word : Option Word) (fields : List (List ℕ)) → FaultIsShown (word_fault part word fields)
-word_shown part None fields = joined (codes "its first word is unknown: ") (first_words part) refl (part_shown part)
-word_shown part (Some word) fields =
-    place_step (stands_in word part) part (arguments_fault word 2 (kinds word) fields) (arguments_shown word 2 (kinds word) fields (omega (arith, few_kinds word)))
+word_shown : (part : Part) (field : List ℕ) (word : Option Word) (fields : List (List ℕ)) → FaultIsShown (word_fault part field word fields)
+word_shown part field None fields = place_step (is_word field) part
+word_shown part field (Some word) fields = arguments_shown word 2 (kinds word) fields (omega (arith, few_kinds word))
 
 fields_shown : (part : Part) (fields : List (List ℕ)) → FaultIsShown (fields_fault part fields)
 fields_shown part [] = tt
-fields_shown part (word ∷ fields) = word_shown part (named word) fields
+fields_shown part (field ∷ fields) = word_shown part field (named part field) fields
 
 skip_step : (b : Bool) (later : Option LineFault) → FaultIsShown later → FaultIsShown (cond b None later)
 skip_step true later is = tt
@@ -145,10 +151,14 @@ missing_shown : (number : ℕ) (word : List ℕ) → number < 2 ^ 64 → IsShown
 missing_shown number word lt is =
     numbered number (codes " is missing: it has to be `" ++ (word ++ codes "`")) lt (quoted (codes " is missing: it has to be `") word refl is)
 
-lines_shown : (part : Part) (number : ℕ) → number < 2 ^ 64 → SaidIsShown (missing part number)
-lines_shown Setup number lt = missing_shown number (codes "open") lt refl
-lines_shown Calls number lt = tt
-lines_shown Head number lt = missing_shown number (codes "log") lt refl
+feed_shown : (number : ℕ) (unfed : Bool) → number < 2 ^ 64 → SaidIsShown (missing Calls number unfed)
+feed_shown number true lt = missing_shown number (codes "feed") lt refl
+feed_shown number false lt = tt
+
+lines_shown : (part : Part) (number : ℕ) (unfed : Bool) → number < 2 ^ 64 → SaidIsShown (missing part number unfed)
+lines_shown Setup number unfed lt = missing_shown number (codes "open") lt refl
+lines_shown Calls number unfed lt = feed_shown number unfed lt
+lines_shown Head number unfed lt = missing_shown number (codes "log") lt refl
 
 line_shown_with : (number : ℕ) (line : List ℕ) (fault : Option LineFault) → number < 2 ^ 64 → IsShown line → FaultIsShown fault → SaidIsShown (option_map (line_text number line) fault)
 line_shown_with number line None lt is told = tt
@@ -157,12 +167,12 @@ line_shown_with number line (Some fault) lt is told =
     let e = joined line (codes "`: " ++ fault_text fault) is d in
     numbered number (codes ", `" ++ (line ++ (codes "`: " ++ fault_text fault))) lt (joined (codes ", `") (line ++ (codes "`: " ++ fault_text fault)) refl e)
 
-said_shown : (part : Part) (number : ℕ) (lines : List (List ℕ)) (ended : Bool) → number < 2 ^ 64 → SaidIsShown (said_of part number lines ended)
-said_shown part number [] ended lt = lines_shown part number lt
-said_shown part number (line ∷ others) ended lt =
+said_shown : (part : Part) (number : ℕ) (unfed : Bool) (lines : List (List ℕ)) (ended : Bool) → number < 2 ^ 64 → SaidIsShown (said_of part number unfed lines ended)
+said_shown part number unfed [] ended lt = lines_shown part number unfed lt
+said_shown part number unfed (line ∷ others) ended lt =
     line_shown_with number (shortened line) (fault_before part line others ended) lt (line_shown line) (before_shown part line others ended)
 
 pub explanation_shown : (source : Source) (text : List ℕ) (number : ℕ) → number < 2 ^ 64 → SaidIsShown (explanation_of source text number)
 unfolding explanation_of
 explanation_shown source text number lt =
-    said_shown (part_of source (list_any says_open (take (number - 1) (lines_of text)))) number (drop (number - 1) (lines_of text)) (ends_with nat_eq text (10 ∷ [])) lt
+    said_shown (part_of source (list_any says_open (take (number - 1) (lines_of text)))) number (leaves begins_write takes_writes (lines_of text)) (drop (number - 1) (lines_of text)) (ends_with nat_eq text (10 ∷ [])) lt

@@ -1,8 +1,8 @@
 -- The texts and the changes of a script are no longer, and no more, than its bytes.
 use Rattle.std.proofs.Common.{◌≡◌, ℕ, suc, ◌+◌, ◌%◌, ◌≤◌, Bool, true, false, cond, eqb, List, [], ◌∷◌, ◌++◌, length, Option, Some, None, Result, Ok, Err, refl, ap, sym, subst, arith, codes}
-use Rattle.std.specs.Prelude.{All, filter_map}
-use Rattle.std.specs.List.{AllByRecursion, cons_option, onto_first}
-use Rattle.std.specs.Option.{option_map}
+use Rattle.std.specs.Prelude.{filter_map}
+use Rattle.std.specs.List.{AllByRecursion, cons_option, flat_map, onto_first}
+use Rattle.std.specs.Option.{option_map, option_or}
 use Rattle.std.specs.Result.{result_ok}
 use Rattle.std.proofs.lemmas.List.Elements.{All-from_recursion}
 use Rattle.std.proofs.lemmas.List.{length-append}
@@ -13,13 +13,22 @@ use Rattle.hex.specs.declared.error.FromHexError.TheVariants.{OddLength}
 use Rattle.uc_bytes.specs.declared.op.Op.{Op}
 use Rattle.uc_bytes.specs.declared.op.Op.TheVariants.{Put, Delete, Merge, DeleteRange}
 use Rattle.uc_script.specs.Lines.{lines_of, fields_of, is_skipped, says}
-use Rattle.uc_script.specs.Texts.{◌>>=◌, text_of, number_of}
-use Rattle.uc_script.specs.Script.{keep_of, with_one, with_two, setup_of, setup_line, changed, change_in, script_of}
-use Rattle.uc_script.specs.Cases.{ComesTo, asks, no_setup, no_open, no_call}
+use Rattle.uc_script.specs.Texts.{◌>>=◌, text_of}
+use Rattle.uc_script.specs.Changes.{change_with_one, change_with_two}
+use Rattle.uc_script.specs.Queries.{scan_of}
+use Rattle.uc_script.specs.Script.{keep_of, with_one, setup_of, setup_line, changed, change_in, keep_in, claim_of, call_alone, call_with_one, call_with_two, call_of, call_line, call_after, ops_after, calls_from, script_of}
+use Rattle.uc_script.specs.Cases.{ComesTo, asks, no_setup, no_open, no_call, no_feed}
+use Rattle.uc_script.specs.Fed.{fed_ops, all_ops}
+use Rattle.uc_script.specs.Short.{IsShort, AreNoLonger}
+use Rattle.uc_script.specs.declared.call.Call.{Call}
+use Rattle.uc_script.specs.declared.call.Call.TheVariants.{Read}
+use Rattle.uc_script.specs.declared.call_line.CallLine.{CallLine}
+use Rattle.uc_script.specs.declared.call_line.CallLine.TheVariants as asking
 use Rattle.uc_script.specs.declared.setup_line.SetupLine.{SetupLine}
 use Rattle.uc_script.specs.declared.setup_line.SetupLine.TheVariants as setup
 use Rattle.uc_script.specs.declared.script.Script.{Script}
-use Rattle.uc_script.specs.Short.{IsShort, AreNoLonger}
+use Rattle.uc_script.proofs.Faults.{made, calls-said, calls-faulty}
+use Rattle.uc_script.proofs.Names.{call_good}
 
 -- ---- pieces of a text
 
@@ -89,72 +98,80 @@ text_short (digit ∷ rest) b e = text_step (says (digit ∷ rest) (codes ".")) 
 
 -- ---- what a line says
 
-change_is : (op x : Op) → Some (setup.Change op) ≡ Some (setup.Change x) → op ≡ x
-change_is op x e = cc
+-- the texts of a change are short, if there is one
+abbrev ChangeIsShort : ℕ → Option Op → Type 0
+ChangeIsShort n None = Unit {0}
+ChangeIsShort n (Some op) = IsShort n op
 
--- a key or a number behind a word
-one_step : (t u : Bool) (key : Option (List ℕ)) (number : Option ℕ) (n : ℕ) (op : Op)
-    → cond t (key >>= λ k. Some (setup.Change (Delete k))) (option_map setup.Keep (cond u number None)) ≡ Some (setup.Change op)
-    → ((k : List ℕ) → key ≡ Some k → length k ≤ n) → IsShort n op
-one_step true u None number n op e h = absurd cc
-one_step true u (Some k) number n op e h = subst (IsShort n) (change_is (Delete k) op e) (h k refl)
-one_step false true key None n op e h = absurd cc
-one_step false true key (Some x) n op e h = absurd cc
-one_step false false key number n op e h = absurd cc
+abbrev TextIsShort : ℕ → Option (List ℕ) → Type 0
+TextIsShort n text = (b : List ℕ) → text ≡ Some b → length b ≤ n
 
-two_step : (t u v : Bool) (a b : List ℕ) (n : ℕ) (op : Op)
-    → cond t (Some (setup.Change (Put a b))) (cond u (Some (setup.Change (Merge a b))) (cond v (Some (setup.Change (DeleteRange a b))) None)) ≡ Some (setup.Change op)
-    → length a ≤ n → length b ≤ n → IsShort n op
-two_step true u v a b n op e p q = subst (IsShort n) (change_is (Put a b) op e) (p, q)
-two_step false true v a b n op e p q = subst (IsShort n) (change_is (Merge a b) op e) (p, q)
-two_step false false true a b n op e p q = subst (IsShort n) (change_is (DeleteRange a b) op e) (p, q)
-two_step false false false a b n op e p q = absurd cc
+field_short : (field : List ℕ) (n : ℕ) → length field ≤ n → TextIsShort n (text_of field)
+field_short field n h b e = omega (arith, text_short field b e)
 
-two_texts : (t u v : Bool) (first second : Option (List ℕ)) (n : ℕ) (op : Op)
-    → (first >>= λ a. second >>= λ b. cond t (Some (setup.Change (Put a b))) (cond u (Some (setup.Change (Merge a b))) (cond v (Some (setup.Change (DeleteRange a b))) None))) ≡ Some (setup.Change op)
-    → ((k : List ℕ) → first ≡ Some k → length k ≤ n) → ((k : List ℕ) → second ≡ Some k → length k ≤ n) → IsShort n op
-two_texts t u v None second n op e p q = absurd cc
-two_texts t u v (Some a) None n op e p q = absurd cc
-two_texts t u v (Some a) (Some b) n op e p q = two_step t u v a b n op e (p a refl) (q b refl)
+-- a key behind a word
+delete_step : (t : Bool) (key : Option (List ℕ)) (n : ℕ) → TextIsShort n key → ChangeIsShort n (cond t (key >>= λ k. Some (Delete k)) None)
+delete_step false key n h = tt
+delete_step true None n h = tt
+delete_step true (Some k) n h = h k refl
 
-only_open : (t : Bool) (n : ℕ) (op : Op) → cond t (Some setup.Open) None ≡ Some (setup.Change op) → IsShort n op
-only_open true n op e = absurd cc
-only_open false n op e = absurd cc
+delete_short : (word key : List ℕ) (n : ℕ) → length key ≤ n → ChangeIsShort n (change_with_one word key)
+unfolding change_with_one
+delete_short word key n h = delete_step (says word (codes "delete")) (text_of key) n (field_short key n h)
 
-setup_short : (fields : List (List ℕ)) (n : ℕ) (op : Op) → AreShort n fields → setup_of fields ≡ Some (setup.Change op) → IsShort n op
-unfolding setup_of with_one with_two keep_of
-setup_short [] n op h e = absurd cc
-setup_short (word ∷ []) n op h e = only_open (says word (codes "open")) n op e
-setup_short (word ∷ argument ∷ []) n op h e =
-    one_step (says word (codes "delete")) (says word (codes "keep")) (text_of argument) (number_of argument) n op e (λ k t. omega (arith, text_short argument k t, h.1.0))
-setup_short (word ∷ first ∷ second ∷ []) n op h e =
-    two_texts (says word (codes "put")) (says word (codes "merge")) (says word (codes "range")) (text_of first) (text_of second) n op e (λ k t. omega (arith, text_short first k t, h.1.0)) (λ k t. omega (arith, text_short second k t, h.1.1.0))
-setup_short (word ∷ first ∷ second ∷ third ∷ fields) n op h e = absurd cc
+-- two texts behind a word
+two_step : (t u v : Bool) (a b : List ℕ) (n : ℕ) → length a ≤ n → length b ≤ n
+    → ChangeIsShort n (cond t (Some (Put a b)) (cond u (Some (Merge a b)) (cond v (Some (DeleteRange a b)) None)))
+two_step true u v a b n p q = (p, q)
+two_step false true v a b n p q = (p, q)
+two_step false false true a b n p q = (p, q)
+two_step false false false a b n p q = tt
 
--- ---- the whole script
+two_texts : (t u v : Bool) (first second : Option (List ℕ)) (n : ℕ) → TextIsShort n first → TextIsShort n second
+    → ChangeIsShort n (first >>= λ a. second >>= λ b. cond t (Some (Put a b)) (cond u (Some (Merge a b)) (cond v (Some (DeleteRange a b)) None)))
+two_texts t u v None second n p q = tt
+two_texts t u v (Some a) None n p q = tt
+two_texts t u v (Some a) (Some b) n p q = two_step t u v a b n (p a refl) (q b refl)
 
-change_is_op : (x op : Op) → Some x ≡ Some op → x ≡ op
-change_is_op x op e = cc
+write_short : (word first second : List ℕ) (n : ℕ) → length first ≤ n → length second ≤ n → ChangeIsShort n (change_with_two word first second)
+unfolding change_with_two
+write_short word first second n p q =
+    two_texts (says word (codes "put")) (says word (codes "merge")) (says word (codes "range")) (text_of first) (text_of second) n (field_short first n p) (field_short second n q)
 
-line_step : (t : Bool) (line : List ℕ) (n : ℕ) (op : Op) → length line ≤ n → cond t (Some setup.Skipped) (setup_of (fields_of line)) ≡ Some (setup.Change op) → IsShort n op
-line_step true line n op h e = absurd cc
-line_step false line n op h e = setup_short (fields_of line) n op (longer (length line) n (fields_of line) h (fields_short line)) e
+-- ---- lines before `open`
 
-of_change : (said : Option SetupLine) (line : List ℕ) (n : ℕ) (op : Op) → length line ≤ n → setup_line line ≡ said → changed said ≡ Some op → IsShort n op
-unfolding setup_line
-of_change None line n op h s e = absurd cc
-of_change (Some setup.Skipped) line n op h s e = absurd cc
-of_change (Some (setup.Change x)) line n op h s e = subst (IsShort n) (change_is_op x op e) (line_step (is_skipped line) line n x h s)
-of_change (Some (setup.Keep k)) line n op h s e = absurd cc
-of_change (Some setup.Open) line n op h s e = absurd cc
+only_open : (t : Bool) (n : ℕ) → ChangeIsShort n (changed (cond t (Some setup.Open) None))
+only_open true n = tt
+only_open false n = tt
 
-line_short : (line : List ℕ) (n : ℕ) (op : Op) → length line ≤ n → change_in line ≡ Some op → IsShort n op
-unfolding change_in
-line_short line n op h e = of_change (setup_line line) line n op h refl e
+change_or_keep : (o : Option Op) (k : Option ℕ) (n : ℕ) → ChangeIsShort n o → ChangeIsShort n (changed (option_or (option_map setup.Change o) (option_map setup.Keep k)))
+change_or_keep None None n h = tt
+change_or_keep None (Some k) n h = tt
+change_or_keep (Some op) k n h = h
 
-cons_short : (o : Option Op) (n : ℕ) (ops : List Op) → ((op : Op) → o ≡ Some op → IsShort n op) → AllByRecursion (IsShort n) ops → AllByRecursion (IsShort n) (cons_option o ops)
+only_change : (o : Option Op) (n : ℕ) → ChangeIsShort n o → ChangeIsShort n (changed (option_map setup.Change o))
+only_change None n h = tt
+only_change (Some op) n h = h
+
+setup_short : (fields : List (List ℕ)) (n : ℕ) → AreShort n fields → ChangeIsShort n (changed (setup_of fields))
+unfolding setup_of with_one
+setup_short [] n h = tt
+setup_short (word ∷ []) n h = only_open (says word (codes "open")) n
+setup_short (word ∷ argument ∷ []) n h = change_or_keep (change_with_one word argument) (keep_of word argument) n (delete_short word argument n h.1.0)
+setup_short (word ∷ first ∷ second ∷ []) n h = only_change (change_with_two word first second) n (write_short word first second n h.1.0 h.1.1.0)
+setup_short (word ∷ first ∷ second ∷ third ∷ fields) n h = tt
+
+setup_step : (t : Bool) (o : Option SetupLine) (n : ℕ) → ChangeIsShort n (changed o) → ChangeIsShort n (changed (cond t (Some setup.Skipped) o))
+setup_step true o n h = tt
+setup_step false o n h = h
+
+line_short : (line : List ℕ) (n : ℕ) → length line ≤ n → ChangeIsShort n (change_in line)
+unfolding change_in setup_line
+line_short line n h = setup_step (is_skipped line) (setup_of (fields_of line)) n (setup_short (fields_of line) n (longer (length line) n (fields_of line) h (fields_short line)))
+
+cons_short : (o : Option Op) (n : ℕ) (ops : List Op) → ChangeIsShort n o → AllByRecursion (IsShort n) ops → AllByRecursion (IsShort n) (cons_option o ops)
 cons_short None n ops h rest = rest
-cons_short (Some op) n ops h rest = (h op refl, rest)
+cons_short (Some op) n ops h rest = (h, rest)
 
 cons_few : (o : Option Op) (ops : List Op) (n : ℕ) → length ops ≤ n → length (cons_option o ops) ≤ suc n
 cons_few None ops n h = omega arith
@@ -163,35 +180,140 @@ cons_few (Some op) ops n h = omega arith
 -- the changes that lines name
 changes_short : (lines : List (List ℕ)) (n : ℕ) → AreShort n lines → AllByRecursion (IsShort n) (filter_map change_in lines)
 changes_short [] n h = tt
-changes_short (line ∷ lines) n h = cons_short (change_in line) n (filter_map change_in lines) (λ op e. line_short line n op h.0 e) (changes_short lines n h.1)
+changes_short (line ∷ lines) n h = cons_short (change_in line) n (filter_map change_in lines) (line_short line n h.0) (changes_short lines n h.1)
 
 changes_few : (lines : List (List ℕ)) → length (filter_map change_in lines) ≤ length lines
 changes_few [] = omega arith
 changes_few (line ∷ lines) = cons_few (change_in line) (filter_map change_in lines) (length lines) (changes_few lines)
 
+-- ---- lines after `open`
+
+-- the change that such a line names, if it names one
+abbrev gathered : Option CallLine → Option Op
+gathered (Some (asking.Change op)) = Some op
+gathered _ = None
+
+ask_names_none : (o : Option Call) (n : ℕ) → ChangeIsShort n (gathered (option_map asking.Ask o))
+ask_names_none None n = tt
+ask_names_none (Some call) n = tt
+
+feed_or_ask : (t : Bool) (o : Option Call) (n : ℕ) → ChangeIsShort n (gathered (cond t (Some asking.Feed) (option_map asking.Ask o)))
+feed_or_ask true o n = tt
+feed_or_ask false o n = ask_names_none o n
+
+ask_if : (t : Bool) (o : Option Call) (n : ℕ) → ChangeIsShort n (gathered (cond t (option_map asking.Ask o) None))
+ask_if true o n = ask_names_none o n
+ask_if false o n = tt
+
+ask_or_change : (o : Option Call) (p : Option Op) (n : ℕ) → ChangeIsShort n p → ChangeIsShort n (gathered (option_or (option_map asking.Ask o) (option_map asking.Change p)))
+ask_or_change None None n h = tt
+ask_or_change None (Some op) n h = h
+ask_or_change (Some call) p n h = tt
+
+call_short : (fields : List (List ℕ)) (n : ℕ) → AreShort n fields → ChangeIsShort n (gathered (call_of fields))
+unfolding call_of
+call_short [] n h = tt
+call_short (word ∷ []) n h = feed_or_ask (says word (codes "feed")) (call_alone word) n
+call_short (word ∷ argument ∷ []) n h = ask_or_change (call_with_one word argument) (change_with_one word argument) n (delete_short word argument n h.1.0)
+call_short (word ∷ first ∷ second ∷ []) n h = ask_or_change (call_with_two word first second) (change_with_two word first second) n (write_short word first second n h.1.0 h.1.1.0)
+call_short (word ∷ name ∷ first ∷ count ∷ []) n h = ask_if (says word (codes "claim")) (claim_of name first count) n
+call_short (word ∷ low ∷ high ∷ limit ∷ at ∷ []) n h = ask_names_none (option_map Read (scan_of word low high limit at)) n
+call_short (a ∷ b ∷ c ∷ d ∷ e ∷ f ∷ fields) n h = tt
+
+call_step : (t : Bool) (o : Option CallLine) (n : ℕ) → ChangeIsShort n (gathered o) → ChangeIsShort n (gathered (cond t (Some asking.Skipped) o))
+call_step true o n h = tt
+call_step false o n h = h
+
+call_line_short : (line : List ℕ) (n : ℕ) → length line ≤ n → ChangeIsShort n (gathered (call_line line))
+unfolding call_line
+call_line_short line n h = call_step (is_skipped line) (call_of (fields_of line)) n (call_short (fields_of line) n (longer (length line) n (fields_of line) h (fields_short line)))
+
+gathered_short : (line : List ℕ) (n : ℕ) (op : Op) → length line ≤ n → call_line line ≡ Some (asking.Change op) → IsShort n op
+gathered_short line n op h is = subst (λ (o : Option CallLine). ChangeIsShort n (gathered o)) is (call_line_short line n h)
+
+both_short : (n : ℕ) (ops others : List Op) → AllByRecursion (IsShort n) ops → AllByRecursion (IsShort n) others → AllByRecursion (IsShort n) (ops ++ others)
+both_short n [] others p q = q
+both_short n (op ∷ ops) others p q = (p.0, both_short n ops others p.1 q)
+
+-- the changes that calls feed
+abbrev fed_by : List Call → List Op
+fed_by calls = flat_map fed_ops calls
+
+-- these changes are few and short
+abbrev IsFine : ℕ → ℕ → List Op → Type 0
+IsFine count n ops = (length ops ≤ count) × AllByRecursion (IsShort n) ops
+
+fed_nothing : (ops fed : List Op) (count n : ℕ) → fed ≡ [] → IsFine count n ops → IsFine count n (fed ++ ops)
+fed_nothing ops fed count n none fine = rw none fine
+
+-- a line that says something, in front of others
+said_fine : (said : CallLine) (ops : List Op) (line : List ℕ) (lines : List (List ℕ)) (n : ℕ) → call_line line ≡ Some said → length line ≤ n → AllByRecursion (IsShort n) ops
+    → ((others : List Op) → AllByRecursion (IsShort n) others → IsFine (length others + length lines) n (fed_by (calls_from others lines)))
+    → IsFine (length ops + suc (length lines)) n (fed_by (cons_option (call_after ops said) (calls_from (ops_after ops said) lines)))
+said_fine asking.Skipped ops line lines n is le short ih = let fine = ih ops short in (omega (arith, fine.0), fine.1)
+said_fine (asking.Change op) ops line lines n is le short ih =
+    let fine = ih (ops ++ op ∷ []) (both_short n ops (op ∷ []) short (gathered_short line n op le is, tt)) in
+    (omega (arith, fine.0, length-append ops (op ∷ [])), fine.1)
+said_fine asking.Feed ops line lines n is le short ih =
+    let fine = ih [] tt in
+    (omega (arith, fine.0, length-append ops (fed_by (calls_from [] lines))), both_short n ops (fed_by (calls_from [] lines)) short fine.1)
+said_fine (asking.Ask call) ops line lines n is le short ih =
+    let fine = ih ops short in
+    fed_nothing (fed_by (calls_from ops lines)) (fed_ops call) (length ops + suc (length lines)) n (call_good line call is).1 (omega (arith, fine.0), fine.1)
+
+fed_step : (said : Option CallLine) (ops : List Op) (line : List ℕ) (lines : List (List ℕ)) (n : ℕ) → call_line line ≡ said → length line ≤ n → AllByRecursion (IsShort n) ops
+    → ((others : List Op) → AllByRecursion (IsShort n) others → IsFine (length others + length lines) n (fed_by (calls_from others lines)))
+    → IsFine (length ops + suc (length lines)) n (fed_by (calls_from ops (line ∷ lines)))
+fed_step None ops line lines n is le short ih = let fine = ih ops short in rw (calls-faulty ops line lines is) (omega (arith, fine.0), fine.1)
+fed_step (Some said) ops line lines n is le short ih = rw (calls-said ops line lines said is) (said_fine said ops line lines n is le short ih)
+
+-- what lines feed behind these changes
+fed_fine : (ops : List Op) (lines : List (List ℕ)) (n : ℕ) → AreShort n lines → AllByRecursion (IsShort n) ops → IsFine (length ops + length lines) n (fed_by (calls_from ops lines))
+fed_fine ops [] n h short = (omega arith, tt)
+fed_fine ops (line ∷ lines) n h short = fed_step (call_line line) ops line lines n refl h.0 short (λ others all. fed_fine others lines n h.1 all)
+
+-- ---- the whole script
+
 abbrev script_is : Script → Result Script ℕ
 script_is s = Ok s
 
-script_ops : {a b : Script} → script_is a ≡ script_is b → a.ops ≡ b.ops
-script_ops {a} {b} e = let same : a ≡ b = cc in ap (λ (s : Script). s.ops) same
+script_same : {a b : Script} → script_is a ≡ script_is b → a ≡ b
+script_same e = cc
 
-short_part : (p : List (List ℕ)) (l : List ℕ) (r : List (List ℕ)) (n : ℕ) → AreShort n (p ++ l ∷ r) → AreShort n p
-short_part [] l r n h = tt
-short_part (x ∷ p) l r n h = (h.0, short_part p l r n h.1)
+short_front : (p : List (List ℕ)) (l : List ℕ) (r : List (List ℕ)) (n : ℕ) → AreShort n (p ++ l ∷ r) → AreShort n p
+short_front [] l r n h = tt
+short_front (x ∷ p) l r n h = (h.0, short_front p l r n h.1)
 
-of_outcome : (lines : List (List ℕ)) (outcome : Result Script ℕ) (script : Script) (n : ℕ) → ComesTo lines outcome → AreShort n lines → length lines ≤ n → outcome ≡ Ok script → AreNoLonger n script.ops
-of_outcome lines outcome script n (asks before opening after p q r) short few e =
-    let named = filter_map change_in before in
-    let same : named ≡ script.ops = script_ops e in
-    let all : All (IsShort n) named = All-from_recursion (IsShort n) named (changes_short before n (short_part before opening after n short)) in
-    record {
-      few = omega (arith, ap length same, changes_few before, length-append before (opening ∷ after));
-      short = subst (λ (ops : List Op). All (IsShort n) ops) same all;
-    }
+short_behind : (p : List (List ℕ)) (l : List ℕ) (r : List (List ℕ)) (n : ℕ) → AreShort n (p ++ l ∷ r) → AreShort n r
+short_behind [] l r n h = h.1
+short_behind (x ∷ p) l r n h = short_behind p l r n h.1
+
+no_longer_of : (n : ℕ) (ops : List Op) → length ops ≤ n → AllByRecursion (IsShort n) ops → AreNoLonger n ops
+no_longer_of n ops few short = record { few = few; short = All-from_recursion (IsShort n) ops short }
+
+-- the changes before `open`, and all of them
+abbrev BothAreNoLonger : ℕ → Script → Type 0
+BothAreNoLonger n script = AreNoLonger n script.ops × AreNoLonger n (all_ops script)
+
+of_lines : (before : List (List ℕ)) (opening : List ℕ) (after : List (List ℕ)) (n : ℕ) → AreShort n (before ++ opening ∷ after) → length (before ++ opening ∷ after) ≤ n
+    → BothAreNoLonger n (made (filter_map change_in before) (filter_map keep_in before) (calls_from [] after))
+of_lines before opening after n short few =
+    let ops = filter_map change_in before in
+    let fed = fed_by (calls_from [] after) in
+    let changes = changes_short before n (short_front before opening after n short) in
+    let fine = fed_fine [] after n (short_behind before opening after n short) tt in (
+      no_longer_of n ops (omega (arith, changes_few before, length-append before (opening ∷ after))) changes,
+      no_longer_of n (ops ++ fed) (omega (arith, changes_few before, fine.0, length-append ops fed, length-append before (opening ∷ after))) (both_short n ops fed changes fine.1),
+    )
+
+of_outcome : (lines : List (List ℕ)) (outcome : Result Script ℕ) (script : Script) (n : ℕ) → ComesTo lines outcome → AreShort n lines → length lines ≤ n → outcome ≡ Ok script → BothAreNoLonger n script
+of_outcome lines outcome script n (asks before opening after p q r fed) short few e = subst (BothAreNoLonger n) (script_same e) (of_lines before opening after n short few)
 of_outcome lines outcome script n (no_setup before line rest p q) short few e = absurd cc
 of_outcome lines outcome script n (no_open before p) short few e = absurd cc
 of_outcome lines outcome script n (no_call before opening after line rest p q r s) short few e = absurd cc
+of_outcome lines outcome script n (no_feed before opening after p q r unfed) short few e = absurd cc
 
 -- what a script names is no longer than its text
-pub no_longer : ((text : List ℕ) → ComesTo (lines_of text) (script_of text)) → (text : List ℕ) (script : Script) → script_of text ≡ Ok script → AreNoLonger (length text) script.ops
+pub no_longer : ((text : List ℕ) → ComesTo (lines_of text) (script_of text)) → (text : List ℕ) (script : Script) → script_of text ≡ Ok script
+    → AreNoLonger (length text) script.ops × AreNoLonger (length text) (all_ops script)
 no_longer comes text script e = of_outcome (lines_of text) (script_of text) script (length text) (comes text) (lines_short text) (lines_few text) e

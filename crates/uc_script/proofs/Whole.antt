@@ -1,23 +1,22 @@
 -- What the reader makes of the lines one after the other is what the script asks.
-use Rattle.std.proofs.Common.{◌≡◌, ℕ, suc, ◌+◌, true, false, List, [], ◌∷◌, ◌++◌, Option, Some, None, Result, Ok, Err, refl, sym, ap, ◌∙◌, append_assoc, arith, add-zero}
-use Rattle.std.specs.Prelude.{position}
-use Rattle.std.specs.List.{filter_map}
+use Rattle.std.proofs.Common.{◌≡◌, ℕ, suc, ◌+◌, Bool, true, false, eqb, List, [], ◌∷◌, ◌++◌, length, Option, Some, None, Result, Ok, Err, refl, sym, ap, ◌∙◌, append_assoc, arith, add-zero}
+use Rattle.std.specs.List.{cons_option, filter_map}
 use Rattle.std.specs.Option.{option_map}
+use Rattle.std.proofs.lemmas.Bool.{cond-false, ne_eqb}
 use Rattle.std.proofs.lemmas.List.{append-nil}
 use Rattle.uc_script.specs.declared.call.Call.{Call}
 use Rattle.uc_script.specs.declared.setup_line.SetupLine.{SetupLine}
 use Rattle.uc_script.specs.declared.setup_line.SetupLine.TheVariants as setup
 use Rattle.uc_script.specs.declared.call_line.CallLine.{CallLine}
-use Rattle.uc_script.specs.declared.call_line.CallLine.TheVariants as asking
 use Rattle.uc_script.specs.declared.script.Script.{Script}
 use Rattle.uc_bytes.specs.declared.op.Op.{Op}
 use Rattle.uc_script.specs.Lines.{lines_of}
-use Rattle.uc_script.specs.Script.{setup_line, call_line, says_open, lines_before, lines_after, change_in, keep_in, call_in, fault_at, asked_by, unless_fault, script_of}
-use Rattle.uc_script.specs.Reading.{Setup, Fails, setup_after, calls_after}
+use Rattle.uc_script.specs.Script.{setup_line, call_line, says_open, lines_before, lines_after, change_in, keep_in, call_after, ops_after, calls_from, fault_behind, fault_at, asked_by, unless_fault, script_of}
+use Rattle.uc_script.specs.Reading.{Setup, Fails, snoc_option, setup_after, calls_after}
 use Rattle.uc_script.specs.declared.error.ScriptError.{ScriptError}
 use Rattle.uc_script.specs.declared.error.ScriptError.TheVariants as errors
-use Rattle.uc_script.proofs.Faults.{refuses_setup, refuses_call, made, made-same, fault_at-next, fault_at-here, fault_at-open}
-use Rattle.uc_script.proofs.First.{position-yes, position-no, before_first-yes, before_first-no, after_first-yes, after_first-no}
+use Rattle.uc_script.proofs.Faults.{refuses_setup, fault_from, fault_from-here, fault_from-next, some_ops, some_ops-after, calls-said, made, made-same, fault_at-next, fault_at-here, fault_at-open}
+use Rattle.uc_script.proofs.First.{before_first-yes, before_first-no, after_first-yes, after_first-no}
 
 -- an answer to lines from the one of number n on, the first fault of which stands behind k of them
 abbrev pub answer : {A : Type 0} → Option ℕ → ℕ → A → Result A ℕ
@@ -46,28 +45,36 @@ by_fault None script = refl
 
 -- ---- lines after `open`
 
-abbrev calls_answer : List Call → ℕ → List (List ℕ) → Result (List Call) ℕ
-calls_answer calls n lines = answer (position refuses_call lines) n (calls ++ filter_map call_in lines)
+abbrev calls_answer : List Call → List Op → ℕ → List (List ℕ) → Result (List Call) ℕ
+calls_answer calls ops n lines = answer (fault_from (some_ops ops) lines) n (calls ++ calls_from ops lines)
 
-calls_step : (said : Option CallLine) (calls : List Call) (n : ℕ) (line : List ℕ) (lines : List (List ℕ)) → call_line line ≡ said
-    → ((more : List Call) (m : ℕ) → calls_after more m lines ≡ calls_answer more m lines) → calls_after calls n (line ∷ lines) ≡ calls_answer calls n (line ∷ lines)
-unfolding call_in
-calls_step None calls n line lines said ih =
-    let step : calls_after calls n (line ∷ lines) ≡ Err n = rw (said, calls_after) refl in
-    step ∙ stops _ n _ (position-yes refuses_call line lines (rw said refl))
-calls_step (Some asking.Skipped) calls n line lines said ih =
-    let step : calls_after calls n (line ∷ lines) ≡ calls_after calls (n + 1) lines = rw (said, calls_after) refl in
-    let items : filter_map call_in (line ∷ lines) ≡ filter_map call_in lines = rw said refl in
-    step ∙ ih calls (n + 1) ∙ goes_on _ _ n _ _ (position-no refuses_call line lines (rw said refl)) (ap (λ (xs : List Call). calls ++ xs) (sym items))
-calls_step (Some (asking.Ask call)) calls n line lines said ih =
-    let step : calls_after calls n (line ∷ lines) ≡ calls_after (calls ++ call ∷ []) (n + 1) lines = rw (said, calls_after) refl in
-    let items : filter_map call_in (line ∷ lines) ≡ call ∷ filter_map call_in lines = rw said refl in
-    step ∙ ih (calls ++ call ∷ []) (n + 1)
-    ∙ goes_on _ _ n _ _ (position-no refuses_call line lines (rw said refl)) (regroup calls call (filter_map call_in lines) ∙ ap (λ (xs : List Call). calls ++ xs) (sym items))
+-- one more item, if there is one, in front of those of a list
+pub regroup_option : {A : Type 0} (front : List A) (o : Option A) (xs : List A) → snoc_option front o ++ xs ≡ front ++ cons_option o xs
+regroup_option front None xs = refl
+regroup_option front (Some x) xs = regroup front x xs
 
-calls_after-is : (calls : List Call) (n : ℕ) (lines : List (List ℕ)) → calls_after calls n lines ≡ calls_answer calls n lines
-calls_after-is calls n [] = ap Ok (sym (append-nil calls))
-calls_after-is calls n (line ∷ lines) = calls_step (call_line line) calls n line lines refl (λ more m. calls_after-is more m lines)
+calls_step : (said : Option CallLine) (calls : List Call) (ops : List Op) (n : ℕ) (line : List ℕ) (lines : List (List ℕ)) → call_line line ≡ said
+    → ((more : List Call) (others : List Op) (m : ℕ) → calls_after more others m lines ≡ calls_answer more others m lines) → calls_after calls ops n (line ∷ lines) ≡ calls_answer calls ops n (line ∷ lines)
+calls_step None calls ops n line lines is ih =
+    let step : calls_after calls ops n (line ∷ lines) ≡ Err n = rw (is, calls_after) refl in
+    step ∙ stops _ n _ (fault_from-here (some_ops ops) line lines is)
+calls_step (Some said) calls ops n line lines is ih =
+    let more = snoc_option calls (call_after ops said) in
+    let others = ops_after ops said in
+    let step : calls_after calls ops n (line ∷ lines) ≡ calls_after more others (n + 1) lines = rw (is, calls_after) refl in
+    let items = calls-said ops line lines said is in
+    let place : fault_from (some_ops ops) (line ∷ lines) ≡ option_map suc (fault_from (some_ops others) lines) =
+    fault_from-next (some_ops ops) said line lines is ∙ ap (λ (b : Bool). option_map suc (fault_from b lines)) (sym (some_ops-after ops said)) in
+    step ∙ ih more others (n + 1)
+    ∙ goes_on _ _ n _ _ place (regroup_option calls (call_after ops said) (calls_from others lines) ∙ ap (λ (xs : List Call). calls ++ xs) (sym items))
+
+calls_end : (ops : List Op) (calls : List Call) (n : ℕ) → calls_after calls ops n [] ≡ calls_answer calls ops n []
+calls_end [] calls n = ap Ok (sym (append-nil calls))
+calls_end (op ∷ ops) calls n = cond-false (eqb (suc (length ops)) 0) (Ok calls) (Err n) (ne_eqb (suc (length ops)) 0 (λ e. omega arith)) ∙ ap Err (sym (add-zero n))
+
+calls_after-is : (calls : List Call) (ops : List Op) (n : ℕ) (lines : List (List ℕ)) → calls_after calls ops n lines ≡ calls_answer calls ops n lines
+calls_after-is calls ops n [] = calls_end ops calls n
+calls_after-is calls ops n (line ∷ lines) = calls_step (call_line line) calls ops n line lines refl (λ more others m. calls_after-is more others m lines)
 
 -- ---- the whole script
 
@@ -78,13 +85,13 @@ with_calls ops keeps (Err n) = Err n
 
 -- what the reader does after `open`
 abbrev pub then_calls : Result Setup ℕ → Result Script ℕ
-then_calls (Ok setup) = with_calls setup.ops setup.keeps (calls_after [] setup.number setup.lines)
+then_calls (Ok setup) = with_calls setup.ops setup.keeps (calls_after [] [] setup.number setup.lines)
 then_calls (Err n) = Err n
 
 -- what lines ask after these changes and keeps
 abbrev asked_after : List Op → List ℕ → List (List ℕ) → Script
 asked_after ops keeps lines =
-    made (ops ++ filter_map change_in (lines_before lines)) (keeps ++ filter_map keep_in (lines_before lines)) (filter_map call_in (lines_after lines))
+    made (ops ++ filter_map change_in (lines_before lines)) (keeps ++ filter_map keep_in (lines_before lines)) (calls_from [] (lines_after lines))
 
 abbrev script_answer : List Op → List ℕ → ℕ → List (List ℕ) → Result Script ℕ
 script_answer ops keeps n lines = answer (fault_at lines) n (asked_after ops keeps lines)
@@ -102,7 +109,7 @@ setup_goes_on o p k l n line lines other good changes keeps =
     let before = before_first-no says_open line lines other in
     let after = after_first-no says_open line lines other in
     goes_on (fault_at lines) (fault_at (line ∷ lines)) n (asked_after p l lines) (asked_after o k (line ∷ lines)) (fault_at-next line lines other good)
-    (made-same _ _ _ _ _ _ (changes ∙ ap (λ (b : List (List ℕ)). o ++ filter_map change_in b) (sym before)) (keeps ∙ ap (λ (b : List (List ℕ)). k ++ filter_map keep_in b) (sym before)) (ap (filter_map call_in) (sym after)))
+    (made-same _ _ _ _ _ _ (changes ∙ ap (λ (b : List (List ℕ)). o ++ filter_map change_in b) (sym before)) (keeps ∙ ap (λ (b : List (List ℕ)). k ++ filter_map keep_in b) (sym before)) (ap (calls_from []) (sym after)))
 
 setup_step : (said : Option SetupLine) (ops : List Op) (keeps : List ℕ) (n : ℕ) (line : List ℕ) (lines : List (List ℕ)) → setup_line line ≡ said
     → ((o : List Op) (k : List ℕ) (m : ℕ) → then_calls (setup_after o k m lines) ≡ script_answer o k m lines) → then_calls (setup_after ops keeps n (line ∷ lines)) ≡ script_answer ops keeps n (line ∷ lines)
@@ -111,15 +118,15 @@ setup_step None ops keeps n line lines said ih =
     let step : then_calls (setup_after ops keeps n (line ∷ lines)) ≡ Err n = rw (said, setup_after) refl in
     step ∙ stops (fault_at (line ∷ lines)) n (asked_after ops keeps (line ∷ lines)) (fault_at-here line lines (rw said refl) (rw said refl))
 setup_step (Some setup.Open) ops keeps n line lines said ih =
-    let step : then_calls (setup_after ops keeps n (line ∷ lines)) ≡ with_calls ops keeps (calls_after [] (n + 1) lines) = rw (said, setup_after) refl in
+    let step : then_calls (setup_after ops keeps n (line ∷ lines)) ≡ with_calls ops keeps (calls_after [] [] (n + 1) lines) = rw (said, setup_after) refl in
     let opens : says_open line ≡ true = rw said refl in
     let before = before_first-yes says_open line lines opens in
     let after = after_first-yes says_open line lines opens in
-    let script : made ops keeps (filter_map call_in lines) ≡ asked_after ops keeps (line ∷ lines) = made-same _ _ _ _ _ _
+    let script : made ops keeps (calls_from [] lines) ≡ asked_after ops keeps (line ∷ lines) = made-same _ _ _ _ _ _
     (sym (append-nil ops) ∙ ap (λ (b : List (List ℕ)). ops ++ filter_map change_in b) (sym before))
-    (sym (append-nil keeps) ∙ ap (λ (b : List (List ℕ)). keeps ++ filter_map keep_in b) (sym before)) (ap (filter_map call_in) (sym after)) in
-    step ∙ ap (with_calls ops keeps) (calls_after-is [] (n + 1) lines) ∙ open_answer (position refuses_call lines) ops keeps n (filter_map call_in lines)
-    ∙ ap (λ (o : Option ℕ). answer o n (made ops keeps (filter_map call_in lines))) (sym (fault_at-open line lines opens)) ∙ ap (answer (fault_at (line ∷ lines)) n) script
+    (sym (append-nil keeps) ∙ ap (λ (b : List (List ℕ)). keeps ++ filter_map keep_in b) (sym before)) (ap (calls_from []) (sym after)) in
+    step ∙ ap (with_calls ops keeps) (calls_after-is [] [] (n + 1) lines) ∙ open_answer (fault_behind lines) ops keeps n (calls_from [] lines)
+    ∙ ap (λ (o : Option ℕ). answer o n (made ops keeps (calls_from [] lines))) (sym (fault_at-open line lines opens)) ∙ ap (answer (fault_at (line ∷ lines)) n) script
 setup_step (Some setup.Skipped) ops keeps n line lines said ih =
     let step : then_calls (setup_after ops keeps n (line ∷ lines)) ≡ then_calls (setup_after ops keeps (n + 1) lines) = rw (said, setup_after) refl in
     step ∙ ih ops keeps (n + 1) ∙ setup_goes_on ops ops keeps keeps n line lines (rw said refl) (rw said refl) (rw said refl) (rw said refl)
@@ -142,7 +149,7 @@ unfolding script_of
 steps-script_of text = then_calls-is [] [] 1 (lines_of text) ∙ by_fault (fault_at (lines_of text)) (asked_by (lines_of text))
 
 -- a script without a fault
-pub script_of-read : (text : List ℕ) (setup : Setup) (calls : List Call) → setup_after [] [] 1 (lines_of text) ≡ Ok setup → calls_after [] setup.number setup.lines ≡ Ok calls
+pub script_of-read : (text : List ℕ) (setup : Setup) (calls : List Call) → setup_after [] [] 1 (lines_of text) ≡ Ok setup → calls_after [] [] setup.number setup.lines ≡ Ok calls
     → script_of text ≡ Ok (made setup.ops setup.keeps calls)
 script_of-read text setup calls opened asked = sym (steps-script_of text) ∙ ap then_calls opened ∙ ap (with_calls setup.ops setup.keeps) asked
 
@@ -151,6 +158,6 @@ pub script_of-at_setup : (text : List ℕ) (e : ScriptError) → Fails e (setup_
 script_of-at_setup text errors.Memory fails = tt
 script_of-at_setup text (errors.Fault n) fails = sym (steps-script_of text) ∙ ap then_calls fails
 
-pub script_of-at_calls : (text : List ℕ) (setup : Setup) (e : ScriptError) → setup_after [] [] 1 (lines_of text) ≡ Ok setup → Fails e (calls_after [] setup.number setup.lines) → Fails e (script_of text)
+pub script_of-at_calls : (text : List ℕ) (setup : Setup) (e : ScriptError) → setup_after [] [] 1 (lines_of text) ≡ Ok setup → Fails e (calls_after [] [] setup.number setup.lines) → Fails e (script_of text)
 script_of-at_calls text setup errors.Memory opened fails = tt
 script_of-at_calls text setup (errors.Fault n) opened fails = sym (steps-script_of text) ∙ ap then_calls opened ∙ ap (with_calls setup.ops setup.keeps) fails

@@ -1,14 +1,14 @@
 -- The calls of a script, apart from what comes before them.
-use Rattle.std.specs.Prelude.{◌≡◌, ℕ, List, [], ◌∷◌, Option, Some, None, filter_map}
+use Rattle.std.specs.Prelude.{◌≡◌, ℕ, List, [], ◌∷◌, Option, Some, None}
 use Rattle.uc_script.specs.Lines.{lines_of}
-use Rattle.uc_script.specs.Script.{call_in}
+use Rattle.uc_script.specs.Script.{calls_from}
 use Rattle.uc_script.specs.declared.call.Call.{Call}
 use Rattle.uc_script.specs.declared.script.Preamble.{Preamble}
 use Rattle.uc_script.specs.declared.script.Script.{Script}
 
 -- What the lines of a text ask, in order, if they follow `open`.
 abbrev pub calls_in : List ℕ → List Call
-calls_in text = filter_map call_in (lines_of text)
+calls_in text = calls_from [] (lines_of text)
 
 -- The first of these calls comes, if there is one, and the others are left.
 abbrev pub Comes : List Call → Option Call → List Call → Type 0

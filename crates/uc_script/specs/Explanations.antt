@@ -1,8 +1,9 @@
 -- What is said of the faulty line.
-use Rattle.std.specs.Prelude.{ℕ, ◌-◌, ◌==◌, length, Bool, true, false, not, ◌&&◌, List, [], ◌∷◌, take, drop, codes, nat_eq, Option, Some, None, string_bytes, if◌then◌else◌}
+use Rattle.std.specs.Prelude.{ℕ, ◌-◌, ◌==◌, length, Bool, true, false, not, ◌&&◌, ◌||◌, List, [], ◌∷◌, take, drop, codes, nat_eq, Option, Some, None, string_bytes, if◌then◌else◌}
 use Rattle.std.specs.List.{list_any, ends_with}
 use Rattle.std.specs.Option.{option_map}
-use Rattle.uc_script.specs.Lines.{lines_of, says}
+use Rattle.uc_script.specs.Lines.{lines_of, fields_of, says}
+use Rattle.uc_script.specs.Leaving.{leaves}
 use Rattle.uc_script.specs.Faults.{line_fault}
 use Rattle.uc_script.specs.Parts.{part_of}
 use Rattle.uc_script.specs.Shortened.{shortened}
@@ -25,11 +26,28 @@ explanation_text (Missing number word) = missing_text number (form_of word)
 abbrev pub says_open : List ℕ → Bool
 says_open line = says line (codes "open")
 
--- What is said if the line of this number is missing: nothing after an `open`.
-abbrev pub missing : Part → ℕ → Option (List ℕ)
-missing Setup number = Some (missing_text number (codes "open"))
-missing Calls number = None
-missing Head number = Some (missing_text number (codes "log"))
+-- The first field of a line.
+abbrev pub first_field : List (List ℕ) → List ℕ
+first_field [] = []
+first_field (field ∷ fields) = field
+
+-- Whether a line that begins with this word writes.
+abbrev pub is_write : List ℕ → Bool
+is_write word = says word (codes "put") || (says word (codes "delete") || (says word (codes "merge") || says word (codes "range")))
+
+-- Whether a line writes, by its first word.
+abbrev pub begins_write : List ℕ → Bool
+begins_write line = is_write (first_field (fields_of line))
+
+-- Whether a line takes the writes before it.
+abbrev pub takes_writes : List ℕ → Bool
+takes_writes line = says line (codes "open") || says line (codes "feed")
+
+-- What is said if the line of this number is missing: nothing after an `open` if no write is left there.
+abbrev pub missing : Part → ℕ → Bool → Option (List ℕ)
+missing Setup number unfed = Some (missing_text number (codes "open"))
+missing Calls number unfed = if unfed then Some (missing_text number (codes "feed")) else None
+missing Head number unfed = Some (missing_text number (codes "log"))
 
 -- Whether the part is the head before a log.
 abbrev is_head : Part → Bool
@@ -45,12 +63,12 @@ lacks_its_end part line others ended = is_head part && (says line (codes "log") 
 abbrev pub fault_before : Part → List ℕ → List (List ℕ) → Bool → Option LineFault
 fault_before part line others ended = if lacks_its_end part line others ended then Some NoLineFeed else line_fault part line
 
--- What is said of the first of these lines, which has this number.
-abbrev pub said_of : Part → ℕ → List (List ℕ) → Bool → Option (List ℕ)
-said_of part number [] ended = missing part number
-said_of part number (line ∷ others) ended = option_map (line_text number (shortened line)) (fault_before part line others ended)
+-- What is said of the first of these lines, which has this number, in a text that leaves writes or doesn't.
+abbrev pub said_of : Part → ℕ → Bool → List (List ℕ) → Bool → Option (List ℕ)
+said_of part number unfed [] ended = missing part number unfed
+said_of part number unfed (line ∷ others) ended = option_map (line_text number (shortened line)) (fault_before part line others ended)
 
 -- What is said of the line of this number, from 1, in a text of this kind, if it is faulty or missing.
 unfoldable pub explanation_of : Source → List ℕ → ℕ → Option (List ℕ)
 explanation_of source text number =
-    said_of (part_of source (list_any says_open (take (number - 1) (lines_of text)))) number (drop (number - 1) (lines_of text)) (ends_with nat_eq text (10 ∷ []))
+    said_of (part_of source (list_any says_open (take (number - 1) (lines_of text)))) number (leaves begins_write takes_writes (lines_of text)) (drop (number - 1) (lines_of text)) (ends_with nat_eq text (10 ∷ []))

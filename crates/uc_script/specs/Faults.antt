@@ -2,7 +2,7 @@
 use Rattle.std.specs.Prelude.{ℕ, ◌+◌, List, [], ◌∷◌, Option, Some, None, if◌then◌else◌}
 use Rattle.uc_script.specs.Lines.{fields_of, is_skipped}
 use Rattle.uc_script.specs.FieldKinds.{reads}
-use Rattle.uc_script.specs.Words.{named, stands_in, kinds}
+use Rattle.uc_script.specs.Words.{named, is_word, kinds}
 use Rattle.uc_script.specs.declared.fault.LineFault.{LineFault}
 use Rattle.uc_script.specs.declared.fault.LineFault.TheVariants.{UnknownWord, Misplaced, TooFew, TooMany, BadField}
 use Rattle.uc_script.specs.declared.field_kind.FieldKind.{FieldKind}
@@ -17,14 +17,15 @@ arguments_fault word number (kind ∷ kinds) [] = Some (TooFew word)
 arguments_fault word number (kind ∷ kinds) (field ∷ fields) =
     if reads kind field then arguments_fault word (number + 1) kinds fields else Some (BadField word number kind)
 
--- What is wrong with a line whose first field is this word, and with the fields after it.
-abbrev pub word_fault : Part → Option Word → List (List ℕ) → Option LineFault
-word_fault part None fields = Some (UnknownWord part)
-word_fault part (Some word) fields = if stands_in word part then arguments_fault word 2 (kinds word) fields else Some (Misplaced part)
+-- What is wrong with a line that begins with this field, which is this word of the part or none, and with the fields
+-- after it.
+abbrev pub word_fault : Part → List ℕ → Option Word → List (List ℕ) → Option LineFault
+word_fault part field (Some word) fields = arguments_fault word 2 (kinds word) fields
+word_fault part field None fields = if is_word field then Some (Misplaced part) else Some (UnknownWord part)
 
 abbrev pub fields_fault : Part → List (List ℕ) → Option LineFault
 fields_fault part [] = None
-fields_fault part (word ∷ fields) = word_fault part (named word) fields
+fields_fault part (field ∷ fields) = word_fault part field (named part field) fields
 
 -- What is wrong with a line of this part, if anything is.
 unfoldable pub line_fault : Part → List ℕ → Option LineFault

@@ -1,7 +1,9 @@
+pub mod Leaving
 pub mod Lines
 pub mod Fields
 pub mod Texts
 pub mod Queries
+pub mod Changes
 pub mod Script
 pub mod Calls
 pub mod Head
@@ -9,6 +11,7 @@ pub mod HeadReading
 pub mod HeadCases
 pub mod Reading
 pub mod Cases
+pub mod Fed
 pub mod Short
 pub mod Names
 pub mod Parts

@@ -14,5 +14,5 @@ part_of source.Head opened = Head
 -- Which words a line of the part may begin with, as it is printed.
 abbrev pub first_words : Part → List ℕ
 first_words Setup = codes "before `open` a line begins with put, delete, merge, range, keep or open"
-first_words Calls = codes "after `open` a line begins with get, scan, claim, install, abandon, compact, pick or report"
+first_words Calls = codes "after `open` a line begins with put, delete, merge, range, feed, keep, release, get, scan, claim, install, abandon, compact, pick or report"
 first_words Head = codes "in front of a log a line begins with keep, get, scan or log"

@@ -1,10 +1,11 @@
 -- Reading line by line, and what a reader returns. `Script.script_of` defines the outcome.
-use Rattle.std.specs.Prelude.{◌≡◌, ℕ, ◌+◌, ◌-◌, List, [], ◌∷◌, ◌++◌, length, drop, Some, None, Result, Ok, Err}
-use Rattle.uc_script.specs.Script.{setup_line, call_line}
+use Rattle.std.specs.Prelude.{◌≡◌, ℕ, ◌+◌, ◌-◌, ◌==◌, Bool, true, false, List, [], ◌∷◌, ◌++◌, length, drop, Option, Some, None, Result, Ok, Err, if◌then◌else◌}
+use Rattle.uc_script.specs.Script.{setup_line, call_line, call_after, ops_after}
 use Rattle.uc_script.specs.declared.error.ScriptError.{ScriptError}
 use Rattle.uc_script.specs.declared.error.ScriptError.TheVariants as errors
 use Rattle.uc_script.specs.declared.call.Call.{Call}
 use Rattle.uc_script.specs.declared.setup_line.SetupLine.TheVariants as setup
+use Rattle.uc_script.specs.declared.call_line.CallLine.{CallLine}
 use Rattle.uc_script.specs.declared.call_line.CallLine.TheVariants as asking
 use Rattle.uc_script.specs.declared.script_text.Opened.{Opened}
 use Rattle.uc_script.specs.Lines.{lines_of}
@@ -44,23 +45,32 @@ setup_after ops keeps number (line ∷ lines) = elim (setup_line line) [
   ]
 ]
 
--- Lines from the one of this number on, after these calls.
-abbrev pub calls_after : List Call → ℕ → List (List ℕ) → Result (List Call) ℕ
-calls_after calls number [] = Ok calls
-calls_after calls number (line ∷ lines) = elim (call_line line) [
+-- A list, and one item more if there is one.
+abbrev pub snoc_option : {A : Type 0} → List A → Option A → List A
+snoc_option items None = items
+snoc_option items (Some item) = items ++ item ∷ []
+
+-- Lines from the one of this number on, after these calls, and these changes that no `feed` took yet.
+abbrev pub calls_after : List Call → List Op → ℕ → List (List ℕ) → Result (List Call) ℕ
+calls_after calls ops number [] = if length ops == 0 then Ok calls else Err number
+calls_after calls ops number (line ∷ lines) = elim (call_line line) [
   | None ↦ Err number
-  | Some said ↦ elim said [
-    | asking.Skipped ↦ calls_after calls (number + 1) lines
-    | asking.Ask call ↦ calls_after (calls ++ call ∷ []) (number + 1) lines
-  ]
+  | Some said ↦ calls_after (snoc_option calls (call_after ops said)) (ops_after ops said) (number + 1) lines
 ]
 
--- Lines from the one of this number on, of which no call is held.
-abbrev pub judged_after : ℕ → List (List ℕ) → Result (Unit {0}) ℕ
-judged_after number [] = Ok tt
-judged_after number (line ∷ lines) = elim (call_line line) [
+-- Whether changes are left after a line that no `feed` took yet, by whether some were before it.
+abbrev pub unfed_after : Bool → CallLine → Bool
+unfed_after unfed asking.Skipped = unfed
+unfed_after unfed (asking.Change op) = true
+unfed_after unfed asking.Feed = false
+unfed_after unfed (asking.Ask call) = unfed
+
+-- Lines from the one of this number on, of which no call and no change is held, by whether changes before them are left.
+abbrev pub judged_after : Bool → ℕ → List (List ℕ) → Result (Unit {0}) ℕ
+judged_after unfed number [] = if unfed then Err number else Ok tt
+judged_after unfed number (line ∷ lines) = elim (call_line line) [
   | None ↦ Err number
-  | Some said ↦ judged_after (number + 1) lines
+  | Some said ↦ judged_after (unfed_after unfed said) (number + 1) lines
 ]
 
 -- What was read, without where it lies in memory.

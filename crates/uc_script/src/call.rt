@@ -1,6 +1,8 @@
 //! [`Call`]: what a script asks of the store.
 
 use crate::query::Query;
+use crate::script::Ops;
+use crate::seq::Seq;
 
 /// How many names a script has for its claims: 0 to 31.
 pub const NAMES: usize = 32;
@@ -8,6 +10,12 @@ pub const NAMES: usize = 32;
 /// What a script asks of the store after its `open`.
 #[derive(Debug, Drop, PartialEq, Eq)]
 pub enum Call {
+    /// That changes are written: those gathered since the last `feed`, or since `open`, in order. A script writes `feed`.
+    Feed(Ops),
+    /// A snapshot at the last sequence. A script writes `keep`.
+    Keep,
+    /// That a snapshot ends. A script writes `release S`.
+    Release(Seq),
     /// To read. A script writes `get K S` or `scan LOW HIGH LIMIT S`.
     Read(Query),
     /// A claim of `count` neighbouring runs, to be known by a name below [`NAMES`]. A script writes

@@ -3,6 +3,7 @@
 ghost use Rattle.std.specs.Prelude.{◌≡◌, ◌-◌, take, drop, [], length, nat_eq, codes, ◌∷◌, IfOk};
 ghost use Rattle.std.specs.List.{list_any, ends_with};
 ghost use Rattle.std.specs.Option.{option_map};
+ghost use Rattle.uc_script.specs.Leaving.{leaves};
 ghost use Rattle.uc_script.specs.Lines.{lines_of};
 ghost use Rattle.uc_script.specs.Explanations as explanations;
 ghost use Rattle.uc_script.specs.Explanations.{explanation_text, explanation_of, says_open};
@@ -10,7 +11,7 @@ ghost use Rattle.uc_script.specs.Explanations.{explanation_text, explanation_of,
 use crate::explanation::Explanation;
 use crate::fault::LineFault;
 use crate::line_fault::line_fault;
-use crate::lines::next_line;
+use crate::lines::{next_field, next_line};
 use crate::part::{Part, Source};
 use crate::shown_line::shortened;
 use crate::word::Word;
@@ -34,21 +35,50 @@ fn skip_lines(text: &[u8], count: u64) -> (&[u8], bool)
     (rest, is_opened)
 }
 
-/// What is said if the line of this number is missing: nothing after an `open`.
-fn missing(part: Part, number: u64) -> Option<Explanation>
-    ensures { option_map explanation_text result ≡ explanations.missing part number }
+/// Whether a line writes, by its first word.
+fn begins_write(line: &[u8]) -> bool
+    ensures { result ≡ explanations.begins_write line.now }
 {
-    match part {
-        Part::Setup => Some(Explanation::Missing {
-            number,
-            word: Word::Open,
-        }),
-        Part::Calls => None,
-        Part::Head => Some(Explanation::Missing {
-            number,
-            word: Word::Log,
-        }),
+    let (word, _) = next_field(line);
+    word == b"put".as_slice()
+        || word == b"delete".as_slice()
+        || word == b"merge".as_slice()
+        || word == b"range".as_slice()
+}
+
+/// Whether a line takes the writes before it.
+fn takes_writes(line: &[u8]) -> bool
+    ensures { result ≡ explanations.takes_writes line.now }
+{
+    line == b"open".as_slice() || line == b"feed".as_slice()
+}
+
+/// Whether a text leaves writes that no later line takes.
+fn leaves_writes(text: &[u8]) -> bool
+    ensures { result ≡ leaves explanations.begins_write explanations.takes_writes (lines_of text.now) }
+{
+    let mut rest = text;
+    let mut is_left = false;
+    while !rest.is_empty() {
+        let (line, after) = next_line(rest);
+        is_left = begins_write(line) || is_left && !takes_writes(line);
+        rest = after;
     }
+    is_left
+}
+
+/// What is said if the line of this number is missing in a text: nothing after an `open` if no write is left there.
+fn missing(part: Part, number: u64, text: &[u8]) -> Option<Explanation>
+    ensures { option_map explanation_text result ≡ explanations.missing part number
+        (leaves explanations.begins_write explanations.takes_writes (lines_of text.now)) }
+{
+    let word = match part {
+        Part::Setup => Word::Open,
+        Part::Calls if leaves_writes(text) => Word::Feed,
+        Part::Calls => return None,
+        Part::Head => Word::Log,
+    };
+    Some(Explanation::Missing { number, word })
 }
 
 /// Whether a line that these others follow is the end of a head but for its line feed.
@@ -80,7 +110,7 @@ fn fault_before(
 /// what may be there, or that it is missing. It is `None` if nothing is wrong with that line, which is never so for a
 /// number from [`read_script`](crate::read_script) or [`read_head`](crate::read_head).
 ///
-/// It goes once through the lines up to that one.
+/// It goes once through the lines up to that one, and once more through all if it is missing.
 #[tactic(auto, unfolding(crate::specs::Explanations::explanation_of))]
 pub fn explain(
     alloc: Global,
@@ -93,7 +123,7 @@ pub fn explain(
     let (rest, is_opened) = skip_lines(text, number.saturating_sub(1));
     let part = Part::of(source, is_opened);
     if rest.is_empty() {
-        return Ok(missing(part, number));
+        return Ok(missing(part, number, text));
     }
     let (line, others) = next_line(rest);
     let is_ended = text.ends_with(b"\n");

@@ -4,6 +4,7 @@
 ghost use Rattle.std.specs.Prelude.{◌≡◌, ℕ, ◌<◌, ◌^◌, List, length, Ok, Some, Result, All};
 ghost use Rattle.std.specs.Fmt.{decimal};
 ghost use Rattle.uc_script.specs.Cases.{ComesTo};
+ghost use Rattle.uc_script.specs.Fed.{all_ops};
 ghost use Rattle.uc_script.specs.Head.{Head, head_of};
 ghost use Rattle.uc_script.specs.HeadCases as heads;
 ghost use Rattle.uc_script.specs.Lines.{lines_of};
@@ -13,9 +14,9 @@ ghost use Rattle.uc_script.specs.Short.{AreNoLonger};
 ghost use Rattle.uc_script.specs.Texts.{number_of, text_of, hex_text};
 ghost use Rattle.uc_script.specs.declared.script.Script.{Script};
 
-/// A script is setup lines, one `open` and calls, and asks what they name in the order of the lines. Any other text has
-/// its fault at the first line that does not fit, or one past the last line if no `open` comes. There is no other
-/// outcome, and no two of them.
+/// A script is setup lines, one `open`, and lines of which each change has a `feed` behind it, and asks what they name in
+/// the order of the lines. Any other text has its fault at the first line that does not fit, or one past the last line if
+/// no `open` comes, or no `feed` behind a change. There is no other outcome, and no two of them.
 pub fn a_script_is_its_lines()
     ensures comes { (text : List ℕ) → ComesTo (lines_of text) (script_of text) }
     ensures alone { (text : List ℕ) (outcome : Result Script ℕ)
@@ -30,10 +31,13 @@ pub fn a_head_is_its_lines()
     ensures alone { (text : List ℕ) (outcome : Result Head ℕ) → heads.ComesTo text outcome → outcome ≡ head_of text }
 {}
 
-/// A script names at most as many changes as it has bytes, and each of their texts is no longer than it.
+/// A script names at most as many changes as it has bytes, and each of their texts is no longer than it. So it is of those
+/// before its `open`, and of these and those that it feeds together.
 pub fn a_script_names_no_more_than_it_has()
-    ensures { (text : List ℕ) (script : Script) → script_of text ≡ Ok script
+    ensures opened { (text : List ℕ) (script : Script) → script_of text ≡ Ok script
         → AreNoLonger (length text) script.ops }
+    ensures all { (text : List ℕ) (script : Script) → script_of text ≡ Ok script
+        → AreNoLonger (length text) (all_ops script) }
 {}
 
 /// Every name of a claim in a script that is read is below 32.

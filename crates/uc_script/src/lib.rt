@@ -2,8 +2,9 @@
 //! is wrong with a line.
 //!
 //! A script is lines of fields. The lines before its one `open` say what to write and which sequences to keep, and
-//! those after it what to ask. Either each line is right, or the script has a fault at one; nothing else about a script
-//! can be wrong. Scripts are bytes and not UTF-8: a comment may hold any byte but LF.
+//! those after it what to ask. There too come writes: a `feed` behind them asks that they are written. Either each line
+//! is right, or the script has a fault at one, or its last writes lack their `feed`; nothing else about a script can be
+//! wrong. Scripts are bytes and not UTF-8: a comment may hold any byte but LF.
 //!
 //! A head may come before a log: lines that keep and ask, as in a script, and a line `log`. What follows is the log,
 //! and no lines.
@@ -11,8 +12,9 @@
 //! Read `script_text.rt` first: it goes from bytes to a [`Script`], or to its [`Preamble`]; then `call_reader.rt` returns
 //! its calls one at a time. `head.rt` goes from bytes to a [`Head`], and `query_reader.rt` returns its queries, a few
 //! at a time. `lines.rt` cuts the text, and `field.rt` reads a field. `setup_line.rt` and `call_line.rt` read a line of
-//! either part of a script, and `head_line.rt` one of a head; `query_line.rt` has what the last two share. `digits.rt`
-//! prints bytes and numbers. `laws.rt` says what the definitions in `specs/` mean.
+//! either part of a script, and `change_line.rt` has what these share; `gathering.rt` hands the writes after `open` to
+//! their `feed`. `head_line.rt` reads a line of a head, and `query_line.rt` has what it shares with `call_line.rt`.
+//! `digits.rt` prints bytes and numbers. `laws.rt` says what the definitions in `specs/` mean.
 //!
 //! Reading returns only the number of the first faulty line. [`explain`] looks at that line once more, and says for a
 //! reader what is there, what is wrong with it and what may be there: an [`Explanation`], which prints as one line.
@@ -27,6 +29,7 @@
 mod call;
 mod call_line;
 mod call_reader;
+mod change_line;
 mod digits;
 mod error;
 mod explanation;
@@ -35,6 +38,7 @@ mod fault_laws;
 mod faulty_line;
 pub mod field;
 mod field_kind;
+mod gathering;
 mod head;
 mod head_line;
 mod laws;

@@ -52,9 +52,9 @@ pub(crate) fn line_fault(
         return Ok(None);
     }
     let (first, rest) = next_field(line);
-    match Word::named(first) {
+    match Word::named(part, first) {
+        Some(word) => arguments_fault(alloc, word, rest),
+        None if Word::is_word(first) => Ok(Some(LineFault::Misplaced(part))),
         None => Ok(Some(LineFault::UnknownWord(part))),
-        Some(word) if word.stands_in(part) => arguments_fault(alloc, word, rest),
-        Some(_) => Ok(Some(LineFault::Misplaced(part))),
     }
 }

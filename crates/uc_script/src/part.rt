@@ -49,7 +49,7 @@ impl fmt::Display for Part {
                 "before `open` a line begins with put, delete, merge, range, keep or open"
             }
             Part::Calls => {
-                "after `open` a line begins with get, scan, claim, install, abandon, compact, pick or report"
+                "after `open` a line begins with put, delete, merge, range, feed, keep, release, get, scan, claim, install, abandon, compact, pick or report"
             }
             Part::Head => "in front of a log a line begins with keep, get, scan or log",
         })

@@ -2,7 +2,7 @@
 use crate::call::Call;
 use uc_bytes::{Items, Op};
 
-/// The changes that a script writes.
+/// Changes that a script writes.
 pub type Ops = Items<Op>;
 
 /// The numbers of a script's `keep` lines.
@@ -14,7 +14,7 @@ pub type Calls = Items<Call>;
 /// What a script asks: the lines before its `open`, and those after it.
 #[derive(Debug, Drop)]
 pub struct Script {
-    /// The changes in order. The first has the sequence 1, the next 2, and so on.
+    /// The changes before `open`, in order. The first has the sequence 1, the next 2, and so on.
     pub ops: Ops,
     /// The numbers of the `keep` lines in order.
     pub keeps: Keeps,
@@ -26,7 +26,7 @@ pub struct Script {
 /// calls.
 #[derive(Debug, Drop)]
 pub struct Preamble {
-    /// The changes in order. The first has the sequence 1, the next 2, and so on.
+    /// The changes before `open`, in order. The first has the sequence 1, the next 2, and so on.
     pub ops: Ops,
     /// The numbers of the `keep` lines in order.
     pub keeps: Keeps,

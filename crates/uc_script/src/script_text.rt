@@ -1,14 +1,15 @@
 //! From a script's bytes to what it asks.
 
-ghost use Rattle.std.specs.Prelude.{◌≡◌, [], ◌+◌, ◌≤◌, ◌^◌, ◌<◌, length, drop, IfOk};
+ghost use Rattle.std.specs.Prelude.{◌≡◌, [], ◌+◌, ◌≤◌, ◌^◌, ◌<◌, false, length, drop, IfOk};
 ghost use Rattle.uc_script.specs.Calls.{script_with};
 ghost use Rattle.uc_script.specs.Lines.{lines_of};
 ghost use Rattle.uc_script.specs.Script.{script_of};
 ghost use Rattle.uc_script.specs.Reading.{Gives, IsRest, seen, setup_after, calls_after, judged_after};
 
 use crate::call::Call;
-use crate::call_line::{CallLine, read_call_line};
+use crate::call_line::read_call_line;
 use crate::error::ScriptError;
+use crate::gathering::{take_line, unfed_after};
 use crate::lines::next_line;
 use crate::script::{Preamble, Script};
 use crate::setup_line::{SetupLine, read_setup_line};
@@ -30,12 +31,16 @@ struct Opened<'a> {
 ///
 /// Its lines end with LF, and the last may lack it. Fields are separated by one space. Empty lines and lines that begin
 /// with `#` are skipped and counted. Before the one `open` come `put K V`, `delete K`, `merge K V`, `range B E` and
-/// `keep S`, where S is a number. After it come `get K S` and `scan LOW HIGH LIMIT S`, where S may be `last` and HIGH
-/// may be `-`; `claim N FIRST COUNT`, `install N` and `abandon N`, where the name N is below [`NAMES`](crate::NAMES);
-/// and `compact FIRST COUNT`, `pick` and `report`. Keys and values are hexadecimal in either case, or `.` for no bytes.
-/// Numbers are decimal without sign or needless zeros, at most 2^64 - 1.
+/// `keep S`, where S is a number.
 ///
-/// An `Err` has the number of the first faulty line, from 1, which is one past the last line if only `open` is missing.
+/// After it the same four writes are gathered, and `feed` asks that those are written which were gathered since the last
+/// `feed`, or since `open`. There too come `keep`; `release S`, `get K S` and `scan LOW HIGH LIMIT S`, where S may be
+/// `last` and HIGH may be `-`; `claim N FIRST COUNT`, `install N` and `abandon N`, where the name N is below
+/// [`NAMES`](crate::NAMES); and `compact FIRST COUNT`, `pick` and `report`. Keys and values are hexadecimal in either
+/// case, or `.` for no bytes. Numbers are decimal without sign or needless zeros, at most 2^64 - 1.
+///
+/// An `Err` has the number of the first faulty line, from 1. If only `open` is missing, or a `feed` behind a write, that
+/// is one past the last line.
 pub fn read_script(alloc: Global, text: &[u8]) -> Result<Script, ScriptError>
     ensures { Gives (λ script. script) result (script_of text.now) }
 {
@@ -48,11 +53,11 @@ pub fn read_script(alloc: Global, text: &[u8]) -> Result<Script, ScriptError>
     })
 }
 
-/// What a script says up to its `open`. The calls are judged and freed. [`read_script`] says which scripts are faulty,
-/// and in which line.
+/// What a script says up to its `open`. The lines after it are judged and freed. [`read_script`] says which scripts are
+/// faulty, and in which line.
 ///
-/// A [`CallReader`](crate::CallReader) over the bytes after `open` returns the calls. It allocates for the changes and
-/// the keeps, and for one call at a time.
+/// A [`CallReader`](crate::CallReader) over the bytes after `open` returns the calls. It allocates for the changes before
+/// `open` and the keeps, and for one line at a time.
 pub fn judge_script(alloc: Global, text: &[u8]) -> Result<Preamble, ScriptError>
     ensures read { Gives (λ preamble. script_with preamble (drop preamble.size text.now)) result (script_of text.now) }
     ensures within { IfOk result (λ preamble. preamble.size ≤ length text.now) }
@@ -103,20 +108,25 @@ fn read_setup(alloc: Global, text: &[u8]) -> Result<Opened<'_>, ScriptError>
 /// Reads the lines after `open`, the first of which has this number.
 fn read_calls(alloc: Global, first: u64, text: &[u8]) -> Result<Vec<Call>, ScriptError>
     requires { first + length text.now < 2 ^ 64 }
-    ensures { Gives (λ calls. calls.items) result (calls_after [] first (lines_of text.now)) }
+    ensures { Gives (λ calls. calls.items) result (calls_after [] [] first (lines_of text.now)) }
 {
     let mut calls = Vec::new(alloc);
+    let mut ops = Vec::new(alloc);
     let mut number = first;
     let mut rest = text;
     while !rest.is_empty() {
         let (line, after) = next_line(rest);
         rest = after;
-        match read_call_line(alloc, line)? {
-            None => return Err(ScriptError::Fault(number)),
-            Some(CallLine::Skipped) => {}
-            Some(CallLine::Ask(call)) => calls.push(call)?,
+        let Some(said) = read_call_line(alloc, line)? else {
+            return Err(ScriptError::Fault(number));
+        };
+        if let Some(call) = take_line(alloc, said, &mut ops)? {
+            calls.push(call)?;
         }
         number += 1;
+    }
+    if !ops.is_empty() {
+        return Err(ScriptError::Fault(number));
     }
     Ok(calls)
 }
@@ -124,17 +134,22 @@ fn read_calls(alloc: Global, first: u64, text: &[u8]) -> Result<Vec<Call>, Scrip
 /// Judges the lines after `open`, the first of which has this number.
 fn judge_calls(alloc: Global, first: u64, text: &[u8]) -> Result<(), ScriptError>
     requires { first + length text.now < 2 ^ 64 }
-    ensures { Gives (λ done. done) result (judged_after first (lines_of text.now)) }
+    ensures { Gives (λ done. done) result (judged_after false first (lines_of text.now)) }
 {
+    let mut is_unfed = false;
     let mut number = first;
     let mut rest = text;
     while !rest.is_empty() {
         let (line, after) = next_line(rest);
         rest = after;
-        if read_call_line(alloc, line)?.is_none() {
-            return Err(ScriptError::Fault(number));
+        match read_call_line(alloc, line)? {
+            None => return Err(ScriptError::Fault(number)),
+            Some(said) => is_unfed = unfed_after(is_unfed, &said),
         }
         number += 1;
+    }
+    if is_unfed {
+        return Err(ScriptError::Fault(number));
     }
     Ok(())
 }

@@ -3,7 +3,8 @@
 ghost use Rattle.std.specs.Prelude.{◌≡◌, IfOk};
 ghost use Rattle.uc_script.specs.Script as script;
 
-use crate::field::{number, text};
+use crate::change_line::{change_with_one, change_with_two};
+use crate::field::number;
 use crate::lines::{Fields, is_skipped, split_line};
 use std::alloc::{AllocError, Global};
 use uc_bytes::Op;
@@ -32,7 +33,9 @@ pub(crate) fn read_setup_line(alloc: Global, line: &[u8]) -> Result<Option<Setup
     match split_line(line) {
         Fields::One(word) => Ok((word == b"open".as_slice()).then_some(SetupLine::Open)),
         Fields::Two(word, argument) => with_one(alloc, word, argument),
-        Fields::Three(word, first, second) => with_two(alloc, word, first, second),
+        Fields::Three(word, first, second) => {
+            Ok(change_with_two(alloc, word, first, second)?.map(SetupLine::Change))
+        }
         _ => Ok(None),
     }
 }
@@ -42,11 +45,8 @@ pub(crate) fn read_setup_line(alloc: Global, line: &[u8]) -> Result<Option<Setup
 fn with_one(alloc: Global, word: &[u8], argument: &[u8]) -> Result<Option<SetupLine>, AllocError>
     ensures { IfOk result (λ said. said ≡ script.with_one word.now argument.now) }
 {
-    if word == b"delete".as_slice() {
-        let Some(key) = text(alloc, argument)? else {
-            return Ok(None);
-        };
-        return Ok(Some(SetupLine::Change(Op::Delete(key))));
+    if let Some(op) = change_with_one(alloc, word, argument)? {
+        return Ok(Some(SetupLine::Change(op)));
     }
     Ok(read_keep(word, argument).map(SetupLine::Keep))
 }
@@ -60,32 +60,5 @@ pub(crate) fn read_keep(word: &[u8], argument: &[u8]) -> Option<u64>
         number(argument)
     } else {
         None
-    }
-}
-
-/// `put K V`, `merge K V` or `range B E`.
-#[tactic(auto, unfolding(crate::specs::Script::with_two))]
-fn with_two(
-    alloc: Global,
-    word: &[u8],
-    first: &[u8],
-    second: &[u8],
-) -> Result<Option<SetupLine>, AllocError>
-    ensures { IfOk result (λ said. said ≡ script.with_two word.now first.now second.now) }
-{
-    let Some(key) = text(alloc, first)? else {
-        return Ok(None);
-    };
-    let Some(value) = text(alloc, second)? else {
-        return Ok(None);
-    };
-    if word == b"put".as_slice() {
-        Ok(Some(SetupLine::Change(Op::Put(key, value))))
-    } else if word == b"merge".as_slice() {
-        Ok(Some(SetupLine::Change(Op::Merge(key, value))))
-    } else if word == b"range".as_slice() {
-        Ok(Some(SetupLine::Change(Op::DeleteRange(key, value))))
-    } else {
-        Ok(None)
     }
 }

@@ -19,10 +19,16 @@ pub enum Word {
     Merge,
     /// `range BEGIN END`.
     Range,
-    /// `keep SEQUENCE`.
+    /// `keep SEQUENCE`, before `open` and in front of a log.
     Keep,
     /// `open`.
     Open,
+    /// `feed`.
+    Feed,
+    /// `keep`, after `open`.
+    KeepLast,
+    /// `release SEQUENCE`.
+    Release,
     /// `get KEY SEQUENCE`.
     Get,
     /// `scan LOW HIGH LIMIT SEQUENCE`.
@@ -45,13 +51,16 @@ pub enum Word {
 
 impl Word {
     /// All of them.
-    const ALL: [Word; 15] = [
+    const ALL: [Word; 18] = [
         Word::Put,
         Word::Delete,
         Word::Merge,
         Word::Range,
         Word::Keep,
         Word::Open,
+        Word::Feed,
+        Word::KeepLast,
+        Word::Release,
         Word::Get,
         Word::Scan,
         Word::Claim,
@@ -74,6 +83,9 @@ impl Word {
             Word::Range => b"range",
             Word::Keep => b"keep",
             Word::Open => b"open",
+            Word::Feed => b"feed",
+            Word::KeepLast => b"keep",
+            Word::Release => b"release",
             Word::Get => b"get",
             Word::Scan => b"scan",
             Word::Claim => b"claim",
@@ -86,12 +98,23 @@ impl Word {
         }
     }
 
-    /// The word that a line's first field is.
+    /// The word of this part that a line's first field is.
     #[tactic(auto, unfolding(crate::specs::Words::named))]
-    pub fn named(field: &[u8]) -> Option<Word>
-        ensures { result ≡ words.named field.now }
+    pub fn named(part: Part, field: &[u8]) -> Option<Word>
+        ensures { result ≡ words.named part field.now }
     {
-        Word::ALL.iter().copied().find(|word| word.text() == field)
+        Word::ALL
+            .iter()
+            .copied()
+            .find(|word| word.text() == field && word.stands_in(part))
+    }
+
+    /// Whether a line's first field is a word of any part.
+    #[tactic(auto, unfolding(crate::specs::Words::is_word))]
+    pub fn is_word(field: &[u8]) -> bool
+        ensures { result ≡ words.is_word field.now }
+    {
+        Word::ALL.iter().any(|word| word.text() == field)
     }
 
     /// Whether a line of this part may begin with the word.
@@ -99,12 +122,14 @@ impl Word {
         ensures { result ≡ words.stands_in self part }
     {
         match self {
-            Word::Put | Word::Delete | Word::Merge | Word::Range | Word::Open => {
-                part == Part::Setup
-            }
+            Word::Put | Word::Delete | Word::Merge | Word::Range => part != Part::Head,
+            Word::Open => part == Part::Setup,
             Word::Keep => part != Part::Calls,
             Word::Get | Word::Scan => part != Part::Setup,
-            Word::Claim
+            Word::Feed
+            | Word::KeepLast
+            | Word::Release
+            | Word::Claim
             | Word::Install
             | Word::Abandon
             | Word::Compact
@@ -114,8 +139,7 @@ impl Word {
         }
     }
 
-    /// What follows it, in order. Before a log and before `open` the sequence of a `keep` is a number; there is no
-    /// `keep` elsewhere.
+    /// What follows it, in order.
     pub fn kinds(self) -> &'static [FieldKind]
         ensures { result.now ≡ words.kinds self }
     {
@@ -123,6 +147,7 @@ impl Word {
             Word::Put | Word::Merge | Word::Range => &[FieldKind::Text, FieldKind::Text],
             Word::Delete => &[FieldKind::Text],
             Word::Keep => &[FieldKind::Number],
+            Word::Release => &[FieldKind::Seq],
             Word::Get => &[FieldKind::Text, FieldKind::Seq],
             Word::Scan => &[
                 FieldKind::Text,
@@ -133,7 +158,7 @@ impl Word {
             Word::Claim => &[FieldKind::Name, FieldKind::Number, FieldKind::Number],
             Word::Install | Word::Abandon => &[FieldKind::Name],
             Word::Compact => &[FieldKind::Number, FieldKind::Number],
-            Word::Open | Word::Pick | Word::Report | Word::Log => &[],
+            Word::Open | Word::Feed | Word::KeepLast | Word::Pick | Word::Report | Word::Log => &[],
         }
     }
 }
@@ -150,6 +175,9 @@ impl fmt::Display for Word {
             Word::Range => "range BEGIN END",
             Word::Keep => "keep SEQUENCE",
             Word::Open => "open",
+            Word::Feed => "feed",
+            Word::KeepLast => "keep",
+            Word::Release => "release SEQUENCE",
             Word::Get => "get KEY SEQUENCE",
             Word::Scan => "scan LOW HIGH LIMIT SEQUENCE",
             Word::Claim => "claim NAME FIRST COUNT",

@@ -25,7 +25,7 @@ struct Row {
 }
 
 /// Scripts. The log of their own writes has no fault.
-static SCRIPTS: [Row; 8] = [
+static SCRIPTS: [Row; 11] = [
     Row {
         program: Program::Play,
         input: b"put 6b 31\nput 6b\nopen\n",
@@ -34,10 +34,29 @@ static SCRIPTS: [Row; 8] = [
     },
     Row {
         program: Program::Play,
-        input: b"open\nget 6b last\n\nput 6b 31\n",
+        input: b"open\nget 6b last\n\nopen\n",
         memtable: 1,
-        said: "line 4, `put 6b 31`: its first word has no place here: after `open` \
-            a line begins with get, scan, claim, install, abandon, compact, pick or report",
+        said: "line 4, `open`: its first word has no place here: after `open` \
+            a line begins with put, delete, merge, range, feed, keep, release, get, scan, claim, install, abandon, compact, pick or report",
+    },
+    // A snapshot names its sequence before `open`, and is at the last one after it.
+    Row {
+        program: Program::Play,
+        input: b"keep\nopen\n",
+        memtable: 1,
+        said: "line 1, `keep`: it has too few fields for `keep SEQUENCE`",
+    },
+    Row {
+        program: Program::Play,
+        input: b"keep 0\nopen\nkeep 0\n",
+        memtable: 1,
+        said: "line 3, `keep 0`: it has too many fields for `keep`",
+    },
+    Row {
+        program: Program::Play,
+        input: b"open\nput 6b 31\nkeep\n",
+        memtable: 1,
+        said: "line 4 is missing: it has to be `feed`",
     },
     Row {
         program: Program::Play,

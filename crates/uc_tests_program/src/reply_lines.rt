@@ -8,7 +8,7 @@ use uc_tests_reports::worked::{Worked, all};
 use uc_tool_opening::{compacted_line, opening_refusal_line, reply_lines};
 use uc_version::{ClaimError, InstallError};
 use uc_version_open::OpenError;
-use uc_version_state::Stretch;
+use uc_version_state::{FeedError, Stretch};
 
 /// A reply of a test.
 #[derive(Clone, Copy)]
@@ -24,9 +24,17 @@ enum Said {
     Picked(Option<Stretch>),
     Values(&'static [Option<&'static [u8]>]),
     NotProtected(u64),
+    Fed(u64),
+    NotFed(FeedError),
+    Kept(u64),
+    Released(u64),
+    NotReleased(u64),
 }
 
-const ROWS: [(Said, &str); 20] = [
+/// The last sequence once a reply was given.
+const LAST: u64 = 70;
+
+const ROWS: [(Said, &str); 27] = [
     (Said::Claimed(31), "claimed 31\n"),
     (
         Said::Refused(ClaimError::OutOfRange),
@@ -65,6 +73,16 @@ const ROWS: [(Said, &str); 20] = [
         "value 6162\nnone\nvalue .\n",
     ),
     (Said::NotProtected(2), "not protected 2\n"),
+    (Said::Fed(3), "fed 3 70\n"),
+    (Said::NotFed(FeedError::Back(3)), "refused back 3\n"),
+    (
+        Said::NotFed(FeedError::TooManyRuns),
+        "refused too many runs\n",
+    ),
+    (Said::NotFed(FeedError::IdsSpent), "refused ids spent\n"),
+    (Said::Kept(70), "kept 70\n"),
+    (Said::Released(4), "released 4\n"),
+    (Said::NotReleased(5), "refused not kept 5\n"),
 ];
 
 /// The answers that are these values.
@@ -98,6 +116,11 @@ fn reply_of(alloc: Global, said: Said) -> Result<Reply, Fail> {
             answers.push(Answer::NotProtected(at))?;
             Reply::Answers(Items::from(answers))
         }
+        Said::Fed(runs) => Reply::Fed(runs),
+        Said::NotFed(error) => Reply::NotFed(error),
+        Said::Kept(seq) => Reply::Kept(seq),
+        Said::Released(seq) => Reply::Released(seq),
+        Said::NotReleased(seq) => Reply::NotReleased(seq),
     })
 }
 
@@ -106,7 +129,7 @@ fn replies_have_their_lines(rt: HostRuntime) -> Result<(), Fail> {
     let alloc = rt.alloc();
     for (said, text) in ROWS {
         let reply = reply_of(alloc, said)?;
-        let lines = reply_lines(alloc, &reply)?;
+        let lines = reply_lines(alloc, LAST, &reply)?;
         assert_eq!(rt; lines.as_slice(), text.as_bytes());
     }
     Ok(())
@@ -127,7 +150,7 @@ fn reports_have_their_lines(rt: HostRuntime) -> Result<(), Fail> {
     let alloc = rt.alloc();
     for worked in all() {
         let reply = reported(alloc, worked)?;
-        let lines = reply_lines(alloc, &reply)?;
+        let lines = reply_lines(alloc, LAST, &reply)?;
         assert_eq!(rt; lines.as_slice(), worked.text.as_bytes());
     }
     Ok(())

@@ -13,7 +13,7 @@ const CALLS: [Call; 3] = [Call::Pick, Call::Install { name: 3 }, Call::Report];
 fn calls_one_at_a_time(rt: HostRuntime) -> Result<(), Fail> {
     let preamble = judge_script(rt.alloc(), SCRIPT)?;
     assert_eq!(rt; preamble.size, 23);
-    let mut ahead = CallReader::new(&SCRIPT[preamble.size..]);
+    let mut ahead = CallReader::new(rt.alloc(), &SCRIPT[preamble.size..]);
     for wanted in &CALLS {
         let call = ahead.next_call(rt.alloc())?;
         assert!(rt; call.as_ref() == Some(wanted));

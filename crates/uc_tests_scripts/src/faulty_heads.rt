@@ -11,7 +11,7 @@ struct Row {
     said: &'static str,
 }
 
-static ROWS: [Row; 8] = [
+static ROWS: [Row; 10] = [
     Row {
         text: b"",
         number: 1,
@@ -43,6 +43,17 @@ static ROWS: [Row; 8] = [
         number: 1,
         said: "line 1, `logs`: its first word is unknown: \
             in front of a log a line begins with keep, get, scan or log",
+    },
+    Row {
+        text: b"keep 1\nfeed\nlog\n",
+        number: 2,
+        said: "line 2, `feed`: its first word has no place here: \
+            in front of a log a line begins with keep, get, scan or log",
+    },
+    Row {
+        text: b"keep\nlog\n",
+        number: 1,
+        said: "line 1, `keep`: it has too few fields for `keep SEQUENCE`",
     },
     Row {
         text: b"scan . -\nlog\n",

@@ -36,7 +36,7 @@ fn judged_fault_of(alloc: Global, script: &[u8]) -> u64 {
 }
 
 /// Lines before `open`.
-static SETUP: [Row; 14] = [
+static SETUP: [Row; 17] = [
     Row {
         script: b"",
         number: 1,
@@ -110,6 +110,23 @@ static SETUP: [Row; 14] = [
             before `open` a line begins with put, delete, merge, range, keep or open",
     },
     Row {
+        script: b"put 6b 31\nfeed\nopen\n",
+        number: 2,
+        said: "line 2, `feed`: its first word has no place here: \
+            before `open` a line begins with put, delete, merge, range, keep or open",
+    },
+    Row {
+        script: b"release 1\nopen\n",
+        number: 1,
+        said: "line 1, `release 1`: its first word has no place here: \
+            before `open` a line begins with put, delete, merge, range, keep or open",
+    },
+    Row {
+        script: b"keep\nopen\n",
+        number: 1,
+        said: "line 1, `keep`: it has too few fields for `keep SEQUENCE`",
+    },
+    Row {
         script: b" #\n",
         number: 1,
         said: "line 1, ` #`: its first word is unknown: \
@@ -118,24 +135,20 @@ static SETUP: [Row; 14] = [
 ];
 
 /// Lines after it.
-static CALLS: [Row; 10] = [
+static CALLS: [Row; 9] = [
     Row {
         script: b"open\nopen\n",
         number: 2,
         said: "line 2, `open`: its first word has no place here: after `open` \
-            a line begins with get, scan, claim, install, abandon, compact, pick or report",
-    },
-    Row {
-        script: b"open\nget 6b 1\nput 6b 31",
-        number: 3,
-        said: "line 3, `put 6b 31`: its first word has no place here: after `open` \
-            a line begins with get, scan, claim, install, abandon, compact, pick or report",
+            a line begins with put, delete, merge, range, feed, keep, release, get, scan, claim, install, \
+            abandon, compact, pick or report",
     },
     Row {
         script: b"open\n\n\tpick\n",
         number: 3,
         said: "line 3, `\\x09pick`: its first word is unknown: after `open` \
-            a line begins with get, scan, claim, install, abandon, compact, pick or report",
+            a line begins with put, delete, merge, range, feed, keep, release, get, scan, claim, install, \
+            abandon, compact, pick or report",
     },
     Row {
         script: b"open\nget 6b lats\n",
@@ -179,6 +192,69 @@ static CALLS: [Row; 10] = [
     },
 ];
 
+/// Lines after it that write, keep or release.
+static LIVE: [Row; 11] = [
+    Row {
+        script: b"open\nput 6b 61\n",
+        number: 3,
+        said: "line 3 is missing: it has to be `feed`",
+    },
+    Row {
+        script: b"put 6b 61\nopen\nfeed\nget 6b 1\nrange 6b .\n# the end",
+        number: 7,
+        said: "line 7 is missing: it has to be `feed`",
+    },
+    Row {
+        script: b"open\nmerge 6b 61\nput 6b\n",
+        number: 3,
+        said: "line 3, `put 6b`: it has too few fields for `put KEY VALUE`",
+    },
+    Row {
+        script: b"open\ndelete last\nfeed\n",
+        number: 2,
+        said: "line 2, `delete last`: field 2 of `delete KEY` has to be \
+            hexadecimal, two digits for each byte, or . for no bytes",
+    },
+    Row {
+        script: b"open\nput 6b 61\nfeed 1\n",
+        number: 3,
+        said: "line 3, `feed 1`: it has too many fields for `feed`",
+    },
+    Row {
+        script: b"keep 1\nopen\nkeep 1\n",
+        number: 3,
+        said: "line 3, `keep 1`: it has too many fields for `keep`",
+    },
+    Row {
+        script: b"open\nkeep\nkeep \n",
+        number: 3,
+        said: "line 3, `keep `: it has too many fields for `keep`",
+    },
+    Row {
+        script: b"open\nrelease\n",
+        number: 2,
+        said: "line 2, `release`: it has too few fields for `release SEQUENCE`",
+    },
+    Row {
+        script: b"open\nrelease 1 2\n",
+        number: 2,
+        said: "line 2, `release 1 2`: it has too many fields for `release SEQUENCE`",
+    },
+    Row {
+        script: b"open\nrelease first\n",
+        number: 2,
+        said: "line 2, `release first`: field 2 of `release SEQUENCE` has to be \
+            last, or a number from 0 to 18446744073709551615, without sign or needless zeros",
+    },
+    Row {
+        script: b"open\nlog\n",
+        number: 2,
+        said: "line 2, `log`: its first word has no place here: after `open` \
+            a line begins with put, delete, merge, range, feed, keep, release, get, scan, claim, install, \
+            abandon, compact, pick or report",
+    },
+];
+
 /// Whether a script has its fault in this line, and this is said of it.
 fn is_told(alloc: Global, row: &Row) -> Result<bool, Fail> {
     let said = said_of(alloc, row.script, row.number)?;
@@ -198,11 +274,31 @@ fn faults_of_scripts(rt: HostRuntime) -> Result<(), Fail> {
     Ok(())
 }
 
+/// The same where lines after `open` write, keep or release.
+#[test]
+fn faults_of_live_writes(rt: HostRuntime) -> Result<(), Fail> {
+    for row in &LIVE {
+        assert!(rt; is_told(rt.alloc(), row)?, "{}", row.said);
+    }
+    Ok(())
+}
+
 /// Nothing is said of a line that is right, or of one after the last call.
 #[test]
 fn lines_without_a_fault(rt: HostRuntime) -> Result<(), Fail> {
     let script = b"keep 1\n\n# put\nopen\nget . last\nscan 6b - 3 0\nabandon 31";
     for number in 1..9 {
+        let said = explain(rt.alloc(), Source::Script, script, number)?;
+        assert!(rt; said.is_none(), "line {number}");
+    }
+    Ok(())
+}
+
+/// The same of the lines of a script that feeds, keeps and releases.
+#[test]
+fn live_writes_without_a_fault(rt: HostRuntime) -> Result<(), Fail> {
+    let script = b"put 6b 61\nopen\nmerge 6b 62\ndelete 6b\nfeed\nkeep\nrelease 0\nrelease last\n";
+    for number in 1..10 {
         let said = explain(rt.alloc(), Source::Script, script, number)?;
         assert!(rt; said.is_none(), "line {number}");
     }

@@ -122,7 +122,7 @@ fn faulty_lines_that_ask(rt: HostRuntime) -> Result<(), Fail> {
 }
 
 /// Faulty lines of other kinds.
-static OTHER_FAULTY: [&[u8]; 21] = [
+static OTHER_FAULTY: [&[u8]; 24] = [
     b"keep",
     b"keep last",
     b"keep 1 2",
@@ -138,6 +138,9 @@ static OTHER_FAULTY: [&[u8]; 21] = [
     b"delete 61",
     b"merge 61 62",
     b"range 61 62",
+    b"feed",
+    b"release 1",
+    b"release last",
     b"claim 0 0 1",
     b"install 0",
     b"abandon 0",

@@ -1,10 +1,10 @@
 //! Scripts that are read, faulty scripts, and texts that are printed.
 
-use crate::given::{is_fault, text_of};
+use crate::given::{Change, are_changes, is_fault, text_of};
 use std::alloc::{AllocError, Global};
 use std::process::Abort;
 use std::test::Fail;
-use uc_bytes::{Bytes, Op, OpKind};
+use uc_bytes::{Bytes, OpKind};
 use uc_script::{Call, Query, Script, Seq, push_hex, push_number, read_script};
 
 /// A text, and its faulty line.
@@ -42,7 +42,7 @@ static FIRST_FAULTS: [Fault; 6] = [
     (b"# one\n# two\nput 61\n", 3),
     (b"\n\nclaim\nopen\nget 61 9 9\n", 3),
     (b"get 61 0\nopen\n", 1),
-    (b"open\n# two\n\nput 61 62\nnothing\n", 4),
+    (b"open\n# two\n\nput 61 62\nnothing\n", 5),
     (b"keep last\nopen\n", 1),
 ];
 
@@ -74,7 +74,7 @@ static BEFORE_OPEN: [Place; 1] = [(b"", b"\nopen\n", 1)];
 static AFTER_OPEN: [Place; 2] = [(b"open\n# two\n", b"", 3), (b"open\n# two\n", b"\n", 3)];
 
 /// Lines that are a fault before an `open`.
-static FAULTY_BEFORE_OPEN: [&[u8]; 38] = [
+static FAULTY_BEFORE_OPEN: [&[u8]; 41] = [
     b"put 61",
     b"put 61 62 63",
     b"put  61 62",
@@ -105,6 +105,9 @@ static FAULTY_BEFORE_OPEN: [&[u8]; 38] = [
     b"keep 01",
     b"keep 18446744073709551616",
     b"keep ",
+    b"feed",
+    b"release 1",
+    b"release last",
     b"get 61 1",
     b"scan 61 62 1 1",
     b"claim 0 0 1",
@@ -122,9 +125,8 @@ fn faulty_lines_before_open(rt: HostRuntime) -> Result<(), Fail> {
 }
 
 /// Lines that are a fault after an `open`.
-static FAULTY_AFTER_OPEN: [&[u8]; 21] = [
+static FAULTY_AFTER_OPEN: [&[u8]; 20] = [
     b"open",
-    b"put 61 62",
     b"keep 1",
     b"get 61",
     b"get 61 1 1",
@@ -194,18 +196,8 @@ fn faulty_lines_on_compactions(rt: HostRuntime) -> Result<(), Fail> {
     Ok(())
 }
 
-/// A change by its kind and its texts, of which a deletion has one.
-fn parts(op: &Op) -> (OpKind, &[u8], &[u8]) {
-    match op {
-        Op::Put(key, value) => (OpKind::Put, key.as_slice(), value.as_slice()),
-        Op::Delete(key) => (OpKind::Delete, key.as_slice(), b""),
-        Op::Merge(key, operand) => (OpKind::Merge, key.as_slice(), operand.as_slice()),
-        Op::DeleteRange(begin, end) => (OpKind::DeleteRange, begin.as_slice(), end.as_slice()),
-    }
-}
-
 /// What the changes of a script are.
-static CHANGES: [(OpKind, &[u8], &[u8]); 5] = [
+static CHANGES: [Change; 5] = [
     (OpKind::Put, b"a", b"b"),
     (OpKind::Delete, b"j", b""),
     (OpKind::Merge, b"\xab", b"\xcd"),
@@ -215,13 +207,7 @@ static CHANGES: [(OpKind, &[u8], &[u8]); 5] = [
 
 /// Whether a script has those changes, and nothing else.
 fn has_changes(script: &Script) -> bool {
-    let ops = script.ops.as_slice();
-    for (op, change) in ops.iter().zip(&CHANGES) {
-        if parts(op) != *change {
-            return false;
-        }
-    }
-    ops.len() == CHANGES.len()
+    are_changes(script.ops.as_slice(), &CHANGES)
         && script.keeps.as_slice().is_empty()
         && script.calls.as_slice().is_empty()
 }

@@ -15,11 +15,16 @@ use uc_tool_io::Done;
 
 /// A linear congruential generator, with the constants of Knuth's MMIX.
 #[derive(Drop)]
-struct Dice(u64);
+pub(crate) struct Dice(u64);
 
 impl Dice {
+    /// A row of numbers that begins with a seed.
+    pub(crate) fn new(seed: u64) -> Dice {
+        Dice(seed)
+    }
+
     /// A number below `sides`, or 0.
-    fn roll(&mut self, sides: u64) -> u64 {
+    pub(crate) fn roll(&mut self, sides: u64) -> u64 {
         self.0 = self
             .0
             .wrapping_mul(6_364_136_223_846_793_005)
@@ -51,7 +56,7 @@ impl Dice {
     }
 
     /// A change.
-    fn op(&mut self, alloc: Global) -> Result<Op, AllocError> {
+    pub(crate) fn op(&mut self, alloc: Global) -> Result<Op, AllocError> {
         let kind = self.roll(6);
         let key = self.key();
         match kind {
@@ -63,7 +68,7 @@ impl Dice {
     }
 
     /// A lookup or a scan, mostly at the last sequence.
-    fn query(&mut self, alloc: Global, last: u64) -> Result<Query, AllocError> {
+    pub(crate) fn query(&mut self, alloc: Global, last: u64) -> Result<Query, AllocError> {
         let at = match self.roll(3) {
             0 => self.roll(7),
             _ => last,
@@ -81,7 +86,7 @@ impl Dice {
 }
 
 /// A scan from `low` on to `high`, where there is one.
-fn scan(
+pub(crate) fn scan(
     alloc: Global,
     low: &[u8],
     high: Option<&[u8]>,
@@ -109,7 +114,7 @@ fn end_field(alloc: Global, high: &Option<Bytes>) -> Result<String, AllocError> 
 }
 
 /// The line of a query.
-fn query_line(alloc: Global, query: &Query) -> Result<String, Fail> {
+pub(crate) fn query_line(alloc: Global, query: &Query) -> Result<String, Fail> {
     Ok(match query {
         Query::Get { key, at } => {
             let key = field(alloc, key)?;
@@ -196,7 +201,7 @@ fn draw(alloc: Global, dice: &mut Dice) -> Result<Draft, Fail> {
 }
 
 /// The lines of an answer.
-fn answer_lines(alloc: Global, answer: &Answer) -> Result<String, Fail> {
+pub(crate) fn answer_lines(alloc: Global, answer: &Answer) -> Result<String, Fail> {
     match answer {
         Answer::Value(None) => Ok(String::from_str(alloc, "none\n")?),
         Answer::Value(Some(value)) => {
@@ -290,7 +295,7 @@ fn agree<O: Operator + Sync>(
     alloc: Global,
     seed: u64,
 ) -> Result<(), Fail> {
-    let mut dice = Dice(seed);
+    let mut dice = Dice::new(seed);
     for number in 0..200 {
         agrees::<O>(rt, alloc, draw(alloc, &mut dice)?, (number, seed))?;
     }

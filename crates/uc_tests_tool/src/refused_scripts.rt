@@ -39,7 +39,7 @@ static FIRST: [Fault; 12] = [
     ("open\nget 6b last\n#\nopen", "fault line 4\n"),
     ("put 6b 0\nget 6b 0\nopen\n", "fault line 1\n"),
     ("open\nget 6b last\nget 6b lasts\nget\n", "fault line 3\n"),
-    ("open\nput 6b 61\n", "fault line 2\n"),
+    ("open\nput 6b 61\n", "fault line 3\n"),
     ("keep 1\nopen\nkeep 0\n", "fault line 3\n"),
     ("open\n\n\nget 6b 0 ", "fault line 4\n"),
 ];
@@ -102,6 +102,26 @@ static BEHIND: [Fault; 20] = [
     ("open\n \n", "fault line 2\n"),
 ];
 
+/// Writes behind an `open`, feeds and snapshots: the fault of a write that is never fed is one past the last line.
+static LIVE: [Fault; 16] = [
+    ("open\nput 6b 61", "fault line 3\n"),
+    ("open\nput 6b 61\nfeed\ndelete 6b\n\n", "fault line 6\n"),
+    ("open\nput 6b 61\nkeep\nget 6b 0\n", "fault line 5\n"),
+    ("open\nput 6b 61\nkeep 1\n", "fault line 3\n"),
+    ("open\nput 6b\n", "fault line 2\n"),
+    ("open\nfeed 1\n", "fault line 2\n"),
+    ("open\nfeed \n", "fault line 2\n"),
+    ("open\nkeep last\n", "fault line 2\n"),
+    ("open\nrelease\n", "fault line 2\n"),
+    ("open\nrelease 00\n", "fault line 2\n"),
+    ("open\nrelease 1 2\n", "fault line 2\n"),
+    ("open\nrelease -\n", "fault line 2\n"),
+    ("feed\nopen\n", "fault line 1\n"),
+    ("release 0\nopen\n", "fault line 1\n"),
+    ("keep\nopen\n", "fault line 1\n"),
+    ("put 6b 61\nfeed\nopen\n", "fault line 2\n"),
+];
+
 /// Asserts that each script is refused, and what it prints.
 fn all_refused(rt: &(impl Abort + Threads + Sync), alloc: Global, options: &Options, rows: &[Row]) {
     for row in rows {
@@ -115,6 +135,7 @@ fn faults_of_scripts(rt: HostRuntime) {
     all_refused(&rt, rt.alloc(), &small(), &FIRST);
     all_refused(&rt, rt.alloc(), &small(), &BEFORE);
     all_refused(&rt, rt.alloc(), &small(), &BEHIND);
+    all_refused(&rt, rt.alloc(), &small(), &LIVE);
     assert_eq!(rt; Done::Refused.status(), 2);
 }
 

@@ -8,7 +8,8 @@ abbrev pub batch_texts : ℕ → List Op → List (List ℕ)
 batch_texts seq [] = []
 batch_texts seq (op ∷ ops) = batch_text seq (op ∷ []) ∷ batch_texts (seq + 1) ops
 
--- each operation fits a batch of its own, numbered from 1
-pub record FitsLog (ops : List Op) : Type 0 where
-  pub few : length ops + 1 ≤ 2 ^ 56
+-- each operation fits a batch of its own, the first with this sequence
+pub record FitsLog (seq : ℕ) (ops : List Op) : Type 0 where
+  pub from_one : 1 ≤ seq
+  pub few : seq + length ops ≤ 2 ^ 56
   pub strings : All FitsOp ops

@@ -4,6 +4,8 @@ use Rattle.uc_version_compact.specs.declared.claim_error.ClaimError.{ClaimError}
 use Rattle.uc_version_compact.specs.declared.claim_error.ClaimError.TheVariants as claim
 use Rattle.uc_version_compact.specs.declared.install_error.InstallError.{InstallError}
 use Rattle.uc_version_compact.specs.declared.install_error.InstallError.TheVariants as install
+use Rattle.uc_version_state.specs.declared.feed_error.FeedError.{FeedError}
+use Rattle.uc_version_state.specs.declared.feed_error.FeedError.TheVariants as feed
 use Rattle.uc_tool_io.specs.Line.{numbered_line}
 
 -- why a stretch isn't claimed; an owner of a store never says the last two
@@ -21,3 +23,10 @@ install_refusal_line install.WrongInputs = codes "refused wrong inputs\n"
 install_refusal_line (install.WrongKeeps keep) = numbered_line (codes "refused wrong keeps ") keep
 install_refusal_line install.Stale = codes "refused stale\n"
 install_refusal_line install.Memory = codes "out of memory\n"
+
+-- why writes aren't fed; a script, whose writes are numbered on, never sees the first and the last
+abbrev pub feed_refusal_line : FeedError → List ℕ
+feed_refusal_line (feed.Back last) = numbered_line (codes "refused back ") last
+feed_refusal_line feed.TooManyRuns = codes "refused too many runs\n"
+feed_refusal_line feed.IdsSpent = codes "refused ids spent\n"
+feed_refusal_line feed.Memory = codes "out of memory\n"

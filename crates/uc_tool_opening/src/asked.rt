@@ -7,7 +7,7 @@ use uc_query_read::Query;
 use uc_script::Seq;
 
 /// The sequence that a line names, where `last` is the last one at opening.
-fn seq_at(last: u64, at: Seq) -> u64
+pub fn seq_at(last: u64, at: Seq) -> u64
     ensures { result ≡ lines.seq_at last at }
 {
     match at {

@@ -1,7 +1,7 @@
 //! What the subcommands that open a store share: opening one from a log, saying why none is opened, and the lines of replies.
 //!
 //! `recover_log` reads a log into a store that is being opened, and says how far the log could be read; `open_ops` opens a
-//! store from a script's writes, by way of a log of them; `print_fault`, `print_refused_opening` and `print_bad_log` end a run
+//! store from a script's writes, by way of a log of them, and `writes_by_log` makes those that are fed later; `print_fault`, `print_refused_opening` and `print_bad_log` end a run
 //! that opened none with the one line that says why. Nothing here claims, compacts or answers: that is left to the
 //! subcommands above.
 //!
@@ -32,12 +32,12 @@ mod replies;
 mod reports;
 
 pub use answers::push_answer_lines;
-pub use asked::query_of;
-pub use opening::{open_ops, recover_log};
+pub use asked::{query_of, seq_at};
+pub use opening::{open_ops, recover_log, writes_by_log};
 pub use opening_fault::{OpeningFault, fault_of_opening, option_fault};
 pub use outcome::Outcome;
 pub use reason::{Reason, reason_of_line, reason_of_opening};
-pub use refusals::{claim_refusal_line, install_refusal_line};
+pub use refusals::{claim_refusal_line, feed_refusal_line, install_refusal_line};
 pub use refused_runs::{opening_refusal_line, print_bad_log, print_fault, print_refused_opening};
 pub use replies::{answers_lines, compacted_line, reply_lines};
 pub use reports::report_lines;

@@ -5,6 +5,7 @@ ghost use Rattle.uc_logrec.specs.Log.{log_text};
 ghost use Rattle.uc_batch.specs.Batch.{numbered};
 ghost use Rattle.uc_batch.specs.Log.{log_writes};
 ghost use Rattle.uc_batch.specs.Rising.{IsRising};
+ghost use Rattle.uc_batch.specs.declared.ended.Ended.TheVariants.{Clean};
 ghost use Rattle.uc_version_state.specs.Openings.{Opening, opened};
 ghost use Rattle.uc_version_open.specs.Progress.{progress_of};
 ghost use Rattle.uc_version_open.specs.Refusal.{opening_refusal};
@@ -13,20 +14,20 @@ ghost use Rattle.uc_tool_opening.specs.Opening.{batch_texts, FitsLog};
 
 use std::alloc::{AllocError, Global};
 use std::slice;
-use uc_batch::{write_batch, written_batch_is_read};
+use uc_batch::{Mode, ReadError, Writes, read_writes, write_batch, written_batch_is_read};
 use uc_bytes::Op;
 use uc_logrec::{LogWriter, written_log_is_read};
 use uc_script::{Keeps, Ops};
 use uc_version_open::{OpenError, Opener, Recovered, recover};
 use uc_version_state::{Options, Version};
 
-/// Writes the operations as a log, a batch for each, numbered from 1.
-fn write_log(alloc: Global, ops: &[Op]) -> Result<Vec<u8>, AllocError>
-    requires { FitsLog ops.now }
-    ensures { IfOk result (λ log. log.items ≡ log_text (batch_texts 1 ops.now)) }
+/// Writes the operations as a log, a batch for each, numbered from `first` on.
+fn write_log(alloc: Global, first: u64, ops: &[Op]) -> Result<Vec<u8>, AllocError>
+    requires { FitsLog first ops.now }
+    ensures { IfOk result (λ log. log.items ≡ log_text (batch_texts first ops.now)) }
 {
     let mut log = LogWriter::new(alloc);
-    let mut seq = 1;
+    let mut seq = first;
     for op in ops {
         let batch = write_batch(alloc, seq, slice::from_ref(op))?;
         log.add(&batch)?;
@@ -35,12 +36,12 @@ fn write_log(alloc: Global, ops: &[Op]) -> Result<Vec<u8>, AllocError>
     Ok(log.finish())
 }
 
-/// The log of the operations, which are let go of.
-fn log_of(alloc: Global, ops: Ops) -> Result<Vec<u8>, AllocError>
-    requires { FitsLog ops }
-    ensures { IfOk result (λ log. log.items ≡ log_text (batch_texts 1 ops)) }
+/// The log of the operations, numbered from `first` on. They are let go of.
+fn log_of(alloc: Global, first: u64, ops: Ops) -> Result<Vec<u8>, AllocError>
+    requires { FitsLog first ops }
+    ensures { IfOk result (λ log. log.items ≡ log_text (batch_texts first ops)) }
 {
-    write_log(alloc, ops.as_slice())
+    write_log(alloc, first, ops.as_slice())
 }
 
 /// A store that is being opened from a log, which is let go of, and how far that was read.
@@ -55,14 +56,14 @@ pub fn recover_log(alloc: Global, log: Vec<u8>, options: Options) -> Result<Reco
 /// A store that is being opened from operations, which are numbered from 1, by way of a log of them. What it is made from
 /// is let go of one after the other.
 fn opener_of(alloc: Global, ops: Ops, options: Options) -> Result<Opener, AllocError>
-    requires { FitsLog ops }
+    requires { FitsLog 1 ops }
     ensures opener { IfOk result (λ opener. opener ≡ progress_of options (numbered 1 ops)) }
     ensures rising { IfOk result (λ _. IsRising 0 (numbered 1 ops)) }
 {
     // What is written is read again: the laws of the layers below, which do nothing when they run.
     written_log_is_read();
     written_batch_is_read();
-    let log = log_of(alloc, ops)?;
+    let log = log_of(alloc, 1, ops)?;
     let Recovered { opener, .. } = recover_log(alloc, log, options)?;
     Ok(opener)
 }
@@ -74,11 +75,27 @@ pub fn open_ops(
     keeps: Keeps,
     options: Options,
 ) -> Result<Version, OpenError>
-    requires { FitsLog ops }
+    requires { FitsLog 1 ops }
     ensures ok { let opening : Opening = record { writes = numbered 1 ops; keeps = keeps; options = options } in
         IfOk result (λ version. (version ≡ opened opening) × (opening_refusal opening ≡ None)) }
     ensures err { let opening : Opening = record { writes = numbered 1 ops; keeps = keeps; options = options } in
         IfErr result (λ error. error ≢ Memory → opening_refusal opening ≡ Some error) }
 {
     opener_of(alloc, ops, options)?.finish(alloc, keeps.as_slice())
+}
+
+/// Operations as writes, numbered from `first` on, by way of a log of them. What they are made from is let go of.
+pub fn writes_by_log(alloc: Global, first: u64, ops: Ops) -> Result<Writes, AllocError>
+    requires { FitsLog first ops }
+    ensures { IfOk result (λ writes. writes ≡ record { list = numbered first ops; ended = Clean }) }
+{
+    written_log_is_read();
+    written_batch_is_read();
+    let log = log_of(alloc, first, ops)?;
+    match read_writes(alloc, &log, Mode::PointInTime) {
+        Ok(writes) => Ok(writes),
+        Err(ReadError::Memory) => Err(AllocError),
+        // Point-in-time recovery refuses nothing.
+        Err(ReadError::Batch(_, _) | ReadError::Log(_, _)) => unreachable!(),
+    }
 }

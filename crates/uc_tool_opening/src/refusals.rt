@@ -6,6 +6,7 @@ ghost use Rattle.uc_tool_opening.specs.RefusalLines as lines;
 use std::alloc::{AllocError, Global};
 use uc_tool_io::numbered_line;
 use uc_version::{ClaimError, InstallError};
+use uc_version_state::FeedError;
 
 /// The line that says why a stretch isn't claimed.
 pub fn claim_refusal_line(alloc: Global, error: ClaimError) -> Result<Vec<u8>, AllocError>
@@ -30,5 +31,17 @@ pub fn install_refusal_line(alloc: Global, error: InstallError) -> Result<Vec<u8
         InstallError::WrongKeeps(keep) => numbered_line(alloc, b"refused wrong keeps ", keep),
         InstallError::Stale => Vec::from_slice(alloc, b"refused stale\n"),
         InstallError::Memory => Vec::from_slice(alloc, b"out of memory\n"),
+    }
+}
+
+/// The line that says why writes aren't fed.
+pub fn feed_refusal_line(alloc: Global, error: FeedError) -> Result<Vec<u8>, AllocError>
+    ensures { IfOk result (λ line. line.items ≡ lines.feed_refusal_line error) }
+{
+    match error {
+        FeedError::Back(last) => numbered_line(alloc, b"refused back ", last),
+        FeedError::TooManyRuns => Vec::from_slice(alloc, b"refused too many runs\n"),
+        FeedError::IdsSpent => Vec::from_slice(alloc, b"refused ids spent\n"),
+        FeedError::Memory => Vec::from_slice(alloc, b"out of memory\n"),
     }
 }

@@ -6,7 +6,7 @@ ghost use Rattle.uc_tool_opening.specs.AnswerLines.{answer_lines};
 ghost use Rattle.uc_tool_opening.specs.ReplyLines as lines;
 
 use crate::answers::push_answer_lines;
-use crate::refusals::{claim_refusal_line, install_refusal_line};
+use crate::refusals::{claim_refusal_line, feed_refusal_line, install_refusal_line};
 use crate::reports::report_lines;
 use std::alloc::{AllocError, Global};
 use uc_query::Reply;
@@ -52,9 +52,16 @@ pub fn answers_lines(alloc: Global, answers: &[Answer]) -> Result<Vec<u8>, Alloc
     Ok(out)
 }
 
-/// The lines of a reply. It fails only for want of memory.
-pub fn reply_lines(alloc: Global, reply: &Reply) -> Result<Vec<u8>, AllocError>
-    ensures { IfOk result (λ text. text.items ≡ lines.reply_lines reply.now) }
+/// The line of a feed: how many runs the writes became, and the last sequence.
+fn fed_line(alloc: Global, runs: u64, last: u64) -> Result<Vec<u8>, AllocError>
+    ensures { IfOk result (λ line. line.items ≡ lines.fed_line runs last) }
+{
+    fields_line(alloc, &[(b"fed ", runs), (b" ", last)])
+}
+
+/// The lines of a reply, after which `last` is the last sequence.
+pub fn reply_lines(alloc: Global, last: u64, reply: &Reply) -> Result<Vec<u8>, AllocError>
+    ensures { IfOk result (λ text. text.items ≡ lines.reply_lines last reply.now) }
 {
     match reply {
         Reply::Claimed(name) => numbered_line(alloc, b"claimed ", u64::from(*name)),
@@ -68,5 +75,10 @@ pub fn reply_lines(alloc: Global, reply: &Reply) -> Result<Vec<u8>, AllocError>
         Reply::Picked(stretch) => pick_line(alloc, *stretch),
         Reply::Reported(report) => report_lines(alloc, report),
         Reply::Answers(answers) => answers_lines(alloc, answers.as_slice()),
+        Reply::Fed(runs) => fed_line(alloc, *runs, last),
+        Reply::NotFed(error) => feed_refusal_line(alloc, *error),
+        Reply::Kept(seq) => numbered_line(alloc, b"kept ", *seq),
+        Reply::Released(seq) => numbered_line(alloc, b"released ", *seq),
+        Reply::NotReleased(seq) => numbered_line(alloc, b"refused not kept ", *seq),
     }
 }

@@ -1,6 +1,7 @@
 -- The replies to a script's calls, one after the other.
-use Rattle.std.proofs.Common.{◌≡◌, ℕ, suc, List, ◌∷◌, All, map, Result, ap, sym, ◌∙◌, arith}
+use Rattle.std.proofs.Common.{◌≡◌, ℕ, suc, ◌+◌, List, ◌∷◌, All, length, Result, ap, sym, ◌∙◌, arith}
 use Rattle.uc_oper.specs.Operation.{Operation}
+use Rattle.uc_script.specs.Fed.{fed_ops}
 use Rattle.uc_script.specs.Names.{NameIsGood}
 use Rattle.uc_script.specs.declared.call.Call.{Call}
 use Rattle.uc_query_workers.specs.declared.ask_error.AskError.{AskError}
@@ -8,15 +9,21 @@ use Rattle.uc_query.specs.Names.{State}
 use Rattle.uc_query.specs.Running.{run_of, unless_error}
 use Rattle.uc_query.specs.Turns.{Turn}
 use Rattle.uc_tool_opening.specs.ReplyLines.{reply_lines}
-use Rattle.uc_tool_play.specs.Play.{call_of, replies_of}
+use Rattle.uc_tool_play.specs.Play.{call_of, calls_of, last_then, lines_of, replies_of}
 use Rattle.uc_tool_play.specs.Turn.{Turns}
+use Rattle.uc_tool_play.proofs.Lasts.{last_moves}
 
 -- the first reply, and then the others
-pub first_reply : (m : Operation) (s next : State) (last : ℕ) (call : Call) (calls : List Call) (lines : List ℕ) → Turns m s (call_of last call) lines next
-    → replies_of m s last (call ∷ calls) ≡ lines ∷ replies_of m next last calls
-first_reply m s next last call calls lines t =
-    ap (λ (r : Result Turn AskError). map reply_lines (unless_error s r (λ after. run_of m after (map (call_of last) calls))).replies) t.turn
-    ∙ ap (λ (line : List ℕ). line ∷ replies_of m next last calls) (sym t.lines_are)
+pub first_reply : (m : Operation) (s after : State) (last next : ℕ) (call : Call) (calls : List Call) (lines : List ℕ) → Turns m s (call_of last next call) lines after
+    → replies_of m s last next (call ∷ calls) ≡ lines ∷ replies_of m after last (next + length (fed_ops call)) calls
+first_reply m s after last next call calls lines t =
+    let asked = call_of last next call in
+    let others = calls_of last (next + length (fed_ops call)) calls in
+    let then = after.owner.version.last in
+    let moves : then ≡ last_then s.owner.version.last asked t.reply = last_moves m s asked (record { reply = t.reply; state = after }) t.turn in
+    ap (λ (r : Result Turn AskError). lines_of s.owner.version.last (asked ∷ others) (unless_error s r (λ state. run_of m state others)).replies) t.turn
+    ∙ ap (λ n. reply_lines n t.reply ∷ lines_of n others (run_of m after others).replies) (sym moves)
+    ∙ ap (λ (line : List ℕ). line ∷ replies_of m after last (next + length (fed_ops call)) calls) (sym t.lines_are)
 
 -- ---- names that the store has
 

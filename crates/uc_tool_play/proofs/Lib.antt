@@ -1,6 +1,7 @@
 pub mod Plays
 pub mod Calls
 pub mod Judged
+pub mod Lasts
 pub mod Opened
 pub mod ReadAnswers
 pub mod Compactions

@@ -1,31 +1,39 @@
--- What is printed for a script's reads.
-use Rattle.std.specs.Prelude.{◌≡◌, ℕ, ⊤, List, ◌∷◌, codes}
+-- What is printed for a script's calls, by its writes alone.
+use Rattle.std.specs.Prelude.{◌≡◌, ◌+◌, ⊤, List, ◌∷◌, codes}
 use Rattle.std.specs.List.{AllZip}
 use Rattle.uc_oper.specs.Operation.{Operation}
-use Rattle.uc_bytes.specs.declared.write.Write.{Write}
-use Rattle.uc_query_read.specs.Answers.{answer_of}
 use Rattle.uc_script.specs.declared.call.Call.{Call}
-use Rattle.uc_script.specs.declared.call.Call.TheVariants.{Read, Claim, Install, Abandon, Compact, Pick, Report}
+use Rattle.uc_script.specs.declared.call.Call.TheVariants.{Read, Claim, Install, Abandon, Compact, Pick, Report, Feed, Keep, Release}
 use Rattle.uc_version_state.specs.Openings.{Opening, opened}
+use Rattle.uc_version_state.specs.Histories.{known_at_first}
+use Rattle.uc_query.specs.Answered.{AreAnswered, IsFedOrFull}
+use Rattle.uc_query.specs.declared.reply.Reply.{Reply}
 use Rattle.uc_tool_io.specs.Output.{Output}
-use Rattle.uc_tool_io.specs.declared.done.Done.TheVariants.{Fine}
-use Rattle.uc_tool_opening.specs.AnswerLines.{answer_lines}
 use Rattle.uc_tool_io.specs.Line.{numbered_line}
-use Rattle.uc_tool_opening.specs.Asked.{query_of}
+use Rattle.uc_tool_io.specs.declared.done.Done.TheVariants.{Fine}
+use Rattle.uc_tool_play.specs.Play.{calls_of, lines_of}
 
--- the lines of a read are those of the answer from these writes alone, which know no run and no compaction
-abbrev pub IsRead : Operation → List Write → List ℕ → ℕ → Call → List ℕ → Type 0
-IsRead m writes keeps last (Read asked) lines = lines ≡ answer_lines (answer_of m writes keeps (query_of last asked))
-IsRead m writes keeps last (Claim name first count) lines = ⊤
-IsRead m writes keeps last (Install name) lines = ⊤
-IsRead m writes keeps last (Abandon name) lines = ⊤
-IsRead m writes keeps last (Compact first count) lines = ⊤
-IsRead m writes keeps last Pick lines = ⊤
-IsRead m writes keeps last Report lines = ⊤
+-- the reply to a feed isn't that its writes come too late
+abbrev pub IsNotBack : Call → Reply → Type 0
+IsNotBack (Read asked) reply = ⊤
+IsNotBack (Claim name first count) reply = ⊤
+IsNotBack (Install name) reply = ⊤
+IsNotBack (Abandon name) reply = ⊤
+IsNotBack (Compact first count) reply = ⊤
+IsNotBack Pick reply = ⊤
+IsNotBack Report reply = ⊤
+IsNotBack (Feed ops) reply = IsFedOrFull reply
+IsNotBack Keep reply = ⊤
+IsNotBack (Release at) reply = ⊤
 
--- The output is that a store opened so, and a reply to each of these calls; each read is answered from the writes that the store
--- was opened with, at the sequences that it keeps and at the last one.
+-- The output is that a store opened so, and the lines of a reply to each of these calls. Each reply is one by what is known
+-- then, which is no run and no compaction: a read is answered from the writes so far, those of the opening and those that were
+-- fed, at the sequences that are kept then.
 pub record AnswersReads (m : Operation) (o : Opening) (calls : List Call) (output : Output) : Type 0 where
-  pub replies : List (List ℕ)
-  pub prints : output ≡ record { replies = numbered_line (codes "opened ") (opened o).last ∷ replies; done = Fine }
-  pub reads : AllZip (IsRead m o.writes (opened o).keeps (opened o).last) calls replies
+  pub replies : List Reply
+  pub prints : output ≡ record {
+    replies = numbered_line (codes "opened ") (opened o).last ∷ lines_of (opened o).last (calls_of (opened o).last ((opened o).last + 1) calls) replies;
+    done = Fine;
+  }
+  pub answered : AreAnswered m (known_at_first o) (calls_of (opened o).last ((opened o).last + 1) calls) replies
+  pub none_back : AllZip IsNotBack calls replies

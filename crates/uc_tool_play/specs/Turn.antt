@@ -14,7 +14,7 @@ use Rattle.uc_tool_opening.specs.ReplyLines.{reply_lines}
 pub record Turns (m : Operation) (old : State) (call : Call) (lines : List ℕ) (new : State) : Type 0 where
   pub reply : Reply
   pub turn : turn_of m old call ≡ Ok (record { reply = reply; state = new })
-  pub lines_are : lines ≡ reply_lines reply
+  pub lines_are : lines ≡ reply_lines new.owner.version.last reply
 
 -- the call to a store that asks this: a query is asked alone
 abbrev pub store_call : Asked → Call

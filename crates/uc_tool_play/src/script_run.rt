@@ -1,6 +1,6 @@
 //! `play`: a store over the writes of a script, and the replies to its calls.
 
-ghost use Rattle.std.specs.Prelude.{◌≡◌, ◌≤◌, All, true, length, drop, vec_len, IfOk, OnOk, IfSome};
+ghost use Rattle.std.specs.Prelude.{◌≡◌, ◌≤◌, ◌+◌, All, true, length, drop, vec_len, IfOk, OnOk, IfSome};
 ghost use Rattle.uc_script.specs.Calls.{calls_in, script_with};
 ghost use Rattle.uc_script.specs.Names.{NameIsGood};
 ghost use Rattle.uc_script.specs.Reading.{Gives};
@@ -9,7 +9,7 @@ ghost use Rattle.uc_version_state.specs.Options.{are_good};
 ghost use Rattle.uc_tool_io.specs.declared.input.TheConstants.{INPUT_LIMIT};
 ghost use Rattle.uc_tool_opening.specs.Opening.{FitsLog};
 ghost use Rattle.uc_tool_opening.specs.Reasons.{IsReason, TellsOpening, opening_cause};
-ghost use Rattle.uc_tool_play.specs.Play.{opening_of, output_of, script_output, play_of, cause_of};
+ghost use Rattle.uc_tool_play.specs.Play.{FitLogs, opening_of, output_of, script_output, play_of, cause_of};
 ghost use Rattle.uc_tool_io.specs.Output.{Prints, HasWritten};
 
 use crate::replies::print_replies;
@@ -36,7 +36,9 @@ fn judged(alloc: Global, input: &[u8]) -> Result<Preamble, ScriptError>
     requires { length input.now ≤ INPUT_LIMIT }
     ensures read { Gives (λ preamble. script_with preamble (drop preamble.size input.now)) result (script_of input.now) }
     ensures within { IfOk result (λ preamble. preamble.size ≤ length input.now) }
-    ensures fits { IfOk result (λ preamble. FitsLog preamble.ops) }
+    ensures fits { IfOk result (λ preamble. FitsLog 1 preamble.ops) }
+    ensures feeds { IfOk result (λ preamble.
+        FitLogs (length preamble.ops + 1) (calls_in (drop preamble.size input.now))) }
     ensures names { IfOk result (λ preamble. All NameIsGood (calls_in (drop preamble.size input.now))) }
 {
     // Laws of the layer below, which do nothing when they run: no write is longer than the script, and no name is
@@ -68,16 +70,18 @@ fn print_opened<O: Operator + Sync, W: Write>(
     writer: &mut W,
 ) -> Result<Done, RunError>
     requires good { are_good options.now ≡ true }
+    requires feeds { FitLogs (version.last + 1) (calls_in lines.now) }
     requires names { All NameIsGood (calls_in lines.now) }
     ensures printed { Prints (output_of O.meaning version options.now (calls_in lines.now)).replies
         (W.contents writer.old) (W.contents writer.new) result }
     ensures done { IfOk result (λ done. done ≡ Done.Fine) }
 {
+    version.recall();
     let last = version.last();
     let mut owned = Owned::<O>::new(alloc, version, *options)?;
     let line = numbered_line(alloc, b"opened ", last)?;
     write_bytes(writer, &line)?;
-    print_replies::<O, W>(rt, alloc, &mut owned, last, lines, writer)?;
+    print_replies::<O, W>(rt, alloc, &mut owned, last, last + 1, lines, writer)?;
     Ok(Done::Fine)
 }
 
@@ -91,7 +95,8 @@ fn print_script<O: Operator + Sync, W: Write>(
     options: &Options,
     writer: &mut W,
 ) -> (Result<Done, RunError>, Option<Reason>)
-    requires fits { FitsLog preamble.ops }
+    requires fits { FitsLog 1 preamble.ops }
+    requires feeds { FitLogs (length preamble.ops + 1) (calls_in lines.now) }
     requires names { All NameIsGood (calls_in lines.now) }
     ensures printed { Prints (script_output O.meaning options.now (script_with preamble lines.now)).replies
         (W.contents writer.old) (W.contents writer.new) result.0 }

@@ -3,7 +3,7 @@ use Rattle.std.specs.Prelude.{Ok}
 use Rattle.uc_query.specs.declared.call.Call.{Call}
 use Rattle.uc_query.specs.declared.reply.Reply.{Reply}
 use Rattle.uc_query.specs.Names.{State, named}
-use Rattle.uc_query.specs.Turns.{FailsWith, turn_of}
+use Rattle.uc_query.specs.Turns.{FailsWith, Rises, turn_of}
 use Rattle.uc_query.specs.Stepping.{RunsTo, Halts}
 use Rattle.uc_query.proofs.Along.{step_on, step_halts, same_state}
 use Rattle.uc_query.proofs.calls.replies_to.Goals as goal
@@ -45,7 +45,8 @@ loop-call-preserved g c =
     let next : State = named c.call.new.owned c.call.new.self in
     let room = c.loop-call-test.true in
     let turn = subst (λ (y : Call). turn_of m now y ≡ Ok (record { reply = reply; state = next })) c.call-item.is c.in-Ok.ensures.ok in
-    let more = step_on m s calls i x room c.loop-call.replies.items now next reply c.loop-call.invariant.so_far turn in
+    let rises = subst (λ (y : Call). Rises y) c.call-item.is c.recall.ensures in
+    let more = step_on m s calls i x room c.loop-call.replies.items now next reply c.loop-call.invariant.so_far rises turn in
     let pushed : c.loop-call.replies.items ++ reply ∷ [] ≡ c.push_reserved.new.self.items = search rules in
     record {
       held = c.call.ensures.held;

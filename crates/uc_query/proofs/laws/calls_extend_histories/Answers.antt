@@ -1,10 +1,10 @@
-use Rattle.uc_query.proofs.Turning.{Known}
+use Rattle.uc_query.proofs.Turning.{OwnersStay}
 use Rattle.uc_query.proofs.Extending.{Grows, extend}
 use Rattle.uc_query.proofs.laws.calls_extend_histories.Goals as goal
 
 pub returns : goal.returns
-returns g c = λ h s calls legal is_owner are version.
-    let known : Known g.O.Operator.meaning = record {
+returns g c = λ h s calls rising legal is_owner are version.
+    let owners : OwnersStay g.O.Operator.meaning = record {
       claimed_stays = c.owners_stay_owners.ensures.claimed;
       back_stays = c.owners_stay_owners.ensures.given_back;
       installed_stays = c.owners_stay_owners.ensures.installed;
@@ -15,6 +15,10 @@ returns g c = λ h s calls legal is_owner are version.
       event_after = c.installs_are_events.ensures.after;
       compaction_stays = c.claimable_stretches_can_be_compacted.ensures.stays;
       compaction_may = c.claimable_stretches_can_be_compacted.ensures.may;
+      fed_may = c.no_refusal_is_leave_to_feed.ensures;
+      fed_stays = c.owners_stay_owners.ensures.fed;
+      kept_stays = c.owners_stay_owners.ensures.kept;
+      let_go_stays = c.owners_stay_owners.ensures.let_go;
     } in
     let grows : Grows g.O.Operator.meaning = record { legal = c.histories_grow_by_events.ensures.legal; then_after = c.histories_grow_by_events.ensures.after } in
-    extend g.O.Operator.meaning known grows calls h s legal is_owner are version
+    extend g.O.Operator.meaning owners grows calls rising h s (legal, is_owner, are, version)

@@ -3,16 +3,17 @@ use Rattle.uc_script.specs.Calls.{calls_in}
 use Rattle.uc_script.specs.Names.{NameIsGood}
 use Rattle.uc_query.specs.Names.{AreHeld}
 use Rattle.uc_query.specs.Running.{unnamed}
-use Rattle.uc_tool_play.specs.Play.{replies_of}
+use Rattle.uc_tool_play.specs.Play.{FitLogs, replies_of}
 use Rattle.uc_tool_io.proofs.Printing.{GoesOn}
 use Rattle.uc_tool_play.proofs.replies.print_replies.Given as goal
 
-abbrev pub invariant-loop-call : goal.invariant-loop-call
-invariant-loop-call g l = record {
+abbrev pub invariant-loop-ahead : goal.invariant-loop-ahead
+invariant-loop-ahead g l = record {
+  fits : FitLogs l.next l.ahead;
   names : All NameIsGood l.ahead;
   held : AreHeld l.owned l.claims;
-  goes : GoesOn (replies_of g.O.Operator.meaning (unnamed l.fn.owned) l.last (calls_in l.lines)) (replies_of g.O.Operator.meaning (record { owner = l.owned; names = l.claims }) l.last l.ahead) (g.W.Write.contents l.fn.writer) (g.W.Write.contents l.writer);
+  goes : GoesOn (replies_of g.O.Operator.meaning (unnamed l.fn.owned) l.last l.first (calls_in l.lines)) (replies_of g.O.Operator.meaning (record { owner = l.owned; names = l.claims }) l.last l.next l.ahead) (g.W.Write.contents l.fn.writer) (g.W.Write.contents l.writer);
 }
 
-abbrev pub decreases-loop-call : goal.decreases-loop-call
-decreases-loop-call g l = length l.ahead
+abbrev pub decreases-loop-ahead : goal.decreases-loop-ahead
+decreases-loop-ahead g l = length l.ahead
