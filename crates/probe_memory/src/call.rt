@@ -1,6 +1,7 @@
 //! [`Call`]: the calls that are probed, by their names.
 use crate::effects::{effect_applied, effects_folded, effects_joined};
 use crate::formats::{batch_read, batch_written, log_read, payload_added, writes_read};
+use crate::live::{live_calls_made, snapshot_released, snapshot_taken, writes_fed};
 use crate::owned::{
     claim_compacted, claim_installed, compacted_now, log_opened, stretch_claimed, version_opened,
 };
@@ -40,6 +41,9 @@ pub(crate) enum Call {
     OwnedCompact,
     OwnedInstall,
     OwnedCompactNow,
+    OwnedFeed,
+    OwnedKeep,
+    OwnedRelease,
     StoreOpen,
     StorePin,
     StorePick,
@@ -53,11 +57,12 @@ pub(crate) enum Call {
     AnswerOneScan,
     AnswerPlain,
     RunCalls,
+    RunLiveCalls,
     Report,
 }
 
 /// Each call with its name.
-static CALLS: [(Call, &str); 34] = [
+static CALLS: [(Call, &str); 38] = [
     (Call::ReadLog, "read_log"),
     (Call::LogWriterAdd, "LogWriter::add"),
     (Call::ReadBatch, "read_batch"),
@@ -78,6 +83,9 @@ static CALLS: [(Call, &str); 34] = [
     (Call::OwnedCompact, "Owned::compact"),
     (Call::OwnedInstall, "Owned::install"),
     (Call::OwnedCompactNow, "Owned::compact_now"),
+    (Call::OwnedFeed, "Owned::feed"),
+    (Call::OwnedKeep, "Owned::keep"),
+    (Call::OwnedRelease, "Owned::release"),
     (Call::StoreOpen, "Opening::named"),
     (Call::StorePin, "Store::pin"),
     (Call::StorePick, "Store::pick"),
@@ -91,6 +99,7 @@ static CALLS: [(Call, &str); 34] = [
     (Call::AnswerOneScan, "answer_one, scan"),
     (Call::AnswerPlain, "answer_plain"),
     (Call::RunCalls, "run_calls"),
+    (Call::RunLiveCalls, "run_calls, live"),
     (Call::Report, "report"),
 ];
 
@@ -108,6 +117,7 @@ fn verdict_above<R: Threads + Wait + Sync>(rt: &R, alloc: Global, call: Call) ->
         Call::AnswerOneScan => return scan_asked(alloc),
         Call::AnswerPlain => return plain_asked(rt, alloc),
         Call::RunCalls => return calls_made(rt, alloc),
+        Call::RunLiveCalls => return live_calls_made(rt, alloc),
         Call::Report => return version_reported(rt, alloc),
         Call::StorePin => SharedCall::Pin,
         Call::StorePick => SharedCall::Pick,
@@ -147,6 +157,9 @@ pub(crate) fn verdict<R: Threads + Wait + Sync>(
         Call::OwnedCompact => claim_compacted(rt, alloc),
         Call::OwnedInstall => claim_installed(rt, alloc),
         Call::OwnedCompactNow => compacted_now(rt, alloc),
+        Call::OwnedFeed => writes_fed(alloc),
+        Call::OwnedKeep => snapshot_taken(alloc),
+        Call::OwnedRelease => snapshot_released(alloc),
         call => verdict_above(rt, alloc, call),
     }
 }

@@ -158,7 +158,7 @@ fn has_name(call: &Call) -> bool
 }
 
 /// Whether all calls' names exist.
-fn have_names(calls: &[Call]) -> bool
+pub(crate) fn have_names(calls: &[Call]) -> bool
     ensures { IsTrue result ↔ AllByRecursion HasName calls.now }
 {
     calls.iter().all(has_name)

@@ -35,18 +35,30 @@ fn change(number: u64) -> OpRef<'static> {
         5 => OpRef::merge(b"k", LONG),
         6 => OpRef::delete(b"m"),
         7 => OpRef::merge(b"k", b"c"),
-        _ => OpRef::put(b"n", LONG),
+        8 => OpRef::put(b"n", LONG),
+        9 => OpRef::merge(b"k", LONG),
+        _ => OpRef::delete_range(b"n", LONG),
     }
 }
 
-/// The changes as writes, numbered from 1.
-pub(crate) fn writes(alloc: Global) -> Option<Writes> {
+/// The changes with these numbers, as writes.
+fn numbered(alloc: Global, first: u64, last: u64) -> Option<Writes> {
     let mut list = Vec::new(alloc);
-    for number in 1..=CHANGES {
+    for number in first..=last {
         let write = WriteRef::new(number, change(number)).to_write(alloc).ok()?;
         list.push(write).ok()?;
     }
     Writes::of(list)
+}
+
+/// The changes as writes, numbered from 1.
+pub(crate) fn writes(alloc: Global) -> Option<Writes> {
+    numbered(alloc, 1, CHANGES)
+}
+
+/// Two later changes as writes, numbered behind them.
+pub(crate) fn later_writes(alloc: Global) -> Option<Writes> {
+    numbered(alloc, CHANGES + 1, CHANGES + 2)
 }
 
 /// The changes.
@@ -95,6 +107,13 @@ pub(crate) fn owned(alloc: Global) -> Option<Owned<Texts>> {
     open_plain(alloc, &writes(alloc)?, &KEEPS, small_runs()).ok()
 }
 
+/// A store of them and the later ones, opened from all at once. It keeps the last sequence of the first ones too.
+pub(crate) fn owned_fed(alloc: Global, keeps: &[u64]) -> Option<Owned<Texts>> {
+    let mut all = keeps.to_vec(alloc).ok()?;
+    all.push(CHANGES).ok()?;
+    open_plain(alloc, &numbered(alloc, 1, CHANGES + 2)?, &all, small_runs()).ok()
+}
+
 /// A store of them, after the compaction of a stretch.
 pub(crate) fn owned_after(
     rt: &(impl Threads + Sync),
@@ -140,6 +159,12 @@ pub(crate) fn queries(alloc: Global) -> Option<Vec<Query>> {
 pub(crate) fn answer(alloc: Global, query: &Query) -> Option<Answer> {
     let keeps = [2, 5, CHANGES];
     answer_writes::<Texts>(alloc, &writes(alloc)?, &keeps, query).ok()
+}
+
+/// The answer to a query at the last of the later writes, from all plain writes.
+pub(crate) fn answer_fed(alloc: Global, query: &Query) -> Option<Answer> {
+    let writes = numbered(alloc, 1, CHANGES + 2)?;
+    answer_writes::<Texts>(alloc, &writes, &[CHANGES + 2], query).ok()
 }
 
 /// The answers to queries from the plain writes.

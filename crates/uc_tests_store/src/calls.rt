@@ -9,9 +9,10 @@ use std::marker::Sync;
 use std::process::Abort;
 use std::test::Fail;
 use std::thread::Threads;
+use uc_batch::Writes;
 use uc_bytes::{Bytes, Items, OpRef, Write, WriteRef};
 use uc_query::{Answer, AskError, Call, Query, Reply, run_calls};
-use uc_version::{ClaimError, InstallError, MOST_CLAIMS, Stretch};
+use uc_version::{ClaimError, FeedError, InstallError, MOST_CLAIMS, Stretch};
 
 /// A call.
 #[derive(Clone, Copy)]
@@ -24,6 +25,12 @@ enum Step {
     Report,
     /// Asks for the key's value at sequence 4; the number of workers, and of queries in a piece.
     Ask(usize, usize),
+    /// Asks for the key's value at this sequence.
+    Get(u64),
+    /// Feeds letters, from the one with this number on, and so many.
+    Feed(u8, u8),
+    Keep,
+    Release(u64),
 }
 
 /// The part of a reply that is checked.
@@ -42,13 +49,20 @@ enum Wanted {
     Runs(usize),
     /// Only this value.
     Value(&'static [u8]),
+    /// Only that no keep protects this sequence.
+    NotProtected(u64),
+    Fed(u64),
+    NotFed(FeedError),
+    Kept(u64),
+    Released(u64),
+    NotReleased(u64),
 }
 
 use Batch::{Stopped, Whole};
-use Step::{Abandon, Ask, Claim, Compact, Install, Pick};
+use Step::{Abandon, Ask, Claim, Compact, Feed, Get, Install, Keep, Pick, Release};
 use Wanted::{
-    Abandoned, Claimed, Compacted, IdsSpent, Installed, NameHeld, NoClaim, Picked, Refused, Runs,
-    Value,
+    Abandoned, Claimed, Compacted, Fed, IdsSpent, Installed, Kept, NameHeld, NoClaim, NotFed,
+    NotProtected, NotReleased, Picked, Refused, Released, Runs, Value,
 };
 
 /// A list of calls, with the replies of those that have one.
@@ -166,6 +180,84 @@ static ASKED: [Row; 1] = [Row {
     ])],
 }];
 
+/// Feeds and snapshots between queries, and what refuses them.
+static LIVE: [Row; 3] = [
+    // A claim is held across a feed, and what its runs become is installed behind the new run.
+    Row {
+        writes: 2,
+        first_id: 1,
+        batches: &[
+            Whole(&[
+                (Claim(0, 0, 2), Claimed(0)),
+                (Get(3), NotProtected(3)),
+                (Feed(2, 1), Fed(1)),
+                (Get(3), NotProtected(3)),
+                (Keep, Kept(3)),
+                (Get(3), Value(b"\x61\x2c\x62\x2c\x63")),
+                (Get(2), Value(b"\x61\x2c\x62")),
+                (Claim(1, 0, 2), Refused(ClaimError::Busy(1))),
+                (Install(0), Installed(4)),
+                (Step::Report, Runs(2)),
+                (Feed(2, 1), NotFed(FeedError::Back(3))),
+                (Feed(2, 0), Fed(0)),
+                (Get(3), Value(b"\x61\x2c\x62\x2c\x63")),
+                (Get(2), Value(b"\x61\x2c\x62")),
+            ]),
+            // Keeps go on from list to list, and aren't counted.
+            Whole(&[
+                (Keep, Kept(3)),
+                (Release(3), Released(3)),
+                (Get(3), NotProtected(3)),
+                (Release(3), NotReleased(3)),
+                (Release(4), NotReleased(4)),
+                (Release(2), Released(2)),
+                (Get(2), NotProtected(2)),
+                (Feed(3, 2), Fed(2)),
+                (Keep, Kept(5)),
+                (Compact(0, 4), Compacted(7)),
+                (Get(5), Value(b"\x61\x2c\x62\x2c\x63\x2c\x64\x2c\x65")),
+            ]),
+            // What was fed stays, though a later call is refused.
+            Stopped(
+                &[(Feed(5, 1), Fed(1)), (Keep, Kept(6))],
+                &[Ask(0, 1), Release(6)],
+                AskError::BadWorkers,
+            ),
+            Whole(&[
+                (Feed(5, 1), NotFed(FeedError::Back(6))),
+                (Release(6), Released(6)),
+            ]),
+        ],
+    },
+    // There are as many runs as slots.
+    Row {
+        writes: 64,
+        first_id: 1,
+        batches: &[Whole(&[
+            (Feed(64, 1), NotFed(FeedError::TooManyRuns)),
+            (Feed(63, 1), NotFed(FeedError::Back(64))),
+            (Feed(64, 0), Fed(0)),
+            (Compact(0, 2), Compacted(65)),
+            (Feed(64, 2), NotFed(FeedError::TooManyRuns)),
+            (Feed(64, 1), Fed(1)),
+            (Step::Report, Runs(64)),
+        ])],
+    },
+    // 2^64 - 1 is never given.
+    Row {
+        writes: 63,
+        first_id: 18_446_744_073_709_551_551,
+        batches: &[Whole(&[
+            (Compact(0, 2), Compacted(18_446_744_073_709_551_614)),
+            (Feed(63, 1), NotFed(FeedError::IdsSpent)),
+            (Feed(63, 0), Fed(0)),
+            (Keep, Kept(63)),
+            (Compact(0, 2), IdsSpent),
+            (Step::Report, Runs(62)),
+        ])],
+    },
+];
+
 /// A put of the first letter, or a merge of another.
 fn letter(alloc: Global, number: u8) -> Result<Write, AllocError> {
     let text = [b'a'.wrapping_add(number)];
@@ -177,24 +269,30 @@ fn letter(alloc: Global, number: u8) -> Result<Write, AllocError> {
     WriteRef::new(seq, op).to_write(alloc)
 }
 
-/// A put of one letter and merges of the next ones, numbered from 1.
-fn letters(alloc: Global, count: u8) -> Result<Vec<Write>, AllocError> {
+/// Letters, from the one with a number on: a put of the first of all, and merges. Their sequences begin with 1.
+fn letters(alloc: Global, first: u8, count: u8) -> Result<Vec<Write>, AllocError> {
     let mut writes = Vec::new(alloc);
-    for number in 0..count {
-        writes.push(letter(alloc, number)?)?;
+    for place in 0..count {
+        writes.push(letter(alloc, first.wrapping_add(place))?)?;
     }
     Ok(writes)
 }
 
-/// Asks for the key's value at sequence 4.
-fn asked(alloc: Global, workers: usize, piece: usize) -> Result<Call, AllocError> {
+/// Asks for the key's value at a sequence.
+fn asked(alloc: Global, at: u64, workers: usize, piece: usize) -> Result<Call, AllocError> {
     let key = Bytes::from_slice(alloc, b"k")?;
-    let queries = vec![in alloc; Query::Get { key, at: 4 }]?;
+    let queries = vec![in alloc; Query::Get { key, at }]?;
     Ok(Call::Ask(Items::from(queries), workers, piece))
 }
 
+/// Feeds letters.
+fn fed(alloc: Global, first: u8, count: u8) -> Result<Call, Fail> {
+    let writes = letters(alloc, first, count)?;
+    Ok(Call::Feed(Writes::of(writes).ok_or("sequences don't rise")?))
+}
+
 /// The call of a step.
-fn call_of(alloc: Global, step: Step) -> Result<Call, AllocError> {
+fn call_of(alloc: Global, step: Step) -> Result<Call, Fail> {
     match step {
         Claim(name, first, count) => Ok(Call::Claim(name, Stretch { first, count })),
         Install(name) => Ok(Call::Install(name)),
@@ -202,7 +300,11 @@ fn call_of(alloc: Global, step: Step) -> Result<Call, AllocError> {
         Compact(first, count) => Ok(Call::Compact(Stretch { first, count })),
         Pick => Ok(Call::Pick),
         Step::Report => Ok(Call::Report),
-        Ask(workers, piece) => asked(alloc, workers, piece),
+        Ask(workers, piece) => Ok(asked(alloc, 4, workers, piece)?),
+        Get(at) => Ok(asked(alloc, at, 1, 1)?),
+        Feed(first, count) => fed(alloc, first, count),
+        Keep => Ok(Call::Keep),
+        Release(seq) => Ok(Call::Release(seq)),
     }
 }
 
@@ -211,7 +313,7 @@ fn calls_of(
     alloc: Global,
     replied: &[(Step, Wanted)],
     stopped: &[Step],
-) -> Result<Vec<Call>, AllocError> {
+) -> Result<Vec<Call>, Fail> {
     let mut calls = Vec::new(alloc);
     for &(step, _) in replied {
         calls.push(call_of(alloc, step)?)?;
@@ -256,6 +358,21 @@ fn is_wanted(reply: &Reply, wanted: Wanted) -> bool {
         Runs(count) => matches!(reply, Reply::Reported(r) if r.lines.as_slice().len() == count),
         Value(value) =>
             matches!(reply, Reply::Answers(answers) if is_value(answers.as_slice(), value)),
+        NotProtected(at) =>
+            matches!(reply, Reply::Answers(answers) if is_not_protected(answers.as_slice(), at)),
+        wanted => is_wanted_live(reply, wanted),
+    }
+}
+
+/// Whether a reply to a feed, a keep or a release is the expected one.
+fn is_wanted_live(reply: &Reply, wanted: Wanted) -> bool {
+    match wanted {
+        Fed(count) => matches!(reply, Reply::Fed(c) if *c == count),
+        NotFed(error) => matches!(reply, Reply::NotFed(e) if *e == error),
+        Kept(seq) => matches!(reply, Reply::Kept(s) if *s == seq),
+        Released(seq) => matches!(reply, Reply::Released(s) if *s == seq),
+        NotReleased(seq) => matches!(reply, Reply::NotReleased(s) if *s == seq),
+        _ => false,
     }
 }
 
@@ -263,6 +380,14 @@ fn is_wanted(reply: &Reply, wanted: Wanted) -> bool {
 fn is_value(answers: &[Answer], value: &[u8]) -> bool {
     match answers {
         [Answer::Value(Some(bytes))] => bytes.as_slice() == value,
+        _ => false,
+    }
+}
+
+/// Whether answers are only that no keep protects this sequence.
+fn is_not_protected(answers: &[Answer], at: u64) -> bool {
+    match answers {
+        [Answer::NotProtected(seq)] => *seq == at,
         _ => false,
     }
 }
@@ -324,7 +449,7 @@ fn all_played(
 
 /// Makes the calls of a row, in a store of its own.
 fn played_row(rt: &(impl Threads + Abort + Sync), alloc: Global, row: &Row) -> Result<(), Fail> {
-    let mut store = opened(alloc, letters(alloc, row.writes)?, row.first_id)?;
+    let mut store = opened(alloc, letters(alloc, 0, row.writes)?, row.first_id)?;
     all_played(rt, alloc, &mut store, row.batches)
 }
 
@@ -339,6 +464,14 @@ fn lists_of_calls(rt: HostRuntime) -> Result<(), Fail> {
 #[test]
 fn queries_between_calls(rt: HostRuntime) -> Result<(), Fail> {
     for row in &ASKED {
+        played_row(&rt, rt.alloc(), row)?;
+    }
+    Ok(())
+}
+
+#[test]
+fn feeds_and_snapshots_between_calls(rt: HostRuntime) -> Result<(), Fail> {
+    for row in &LIVE {
         played_row(&rt, rt.alloc(), row)?;
     }
     Ok(())

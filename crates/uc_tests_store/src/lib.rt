@@ -2,10 +2,10 @@
 //!
 //! Each random store has a few small runs of drawn writes. `compactions.rt` compacts every stretch of them under drawn
 //! keeps. It compares what the output does to each key, at every keep and at the greatest sequence of the inputs and
-//! above, with the plain program of `uc_model` over the stretch's writes. `owned_stores.rt` has stores whose stretches
-//! are claimed and installed in any order, and `workers.rt` batches of queries. Worked by hand are claims, installs and
-//! picks (`owners.rt`), lists of calls (`calls.rt`) and a batch of queries (`worked_batches.rt`); `stores.rt` opens the
-//! stores of the first two.
+//! above, with the plain program of `uc_model` over the stretch's writes. `owned_stores.rt` has stores that are fed, kept,
+//! claimed and installed in any order, beside the plain program of `plain.rt`, and `workers.rt` batches of queries. Worked
+//! by hand are claims, installs and picks (`owners.rt`), lists of calls (`calls.rt`) and a batch of queries
+//! (`worked_batches.rt`); `stores.rt` opens the stores of the first two.
 #![tactic(auto)]
 
 #[cfg(test)]
@@ -16,6 +16,8 @@ mod compactions;
 mod owned_stores;
 #[cfg(test)]
 mod owners;
+#[cfg(test)]
+mod plain;
 #[cfg(test)]
 mod stores;
 #[cfg(test)]

@@ -1,20 +1,41 @@
-//! Random stores with one owner: claims, installs and picks in any order, and the same answers all along.
+//! Random stores with one owner: claims, installs, picks, feeds and snapshots in any order, and the same answers all along.
+use crate::plain::Plain;
 use std::alloc::Global;
 use std::marker::Sync;
 use std::process::Abort;
 use std::test::Fail;
 use std::thread::Threads;
 use uc_batch::Writes;
-use uc_bytes::Bytes;
+use uc_bytes::{Bytes, Write};
+use uc_compact::Compacted;
 use uc_oper::{Append, Counter, Maximum, Operator};
 use uc_query_read::{Query, answer_one, answer_writes};
 use uc_tests_shared::dice::{Dice, KEYS};
-use uc_version::{Options, Owned, OwnedClaim, Stretch, open_plain};
+use uc_version::{FeedError, Options, Owned, OwnedClaim, Stretch, open_plain};
 
-/// Up to 40 drawn writes.
-pub(crate) fn drawn_writes(alloc: Global, dice: &mut Dice) -> Result<Writes, Fail> {
-    let count = dice.roll(41);
+/// A claim that is held, and what its runs were compacted to, if they were.
+#[derive(Drop)]
+struct Held<O: Operator> {
+    claim: OwnedClaim,
+    made: Option<Compacted<O>>,
+}
+
+/// Up to so many drawn writes.
+pub(crate) fn drawn_writes(alloc: Global, dice: &mut Dice, most: u64) -> Result<Writes, Fail> {
+    let count = dice.roll(most.saturating_add(1));
     Ok(Writes::of(dice.writes(alloc, count)?).ok_or("sequences don't rise")?)
+}
+
+/// Up to four drawn writes behind a sequence, with gaps between their sequences.
+fn drawn_feed(alloc: Global, dice: &mut Dice, last: u64) -> Result<Writes, Fail> {
+    let mut writes = Vec::new(alloc);
+    let mut seq = last;
+    for _ in 0..dice.roll(5) {
+        seq = seq.wrapping_add(1 + (dice.roll(3) & 3));
+        let op = dice.op(alloc)?;
+        writes.push(Write { seq, op })?;
+    }
+    Ok(Writes::of(writes).ok_or("sequences don't rise")?)
 }
 
 /// Drawn options: memtables of one to six writes or so, and a trigger, a ratio and a percentage of any size.
@@ -28,37 +49,37 @@ fn drawn_options(dice: &mut Dice) -> Result<Options, Fail> {
     })
 }
 
-/// Up to three keeps at or below the last sequence, in any order.
+/// Up to three keeps at or below the last sequence, in any order, and the last one.
 fn drawn_keeps(alloc: Global, dice: &mut Dice, last: u64) -> Result<Vec<u64>, Fail> {
     let mut keeps = Vec::new(alloc);
     for _ in 0..dice.roll(4) {
         keeps.push(dice.roll(last.saturating_add(1)))?;
     }
+    keeps.push(last)?;
     Ok(keeps)
 }
 
-/// Whether the store answers a query as the plain writes do.
+/// Whether the store answers a query as the plain program does.
 fn answers_alike<O: Operator>(
     alloc: Global,
     store: &Owned<O>,
-    writes: &Writes,
+    plain: &Plain,
     query: &Query,
 ) -> Result<bool, Fail> {
-    let version = store.version();
-    let answer = answer_one::<O>(alloc, version, query)?;
-    Ok(answer == answer_writes::<O>(alloc, writes, version.keeps(), query)?)
+    let answer = answer_one::<O>(alloc, store.version(), query)?;
+    Ok(answer == answer_writes::<O>(alloc, &plain.writes, &plain.keeps, query)?)
 }
 
-/// Whether the store answers a lookup of a key as the plain writes do.
+/// Whether the store answers a lookup of a key as the plain program does.
 fn looks_up_alike<O: Operator>(
     alloc: Global,
     store: &Owned<O>,
-    writes: &Writes,
+    plain: &Plain,
     key: &[u8],
     at: u64,
 ) -> Result<bool, Fail> {
     let key = Bytes::from_slice(alloc, key)?;
-    answers_alike(alloc, store, writes, &Query::Get { key, at })
+    answers_alike(alloc, store, plain, &Query::Get { key, at })
 }
 
 /// A scan from the first key on, to a drawn end.
@@ -75,61 +96,180 @@ fn drawn_scan(alloc: Global, dice: &mut Dice, at: u64) -> Result<Query, Fail> {
     })
 }
 
-/// Whether the store reads every key, and scans, as the plain writes do, at a sequence that may be kept or not.
+/// Whether the store reads every key, and scans, as the plain program does, at a sequence that may be kept or not.
 fn reads_alike<O: Operator>(
     alloc: Global,
     dice: &mut Dice,
     store: &Owned<O>,
-    writes: &Writes,
+    plain: &Plain,
     at: u64,
 ) -> Result<bool, Fail> {
     for key in KEYS {
-        if !looks_up_alike(alloc, store, writes, key, at)? {
+        if !looks_up_alike(alloc, store, plain, key, at)? {
             return Ok(false);
         }
     }
-    answers_alike(alloc, store, writes, &drawn_scan(alloc, dice, at)?)
+    answers_alike(alloc, store, plain, &drawn_scan(alloc, dice, at)?)
 }
 
-/// Whether the store reads as the plain writes do at each of its keeps, at a drawn sequence and at the last one.
-fn reads_alike_throughout<O: Operator>(
+/// Whether the store reads as the plain program does at each keep, and at a drawn sequence.
+fn reads_alike_at_keeps<O: Operator>(
     alloc: Global,
     dice: &mut Dice,
     store: &Owned<O>,
-    writes: &Writes,
-    keeps: &[u64],
+    plain: &Plain,
 ) -> Result<bool, Fail> {
-    for &at in keeps {
-        if !reads_alike(alloc, dice, store, writes, at)? {
+    for &at in &plain.keeps {
+        if !reads_alike(alloc, dice, store, plain, at)? {
             return Ok(false);
         }
     }
-    let drawn = dice.roll(writes.last().saturating_add(3));
-    Ok(
-        reads_alike(alloc, dice, store, writes, drawn)?
-            && reads_alike(alloc, dice, store, writes, writes.last())?,
-    )
+    let drawn = dice.roll(plain.last().saturating_add(3));
+    reads_alike(alloc, dice, store, plain, drawn)
 }
 
-/// Compacts a claim and installs the result, or gives the claim back if it is refused.
-fn install<O: Operator + Sync>(
+/// Whether the store reads as the plain program does at the last sequence, which is kept for that.
+fn reads_alike_at_last<O: Operator>(
+    alloc: Global,
+    dice: &mut Dice,
+    store: &mut Owned<O>,
+    plain: &mut Plain,
+) -> Result<bool, Fail> {
+    let last = plain.last();
+    let was_kept = plain.is_kept(last);
+    keep(store, plain)?;
+    let alike = reads_alike(alloc, dice, store, plain, last)?;
+    if !was_kept {
+        release(store, plain, last)?;
+    }
+    Ok(alike)
+}
+
+/// Takes a snapshot.
+fn keep<O: Operator>(store: &mut Owned<O>, plain: &mut Plain) -> Result<(), Fail> {
+    if store.keep()? != plain.last() {
+        return Err("another sequence is kept")?;
+    }
+    plain.keep()?;
+    Ok(())
+}
+
+/// Releases a snapshot, if the sequence is one.
+fn release<O: Operator>(store: &mut Owned<O>, plain: &mut Plain, seq: u64) -> Result<(), Fail> {
+    if store.release(seq).is_ok() != plain.is_kept(seq) {
+        return Err("only a keep is released")?;
+    }
+    plain.release(seq);
+    Ok(())
+}
+
+/// Feeds up to four drawn writes. Only a store that is nearly full may refuse them.
+fn feed<O: Operator>(
+    alloc: Global,
+    dice: &mut Dice,
+    store: &mut Owned<O>,
+    plain: &mut Plain,
+) -> Result<(), Fail> {
+    let writes = drawn_feed(alloc, dice, plain.last())?;
+    let is_nearly_full = store.version().runs().len() > 60;
+    match store.feed(alloc, &writes) {
+        Ok(_) => plain.feed(alloc, &writes),
+        Err(FeedError::TooManyRuns) if is_nearly_full => Ok(()),
+        Err(_) => Err("the feed is refused")?,
+    }
+}
+
+/// A keep, or a sequence that may be none.
+fn drawn_keep(dice: &mut Dice, plain: &Plain) -> Result<u64, Fail> {
+    let place = usize::try_from(dice.roll(5))?;
+    Ok(match plain.keeps.get(place) {
+        Some(seq) => *seq,
+        None => dice.roll(plain.last().saturating_add(3)),
+    })
+}
+
+/// A feed, a snapshot or a release.
+fn live_step<O: Operator>(
+    alloc: Global,
+    dice: &mut Dice,
+    store: &mut Owned<O>,
+    plain: &mut Plain,
+) -> Result<(), Fail> {
+    let kind = dice.roll(8);
+    if kind < 4 {
+        feed(alloc, dice, store, plain)
+    } else if kind < 6 {
+        keep(store, plain)
+    } else {
+        let seq = drawn_keep(dice, plain)?;
+        release(store, plain, seq)
+    }
+}
+
+/// What a claim's runs are compacted to.
+fn compacted<O: Operator + Sync>(
     rt: &(impl Threads + Sync),
     alloc: Global,
+    store: &Owned<O>,
+    claim: &OwnedClaim,
+) -> Result<Compacted<O>, Fail> {
+    if !store.holds(claim) {
+        return Err("the claim isn't held")?;
+    }
+    Ok(store.compact(rt, alloc, claim)?)
+}
+
+/// Compacts one of the claims, if there is one and it isn't compacted yet.
+fn compact<O: Operator + Sync>(
+    rt: &(impl Threads + Sync),
+    alloc: Global,
+    dice: &mut Dice,
+    store: &Owned<O>,
+    claims: &mut [Held<O>],
+) -> Result<(), Fail> {
+    let place = usize::try_from(dice.roll(claims.len() as u64))?;
+    if let Some(held) = claims.get_mut(place) {
+        if held.made.is_none() {
+            held.made = Some(compacted(rt, alloc, store, &held.claim)?);
+        }
+    }
+    Ok(())
+}
+
+/// Installs what was compacted for a claim.
+fn install_made<O: Operator>(
     store: &mut Owned<O>,
     claim: OwnedClaim,
+    made: Compacted<O>,
 ) -> Result<(), Fail> {
     if !store.holds(&claim) {
         return Err("the claim isn't held")?;
     }
-    let made = store.compact(rt, alloc, &claim)?;
     match store.install(claim, made) {
         Ok(_) => Ok(()),
         Err(_) => Err("the install is refused")?,
     }
 }
 
+/// Installs what a claim's runs were compacted to before, or are compacted to now.
+fn install<O: Operator + Sync>(
+    rt: &(impl Threads + Sync),
+    alloc: Global,
+    store: &mut Owned<O>,
+    held: Held<O>,
+) -> Result<(), Fail> {
+    let claim = held.claim;
+    match held.made {
+        Some(made) => install_made(store, claim, made),
+        None => {
+            let made = compacted(rt, alloc, store, &claim)?;
+            install_made(store, claim, made)
+        }
+    }
+}
+
 /// Takes one of the claims out, if there is one.
-fn drawn_claim(dice: &mut Dice, claims: &mut Vec<OwnedClaim>) -> Option<OwnedClaim> {
+fn drawn_claim<O: Operator>(dice: &mut Dice, claims: &mut Vec<Held<O>>) -> Option<Held<O>> {
     let place = usize::try_from(dice.roll(claims.len() as u64)).ok()?;
     if place < claims.len() {
         Some(claims.swap_remove(place))
@@ -141,12 +281,12 @@ fn drawn_claim(dice: &mut Dice, claims: &mut Vec<OwnedClaim>) -> Option<OwnedCla
 /// Claims a stretch, and keeps the claim. Returns whether it is claimed.
 fn claim<O: Operator>(
     store: &mut Owned<O>,
-    claims: &mut Vec<OwnedClaim>,
+    claims: &mut Vec<Held<O>>,
     stretch: Stretch,
 ) -> Result<bool, Fail> {
     match store.claim(stretch) {
         Ok(claim) => {
-            claims.push(claim)?;
+            claims.push(Held { claim, made: None })?;
             Ok(true)
         }
         Err(_) => Ok(false),
@@ -154,10 +294,7 @@ fn claim<O: Operator>(
 }
 
 /// Claims what is picked, if anything is.
-fn claim_picked<O: Operator>(
-    store: &mut Owned<O>,
-    claims: &mut Vec<OwnedClaim>,
-) -> Result<(), Fail> {
+fn claim_picked<O: Operator>(store: &mut Owned<O>, claims: &mut Vec<Held<O>>) -> Result<(), Fail> {
     if let Some(stretch) = store.pick() {
         if !claim(store, claims, stretch)? {
             return Err("what is picked can't be claimed")?;
@@ -167,11 +304,11 @@ fn claim_picked<O: Operator>(
 }
 
 /// Gives a claim back.
-fn abandon<O: Operator>(store: &mut Owned<O>, claim: OwnedClaim) -> Result<(), Fail> {
-    if !store.holds(&claim) {
+fn abandon<O: Operator>(store: &mut Owned<O>, held: Held<O>) -> Result<(), Fail> {
+    if !store.holds(&held.claim) {
         return Err("the claim isn't held")?;
     }
-    store.abandon(claim);
+    store.abandon(held.claim);
     Ok(())
 }
 
@@ -183,42 +320,48 @@ fn drawn_stretch(dice: &mut Dice) -> Result<Stretch, Fail> {
     })
 }
 
-/// A claim of a drawn stretch, or of a pick; or one of the claims installed, or given back.
-fn step<O: Operator + Sync>(
+/// A claim of a drawn stretch, or of a pick; or one of the claims compacted, installed or given back.
+fn claim_step<O: Operator + Sync>(
     rt: &(impl Threads + Sync),
     alloc: Global,
     dice: &mut Dice,
     store: &mut Owned<O>,
-    claims: &mut Vec<OwnedClaim>,
+    claims: &mut Vec<Held<O>>,
 ) -> Result<(), Fail> {
-    let kind = dice.roll(8);
+    let kind = dice.roll(9);
     if kind < 3 {
         claim(store, claims, drawn_stretch(dice)?)?;
     } else if kind == 3 {
         claim_picked(store, claims)?;
-    } else if let Some(claim) = drawn_claim(dice, claims) {
-        if kind == 4 {
-            abandon(store, claim)?;
+    } else if kind < 6 {
+        compact(rt, alloc, dice, store, claims)?;
+    } else if let Some(held) = drawn_claim(dice, claims) {
+        if kind == 6 {
+            abandon(store, held)?;
         } else {
-            install(rt, alloc, store, claim)?;
+            install(rt, alloc, store, held)?;
         }
     }
     Ok(())
 }
 
-/// Does 30 drawn steps with a store. Returns whether after each it reads as the plain writes do.
+/// Does 12 drawn steps with a store. Returns whether after each it reads as the plain program does.
 fn stays_alike<O: Operator + Sync>(
     rt: &(impl Threads + Sync),
     alloc: Global,
     dice: &mut Dice,
     store: &mut Owned<O>,
-    writes: &Writes,
-    keeps: &[u64],
+    plain: &mut Plain,
 ) -> Result<bool, Fail> {
     let mut claims = Vec::new(alloc);
-    for _ in 0..30 {
-        step(rt, alloc, dice, store, &mut claims)?;
-        if !reads_alike_throughout(alloc, dice, store, writes, keeps)? {
+    for _ in 0..12 {
+        if dice.roll(2) == 0 {
+            live_step(alloc, dice, store, plain)?;
+        } else {
+            claim_step(rt, alloc, dice, store, &mut claims)?;
+        }
+        let alike = reads_alike_at_keeps(alloc, dice, store, plain)?;
+        if !alike || !reads_alike_at_last(alloc, dice, store, plain)? {
             return Ok(false);
         }
     }
@@ -226,38 +369,46 @@ fn stays_alike<O: Operator + Sync>(
 }
 
 /// A store of these writes, with drawn options.
-fn opened<O: Operator>(
-    alloc: Global,
-    dice: &mut Dice,
-    writes: &Writes,
-    keeps: &[u64],
-) -> Result<Owned<O>, Fail> {
-    match open_plain::<O>(alloc, writes, keeps, drawn_options(dice)?) {
+fn opened<O: Operator>(alloc: Global, dice: &mut Dice, plain: &Plain) -> Result<Owned<O>, Fail> {
+    match open_plain::<O>(alloc, &plain.writes, &plain.keeps, drawn_options(dice)?) {
         Ok(store) => Ok(store),
         Err(_) => Err("the store doesn't open")?,
     }
 }
 
-/// Whether a drawn store reads as its plain writes do, whatever is done with it.
+/// Whether a drawn store, opened from up to so many writes, reads as the plain program does, whatever is done with it.
 fn drawn_store_reads_alike<O: Operator + Sync>(
     rt: &(impl Threads + Sync),
     alloc: Global,
     dice: &mut Dice,
+    most: u64,
 ) -> Result<bool, Fail> {
-    let writes = drawn_writes(alloc, dice)?;
+    let writes = drawn_writes(alloc, dice, most)?;
     let keeps = drawn_keeps(alloc, dice, writes.last())?;
-    let mut store = opened::<O>(alloc, dice, &writes, &keeps)?;
-    stays_alike(rt, alloc, dice, &mut store, &writes, &keeps)
+    let mut plain = Plain { writes, keeps };
+    let mut store = opened::<O>(alloc, dice, &plain)?;
+    stays_alike(rt, alloc, dice, &mut store, &mut plain)
 }
 
 #[test]
 fn owned_stores_read_alike(rt: HostRuntime) -> Result<(), Fail> {
     let alloc = rt.alloc();
     let mut dice = Dice::new(13);
-    for _ in 0..20 {
-        assert!(rt; drawn_store_reads_alike::<Append<0x2C>>(&rt, alloc, &mut dice)?);
-        assert!(rt; drawn_store_reads_alike::<Counter>(&rt, alloc, &mut dice)?);
-        assert!(rt; drawn_store_reads_alike::<Maximum>(&rt, alloc, &mut dice)?);
+    for _ in 0..10 {
+        assert!(rt; drawn_store_reads_alike::<Append<0x2C>>(&rt, alloc, &mut dice, 40)?);
+        assert!(rt; drawn_store_reads_alike::<Counter>(&rt, alloc, &mut dice, 40)?);
+        assert!(rt; drawn_store_reads_alike::<Maximum>(&rt, alloc, &mut dice, 40)?);
+    }
+    Ok(())
+}
+
+#[test]
+fn short_courses_read_alike(rt: HostRuntime) -> Result<(), Fail> {
+    let alloc = rt.alloc();
+    let mut dice = Dice::new(19);
+    for _ in 0..100 {
+        assert!(rt; drawn_store_reads_alike::<Append<0x2C>>(&rt, alloc, &mut dice, 8)?);
+        assert!(rt; drawn_store_reads_alike::<Counter>(&rt, alloc, &mut dice, 8)?);
     }
     Ok(())
 }

@@ -97,7 +97,7 @@ fn is_answered_alike<O: Operator + Sync>(
     alloc: Global,
     dice: &mut Dice,
 ) -> Result<bool, Fail> {
-    let writes = drawn_writes(alloc, dice)?;
+    let writes = drawn_writes(alloc, dice, 40)?;
     let options = Options {
         memtable: 40,
         ..Options::usual()

@@ -1,16 +1,17 @@
 //! Writes that are fed to a store, and snapshots that come and go, worked by hand.
+use crate::installs::{Made, handed_back};
 use crate::stores::{
     Change, Commas, MERGED, Store, claimed, given_back, has_runs, merges, numbered, opened,
 };
-use std::alloc::Global;
+use std::alloc::{AllocError, Global};
 use std::marker::Sync;
 use std::process::Abort;
 use std::test::Fail;
 use std::thread::Threads;
 use uc_batch::Writes;
-use uc_bytes::{Bytes, OpRef, WriteRef};
+use uc_bytes::{Bytes, MAX_SEQUENCE, OpRef, WriteRef};
 use uc_query::{Answer, Query, answer_one};
-use uc_version::{FeedError, InstallError, ReleaseError, Stretch};
+use uc_version::{FeedError, InstallError, OwnedClaim, ReleaseError, Stretch};
 
 /// The two newest runs.
 const NEWEST: Stretch = Stretch { first: 0, count: 2 };
@@ -39,7 +40,7 @@ fn feed(
 type Row = (usize, u64, u64, usize, Result<u64, FeedError>, usize);
 
 /// Worked by hand. Each write is a run, and those that are there have the sequences from 1 on.
-static ROWS: [Row; 14] = [
+static ROWS: [Row; 18] = [
     (3, 1, 4, 1, Ok(1), 4),
     (3, 1, 9, 2, Ok(2), 5),
     (3, 1, 4, 0, Ok(0), 3),
@@ -49,11 +50,15 @@ static ROWS: [Row; 14] = [
     (63, 1, 64, 2, Err(FeedError::TooManyRuns), 63),
     (64, 1, 65, 1, Err(FeedError::TooManyRuns), 64),
     (64, 1, 65, 0, Ok(0), 64),
+    (0, 1, 1, 0, Ok(0), 0),
+    (0, 1, 1, 1, Ok(1), 1),
+    (0, 1, 1, 63, Ok(63), 63),
     (0, 1, 1, 64, Ok(64), 64),
     (0, 1, 1, 65, Err(FeedError::TooManyRuns), 0),
     // The order of refusals, and the last ids.
     (64, u64::MAX - 64, 65, 1, Err(FeedError::TooManyRuns), 64),
     (64, u64::MAX - 64, 64, 1, Err(FeedError::Back(64)), 64),
+    (64, u64::MAX - 64, 65, 0, Ok(0), 64),
     (63, u64::MAX - 64, 64, 1, Ok(1), 64),
 ];
 
@@ -72,13 +77,25 @@ fn last_of(row: &Row) -> u64 {
     }
 }
 
+/// Whether a store has so many runs, this last sequence, and this id for the next run.
+fn is_at(store: &Store, runs: usize, last: u64, next_id: u64) -> bool {
+    let version = store.version();
+    version.runs().len() == runs && version.last() == last && version.next_id() == next_id
+}
+
 /// Feeds a row's writes, and checks what came of it.
 fn feeds_row(rt: &impl Abort, alloc: Global, store: &mut Store, row: &Row) -> Result<(), Fail> {
-    let (_, _, first, count, wanted, after) = *row;
+    let (_, first_id, first, count, wanted, after) = *row;
     let outcome = feed(alloc, store, first, count)?;
     assert_eq!(rt; outcome, wanted);
-    assert_eq!(rt; store.version().runs().len(), after);
-    assert_eq!(rt; store.version().last(), last_of(row));
+    assert!(rt;
+        is_at(
+            store,
+            after,
+            last_of(row),
+            first_id.wrapping_add(after as u64)
+        )
+    );
     Ok(())
 }
 
@@ -94,6 +111,138 @@ fn feeds_are_accepted_or_refused(rt: HostRuntime) -> Result<(), Fail> {
     Ok(())
 }
 
+/// Feeds of puts that are made to one store, one after the other: the sequences, what comes of it, and how many runs, which
+/// last sequence and which next id there are then.
+type Course = &'static [(&'static [u64], Result<u64, FeedError>, usize, u64, u64)];
+
+/// Worked by hand, of stores of so many puts, whose first run has this id.
+static COURSES: [(usize, u64, Course); 6] = [
+    (
+        3,
+        1,
+        &[
+            (&[3], Err(FeedError::Back(3)), 3, 3, 4),
+            (&[3, 5], Err(FeedError::Back(3)), 3, 3, 4),
+            (&[], Ok(0), 3, 3, 4),
+            (&[4, 6], Ok(2), 5, 6, 6),
+            (&[5], Err(FeedError::Back(6)), 5, 6, 6),
+        ],
+    ),
+    (
+        63,
+        1,
+        &[
+            (&[64, 65], Err(FeedError::TooManyRuns), 63, 63, 64),
+            (&[64], Ok(1), 64, 64, 65),
+            (&[65], Err(FeedError::TooManyRuns), 64, 64, 65),
+            (&[64], Err(FeedError::Back(64)), 64, 64, 65),
+            (&[], Ok(0), 64, 64, 65),
+        ],
+    ),
+    // The last ids.
+    (
+        63,
+        u64::MAX - 64,
+        &[
+            (&[64], Ok(1), 64, 64, u64::MAX),
+            (&[], Ok(0), 64, 64, u64::MAX),
+        ],
+    ),
+    (
+        64,
+        u64::MAX - 64,
+        &[
+            (&[65], Err(FeedError::TooManyRuns), 64, 64, u64::MAX),
+            (&[64], Err(FeedError::Back(64)), 64, 64, u64::MAX),
+            (&[], Ok(0), 64, 64, u64::MAX),
+        ],
+    ),
+    // The greatest sequence.
+    (
+        0,
+        1,
+        &[
+            (&[MAX_SEQUENCE], Ok(1), 1, MAX_SEQUENCE, 2),
+            (
+                &[MAX_SEQUENCE],
+                Err(FeedError::Back(MAX_SEQUENCE)),
+                1,
+                MAX_SEQUENCE,
+                2,
+            ),
+            (&[], Ok(0), 1, MAX_SEQUENCE, 2),
+        ],
+    ),
+    (
+        1,
+        1,
+        &[
+            (
+                &[72_057_594_037_927_934, 72_057_594_037_927_935],
+                Ok(2),
+                3,
+                MAX_SEQUENCE,
+                4,
+            ),
+            (&[1], Err(FeedError::Back(MAX_SEQUENCE)), 3, MAX_SEQUENCE, 4),
+        ],
+    ),
+];
+
+/// These courses.
+fn courses() -> &'static [(usize, u64, Course)] {
+    &COURSES
+}
+
+/// `count` puts.
+fn puts(alloc: Global, count: usize) -> Result<Vec<Change>, AllocError> {
+    let mut changes = Vec::new(alloc);
+    for _ in 0..count {
+        changes.push(Change::Put(b"v"))?;
+    }
+    Ok(changes)
+}
+
+/// Puts at these sequences.
+fn puts_at(alloc: Global, seqs: &[u64]) -> Result<Writes, Fail> {
+    let mut writes = Vec::new(alloc);
+    for &seq in seqs {
+        writes.push(WriteRef::new(seq, OpRef::put(b"k", b"v")).to_write(alloc)?)?;
+    }
+    Ok(Writes::of(writes).ok_or("the sequences don't rise")?)
+}
+
+/// What comes of feeding puts at these sequences.
+fn feed_at(alloc: Global, store: &mut Store, seqs: &[u64]) -> Result<Result<u64, FeedError>, Fail> {
+    let writes = puts_at(alloc, seqs)?;
+    Ok(store.feed(alloc, &writes))
+}
+
+/// Makes the feeds of a course, and checks what came of each.
+fn feeds_course(
+    rt: &impl Abort,
+    alloc: Global,
+    store: &mut Store,
+    course: Course,
+) -> Result<(), Fail> {
+    for &(seqs, wanted, runs, last, next_id) in course {
+        let outcome = feed_at(alloc, store, seqs)?;
+        assert_eq!(rt; outcome, wanted);
+        assert!(rt; is_at(store, runs, last, next_id));
+    }
+    Ok(())
+}
+
+#[test]
+fn feeds_follow_each_other(rt: HostRuntime) -> Result<(), Fail> {
+    let alloc = rt.alloc();
+    for &(count, first_id, course) in courses() {
+        let mut store = opened(alloc, &puts(alloc, count)?, &[], first_id)?;
+        feeds_course(&rt, alloc, &mut store, course)?;
+    }
+    Ok(())
+}
+
 /// Installs what is compacted of the two newest runs, and returns the id of the new run.
 fn compacted(rt: &(impl Threads + Sync), alloc: Global, store: &mut Store) -> Result<u64, Fail> {
     match store.compact_now(rt, alloc, NEWEST) {
@@ -105,11 +254,11 @@ fn compacted(rt: &(impl Threads + Sync), alloc: Global, store: &mut Store) -> Re
 #[test]
 fn no_run_gets_the_last_id(rt: HostRuntime) -> Result<(), Fail> {
     let alloc = rt.alloc();
-    let mut store = opened(alloc, &merges(alloc, 63)?, &[], u64::MAX - 64)?;
+    let mut store = opened(alloc, &puts(alloc, 63)?, &[], u64::MAX - 64)?;
     assert_eq!(rt; compacted(&rt, alloc, &mut store)?, u64::MAX - 1);
-    let spent = feed(alloc, &mut store, 64, 1)?;
+    let spent = feed_at(alloc, &mut store, &[64])?;
     assert_eq!(rt; spent, Err(FeedError::IdsSpent));
-    assert_eq!(rt; fed(alloc, &mut store, 64, 0)?, 0);
+    assert_eq!(rt; feed_at(alloc, &mut store, &[])?, Ok(0));
     Ok(())
 }
 
@@ -249,32 +398,66 @@ fn an_empty_range_takes_a_slot(rt: HostRuntime) -> Result<(), Fail> {
     Ok(())
 }
 
-/// What a compaction of the two newest runs under no keeps is refused for.
-fn refusal_of(
+/// A claim of the two newest runs, and what they are compacted to.
+fn made_of(
     rt: &(impl Threads + Sync),
     alloc: Global,
     store: &mut Store,
-) -> Result<InstallError, Fail> {
+) -> Result<(OwnedClaim, Made), Fail> {
     let claim = claimed(store, NEWEST)?;
     if !store.holds(&claim) {
         return Err("the claim isn't held")?;
     }
     let made = store.compact(rt, alloc, &claim)?;
-    if !store.holds(&claim) {
-        return Err("the claim isn't held")?;
-    }
-    match store.install(claim, made) {
-        Ok(_) => Err("the install isn't refused")?,
-        Err((_claim, _made, error)) => Ok(error),
-    }
+    Ok((claim, made))
+}
+
+/// Installs twice for a claim what is refused twice: both come back each time. Returns the second error.
+fn refusal_of(store: &mut Store, claim: OwnedClaim, made: Made) -> Result<InstallError, Fail> {
+    let (claim, made, _) = handed_back(store, claim, made)?;
+    let (claim, _, error) = handed_back(store, claim, made)?;
+    given_back(store, claim)?;
+    Ok(error)
+}
+
+/// Whether what is compacted before the last ids are given to two runs is refused behind them.
+fn refuses_behind_a_feed(
+    rt: &(impl Threads + Sync),
+    alloc: Global,
+    store: &mut Store,
+) -> Result<bool, Fail> {
+    let (claim, made) = made_of(rt, alloc, store)?;
+    let outcome = feed_at(alloc, store, &[63, 64])?;
+    let error = refusal_of(store, claim, made)?;
+    Ok(outcome == Ok(2) && error == InstallError::IdsSpent)
 }
 
 #[test]
 fn an_install_needs_an_id_behind_a_feed(rt: HostRuntime) -> Result<(), Fail> {
     let alloc = rt.alloc();
-    let mut store = opened(alloc, &merges(alloc, 62)?, &[], u64::MAX - 64)?;
-    assert_eq!(rt; fed(alloc, &mut store, 63, 2)?, 2);
-    let error = refusal_of(&rt, alloc, &mut store)?;
-    assert_eq!(rt; error, InstallError::IdsSpent);
+    let mut store = opened(alloc, &puts(alloc, 62)?, &[], u64::MAX - 64)?;
+    assert!(rt; refuses_behind_a_feed(&rt, alloc, &mut store)?);
+    assert!(rt; is_at(&store, 64, 64, u64::MAX));
+    Ok(())
+}
+
+/// Whether what is compacted behind the feed of the last id is refused.
+fn refuses_after_a_feed(
+    rt: &(impl Threads + Sync),
+    alloc: Global,
+    store: &mut Store,
+) -> Result<bool, Fail> {
+    let outcome = feed_at(alloc, store, &[64])?;
+    let (claim, made) = made_of(rt, alloc, store)?;
+    let error = refusal_of(store, claim, made)?;
+    Ok(outcome == Ok(1) && error == InstallError::IdsSpent)
+}
+
+#[test]
+fn the_last_id_is_fed(rt: HostRuntime) -> Result<(), Fail> {
+    let alloc = rt.alloc();
+    let mut store = opened(alloc, &puts(alloc, 63)?, &[], u64::MAX - 64)?;
+    assert!(rt; refuses_after_a_feed(&rt, alloc, &mut store)?);
+    assert!(rt; is_at(&store, 64, 64, u64::MAX));
     Ok(())
 }

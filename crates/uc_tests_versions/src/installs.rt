@@ -11,7 +11,7 @@ use uc_version::{InstallError, OwnedClaim, Stretch};
 use uc_version_state::Version;
 
 /// A compaction.
-type Made = Compacted<Commas>;
+pub(crate) type Made = Compacted<Commas>;
 
 /// The two newest runs.
 const NEWEST: Stretch = Stretch { first: 0, count: 2 };
@@ -45,18 +45,18 @@ fn installed(store: &mut Store, claim: OwnedClaim, made: Made) -> Result<u64, Fa
     }
 }
 
-/// Installs for a held claim what is refused, and returns the claim that comes back, with the error.
-fn refused(
+/// Installs for a held claim what is refused, and returns what comes back.
+pub(crate) fn handed_back(
     store: &mut Store,
     claim: OwnedClaim,
     made: Made,
-) -> Result<(OwnedClaim, InstallError), Fail> {
+) -> Result<(OwnedClaim, Made, InstallError), Fail> {
     if !store.holds(&claim) {
         return Err("the claim isn't held")?;
     }
     match store.install(claim, made) {
         Ok(_) => Err("the install isn't refused")?,
-        Err((claim, _made, error)) => Ok((claim, error)),
+        Err(refused) => Ok(refused),
     }
 }
 
@@ -100,7 +100,7 @@ fn comes_back(
 ) -> Result<OwnedClaim, Fail> {
     let claim = claimed(store, NEWEST)?;
     let made = compacted(rt, alloc, store, row.made_for, row.oldest)?;
-    let (claim, error) = refused(store, claim, made)?;
+    let (claim, _made, error) = handed_back(store, claim, made)?;
     assert!(rt; error == row.error);
     Ok(claim)
 }
@@ -140,6 +140,59 @@ fn what_is_refused_comes_back(rt: HostRuntime) -> Result<(), Fail> {
         refuses(&rt, alloc, &mut opened(alloc, &MERGED, row.keeps, 1)?, row)?;
     }
     Ok(())
+}
+
+/// Whether a store has two runs, of which the newest has this id, so many points, and this size.
+fn has_newest(store: &Store, id: u64, points: u64, size: u64) -> bool {
+    match store.version().runs() {
+        [newest, _] => newest.id() == id
+            && newest.run().points() == points
+            && newest.run().size() == size,
+        _ => false,
+    }
+}
+
+/// Installs what was made for no keep: first beside a keep, which it is refused for, and again behind its release.
+fn installs_behind_a_release(
+    rt: &(impl Threads + Abort + Sync),
+    alloc: Global,
+    store: &mut Store,
+) -> Result<(), Fail> {
+    let claim = claimed(store, NEWEST)?;
+    let made = compacted(rt, alloc, store, &[], false)?;
+    let (claim, made, error) = handed_back(store, claim, made)?;
+    let released = store.release(2);
+    let id = installed(store, claim, made)?;
+    assert!(rt; error == InstallError::WrongKeeps(2) && released.is_ok() && id == 4);
+    assert!(rt; has_newest(store, 4, 1, 12));
+    Ok(())
+}
+
+#[test]
+fn what_a_keep_refuses_is_installed_behind_its_release(rt: HostRuntime) -> Result<(), Fail> {
+    let alloc = rt.alloc();
+    installs_behind_a_release(&rt, alloc, &mut opened(alloc, &MERGED, &[2], 1)?)
+}
+
+/// Releases a keep between a compaction and its install. The value at the keep stays in the run.
+fn outlives_its_keep(
+    rt: &(impl Threads + Abort + Sync),
+    alloc: Global,
+    store: &mut Store,
+) -> Result<(), Fail> {
+    let claim = claimed(store, NEWEST)?;
+    let made = compacted(rt, alloc, store, store.version().keeps(), false)?;
+    let released = store.release(2);
+    let id = installed(store, claim, made)?;
+    assert!(rt; released.is_ok() && id == 4);
+    assert!(rt; has_newest(store, 4, 2, 20));
+    Ok(())
+}
+
+#[test]
+fn what_was_made_under_a_keep_is_installed_behind_its_release(rt: HostRuntime) -> Result<(), Fail> {
+    let alloc = rt.alloc();
+    outlives_its_keep(&rt, alloc, &mut opened(alloc, &MERGED, &[2], 1)?)
 }
 
 /// A put, and the delete of its key.
