@@ -28,7 +28,7 @@ LEAST_SHOWN = 0.04
 NAME_AT, BASELINE_AT, AXIS_FROM, AXIS_TO, TEXT_AT = 12, 280, 388, 650, 660
 
 # Baselines that have a shorter name here.
-SHORT_NAMES = {"RocksDB+filter": "RocksDB, filter"}
+SHORT_NAMES = {"RocksDB+filter": "RocksDB, filter", "RocksDB+flush": "RocksDB, flushed"}
 
 
 def slowness(number, row):

@@ -15,7 +15,7 @@ MONTH = "2026-11"
 # What the page calls a baseline, if it isn't the name in the results.
 NAMES = {
     "AtomicU64": "`AtomicU64`", "BTreeMap": "`BTreeMap`", "RwLock": "`RwLock`",
-    "RocksDB+filter": "RocksDB, Bloom filter", "one worker": "one",
+    "RocksDB+filter": "RocksDB, Bloom filter", "RocksDB+flush": "RocksDB, flushed", "one worker": "one",
 }
 
 # How many of a unit are one of another.
@@ -124,6 +124,19 @@ LINES = (
     Line("ask", "`ask`, log of 60 MiB, 0 and 2 compactors", "ask", baseline="RocksDB", units=S, digits=2,
          name="ask, 0 and 2 compactors"),
     Line("ask", "its memory", "ask", ("0 compactors",), "RocksDB", MIB, name="its memory"),
+    Line("live", "live writes, batches of 1,000", "live writes", ("batches of 1,000",), "RocksDB", S, digits=2,
+         name="live writes, batches of 1,000"),
+    Line("live", "the same", "live writes", ("batches of 1,000",), "BTreeMap", S, digits=2,
+         name="live writes, batches of 1,000"),
+    Line("live", "batches of 10,000", "live writes", ("batches of 10,000",), "RocksDB", S, digits=2,
+         name="live writes, batches of 10,000"),
+    Line("live", "the same", "live writes", ("batches of 10,000",), "BTreeMap", S, digits=2,
+         name="live writes, batches of 10,000"),
+    Line("live", "feed, 1.2 million writes there", "a feed at 1.2 million writes", digits=2),
+    Line("live", "feed of 1 to 10,000, a write", "feeds", baseline="RocksDB+flush", units=NS, style="range",
+         ratio_digits=3, name="feed of 1 to 10,000, a write"),
+    Line("live", "the same", "feeds", baseline="RocksDB", units=NS, style="range",
+         name="feed of 1 to 10,000, a write"),
     Line("shared", "batch, 2 workers, 1 compactor", "batches", ("workers 2 beside 1",), "RocksDB",
          name="batch, 2 workers, 1 compactor"),
     Line("shared", "the same", "batches", ("workers 2 beside 1",), "no compactor"),
@@ -145,10 +158,12 @@ LINES = (
 
 
 def rows_of(line, results, cases=None):
-    """The rows that a line is made of. `ours` as its baseline asks for the rows without one."""
+    """The rows that a line is made of: none if its benchmark has no results yet. `ours` as its baseline asks for the
+    rows without one.
+    """
     baseline = None if line.baseline == OURS else line.baseline
     return [
-        row for row in results[line.benchmark]["rows"]
+        row for row in results.get(line.benchmark, {"rows": []})["rows"]
         if row["work"] == line.work and row["ours"]["unit"] in line.units
         and any(fnmatchcase(row["case"], case) for case in cases or line.cases)
         and (line.baseline is None or (row["baseline"] or {}).get("name") == baseline)
