@@ -19,10 +19,19 @@ const STRETCH: Stretch = Stretch { first: 2, count: 2 };
 /// The last sequence once the later changes are fed.
 const LAST: u64 = CHANGES + 2;
 
-/// Feeds the later changes, which become two runs.
-fn fed(alloc: Global, owned: &mut Owned<Texts>) -> Option<()> {
-    owned.feed(alloc, &later_writes(alloc)?).ok()?;
-    Some(())
+/// A store that is fed the later changes.
+fn fed(alloc: Global) -> Option<Owned<Texts>> {
+    let writes = later_writes(alloc)?;
+    let mut owned = owned(alloc)?;
+    owned.feed(alloc, &writes).ok()?;
+    Some(owned)
+}
+
+/// A store of all changes, opened from all at once, that keeps no sequence of the later ones.
+fn unkept(alloc: Global) -> Option<Owned<Texts>> {
+    let mut owned = owned_fed(alloc, &KEEPS)?;
+    owned.release(LAST).ok()?;
+    Some(owned)
 }
 
 /// `Owned::feed`.
@@ -54,10 +63,9 @@ impl Probe for Feeds {
 
 /// Feeds writes to a store with a claim.
 pub(crate) fn writes_fed(alloc: Global) -> Option<Verdict> {
-    let (mut owned, before) = (owned(alloc)?, version(alloc)?);
+    let (writes, before, wanted) = (later_writes(alloc)?, version(alloc)?, unkept(alloc)?);
+    let mut owned = owned(alloc)?;
     let claim = owned.claim(STRETCH).ok()?;
-    let (writes, mut wanted) = (later_writes(alloc)?, owned_fed(alloc, &KEEPS)?);
-    wanted.release(LAST).ok()?;
     let mut probe = Feeds {
         owned,
         claim,
@@ -92,9 +100,7 @@ impl Probe for Keeps {
 
 /// Takes a snapshot behind a feed.
 pub(crate) fn snapshot_taken(alloc: Global) -> Option<Verdict> {
-    let (mut owned, mut before) = (owned(alloc)?, owned_fed(alloc, &KEEPS)?);
-    fed(alloc, &mut owned)?;
-    before.release(LAST).ok()?;
+    let (owned, before) = (fed(alloc)?, unkept(alloc)?);
     let wanted = owned_fed(alloc, &KEEPS)?;
     let mut probe = Keeps {
         owned,
@@ -199,6 +205,17 @@ fn calls_outcome(
     }
 }
 
+/// A store of all changes, after the compaction of what is claimed before the later ones are fed.
+fn installed(rt: &(impl Threads + Sync), alloc: Global) -> Option<Owned<Texts>> {
+    let moved = Stretch {
+        first: STRETCH.first + 2,
+        ..STRETCH
+    };
+    let mut owned = owned_fed(alloc, &KEEPS)?;
+    owned.compact_now(rt, alloc, moved).ok()?;
+    Some(owned)
+}
+
 /// The versions that the calls lead through: before them, behind the feed, behind the snapshot, and behind the install.
 #[derive(Drop)]
 struct Between {
@@ -211,18 +228,11 @@ struct Between {
 impl Between {
     /// Makes the calls one after the other.
     fn made(rt: &(impl Threads + Sync), alloc: Global) -> Option<Between> {
-        let (mut fed, mut installed) = (owned_fed(alloc, &KEEPS)?, owned_fed(alloc, &KEEPS)?);
-        fed.release(LAST).ok()?;
-        let claimed = Stretch {
-            first: STRETCH.first + 2,
-            ..STRETCH
-        };
-        installed.compact_now(rt, alloc, claimed).ok()?;
         Some(Between {
             before: version(alloc)?,
-            fed,
+            fed: unkept(alloc)?,
             kept: owned_fed(alloc, &KEEPS)?,
-            installed,
+            installed: installed(rt, alloc)?,
         })
     }
 
