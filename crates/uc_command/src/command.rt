@@ -33,12 +33,14 @@ that line. A refused opening prints `refused` and why; standard error names the 
 Status: 0 done, 2 a refused command line, script or opening, 4 out of memory, 5 a read or write fault
 or too long an input.";
 
-/// The usual numbers of workers, of queries of a piece, and of compactors of `ucstore ask`.
+/// The usual numbers of workers, of queries of a piece, of compactors, and of writes that come later of `ucstore ask`.
 const WORKERS: &str = "4";
 
 const PIECE: &str = "16";
 
 const COMPACTORS: &str = "0";
+
+const LATER: &str = "0";
 
 /// Texts that the command line shows and that are made as the program runs, so that what they say stands
 /// in one place.
@@ -234,8 +236,10 @@ the last one. HIGH is a key or - for none. Prints for each query, in order,
   rows ROWS, then KEY VALUE ...   what scan reads
   not protected SEQUENCE          where the sequence isn't kept
 
-whatever the numbers of workers, compactors and queries of a piece are. A line with a fault prints
-`fault line N` and nothing else, a refused opening `refused` and why; standard error says what is wrong.
+whatever the numbers of workers, compactors and queries of a piece are. With --later N the answers are
+those of the log without its last N writes, which are fed to the store while it answers. A line with a
+fault prints `fault line N` and nothing else, a refused opening `refused` and why; standard error
+says what is wrong.
 
 Example: (printf 'get 6b last\\nlog\\n'; cat 000003.log) | ucstore ask --operator append
 
@@ -275,12 +279,24 @@ fn compactors<'a>(alloc: Global) -> Arg<'a> {
     .value_parser(value_parser!(u64).range(0..=16))
 }
 
-/// `--workers`, `--piece` and `--compactors`.
+/// `--later`.
+fn later<'a>(alloc: Global) -> Arg<'a> {
+    number(
+        alloc,
+        "later",
+        LATER,
+        "Open without the log's last writes, this many, and feed them one by one meanwhile",
+    )
+    .value_parser(value_parser!(u64))
+}
+
+/// `--workers`, `--piece`, `--compactors` and `--later`.
 fn with_threads<'a>(alloc: Global, command: Command<'a>) -> Result<Command<'a>, AllocError> {
     command
         .arg(workers(alloc))?
         .arg(piece(alloc))?
-        .arg(compactors(alloc))
+        .arg(compactors(alloc))?
+        .arg(later(alloc))
 }
 
 /// `ucstore ask`.

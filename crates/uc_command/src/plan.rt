@@ -1,7 +1,7 @@
-//! [`Plan`]: how many threads `ucstore ask` works by.
+//! [`Plan`]: how many threads `ucstore ask` works by, and on what.
 use clap::ArgMatches;
 
-/// How many threads `ucstore ask` answers and compacts by, and how it cuts the queries.
+/// How many threads `ucstore ask` answers and compacts by, how it cuts the queries, and what it opens.
 #[derive(Clone, Copy, Debug, PartialEq, Eq)]
 pub struct Plan {
     /// How many workers answer.
@@ -10,6 +10,8 @@ pub struct Plan {
     pub piece: usize,
     /// How many threads compact.
     pub compactors: usize,
+    /// How many of the log's last writes come while it answers.
+    pub later: u64,
 }
 
 /// A number that the words set, or 0: the parser gives each a usual value.
@@ -23,5 +25,6 @@ pub fn plan_of(matches: &ArgMatches<'_>) -> Plan {
         workers: count(matches, "workers"),
         piece: count(matches, "piece"),
         compactors: count(matches, "compactors"),
+        later: matches.get_one::<u64>("later").unwrap_or(0),
     }
 }

@@ -81,37 +81,44 @@ fn operators_and_usual_options(rt: HostRuntime) -> Result<(), Fail> {
     Ok(())
 }
 
-/// How many workers, queries of a piece and compactors lines set.
-const PLANS: [(&str, (usize, usize, usize)); 3] = [
-    ("ucstore ask --operator counter", (4, 16, 0)),
+/// How many workers, queries of a piece, compactors and later writes.
+type Numbers = (usize, usize, usize, u64);
+
+/// What lines set of these.
+const PLANS: [(&str, Numbers); 4] = [
+    ("ucstore ask --operator counter", (4, 16, 0, 0)),
     (
         "ucstore ask --operator counter --workers 64 --piece 18446744073709551615 --compactors 16",
-        (64, usize::MAX, 16),
+        (64, usize::MAX, 16, 0),
     ),
     (
         "ucstore ask --operator counter --workers=1 --piece=1 --compactors=0",
-        (1, 1, 0),
+        (1, 1, 0, 0),
+    ),
+    (
+        "ucstore ask --later 18446744073709551615 --operator counter",
+        (4, 16, 0, u64::MAX),
     ),
 ];
 
-/// How many workers, queries of a piece and compactors words set.
-fn plan_by(alloc: Global, shown: &Shown, words: &[&str]) -> Result<(usize, usize, usize), Fail> {
+/// What words set of these.
+fn plan_by(alloc: Global, shown: &Shown, words: &[&str]) -> Result<Numbers, Fail> {
     let matches = ucstore(alloc, shown)?.try_get_matches_from(words)?;
     match matches.subcommand() {
         Some((_, words)) => {
             let plan = plan_of(words);
-            Ok((plan.workers, plan.piece, plan.compactors))
+            Ok((plan.workers, plan.piece, plan.compactors, plan.later))
         }
         None => Err(Fail::from(AllocError)),
     }
 }
 
 /// How many the words of a line set.
-fn plan_by_line(alloc: Global, line: &str) -> Result<(usize, usize, usize), Fail> {
+fn plan_by_line(alloc: Global, line: &str) -> Result<Numbers, Fail> {
     plan_by(alloc, &Shown::new(alloc)?, &words_of(alloc, line)?)
 }
 
-/// Workers, pieces and compactors are set each by its own word, within the limits.
+/// Workers, pieces, compactors and later writes are set each by its own word, within the limits.
 #[test]
 fn plans_of_ask(rt: HostRuntime) -> Result<(), Fail> {
     for (line, wanted) in PLANS {
@@ -121,7 +128,7 @@ fn plans_of_ask(rt: HostRuntime) -> Result<(), Fail> {
 }
 
 /// Command lines, and why they are refused.
-static REFUSED: [(&str, ErrorKind); 20] = [
+static REFUSED: [(&str, ErrorKind); 26] = [
     ("ucstore", ErrorKind::MissingSubcommand),
     ("ucstore pley", ErrorKind::InvalidSubcommand),
     ("ucstore dump log", ErrorKind::UnknownArgument),
@@ -177,6 +184,30 @@ static REFUSED: [(&str, ErrorKind); 20] = [
     (
         "ucstore ask --operator counter --compactors 17",
         ErrorKind::ValueValidation,
+    ),
+    (
+        "ucstore ask --operator counter --later",
+        ErrorKind::InvalidValue,
+    ),
+    (
+        "ucstore ask --operator counter --later -1",
+        ErrorKind::UnknownArgument,
+    ),
+    (
+        "ucstore ask --operator counter --later=-1",
+        ErrorKind::ValueValidation,
+    ),
+    (
+        "ucstore ask --operator counter --later 18446744073709551616",
+        ErrorKind::ValueValidation,
+    ),
+    (
+        "ucstore play --operator counter --later 1",
+        ErrorKind::UnknownArgument,
+    ),
+    (
+        "ucstore report --operator counter --later 1",
+        ErrorKind::UnknownArgument,
     ),
 ];
 

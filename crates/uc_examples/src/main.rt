@@ -91,7 +91,7 @@ fn check_ask<R: Files + AllocGlobal + Threads + Wait + Sync>(rt: &R) -> Result<(
     let (workers, piece, compactors) = (2, 1, 1);
     ensure!(is_plan(workers, piece, compactors), "it is no plan");
     let mut printed = Vec::new(alloc);
-    let (outcome, _installs) = ask::<Append<COMMA>, &[u8], Vec<u8>>(
+    let (outcome, _beside) = ask::<Append<COMMA>, &[u8], Vec<u8>>(
         rt,
         alloc,
         &mut input.as_slice(),
@@ -100,6 +100,7 @@ fn check_ask<R: Files + AllocGlobal + Threads + Wait + Sync>(rt: &R) -> Result<(
         workers,
         piece,
         compactors,
+        0,
     );
     check(rt, "ask.expected", &printed, outcome.done)
 }

@@ -100,3 +100,8 @@ alike_by m ws vs query false same = refl
 pub answers_alike : (m : Operation) (ws vs : List Write) (keeps : List ℕ) (query : Query) → (Contains keeps (at_of query) → (key : List ℕ) → Reads query key → value_of m ws key (at_of query) ≡ value_of m vs key (at_of query)) → answer_of m ws keeps query ≡ answer_of m vs keeps query
 answers_alike m ws vs keeps query same =
     alike_by m ws vs query (is_protected keeps (at_of query)) (λ e. read_alike m ws vs query (same (protected_stands keeps (at_of query) e)))
+
+-- a sequence that two lists keep is answered alike under both
+pub kept_alike : (m : Operation) (ws : List Write) (keeps others : List ℕ) (query : Query) → Contains keeps (at_of query) → Contains others (at_of query) → answer_of m ws keeps query ≡ answer_of m ws others query
+kept_alike m ws keeps others query kept too =
+    ap (λ (b : Bool). cond b (reading m ws query) (NotProtected (at_of query))) (stands_protected keeps (at_of query) kept ∙ sym (stands_protected others (at_of query) too))

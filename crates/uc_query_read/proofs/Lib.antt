@@ -10,3 +10,4 @@ pub mod RowOrder
 pub mod NamedKeys
 pub mod FirstRows
 pub mod AnswerLaws
+pub mod Later

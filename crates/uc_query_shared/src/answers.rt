@@ -1,9 +1,10 @@
 //! [`answer_all`]: the answers to a batch of queries of a shared store.
-ghost use Rattle.std.specs.Prelude.{◌≡◌, ◌≢◌, ◌⊎◌, None, Some, IfOk, IfErr, OnOk, length};
+ghost use Rattle.std.specs.Prelude.{◌≡◌, ◌≢◌, ◌⊎◌, true, None, Some, IfOk, IfErr, OnOk, length};
 ghost use Rattle.std.specs.List.{AllByRecursion, AllZip};
 ghost use mathlib.Core.List.{IsPrefix};
 ghost use Rattle.uc_query_shared.specs.Asking as asking;
-ghost use Rattle.uc_query_shared.specs.Given.{answers_given};
+ghost use Rattle.uc_query_shared.specs.Given.{IsAnswerBetween, answers_given};
+ghost use Rattle.uc_query_workers.specs.Given.{SomeZip};
 ghost use Rattle.uc_query_workers.specs.declared.ask_error.AskError.TheVariants.{Memory};
 ghost use Rattle.uc_version_state.specs.Histories.{History, IsLegal, MayFollow, version_after};
 
@@ -33,8 +34,13 @@ pub fn batch_refusal(readers: usize, workers: usize, piece: usize) -> Option<Ask
 /// is cut into pieces of `piece` queries. A worker draws a piece, calls the gate, pins the version that is shown then, and answers
 /// the piece from it, until no piece is left. Each worker has a thread if one can be made, and else runs after another.
 ///
-/// Whatever the workers draw, and whatever is installed meanwhile, the answers are those of the plain writes that the store was
-/// opened with, at the sequences that it keeps; a query at another sequence is answered `NotProtected`.
+/// Whatever the workers draw, and whatever happens to the store meanwhile, each answer is that of all the plain writes that the
+/// store was given up to a moment of its history, at the sequences that it kept then; a query at another sequence is answered
+/// `NotProtected`. The moment lies between what the reader of some worker had seen before and what it has seen then. Each query may
+/// have a moment of its own.
+///
+/// Where the store's keeps stay, the answers are those of the plain writes that the store was opened with, at the sequences that it
+/// keeps, whatever is fed and installed meanwhile.
 ///
 /// It is refused for a number of workers that isn't 1 to [`MOST_WORKERS`](uc_query_workers::MOST_WORKERS) or is above the number
 /// of readers, and then for a piece of no query. The readers come back in their order, also after an `Err`. They have seen no less
@@ -48,7 +54,10 @@ pub fn answer_all<O: Operator + Sync, N: Name + Send, G: Gate>(
     piece: usize,
     gate: &G,
 ) -> (Vec<Reader<O, N>>, Result<Vec<Answer>, AskError>)
-    ensures answers { IfOk result.1 (λ answers. (h : History) → IsLegal O.meaning h → version_after h ≡ N.base →
+    ensures answers { IfOk result.1 (λ answers. AllZip (λ query answer.
+        SomeZip (IsAnswerBetween O.meaning N.base query answer) readers.items result.0.items) queries.now answers.items) }
+    ensures stay { N.keeps_stay ≡ true → IfOk result.1 (λ answers.
+        (h : History) → IsLegal O.meaning h → version_after h ≡ N.base →
         answers.items ≡ answers_given O.meaning h queries.now) }
     ensures ok { OnOk result.1 (asking.batch_refusal (length readers.items) workers piece ≡ None) }
     ensures err { IfErr result.1 (λ error.

@@ -11,13 +11,12 @@ use uc_share::{Name, Reader};
 pub(crate) struct Pins;
 
 impl<O: Operator, N: Name> Source<Reader<O, N>> for Pins {
-    ghost use Rattle.std.specs.Prelude.{◌≡◌};
     ghost use mathlib.Core.List.{IsPrefix};
-    ghost use Rattle.uc_query_shared.specs.Given.{ForEachHistory, answers_given};
+    ghost use Rattle.uc_query_shared.specs.Given.{MayBeGiven};
     ghost use Rattle.uc_share.proofs.Prefixes.{prefix_self, prefix_behind};
 
-    ghost gives = { λ source queries given. ForEachHistory O.meaning N.base (λ h.
-        given ≡ answers_given O.meaning h queries) };
+    ghost gives = { λ source before after query answer.
+        MayBeGiven O.meaning N.keeps_stay N.base query answer before after };
 
     ghost goes_on = { λ before after. IsPrefix before after };
 
@@ -38,4 +37,14 @@ impl<O: Operator, N: Name> Source<Reader<O, N>> for Pins {
     ghost stays = { λ place. prefix_self place };
 
     ghost goes_further = { λ first second third so_far then. prefix_behind first second third so_far then };
+
+    ghost gives_on = { λ source first start end last query answer before behind given. record {
+      between = record {
+        events = given.between.events;
+        behind = prefix_behind first start given.between.events before given.between.behind;
+        seen = prefix_behind given.between.events end last given.between.seen behind;
+        given = given.between.given;
+      };
+      stays = given.stays;
+    } };
 }

@@ -1,24 +1,34 @@
 -- A seat that draws one piece after the other.
 use Rattle.std.proofs.Common.{◌≡◌, ℕ, ◌-◌, ◌<◌, ◌≤◌, List, [], ◌∷◌, ◌++◌, sym, subst, ap, ◌∙◌}
-use Rattle.std.specs.List.{AllByRecursion}
+use Rattle.std.specs.List.{AllByRecursion, flat_map}
 use Rattle.uc_query_read.specs.declared.answer.Answer.{Answer}
 use Rattle.uc_query_read.specs.declared.query.Query.{Query}
 use Rattle.uc_query_workers.specs.Draws.{Drawing, past}
 use Rattle.uc_query_workers.specs.Drawing.{Rises, AnswerNumbers, HasDrawn}
-use Rattle.uc_query_workers.specs.InPieces.{Appended}
+use Rattle.uc_query_workers.specs.Given.{Appended}
 use Rattle.uc_query_workers.specs.Pieces.{Batch, piece_of}
 use Rattle.uc_query_workers.proofs.Left.{above, nearer, rises_push}
 use Rattle.uc_query_workers.proofs.Pieced.{numbers_more}
+use Rattle.uc_query_workers.proofs.Zips.{all_weaker}
 
 -- it drew these pieces so far, and nothing else
-pub record DrawsOn (gives : List Query → List Answer → Type 0) (batch : Batch) (pieces : ℕ) (before seat : Drawing) (numbers : List ℕ) (answers : List Answer) : Type 0 where
+pub record DrawsOn (gives : Query → Answer → Type 0) (batch : Batch) (pieces : ℕ) (before seat : Drawing) (numbers : List ℕ) (answers : List Answer) : Type 0 where
   pub seat_is : seat ≡ record before { numbers = numbers }
   pub rising : Rises numbers
   pub none_past : past pieces numbers ≡ 0
   pub answered : AnswerNumbers gives batch numbers answers
 
+-- it may be given in another way too
+pub draws_weaker : (gives others : Query → Answer → Type 0) → ((query : Query) (answer : Answer) → gives query answer → others query answer) → (batch : Batch) (pieces : ℕ) (before seat : Drawing) (numbers : List ℕ) (answers : List Answer) → DrawsOn gives batch pieces before seat numbers answers → DrawsOn others batch pieces before seat numbers answers
+draws_weaker gives others weaker batch pieces before seat numbers answers so_far = record {
+  seat_is = so_far.seat_is;
+  rising = so_far.rising;
+  none_past = so_far.none_past;
+  answered = all_weaker gives others weaker (flat_map (piece_of batch) numbers) answers so_far.answered;
+}
+
 -- a piece more
-module _ (gives : List Query → List Answer → Type 0) (batch : Batch) (pieces n : ℕ) (before seat new : Drawing) (numbers more : List ℕ) (answers : List Answer) (so_far : DrawsOn gives batch pieces before seat numbers answers) (more_is : more ≡ numbers ++ n ∷ []) (below : AllByRecursion (λ x. x < n) seat.numbers) where
+module _ (gives : Query → Answer → Type 0) (batch : Batch) (pieces n : ℕ) (before seat new : Drawing) (numbers more : List ℕ) (answers : List Answer) (so_far : DrawsOn gives batch pieces before seat numbers answers) (more_is : more ≡ numbers ++ n ∷ []) (below : AllByRecursion (λ x. x < n) seat.numbers) where
   all_below : AllByRecursion (λ x. x < n) numbers
   all_below = subst (λ xs. AllByRecursion (λ x. x < n) xs) (ap (λ (s : Drawing). s.numbers) so_far.seat_is) below
 
@@ -37,7 +47,7 @@ module _ (gives : List Query → List Answer → Type 0) (batch : Batch) (pieces
   draws_nearer within = nearer pieces n numbers more more_is within all_below
 
 -- the end
-pub ends : (gives : List Query → List Answer → Type 0) (batch : Batch) (pieces end : ℕ) (before seat new : Drawing) (numbers : List ℕ) (answers : List Answer) → DrawsOn gives batch pieces before seat numbers answers → pieces ≤ end → new ≡ record seat { numbers = seat.numbers ++ end ∷ [] } → HasDrawn gives batch pieces new.numbers numbers answers
+pub ends : (gives : Query → Answer → Type 0) (batch : Batch) (pieces end : ℕ) (before seat new : Drawing) (numbers : List ℕ) (answers : List Answer) → DrawsOn gives batch pieces before seat numbers answers → pieces ≤ end → new ≡ record seat { numbers = seat.numbers ++ end ∷ [] } → HasDrawn gives batch pieces new.numbers numbers answers
 ends gives batch pieces end before seat new numbers answers so_far past_all new_is = record {
   end = end;
   past_all = past_all;

@@ -5,3 +5,4 @@ pub mod Moves
 pub mod Pieced
 pub mod Seen
 pub mod Shares
+pub mod Zips

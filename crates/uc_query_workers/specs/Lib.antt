@@ -1,5 +1,5 @@
 pub mod Asking
 pub mod Drawing
 pub mod Draws
-pub mod InPieces
+pub mod Given
 pub mod Pieces

@@ -1,7 +1,7 @@
 //! [`answers_by_workers`]: the answers to a batch of queries, by workers.
 ghost use Rattle.std.specs.Prelude.{◌<◌, ◌≤◌, vec_len, IfOk};
 ghost use Rattle.std.specs.List.{AllZip};
-ghost use Rattle.uc_query_workers.specs.InPieces.{AnswerInPieces};
+ghost use Rattle.uc_query_workers.specs.Given.{GivenBySome};
 ghost use Rattle.uc_query_workers.specs.declared.ask_error.TheConstants.{MOST_WORKERS};
 
 use crate::batch::Batch;
@@ -27,8 +27,8 @@ fn room_of_each(queries: usize, workers: usize) -> usize
 /// draws a piece, calls the gate, and has the piece answered from the source, until no piece is left. Each worker has a thread if
 /// one can be made, and else runs after another.
 ///
-/// Each piece is drawn once, and its answers are such as the source gives to it. The places come back in their order, also after
-/// an `Err`.
+/// Each query has one answer, such as the source may give to it while one of the places goes from what it was before the call to
+/// what it is after. The places come back in their order, also after an `Err`.
 pub fn answers_by_workers<P: Send + Drop, S: Source<P>, G: Gate, R: Threads + Sync>(
     rt: &R,
     alloc: Global,
@@ -40,7 +40,8 @@ pub fn answers_by_workers<P: Send + Drop, S: Source<P>, G: Gate, R: Threads + Sy
 ) -> (Vec<P>, Result<Vec<Answer>, AllocError>)
     requires { (0 < workers) × (workers ≤ MOST_WORKERS) × (workers ≤ vec_len places) }
     ensures places { AllZip S.goes_on places.items result.0.items }
-    ensures answers { IfOk result.1 (λ answers. AnswerInPieces (S.gives source.now) batch.now.queries answers.items) }
+    ensures answers { IfOk result.1 (λ answers. AllZip (GivenBySome (S.gives source.now) places.items result.0.items)
+        batch.now.queries answers.items) }
 {
     let pieces = batch.pieces();
     let workers = workers.min(pieces).max(1);
@@ -55,8 +56,11 @@ pub fn answers_by_workers<P: Send + Drop, S: Source<P>, G: Gate, R: Threads + Sy
         room: room_of_each(batch.len(), workers),
     };
     let (places, shares) = drawn_by_workers(rt, alloc, &job, workers, seat, places);
-    (
-        places,
-        gathered::<P, S>(alloc, source, batch, pieces, &counter, shares),
-    )
+    match shares {
+        Err(AllocError) => (places, Err(AllocError)),
+        Ok((seat, draws)) => (
+            places,
+            gathered(alloc, batch, pieces, &counter, seat, draws),
+        ),
+    }
 }

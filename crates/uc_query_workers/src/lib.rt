@@ -1,9 +1,11 @@
 //! Batches of queries, answered by workers.
 //!
 //! A batch is cut into pieces, which workers draw as they come free, each once: a slow piece holds up nobody. They get the
-//! answers from a [`Source`]: one version, or a shared store, where each worker has a reader. Whatever they draw in whichever order,
-//! each piece is answered once, and the answers stand in the order of the queries. Read `specs/InPieces.antt` and `source.rt`
-//! first, then `answered.rt`, which has the machine, and `plain.rt`, which answers by it from one version.
+//! answers from a [`Source`]: one version, or a shared store, where each worker has a reader as its place. Whatever they draw in
+//! whichever order, each query has one answer, and the answers stand in the order of the queries. Each answer is such as the source
+//! may give to its query while one of the workers' places goes from what it was before the call to what it is after. Read
+//! `specs/Given.antt` and `source.rt` first, then `answered.rt`, which has the machine, and `plain.rt`, which answers by it from
+//! one version.
 //!
 //! A [`PieceCounter`] has one word, the number of draws so far. A thread acts at it through a [`PieceSeat`], a token that knows
 //! the numbers that it drew. [`PieceCounter::draw`] takes one `fetch_add`; no call takes a lock or waits for another thread.

@@ -16,9 +16,11 @@ pub(crate) struct OneVersion<'a, O> {
 
 impl<'a, O: Operator + Sync> Source<()> for OneVersion<'a, O> {
     ghost use Rattle.std.specs.Prelude.{◌≡◌};
-    ghost use Rattle.uc_query_workers.specs.Asking.{answers_of};
+    ghost use Rattle.uc_query_read.specs.Answers.{answer_of};
+    ghost use Rattle.uc_version_state.specs.Versions.{writes_in};
 
-    ghost gives = { λ source queries given. given ≡ answers_of O.meaning source.version.now queries };
+    ghost gives = { λ source before after query answer.
+        answer ≡ answer_of O.meaning (writes_in source.version.now) source.version.now.keeps query };
 
     ghost goes_on = { λ before after. Unit {0} };
 
@@ -35,4 +37,6 @@ impl<'a, O: Operator + Sync> Source<()> for OneVersion<'a, O> {
     ghost stays = { λ place. tt };
 
     ghost goes_further = { λ first second third so_far then. tt };
+
+    ghost gives_on = { λ source first start end last query answer before behind given. given };
 }

@@ -8,7 +8,6 @@ use crate::answered::answers_by_workers;
 use crate::ask_error::{AskError, MOST_WORKERS};
 use crate::batch::Batch;
 use crate::gate::Free;
-use crate::laws::answers_are_mapped;
 use crate::one_version::OneVersion;
 use std::alloc::{AllocError, Global};
 use std::marker::{PhantomData, Sync};
@@ -43,7 +42,6 @@ fn answers_of<O: Operator + Sync, R: Threads + Sync>(
     requires workers { (0 < workers) × (workers ≤ MOST) }
     ensures { IfOk result (λ answers. answers.items ≡ asking.answers_of O.meaning version.now queries.now) }
 {
-    answers_are_mapped::<(), OneVersion<'_, O>>();
     let source = OneVersion::<O> {
         version,
         operator: PhantomData,

@@ -25,8 +25,8 @@ fn draw_pieces<P, S: Source<P>, G: Gate>(
     ensures goes_on { S.goes_on place.old place.new }
     ensures seat { OnOk result (seat.new ≡ record seat.old { numbers = seat.new.numbers }) }
     ensures end { OnOk result (0 < past job.now.counter.now.pieces seat.new.numbers) }
-    ensures drawn { IfOk result (λ numbers. HasDrawn (S.gives job.now.source.now) job.now.batch.now job.now.counter.now.pieces
-        seat.new.numbers numbers.items answers.new.items) }
+    ensures drawn { IfOk result (λ numbers. HasDrawn (S.gives job.now.source.now place.old place.new) job.now.batch.now
+        job.now.counter.now.pieces seat.new.numbers numbers.items answers.new.items) }
 {
     let mut numbers = Vec::new(alloc);
     while let Some(number) = job.counter.draw(seat) {
@@ -55,8 +55,8 @@ pub(crate) fn drawn_by_one<P, S: Source<P>, G: Gate>(
     ensures goes_on { S.goes_on place result.0 }
     ensures seat { IfOk result.1 (λ share. share.0 ≡ record seat { numbers = share.0.numbers }) }
     ensures end { IfOk result.1 (λ share. 0 < past job.now.counter.now.pieces share.0.numbers) }
-    ensures drawn { IfOk result.1 (λ share. HasDrawn (S.gives job.now.source.now) job.now.batch.now job.now.counter.now.pieces
-        share.0.numbers share.1.numbers.items share.1.answers.items) }
+    ensures drawn { IfOk result.1 (λ share. HasDrawn (S.gives job.now.source.now place result.0) job.now.batch.now
+        job.now.counter.now.pieces share.0.numbers share.1.numbers.items share.1.answers.items) }
 {
     match draw_pieces(alloc, job, &mut seat, &mut answers, &mut place) {
         Err(AllocError) => (place, Err(AllocError)),

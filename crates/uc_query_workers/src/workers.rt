@@ -4,7 +4,9 @@ ghost use Rattle.std.specs.Prelude.{◌≡◌, ◌+◌, ◌<◌, ◌≤◌, ◌+
 ghost use Rattle.std.specs.List.{AllZip};
 ghost use Rattle.uc_query_workers.specs.Draws.{past};
 ghost use Rattle.uc_query_workers.specs.Drawing.{HasDrawn, HaveDrawn};
+ghost use Rattle.uc_query_workers.specs.Given.{GivenBySome};
 
+use crate::counter::PieceCounter;
 use crate::drawn::Drawn;
 use crate::gate::Gate;
 use crate::job::Job;
@@ -20,46 +22,32 @@ use uc_query_read::Answer;
 pub(crate) type Shares = Result<(PieceSeat, Vec<Drawn>), AllocError>;
 
 /// What one worker drew by a seat, as what workers drew.
-fn alone<P, S: Source<P>, G: Gate>(
-    alloc: Global,
-    job: &Job<'_, S, G>,
-    seat: PieceSeat,
-    drawn: Drawn,
-) -> Shares
-    requires { HasDrawn (S.gives job.now.source.now) job.now.batch.now job.now.counter.now.pieces
-        seat.numbers drawn.numbers.items drawn.answers.items }
-    ensures seat { IfOk result (λ shares. shares.0 ≡ seat) }
-    ensures drawn { IfOk result (λ shares.
-        HaveDrawn (S.gives job.now.source.now) job.now.batch.now job.now.counter.now.pieces shares.0.numbers shares.1.items) }
+fn alone(alloc: Global, seat: PieceSeat, drawn: Drawn) -> Shares
+    ensures { IfOk result (λ shares. (shares.0 ≡ seat) × (shares.1.items ≡ drawn ∷ [])) }
 {
-    let _ = job.room;
     Ok((seat, vec![in alloc; drawn]?))
 }
 
 /// What workers drew by a seat, and what one more drew by a part, which the seat takes in.
-fn together<P, S: Source<P>, G: Gate>(
-    job: &Job<'_, S, G>,
+fn together(
+    counter: &PieceCounter,
     mut seat: PieceSeat,
     mut draws: Vec<Drawn>,
     part: PieceSeat,
     drawn: Drawn,
 ) -> Shares
-    requires tables { (seat.table ≡ job.now.counter.now.table) × (part.table ≡ job.now.counter.now.table) }
+    requires tables { (seat.table ≡ counter.now.table) × (part.table ≡ counter.now.table) }
     requires parts { 0 < seat.parts }
-    requires others { HaveDrawn (S.gives job.now.source.now) job.now.batch.now job.now.counter.now.pieces seat.numbers draws.items }
-    requires one { HasDrawn (S.gives job.now.source.now) job.now.batch.now job.now.counter.now.pieces part.numbers
-        drawn.numbers.items drawn.answers.items }
     ensures seat { IfOk result (λ shares. shares.0 ≡ record seat {
       parts = seat.parts + part.parts;
       numbers = seat.numbers ++ part.numbers;
     }) }
-    ensures end { IfOk result (λ shares. past job.now.counter.now.pieces shares.0.numbers
-        ≡ past job.now.counter.now.pieces seat.numbers + past job.now.counter.now.pieces part.numbers) }
-    ensures drawn { IfOk result (λ shares.
-        HaveDrawn (S.gives job.now.source.now) job.now.batch.now job.now.counter.now.pieces shares.0.numbers shares.1.items) }
+    ensures end { IfOk result (λ shares. past counter.now.pieces shares.0.numbers
+        ≡ past counter.now.pieces seat.numbers + past counter.now.pieces part.numbers) }
+    ensures drawn { IfOk result (λ shares. shares.1.items ≡ draws.items ++ drawn ∷ []) }
 {
     draws.push(drawn)?;
-    job.counter.join(&mut seat, part);
+    counter.join(&mut seat, part);
     Ok((seat, draws))
 }
 
@@ -92,13 +80,14 @@ fn drawn_here<P: Drop, S: Source<P>, G: Gate>(
     ensures seat { IfOk result.1 (λ shares. shares.0 ≡ record seat { numbers = shares.0.numbers }) }
     ensures end { IfOk result.1 (λ shares. 0 < past job.now.counter.now.pieces shares.0.numbers) }
     ensures drawn { IfOk result.1 (λ shares.
-        HaveDrawn (S.gives job.now.source.now) job.now.batch.now job.now.counter.now.pieces shares.0.numbers shares.1.items) }
+        HaveDrawn (GivenBySome (S.gives job.now.source.now) (places.items ++ place ∷ []) result.0.items) job.now.batch.now
+        job.now.counter.now.pieces shares.0.numbers shares.1.items) }
 {
     let (place, share) = drawn_by_one(alloc, job, seat, answers, place);
     put_back(&mut places, place);
     match share {
         Err(AllocError) => (places, Err(AllocError)),
-        Ok((seat, drawn)) => (places, alone::<P, S, G>(alloc, job, seat, drawn)),
+        Ok((seat, drawn)) => (places, alone(alloc, seat, drawn)),
     }
 }
 
@@ -125,7 +114,8 @@ pub(crate) fn drawn_by_workers<P: Send + Drop, S: Source<P>, G: Gate, R: Threads
     ensures seat { IfOk result.1 (λ shares. shares.0 ≡ record seat { numbers = shares.0.numbers }) }
     ensures end { IfOk result.1 (λ shares. 0 < past job.now.counter.now.pieces shares.0.numbers) }
     ensures drawn { IfOk result.1 (λ shares.
-        HaveDrawn (S.gives job.now.source.now) job.now.batch.now job.now.counter.now.pieces shares.0.numbers shares.1.items) }
+        HaveDrawn (GivenBySome (S.gives job.now.source.now) places.items result.0.items) job.now.batch.now
+        job.now.counter.now.pieces shares.0.numbers shares.1.items) }
 {
     let Ok(answers) = Vec::with_capacity(alloc, job.room) else {
         return (places, Err(AllocError));
@@ -144,7 +134,7 @@ pub(crate) fn drawn_by_workers<P: Send + Drop, S: Source<P>, G: Gate, R: Threads
         ensures { S.goes_on place result.0
             × IfOk result.1 (λ share. share.0 ≡ record part { numbers = share.0.numbers })
             × IfOk result.1 (λ share. 0 < past job.entry.now.counter.now.pieces share.0.numbers)
-            × IfOk result.1 (λ share. HasDrawn (S.gives job.entry.now.source.now) job.entry.now.batch.now
+            × IfOk result.1 (λ share. HasDrawn (S.gives job.entry.now.source.now place result.0) job.entry.now.batch.now
             job.entry.now.counter.now.pieces share.0.numbers share.1.numbers.items share.1.answers.items) }
     { drawn_by_one(alloc, job, part, answers, place) };
     let others = move || -> (Vec<P>, Shares)
@@ -154,15 +144,15 @@ pub(crate) fn drawn_by_workers<P: Send + Drop, S: Source<P>, G: Gate, R: Threads
         ensures { (vec_capacity places ≤ vec_capacity result.0) × AllZip S.goes_on places.items result.0.items
             × IfOk result.1 (λ shares. shares.0 ≡ record seat { numbers = shares.0.numbers })
             × IfOk result.1 (λ shares. 0 < past job.entry.now.counter.now.pieces shares.0.numbers)
-            × IfOk result.1 (λ shares. HaveDrawn (S.gives job.entry.now.source.now) job.entry.now.batch.now
-            job.entry.now.counter.now.pieces shares.0.numbers shares.1.items) }
+            × IfOk result.1 (λ shares. HaveDrawn (GivenBySome (S.gives job.entry.now.source.now) places.items result.0.items)
+            job.entry.now.batch.now job.entry.now.counter.now.pieces shares.0.numbers shares.1.items) }
     { drawn_by_workers(rt, alloc, job, fewer, seat, places) };
     let ((place, share), (others, shares)) = join(rt, one, others);
     let mut places = others;
     put_back(&mut places, place);
     match (shares, share) {
         (Ok((seat, draws)), Ok((part, drawn))) => {
-            (places, together::<P, S, G>(job, seat, draws, part, drawn))
+            (places, together(job.counter, seat, draws, part, drawn))
         }
         _ => (places, Err(AllocError)),
     }

@@ -14,6 +14,11 @@ pub after_joined : (v : Stored) (es fs : List Event) → fold after v (es ++ fs)
 after_joined v [] fs = refl
 after_joined v (e ∷ es) fs = after_joined (after v e) es fs
 
+-- what follows from the version that a beginning leads to
+pub follow_rest : (m : Operation) (v : Stored) (es fs : List Event) → MayFollow m v (es ++ fs) → MayFollow m (fold after v es) fs
+follow_rest m v [] fs all = all
+follow_rest m v (e ∷ es) fs all = follow_rest m (after v e) es fs all.1
+
 pub legal_behind : (m : Operation) (h : History) (base : Stored) (events : List Event) → IsLegal m h → version_after h ≡ base → MayFollow m base events → IsLegal m (record h { events = h.events ++ events })
 legal_behind m h base events legal is may = record {
   opens = legal.opens;

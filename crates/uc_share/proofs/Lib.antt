@@ -4,6 +4,7 @@ pub mod InRange
 pub mod Machine
 pub mod Prefixes
 pub mod Adding
+pub mod Living
 pub mod Showing
 pub mod Behind
 pub mod Claimed

@@ -1,5 +1,5 @@
 -- The steps of readers and of the writer keep the rule of what is shown.
-use Rattle.std.proofs.Common.{◌≡◌, ℕ, ◌≤◌, ◌≢◌, List, [], ◌∷◌, ◌++◌, fold, length, refl, sym, ap, ◌∙◌, subst, ⊎_elim, le_refl, le_trans, zero-le}
+use Rattle.std.proofs.Common.{◌≡◌, ℕ, ◌≤◌, ◌≢◌, Bool, true, List, [], ◌∷◌, ◌++◌, fold, length, refl, sym, ap, ◌∙◌, subst, ⊎_elim, le_refl, le_trans, zero-le}
 use Rattle.std.specs.Prelude.{Result, Ok, Err, MatchResult}
 use mathlib.Core.Option.{some, some-ne-none}
 use lib.ListN.{get_elem?}
@@ -10,8 +10,7 @@ use Rattle.uc_oper.specs.Operation.{Operation}
 use Rattle.uc_version_state.specs.Versions.{Stored}
 use Rattle.uc_version_state.specs.declared.event.Event.{Event}
 use Rattle.uc_version_state.specs.declared.event.Event.TheVariants.{Installed, Flushed, Kept, Released}
-use Rattle.uc_version_state.specs.Installs.{Install, MayInstall}
-use Rattle.uc_version_state.specs.Histories.{AreInstalls, after}
+use Rattle.uc_version_state.specs.Histories.{KeepsStay, MayHappen, after}
 use Rattle.uc_version_state.proofs.Growing.{follow-append, after-append}
 use Rattle.uc_share.specs.Fronts.{Moment, IsMoment, AllWithin, IsRuled, Tells, after_event}
 
@@ -19,19 +18,20 @@ use Rattle.uc_share.specs.Fronts.{Moment, IsMoment, AllWithin, IsRuled, Tells, a
 pub first_within : (n : ℕ) → AllWithin n (0 ∷ [])
 first_within n seat v at = ⊎_elim (λ e. absurd (some-ne-none v (sym e))) (λ (e : 0 ≡ v). subst (λ (z : ℕ). z ≤ n) e zero-le) (at_snoc [] 0 v seat at)
 
-installs-append : (es : List Event) (i : Install) → AreInstalls es → AreInstalls (es ++ Installed i ∷ [])
-installs-append [] i are = tt
-installs-append (Installed j ∷ es) i are = installs-append es i are
-installs-append (Flushed ws ∷ es) i are = absurd are
-installs-append (Kept ∷ es) i are = absurd are
-installs-append (Released seq ∷ es) i are = absurd are
+-- keeps that stay along events stay along one more that leaves them alone
+stay-append : (es : List Event) (e : Event) → KeepsStay es → KeepsStay (e ∷ []) → KeepsStay (es ++ e ∷ [])
+stay-append [] e stay one = one
+stay-append (Installed i ∷ es) e stay one = stay-append es e stay one
+stay-append (Flushed ws ∷ es) e stay one = stay-append es e stay one
+stay-append (Kept ∷ es) e stay one = absurd stay
+stay-append (Released seq ∷ es) e stay one = absurd stay
 
-module _ (m : Operation) (book : Book) (base : Stored) where
-  pub admits : Admits (IsRuled m book base) 0
+module _ (m : Operation) (stay : Bool) (book : Book) (base : Stored) where
+  pub admits : Admits (IsRuled m stay book base) 0
   admits x views h = (h.0, λ seat v at. ⊎_elim (h.1 seat v) (λ (e : 0 ≡ v). subst (λ (z : ℕ). z ≤ length x.events) e zero-le) (at_snoc views 0 v seat at))
 
   -- what is shown next is the store's and has no fewer events, and the caller knows how many
-  pub rises : (seat v : ℕ) (x y : Moment) → length x.events ≤ length y.events → IsMoment m book base y → TurnsAt (IsRuled m book base) seat v x y (Tells m book base)
+  pub rises : (seat v : ℕ) (x y : Moment) → length x.events ≤ length y.events → IsMoment m stay book base y → TurnsAt (IsRuled m stay book base) seat v x y (Tells m stay book base)
   rises seat v x y up is views h at = (
     length y.events,
     (
@@ -42,15 +42,17 @@ module _ (m : Operation) (book : Book) (base : Stored) where
     (h.1 seat v at, refl, is),
   )
 
-  pub enters : (seat v : ℕ) (x : Moment) → TurnsAt (IsRuled m book base) seat v x x (Tells m book base)
+  pub enters : (seat v : ℕ) (x : Moment) → TurnsAt (IsRuled m stay book base) seat v x x (Tells m stay book base)
   enters seat v x views h at = rises seat v x x (le_refl (length x.events)) h.0 views h at
 
-  pub grows : (s : Moment) (i : Install) → IsMoment m book base s → MayInstall m s.version i → IsMoment m book base (after_event (Installed i) s)
-  grows s i is may = record {
+  pub grows : (s : Moment) (e : Event) → IsMoment m stay book base s → MayHappen m s.version e → (stay ≡ true → KeepsStay (e ∷ [])) → IsMoment m stay book base (after_event e s)
+  grows s e is may leaves = record {
     book_is = is.book_is;
-    legal = follow-append m base s.events (Installed i) is.legal (subst (λ (v : Stored). MayInstall m v i) is.version_is may);
-    version_is = ap (λ (v : Stored). after v (Installed i)) is.version_is ∙ sym (after-append base s.events (Installed i));
-    installs = installs-append s.events i is.installs;
+    seen = record {
+      legal = follow-append m base s.events e is.seen.legal (subst (λ (v : Stored). MayHappen m v e) is.version_is may);
+      keeps = λ stays. stay-append s.events e (is.seen.keeps stays) (leaves stays);
+    };
+    version_is = ap (λ (v : Stored). after v e) is.version_is ∙ sym (after-append base s.events e);
   }
 
 -- what is shown next is the last of what was to be shown, whatever a refusal left in front of it

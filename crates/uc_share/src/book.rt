@@ -1,15 +1,14 @@
 //! [`Book`]: a store's history, and the right to add to it.
-ghost use Rattle.std.specs.Prelude.{◌≡◌, ◌++◌, ◌∷◌, []};
+ghost use Rattle.std.specs.Prelude.{◌≡◌, ◌++◌, ◌∷◌, [], None};
 ghost use Rattle.std.specs.Bool.{OnTrue, OnFalse};
-ghost use Rattle.uc_version_state.specs.declared.event.Event.TheVariants.{Installed};
 ghost use Rattle.uc_share.specs.Rules.{head_of};
 
 use crate::front::Front;
 use crate::name::Name;
 use crate::rule::Law;
-use logbook::{Seen, Start, Word};
+use logbook::{Plain, Seen, Start, Word};
 use std::marker::Model;
-use uc_version_state::{Event, Install};
+use uc_version_state::Event;
 
 /// The most events of a history: more than a store that runs for a thousand years has.
 const MOST_EVENTS: u64 = 1 << 61;
@@ -74,14 +73,15 @@ impl<N: Name> Book<N> {
         &self.front
     }
 
-    /// Adds an install, and says whether it did. It does not if there are [`MOST_EVENTS`], or if an event was added elsewhere, which
-    /// nobody can do.
-    pub(crate) fn add(&mut self, install: &Install) -> bool
-        ensures added { OnTrue result (self.new ≡ self.old ++ Installed install.now ∷ []) }
+    /// Adds the event that `about` says, and tells whether it did. It does not if there are [`MOST_EVENTS`], or if an event was
+    /// added elsewhere, which nobody can do.
+    pub(crate) fn add<X, M: Plain<X, Event, u64>>(&mut self, about: &X) -> bool
+        requires { M.state about.now ≡ None }
+        ensures added { OnTrue result (self.new ≡ self.old ++ M.ask about.now ∷ []) }
         ensures as_it_was { OnFalse result (self.new ≡ self.old) }
     {
         let mut front = self.front.again();
-        if front.len() >= MOST_EVENTS || !front.add(&self.head, install) {
+        if front.len() >= MOST_EVENTS || !front.add::<X, M>(&self.head, about) {
             return false;
         }
         self.front = front;

@@ -40,7 +40,7 @@ fn recall_shown<O: Operator, N: Name>(rt: &impl Wait, pin: &Pin<O, N>, shown: &F
 /// What stands behind a store's lock: what shows readers the next version.
 #[derive(Drop)]
 pub(crate) struct Desk<O: Operator, N: Name, W: Wait + Drop> {
-    publisher: Option<Publisher<O, N, W>>,
+    pub(crate) publisher: Option<Publisher<O, N, W>>,
     ghost there: { publisher ≢ None },
 }
 
@@ -116,7 +116,7 @@ fn installed<O: Operator, N: Name, W: Wait + Drop, R: Wait>(
         return (publisher, Err(InstallError::Memory));
     };
     held.recall();
-    let (publisher, done) = publisher.publish(alloc, &install, held.slots());
+    let (publisher, done) = publisher.publish_install(alloc, &install, held.slots());
     if done.is_err() {
         return (publisher, Err(InstallError::Memory));
     }

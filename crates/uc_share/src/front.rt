@@ -1,15 +1,14 @@
 //! [`Front`]: a beginning of a store's history that was seen.
-ghost use Rattle.std.specs.Prelude.{◌≡◌, ◌<◌, ◌≤◌, ◌^◌, ◌++◌, ◌∷◌, [], length, ◌↔◌, IsTrue};
+ghost use Rattle.std.specs.Prelude.{◌≡◌, ◌<◌, ◌≤◌, ◌^◌, ◌++◌, ◌∷◌, [], None, length, ◌↔◌, IsTrue};
 ghost use Rattle.std.specs.Bool.{OnTrue};
 ghost use mathlib.Core.List.{IsPrefix};
 ghost use Rattle.uc_share.specs.Rules.{head_of};
-ghost use Rattle.uc_version_state.specs.declared.event.Event.TheVariants.{Installed};
 
 use crate::name::Name;
 use crate::rule::{Add, Law, Nothing};
-use logbook::{Offer, Seen, Word};
+use logbook::{Offer, Plain, Seen, Word};
 use std::marker::{Model, PhantomData};
-use uc_version_state::{Event, Install};
+use uc_version_state::Event;
 
 /// A beginning of the history that was seen. Contracts see it as its events, of which no list is kept.
 #[derive(Drop)]
@@ -82,16 +81,19 @@ impl<N: Name> Front<N> {
         true
     }
 
-    /// Adds an install to all that was seen, by the word that counts the history, and says whether it did. It does not if the
-    /// history is longer.
-    pub(crate) fn add(&mut self, head: &Word<Event, u64, Law>, install: &Install) -> bool
+    /// Adds the event that `about` says to all that was seen, by the word that counts the history, and says whether it did. It
+    /// does not if the history is longer.
+    pub(crate) fn add<X, M: Plain<X, Event, u64>>(
+        &mut self,
+        head: &Word<Event, u64, Law>,
+        about: &X,
+    ) -> bool
         requires head { head.now ≡ head_of N.book }
+        requires plain { M.state about.now ≡ None }
         requires room { length self.old < 2 ^ 62 }
-        ensures { OnTrue result (self.new ≡ self.old ++ Installed install.now ∷ []) }
+        ensures { OnTrue result (self.new ≡ self.old ++ M.ask about.now ∷ []) }
     {
-        let mut offer: Offer<Event, u64, Law, Nothing> = self
-            .seen
-            .plain::<Nothing, Install, Add>(install);
+        let mut offer: Offer<Event, u64, Law, Nothing> = self.seen.plain::<Nothing, X, M>(about);
         let mut pen = self.seen.no_pen();
         let count = self.count;
         let found = head.compare_exchange::<Add, Nothing>(

@@ -1,5 +1,5 @@
 //! The store that threads share: readers pin versions, compactors claim stretches of them, compact beside the readers, and
-//! install what they made, all in one history.
+//! install what they made, while others feed writes and take snapshots, all in one history.
 //!
 //! An [`Opening`] is opened from writes and becomes a [`Store`] once it has a name. A store has claim words, and behind a lock
 //! what shows readers the next version. A [`Reader`] pins versions without waiting. A compactor's turn goes through these types,
@@ -12,11 +12,15 @@
 //! | [`Held`] | `Held::look` | and found its runs in place in a version that was shown after that |
 //! | [`Seat`] | [`Store::install`], [`Store::abandon`] | published, to which the slots are lent, or not; and given them back |
 //!
-//! [`Store::compact_once`] takes a whole turn, and says by a [`Turn`] what came of it. An `Err(AllocError)` or `Memory` comes only
-//! if an allocation fails or too many own what is shared.
+//! [`Store::compact_once`] takes a whole turn, and says by a [`Turn`] what came of it.
 //!
-//! Read `specs/Claims.antt`, `specs/Installing.antt` and `specs/Turns.antt` first, then `opening.rt`, `taken.rt`, `held.rt`,
-//! `store.rt`, `desk.rt` and `turn.rt`.
+//! Meanwhile [`Store::feed`] feeds writes, and [`Store::keep`] and [`Store::release`] take and release snapshots. Each of these, as
+//! each install, is one event behind the history, and shown to all readers at once.
+//!
+//! An `Err(AllocError)` or `Memory` comes only if an allocation fails or too many own what is shared.
+//!
+//! Read `specs/Claims.antt`, `specs/Installing.antt`, `specs/Live.antt` and `specs/Turns.antt` first, then `opening.rt`,
+//! `taken.rt`, `held.rt`, `store.rt`, `live_store.rt`, `desk.rt` and `turn.rt`.
 //!
 //! Below that stands the history. A [`Front`] is a beginning of it that somebody has seen, a `Book` the history with the right
 //! to add to it, and a [`Name`] says which store it is. What is shown to readers is a version with the history that leads to it
@@ -31,6 +35,8 @@ mod front;
 mod front_laws;
 mod held;
 mod laws;
+mod live_desk;
+mod live_store;
 mod name;
 mod opening;
 mod pin;
@@ -51,7 +57,7 @@ pub use front_laws::{
     claimed_runs_stay_the_same, fronts_go_behind_histories, fronts_replace_runs_once,
 };
 pub use held::Held;
-pub use laws::steps_are_those_of_the_machine;
+pub use laws::{own_compactions_are_refused_for_two_reasons, steps_are_those_of_the_machine};
 pub use name::Name;
 pub use opening::{MOST_SEATS, Opening};
 pub use pin::Pin;
@@ -62,4 +68,4 @@ pub use turn_gate::{TurnGate, Ungated};
 pub use uc_claims::Seat;
 pub use uc_version_compact::{ClaimError, InstallError};
 pub use uc_version_open::OpenError;
-pub use uc_version_state::{Options, Stretch, Version};
+pub use uc_version_state::{FeedError, Options, ReleaseError, Stretch, Version};

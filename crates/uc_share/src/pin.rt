@@ -26,13 +26,13 @@ impl<O: Operator, N: Name> Model for Pin<O, N> {
 
     ghost view = { λ p. moment N.book p.share p.front };
 
-    ghost invariant = { λ p. IsMoment O.meaning N.book N.base (moment N.book p.share p.front) };
+    ghost invariant = { λ p. IsMoment O.meaning N.keeps_stay N.book N.base (moment N.book p.share p.front) };
 }
 
 impl<O: Operator, N: Name> Pin<O, N> {
     /// Holds on to a version, to which this history leads.
     pub(crate) fn new(share: Share, front: Front<N>) -> Pin<O, N>
-        requires { IsMoment O.meaning N.book N.base (moment N.book share front) }
+        requires { IsMoment O.meaning N.keeps_stay N.book N.base (moment N.book share front) }
         ensures { result ≡ moment N.book share front }
     {
         Pin {
@@ -58,7 +58,7 @@ impl<O: Operator, N: Name> Pin<O, N> {
 
     /// The version is the one after its history, which is legal behind the store's opening. It does nothing.
     pub fn recall(&self)
-        ensures { IsMoment O.meaning N.book N.base self.now }
+        ensures { IsMoment O.meaning N.keeps_stay N.book N.base self.now }
     {
         let _ = &self.share;
     }

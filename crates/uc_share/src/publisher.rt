@@ -1,25 +1,31 @@
 //! [`Publisher`]: what shows readers the next version.
-ghost use Rattle.std.specs.Prelude.{◌≡◌, ◌≤◌, ◌++◌, ◌∷◌, [], drop, length, IfOk, OnOk, IfErr};
+ghost use Rattle.std.specs.Prelude.{◌≡◌, ◌≤◌, ◌++◌, ◌∷◌, [], None, Contains, drop, length, map, true, false, IfOk, OnOk, IfErr};
 ghost use Rattle.std.specs.Arc.{arc_value};
+ghost use Rattle.uc_run.specs.Flush.{flushed};
 ghost use Rattle.uc_version_state.specs.Installs.{MayInstall};
-ghost use Rattle.uc_version_state.specs.Histories.{after};
-ghost use Rattle.uc_version_state.specs.declared.event.Event.TheVariants.{Installed};
+ghost use Rattle.uc_version_state.specs.Feeds.{MayFeed, memtables_in};
+ghost use Rattle.uc_version_state.specs.Histories.{KeepsStay, MayHappen, after};
+ghost use Rattle.uc_version_state.specs.declared.event.Event.TheVariants.{Flushed, Installed, Kept, Released};
 ghost use Rattle.uc_share.specs.Fronts.{moment, after_event, IsCount, IsMoment, HoldsReplaced};
 
 use crate::book::Book;
 use crate::front::Front;
 use crate::name::Name;
 use crate::reader::Reader;
-use crate::rule::{Rises, Sees};
+use crate::rule::{Add, Keep, Release, Rises, Sees};
 use crate::share::Shares;
 use crate::shown::Shown;
 use left_right::writer::Writer;
+use logbook::Plain;
 use std::alloc::{AllocError, Global};
 use std::marker::Model;
 use std::sync::{Arc, Wait};
+use uc_batch::Writes;
 use uc_claims::HeldSlots;
 use uc_oper::Operator;
-use uc_version_state::{Install, Version};
+use uc_run::Run;
+use uc_version_open::version_with_flushed;
+use uc_version_state::{Event, Install, Version};
 
 /// What shows readers the next version. It stands behind the store's lock. It has the store's history, all of which is shown. It
 /// keeps a `Wait` handle, since it waits for readers that still look at a version of before, also when it is dropped. Contracts
@@ -38,7 +44,7 @@ impl<O: Operator, N: Name, W: Wait + Drop> Model for Publisher<O, N, W> {
 
     ghost view = { λ p. p.writer.desk.shown.value };
 
-    ghost invariant = { λ p. IsMoment O.meaning N.book N.base p.writer.desk.shown.value
+    ghost invariant = { λ p. IsMoment O.meaning N.keeps_stay N.book N.base p.writer.desk.shown.value
         × (p.book ≡ p.writer.desk.shown.value.events) };
 }
 
@@ -53,17 +59,12 @@ impl<O: Operator, N: Name, W: Wait + Drop> Drop for Publisher<O, N, W> {
     }
 }
 
-/// The version after an install, with a share for each reader.
-fn next_shares<O: Operator>(
-    alloc: Global,
-    shown: &Shown,
-    install: &Install,
-) -> Result<Arc<Shares>, AllocError>
-    requires { MayInstall O.meaning shown.now.version install.now }
-    ensures { IfOk result (λ shares. arc_value shares ≡ after shown.now.version (Installed install.now)) }
+/// A version, with a share for each reader.
+fn shared_out(alloc: Global, version: Version, readers: usize) -> Result<Arc<Shares>, AllocError>
+    ensures { IfOk result (λ shares. arc_value shares ≡ version) }
 {
-    let version = Arc::new(alloc, shown.version().installed::<O>(alloc, install)?)?;
-    Ok(Arc::new(alloc, Shares::new(alloc, version, shown.readers())?)?)
+    let version = Arc::new(alloc, version)?;
+    Ok(Arc::new(alloc, Shares::new(alloc, version, readers)?)?)
 }
 
 impl<O: Operator, N: Name, W: Wait + Drop> Publisher<O, N, W> {
@@ -103,7 +104,7 @@ impl<O: Operator, N: Name, W: Wait + Drop> Publisher<O, N, W> {
 
     /// What it shows is of the store's own history, and leads from the opening to the version. It does nothing.
     pub fn recall(&self)
-        ensures { IsMoment O.meaning N.book N.base self.now }
+        ensures { IsMoment O.meaning N.keeps_stay N.book N.base self.now }
     {
         let _ = &self.rt;
     }
@@ -123,9 +124,8 @@ impl<O: Operator, N: Name, W: Wait + Drop> Publisher<O, N, W> {
     }
 
     /// Shows readers the version after an install, whole. Who publishes is lent the slots of the runs that it replaces, so that
-    /// nobody else has claimed them. A refusal changes nothing that is shown, and adds nothing to the history: all memory
-    /// is asked for before that, and behind it the event is shown.
-    pub fn publish(
+    /// nobody else has claimed them. A refusal changes nothing that is shown, and adds nothing to the history.
+    pub fn publish_install(
         self,
         alloc: Global,
         install: &Install,
@@ -137,16 +137,87 @@ impl<O: Operator, N: Name, W: Wait + Drop> Publisher<O, N, W> {
         ensures err { IfErr result.1 (λ _. result.0 ≡ self) }
     {
         let _ = slots;
+        match self.shown().version().installed::<O>(alloc, install) {
+            Err(error) => (self, Err(error)),
+            Ok(next) => self.show_event::<Install, Add>(alloc, next, install),
+        }
+    }
+
+    /// Shows readers the version after writes were fed, whose memtables these are, flushed, the oldest first. A refusal changes
+    /// nothing that is shown, and adds nothing to the history.
+    pub fn publish_feed(
+        self,
+        alloc: Global,
+        writes: &Writes,
+        runs: Vec<Run>,
+    ) -> (Publisher<O, N, W>, Result<(), AllocError>)
+        requires may { MayFeed self.version writes.now.list }
+        requires runs { runs.items ≡ map flushed (memtables_in self.version writes.now.list) }
+        ensures ok { OnOk result.1 (result.0 ≡ after_event (Flushed writes.now.list) self) }
+        ensures err { IfErr result.1 (λ _. result.0 ≡ self) }
+    {
+        match version_with_flushed(alloc, self.shown().version(), writes.list(), runs) {
+            Err(error) => (self, Err(error)),
+            Ok(next) => self.show_event::<Writes, Add>(alloc, next, writes),
+        }
+    }
+
+    /// Shows readers the version after its last sequence was kept. A refusal changes nothing that is shown, and adds nothing to
+    /// the history.
+    pub fn publish_keep(self, alloc: Global) -> (Publisher<O, N, W>, Result<(), AllocError>)
+        requires { N.keeps_stay ≡ false }
+        ensures ok { OnOk result.1 (result.0 ≡ after_event Kept self) }
+        ensures err { IfErr result.1 (λ _. result.0 ≡ self) }
+    {
+        match self.shown().version().kept(alloc) {
+            Err(error) => (self, Err(error)),
+            Ok(next) => self.show_event::<Keep, Add>(alloc, next, &Keep),
+        }
+    }
+
+    /// Shows readers the version after a keep was released. A refusal changes nothing that is shown, and adds nothing to the
+    /// history.
+    pub fn publish_release(
+        self,
+        alloc: Global,
+        seq: u64,
+    ) -> (Publisher<O, N, W>, Result<(), AllocError>)
+        requires keep { Contains self.version.keeps seq }
+        requires may { N.keeps_stay ≡ false }
+        ensures ok { OnOk result.1 (result.0 ≡ after_event (Released seq) self) }
+        ensures err { IfErr result.1 (λ _. result.0 ≡ self) }
+    {
+        match self.shown().version().released(alloc, seq) {
+            Err(error) => (self, Err(error)),
+            Ok(next) => self.show_event::<Release, Add>(alloc, next, &Release(seq)),
+        }
+    }
+
+    /// Shows readers the version after the event that `about` says, whole. All memory is asked for before the event goes behind
+    /// the history, and then it is shown.
+    fn show_event<X, M: Plain<X, Event, u64>>(
+        self,
+        alloc: Global,
+        next: Version,
+        about: &X,
+    ) -> (Publisher<O, N, W>, Result<(), AllocError>)
+        requires plain { M.state about.now ≡ None }
+        requires may { MayHappen O.meaning self.version (M.ask about.now) }
+        requires stays { N.keeps_stay ≡ true → KeepsStay (M.ask about.now ∷ []) }
+        requires next { next ≡ after self.version (M.ask about.now) }
+        ensures ok { OnOk result.1 (result.0 ≡ after_event (M.ask about.now) self) }
+        ensures err { IfErr result.1 (λ _. result.0 ≡ self) }
+    {
         let Self {
             writer,
             mut book,
             rt,
         } = self;
-        let shares = match next_shares::<O>(alloc, writer.published(), install) {
+        let shares = match shared_out(alloc, next, writer.published().readers()) {
             Err(error) => return (Publisher { writer, book, rt }, Err(error)),
             Ok(shares) => shares,
         };
-        if !book.add(install) {
+        if !book.add::<X, M>(about) {
             return (Publisher { writer, book, rt }, Err(AllocError));
         }
         let next = Shown::new(shares, book.front().again());
@@ -181,7 +252,7 @@ fn show<O: Operator, N: Name, W: Wait>(
     writer: Writer<Shown, Shown, u64, Rises<O, N>>,
     next: Shown,
 ) -> Writer<Shown, Shown, u64, Rises<O, N>>
-    requires moment { IsMoment O.meaning N.book N.base next }
+    requires moment { IsMoment O.meaning N.keeps_stay N.book N.base next }
     requires longer { length writer.desk.shown.value.events ≤ length next.events }
     ensures { result.desk.shown.value ≡ next }
 {

@@ -1,8 +1,8 @@
 //! [`Reader`]: what pins versions.
-ghost use Rattle.std.specs.Prelude.{◌≡◌, ◌≤◌, [], length, fold, IfOk, OnErr};
+ghost use Rattle.std.specs.Prelude.{◌≡◌, ◌≤◌, [], length, fold, true, IfOk, OnErr};
 ghost use mathlib.Core.List.{IsPrefix};
 ghost use Rattle.left_right.specs.Sides.{view};
-ghost use Rattle.uc_version_state.specs.Histories.{MayFollow, after};
+ghost use Rattle.uc_version_state.specs.Histories.{KeepsStay, MayFollow, after};
 ghost use Rattle.uc_share.specs.Fronts.{moment};
 
 use crate::front::Front;
@@ -32,14 +32,14 @@ impl<O: Operator, N: Name> Model for Reader<O, N> {
     ghost use Rattle.std.specs.Prelude.{◌≤◌, ◌≢◌, List, None, length, IfSome};
     ghost use Rattle.left_right.specs.Sides as sides;
     ghost use Rattle.uc_version_state.specs.declared.event.Event.{Event};
-    ghost use Rattle.uc_version_state.specs.Histories.{MayFollow};
+    ghost use Rattle.uc_share.specs.Fronts.{AreSeen};
 
     ghost Value = { List Event };
 
     ghost view = { λ r. r.front };
 
     ghost invariant = { λ r. (r.place ≢ None) × IfSome r.place (λ p. length r.front ≤ sides.view p.place)
-        × MayFollow O.meaning N.base r.front };
+        × AreSeen O.meaning N.keeps_stay N.base r.front };
 }
 
 /// Looks at what is shown, and pins it for the reader with this number. It waits for nobody.
@@ -73,9 +73,10 @@ impl<O: Operator, N: Name> Reader<O, N> {
         }
     }
 
-    /// What it has seen of the history, which is legal. It does nothing.
+    /// What it has seen of the history is legal, and no keep came or went in it if the store's keeps stay. It does nothing.
     pub fn recall(&self)
-        ensures { MayFollow O.meaning N.base self.now }
+        ensures legal { MayFollow O.meaning N.base self.now }
+        ensures keeps { N.keeps_stay ≡ true → KeepsStay self.now }
     {
         let _ = &self.front;
     }

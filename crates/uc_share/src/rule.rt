@@ -5,14 +5,15 @@
 //!
 //! | Kind of step | Made by | What it does |
 //! |---|---|---|
-//! | add | `Book::add`, by `Publisher::publish` alone | an event goes behind the history, all of which is shown |
-//! | publish | `Publisher::publish` | the version after that event is shown, with the history up to it |
+//! | add | `Book::add`, by `Publisher::show_event` alone | an event goes behind the history, all of which is shown |
+//! | publish | `Publisher::show_event` | the version after that event is shown, with the history up to it |
 //! | enter | `Reader::pin` | the reader sees the history that is shown, and what it knew is a beginning of that |
 use crate::name::Name;
 use crate::shown::Shown;
 use crossbeam_utils::rule::{Outcome, Protocol};
 use logbook::{Gain, Plain, Play, Rule};
 use std::marker::PhantomData;
+use uc_batch::Writes;
 use uc_oper::Operator;
 use uc_version_state::{Event, Install};
 
@@ -55,7 +56,7 @@ impl Play<Event, u64> for Add {
     ghost then = { Adds };
 }
 
-/// What a step asks for: the event of an install.
+/// What says an install: the event that a step asks for.
 impl Plain<Install, Event, u64> for Add {
     ghost use Rattle.std.specs.Prelude.{None};
     ghost use Rattle.uc_version_state.specs.declared.event.Event.TheVariants.{Installed};
@@ -63,6 +64,42 @@ impl Plain<Install, Event, u64> for Add {
     ghost ask = { λ install. Installed install };
 
     ghost state = { λ install. None };
+}
+
+/// Fed writes say their event themselves, so none is made of them.
+impl Plain<Writes, Event, u64> for Add {
+    ghost use Rattle.std.specs.Prelude.{None};
+    ghost use Rattle.uc_version_state.specs.declared.event.Event.TheVariants.{Flushed};
+
+    ghost ask = { λ writes. Flushed writes.list };
+
+    ghost state = { λ writes. None };
+}
+
+/// What says that the last sequence is kept.
+#[derive(Drop)]
+pub(crate) struct Keep;
+
+impl Plain<Keep, Event, u64> for Add {
+    ghost use Rattle.std.specs.Prelude.{None};
+    ghost use Rattle.uc_version_state.specs.declared.event.Event.TheVariants.{Kept};
+
+    ghost ask = { λ keep. Kept };
+
+    ghost state = { λ keep. None };
+}
+
+/// What says which keep is released.
+#[derive(Drop)]
+pub(crate) struct Release(pub(crate) u64);
+
+impl Plain<Release, Event, u64> for Add {
+    ghost use Rattle.std.specs.Prelude.{None};
+    ghost use Rattle.uc_version_state.specs.declared.event.Event.TheVariants.{Released};
+
+    ghost ask = { λ release. Released release.0 };
+
+    ghost state = { λ release. None };
 }
 
 /// The rule of what is shown. A view is a number of events: no reader has seen more than is shown.
@@ -73,7 +110,7 @@ pub struct Rises<O, N> {
 impl<O: Operator, N: Name> Protocol<Shown, u64> for Rises<O, N> {
     ghost use Rattle.uc_share.specs.Fronts.{IsRuled};
 
-    ghost holds = { IsRuled O.meaning N.book N.base };
+    ghost holds = { IsRuled O.meaning N.keeps_stay N.book N.base };
 
     ghost first = { 0 };
 }
@@ -86,5 +123,5 @@ pub(crate) struct Sees<O, N> {
 impl<O: Operator, N: Name> Outcome<Shown, u64> for Sees<O, N> {
     ghost use Rattle.uc_share.specs.Fronts.{Tells};
 
-    ghost then = { Tells O.meaning N.book N.base };
+    ghost then = { Tells O.meaning N.keeps_stay N.book N.base };
 }

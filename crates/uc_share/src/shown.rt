@@ -68,7 +68,7 @@ impl Shown {
 
     /// What the reader with this number holds on to. It fails only if its pins of this version are too many.
     pub(crate) fn pin<O: Operator, N: Name>(&self, number: usize) -> Result<Pin<O, N>, AllocError>
-        requires { IsMoment O.meaning N.book N.base self.now }
+        requires { IsMoment O.meaning N.keeps_stay N.book N.base self.now }
         ensures { IfOk result (λ pin. pin ≡ self.now) }
     {
         let share = self.shares.of(number).again()?;

@@ -39,7 +39,7 @@ use uc_version_state::{Options, Stretch, picks_are_unclaimed_runs};
 pub struct Store<O: Operator, N: Name, W: Wait + Drop> {
     words: Words,
     options: Options,
-    desk: Mutex<Desk<O, N, W>>,
+    pub(crate) desk: Mutex<Desk<O, N, W>>,
 }
 
 impl<O: Operator, N: Name, W: Wait + Drop> Model for Store<O, N, W> {

@@ -63,8 +63,8 @@ fn asks<R: Read, W: Write>(
         return Done::Refused;
     }
     let options = small();
-    let (outcome, _installs) = ask::<Counter, R, W>(
-        rt, alloc, reader, writer, &options, workers, piece, compactors,
+    let (outcome, _beside) = ask::<Counter, R, W>(
+        rt, alloc, reader, writer, &options, workers, piece, compactors, 0,
     );
     outcome.done
 }

@@ -190,7 +190,7 @@ fn reason_of(rt: &(impl Threads + Wait + Sync), alloc: Global, row: &Row) -> Opt
             play::<Counter, &[u8], Vec<u8>>(rt, alloc, &mut reader, &mut text, &options)
         }
         Program::Ask if is_plan(2, 3, 1) => {
-            let (outcome, _installs) = ask::<Counter, &[u8], Vec<u8>>(
+            let (outcome, _beside) = ask::<Counter, &[u8], Vec<u8>>(
                 rt,
                 alloc,
                 &mut reader,
@@ -199,6 +199,7 @@ fn reason_of(rt: &(impl Threads + Wait + Sync), alloc: Global, row: &Row) -> Opt
                 2,
                 3,
                 1,
+                0,
             );
             outcome
         }

@@ -12,14 +12,14 @@ use uc_tool_io::Done;
 use uc_version_state::Options;
 
 /// Merges join texts by commas.
-type Texts = Append<b','>;
+pub(crate) type Texts = Append<b','>;
 
 /// The log of a batch that sets the key `a` to `1`.
 const ONE: &[u8] = b"\xe9\x9f\x78\x19\x11\x00\x01\
     \x01\x00\x00\x00\x00\x00\x00\x00\x01\x00\x00\x00\x01\x01a\x011";
 
 /// The log of changes.
-fn log_of_refs(alloc: Global, refs: &[OpRef<'_>]) -> Result<Vec<u8>, Fail> {
+pub(crate) fn log_of_refs(alloc: Global, refs: &[OpRef<'_>]) -> Result<Vec<u8>, Fail> {
     let mut ops = Vec::new(alloc);
     for op in refs {
         ops.push(op.to_op(alloc)?)?;
@@ -28,7 +28,7 @@ fn log_of_refs(alloc: Global, refs: &[OpRef<'_>]) -> Result<Vec<u8>, Fail> {
 }
 
 /// A put of `k`, and two merges.
-fn three() -> [OpRef<'static>; 3] {
+pub(crate) fn three() -> [OpRef<'static>; 3] {
     [
         OpRef::put(b"k", b"a"),
         OpRef::merge(b"k", b"b"),
@@ -37,7 +37,7 @@ fn three() -> [OpRef<'static>; 3] {
 }
 
 /// A put and a merge of `k`, a put of `l`, a range deletion from `k` to below `l`, and a merge of `k`.
-fn five() -> [OpRef<'static>; 5] {
+pub(crate) fn five() -> [OpRef<'static>; 5] {
     [
         OpRef::put(b"k", b"a"),
         OpRef::merge(b"k", b"b"),
@@ -105,7 +105,7 @@ fn joins_three(run: Option<Run>, installs: usize) -> bool {
         Some(run) => {
             run.text.as_slice() == b"value 612c622c63\n".as_slice()
                 && run.done == Done::Fine
-                && run.installs == installs as u64
+                && run.beside.installs == installs as u64
         }
     }
 }

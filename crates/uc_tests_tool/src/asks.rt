@@ -4,16 +4,16 @@ use std::marker::{Send, Sync};
 use std::sync::Wait;
 use std::thread::Threads;
 use uc_oper::Operator;
-use uc_tool_ask::{ask, is_plan};
+use uc_tool_ask::{Beside, ask, is_plan};
 use uc_tool_io::Done;
 use uc_version_state::Options;
 
-/// What a run printed, how it ended, and how many installs its compactors made.
+/// What a run printed, how it ended, and what was done to the store meanwhile.
 #[derive(Drop)]
 pub(crate) struct Run {
     pub(crate) text: Vec<u8>,
     pub(crate) done: Done,
-    pub(crate) installs: u64,
+    pub(crate) beside: Beside,
 }
 
 /// How many workers answer, how many queries a piece has, and how many compactors there are.
@@ -35,14 +35,26 @@ pub(crate) fn run_of<O: Operator + Send + Sync>(
     alloc: Global,
     options: &Options,
     input: &[u8],
+    plan: Plan,
+) -> Option<Run> {
+    run_later::<O>(rt, alloc, options, input, plan, 0)
+}
+
+/// What is printed of an input whose last writes come later, where the plan is a plan.
+pub(crate) fn run_later<O: Operator + Send + Sync>(
+    rt: &(impl Threads + Wait + Sync),
+    alloc: Global,
+    options: &Options,
+    input: &[u8],
     (workers, piece, compactors): Plan,
+    later: u64,
 ) -> Option<Run> {
     if !is_plan(workers, piece, compactors) {
         return None;
     }
     let mut reader = input;
     let mut text = Vec::new(alloc);
-    let (outcome, installs) = ask::<O, &[u8], Vec<u8>>(
+    let (outcome, beside) = ask::<O, &[u8], Vec<u8>>(
         rt,
         alloc,
         &mut reader,
@@ -51,11 +63,12 @@ pub(crate) fn run_of<O: Operator + Send + Sync>(
         workers,
         piece,
         compactors,
+        later,
     );
     Some(Run {
         text,
         done: outcome.done,
-        installs,
+        beside,
     })
 }
 

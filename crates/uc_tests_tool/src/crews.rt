@@ -104,7 +104,9 @@ fn has_installed(run: Option<Run>, installs: u64) -> bool {
     match run {
         None => false,
         Some(run) => {
-            run.text.as_slice() == ANSWERED && run.done == Done::Fine && run.installs == installs
+            run.text.as_slice() == ANSWERED
+                && run.done == Done::Fine
+                && run.beside.installs == installs
         }
     }
 }
@@ -167,7 +169,7 @@ fn run_through<G: TurnGate, W: Write>(
         return None;
     }
     let mut reader = input;
-    let (outcome, installs) = ask_through::<Texts, &[u8], W, G>(
+    let (outcome, beside) = ask_through::<Texts, &[u8], W, G>(
         rt,
         alloc,
         &mut reader,
@@ -177,8 +179,9 @@ fn run_through<G: TurnGate, W: Write>(
         1,
         compactors,
         gate,
+        0,
     );
-    Some((outcome.done, installs))
+    Some((outcome.done, beside.installs))
 }
 
 /// Whether two compactors that pass a gate install all that is due, and what was asked is answered beside them.

@@ -8,7 +8,7 @@
 //! scripts that are drawn by lot.
 //!
 //! Of `ask`, `asks.rt` has the runs, `logs.rt` the logs behind the heads, and `counts.rt` what threads wait for. `answers.rt` has the
-//! worked answers, `crews.rt` what compactors install beside each other and beside the answers, `refused_asks.rt` the heads, logs and
+//! worked answers, `later.rt` those where the last writes come later, `crews.rt` what compactors install beside each other and beside the answers, `refused_asks.rt` the heads, logs and
 //! openings that are refused, and `drawn_heads.rt` drawn heads and logs beside `play` of the same writes and queries.
 #![tactic(auto)]
 
@@ -28,6 +28,8 @@ mod drawn_heads;
 mod drawn_live_scripts;
 #[cfg(test)]
 mod drawn_scripts;
+#[cfg(test)]
+mod later;
 #[cfg(test)]
 mod live_scripts;
 #[cfg(test)]

@@ -7,8 +7,9 @@
 //!
 //! `machine.rt` is the machine of compactors of `uc_version_state`, written as ordinary code. Its runs are only an id
 //! and a slot (`step_runs.rt`). In two variants a compactor makes its steps in a wrong order. `drawn_steps.rt` runs all
-//! three by drawn steps: the machine never displaces a checked compactor, and each of the others does.
-//! `worked_steps.rt` has a course of each that shows it.
+//! three by drawn steps, with feeds, keeps and releases in between: the machine never displaces a checked compactor, and
+//! each of the others does. `worked_steps.rt` has a course of each that shows it, and two of runs that are fed into slots
+//! which compactors know.
 #![tactic(auto)]
 
 #[cfg(test)]

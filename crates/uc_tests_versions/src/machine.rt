@@ -1,8 +1,14 @@
-//! [`Machine`]: concurrent compactors, step by step.
+//! [`Machine`]: concurrent compactors, step by step, and what is fed, kept and released between their steps.
 use crate::step_runs::{MOST, Runs};
 
 /// How many compactors there are.
 pub(crate) const COMPACTORS: usize = 3;
+
+/// More versions than a course shows.
+const MOST_SHOWN: usize = 64;
+
+/// More sequences than a course writes.
+const MOST_SEQUENCES: usize = 128;
 
 /// In which order a compactor makes its steps.
 #[derive(Clone, Copy, PartialEq, Eq)]
@@ -39,43 +45,116 @@ pub(crate) enum Happened {
     Installed,
     Abandoned,
     Gave,
+    Fed,
+    Kept,
+    Released,
 }
 
-/// The versions that were shown, claim words, and a phase for each compactor.
+/// The versions that were shown, the sequences that are kept, claim words, and a phase for each compactor.
 #[derive(Drop)]
 pub(crate) struct Machine {
     order: Order,
-    shown: [Runs; MOST],
-    installs: usize,
+    shown: [Runs; MOST_SHOWN],
+    events: usize,
+    next_id: u64,
+    last: usize,
+    keeps: [bool; MOST_SEQUENCES],
     words: [bool; MOST],
     phases: [Phase; COMPACTORS],
 }
 
 impl Machine {
-    /// A store that opens with as many runs as slots.
-    pub(crate) fn new(order: Order) -> Machine {
+    /// A store that opens with so many runs, each of one write.
+    pub(crate) fn new(order: Order, runs: usize) -> Machine {
         Machine {
             order,
-            shown: [Runs::opened(); MOST],
-            installs: 0,
+            shown: [Runs::opened(runs); MOST_SHOWN],
+            events: 0,
+            next_id: runs as u64,
+            last: runs,
+            keeps: [false; MOST_SEQUENCES],
             words: [false; MOST],
             phases: [Phase::Idle; COMPACTORS],
         }
     }
 
-    /// The version after `seen` installs.
+    /// The version after `seen` events.
     fn version_at(&self, seen: usize) -> Runs {
         self.shown.get(seen).copied().unwrap_or(Runs::none())
     }
 
     /// The present version.
     fn present(&self) -> Runs {
-        self.version_at(self.installs)
+        self.version_at(self.events)
     }
 
     /// How many versions were shown.
     pub(crate) fn versions(&self) -> usize {
-        self.installs.wrapping_add(1)
+        self.events.wrapping_add(1)
+    }
+
+    /// Shows the version after one more event.
+    fn show(&mut self, next: Runs) {
+        self.events = self.events.wrapping_add(1);
+        if let Some(place) = self.shown.get_mut(self.events) {
+            *place = next;
+        }
+    }
+
+    /// An id that no run had.
+    fn new_id(&mut self) -> u64 {
+        let id = self.next_id;
+        self.next_id = id.wrapping_add(1);
+        id
+    }
+
+    /// The last sequence.
+    pub(crate) fn last(&self) -> usize {
+        self.last
+    }
+
+    fn is_kept(&self, sequence: usize) -> bool {
+        self.keeps.get(sequence).copied().unwrap_or(false)
+    }
+
+    fn set_kept(&mut self, sequence: usize, kept: bool) {
+        if let Some(place) = self.keeps.get_mut(sequence) {
+            *place = kept;
+        }
+    }
+
+    /// Feeds writes that fill so many memtables, one each, if every run of them has a slot. Words and phases stay.
+    pub(crate) fn feed(&mut self, count: usize) -> Happened {
+        let mut runs = self.present();
+        if !runs.have_room(count) {
+            return Happened::Nothing;
+        }
+        for _ in 0..count {
+            let id = self.new_id();
+            runs = runs.with_run(id);
+        }
+        self.last = self.last.wrapping_add(count);
+        self.show(runs);
+        Happened::Fed
+    }
+
+    /// Keeps the last sequence. No run changes.
+    pub(crate) fn keep(&mut self) -> Happened {
+        self.set_kept(self.last, true);
+        let runs = self.present();
+        self.show(runs);
+        Happened::Kept
+    }
+
+    /// Releases a sequence, if it is kept. No run changes.
+    pub(crate) fn release(&mut self, sequence: usize) -> Happened {
+        if !self.is_kept(sequence) {
+            return Happened::Nothing;
+        }
+        self.set_kept(sequence, false);
+        let runs = self.present();
+        self.show(runs);
+        Happened::Released
     }
 
     /// The phase of a compactor.
@@ -108,7 +187,7 @@ impl Machine {
         }
     }
 
-    /// Notes a stretch of the version after a number of installs.
+    /// Notes a stretch of the version after a number of events.
     pub(crate) fn pin(
         &mut self,
         compactor: usize,
@@ -161,12 +240,9 @@ impl Machine {
 
     /// Replaces the noted runs by a new one.
     fn publish(&mut self, noted: Runs) -> Happened {
-        let id = (self.installs as u64).wrapping_add(MOST as u64);
+        let id = self.new_id();
         let next = self.present().replaced(&noted, id);
-        self.installs = self.installs.wrapping_add(1);
-        if let Some(place) = self.shown.get_mut(self.installs) {
-            *place = next;
-        }
+        self.show(next);
         Happened::Installed
     }
 

@@ -26,10 +26,10 @@ impl Runs {
         }
     }
 
-    /// As many as there are slots, as a store opens.
-    pub(crate) fn opened() -> Runs {
+    /// So many, as a store opens: each has the least slot that no older one has.
+    pub(crate) fn opened(count: usize) -> Runs {
         let mut runs = Runs::none();
-        for slot in (0..MOST).rev() {
+        for slot in (0..count.min(MOST)).rev() {
             let id = slot as u64;
             runs.push(Placed { id, slot });
         }
@@ -72,6 +72,37 @@ impl Runs {
     /// The slot of the one at a place.
     pub(crate) fn slot(&self, place: usize) -> Option<usize> {
         self.all().get(place).map(|placed| placed.slot)
+    }
+
+    /// Whether one has a slot.
+    fn has_slot(&self, slot: usize) -> bool {
+        self.all().iter().any(|placed| placed.slot == slot)
+    }
+
+    /// The least slot that none has, if one is left.
+    fn least_free(&self) -> usize {
+        for slot in 0..MOST {
+            if !self.has_slot(slot) {
+                return slot;
+            }
+        }
+        MOST
+    }
+
+    /// Whether so many more have a slot.
+    pub(crate) fn have_room(&self, count: usize) -> bool {
+        count <= MOST.saturating_sub(self.all().len())
+    }
+
+    /// One more before them, with an id and the least slot that none of them has.
+    pub(crate) fn with_run(&self, id: u64) -> Runs {
+        let mut runs = Runs::none();
+        let slot = self.least_free();
+        runs.push(Placed { id, slot });
+        for placed in self.all() {
+            runs.push(*placed);
+        }
+        runs
     }
 
     /// How many come before the newest of the noted ones.

@@ -1,3 +1,4 @@
 pub mod Batches
 pub mod Opened
 pub mod Whole
+pub mod Later

@@ -12,7 +12,7 @@ use Rattle.uc_version_open.specs.Refusal.{opening_refusal}
 use Rattle.uc_version_open.specs.declared.open_error.OpenError.{OpenError}
 use Rattle.uc_version_state.specs.declared.options.Options.{Options}
 use Rattle.uc_tool_io.specs.Ending.{IsWhole}
-use Rattle.uc_tool_ask.specs.Ask.{unless_refused, of_writes, unless_faulty, asked_of, ask_of}
+use Rattle.uc_tool_ask.specs.Ask.{unless_refused, of_writes, unless_faulty, without_last, asked_of, ask_of}
 
 opening_whole : (m : Operation) (o : Opening) (queries : List Asked) (refusal : Option OpenError) → IsWhole (unless_refused m o queries refusal).done
 opening_whole m o queries None = tt
@@ -30,11 +30,11 @@ module _ (m : Operation) (o : Options) (keeps : List ℕ) (queries : List Asked)
   log_whole writes (ended.LogFault fault offset) = tt
   log_whole writes (ended.BatchFault number fault) = tt
 
-asked_whole : (m : Operation) (o : Options) (input : List ℕ) (head : Result Head ℕ) → IsWhole (asked_of m o input head).done
-asked_whole m o input (Err line) = tt
-asked_whole m o input (Ok head) =
+asked_whole : (m : Operation) (o : Options) (later : ℕ) (input : List ℕ) (head : Result Head ℕ) → IsWhole (asked_of m o later input head).done
+asked_whole m o later input (Err line) = tt
+asked_whole m o later input (Ok head) =
     let log = log_writes (drop head.size input) in
-    log_whole m o head.keeps head.queries log.list log.ended
+    log_whole m o head.keeps head.queries (without_last later log.list) log.ended
 
-pub ask_whole : (m : Operation) (o : Options) (input : List ℕ) → IsWhole (ask_of m o input).done
-ask_whole m o input = asked_whole m o input (head_of input)
+pub ask_whole : (m : Operation) (o : Options) (later : ℕ) (input : List ℕ) → IsWhole (ask_of m o later input).done
+ask_whole m o later input = asked_whole m o later input (head_of input)

@@ -1,5 +1,5 @@
 -- What is printed for the queries in front of a log.
-use Rattle.std.specs.Prelude.{ℕ, List, map, drop, codes, Option, Some, None, Result, Ok, Err}
+use Rattle.std.specs.Prelude.{ℕ, ◌-◌, List, map, drop, take, length, codes, Option, Some, None, Result, Ok, Err}
 use Rattle.uc_oper.specs.Operation.{Operation}
 use Rattle.uc_bytes.specs.declared.write.Write.{Write}
 use Rattle.uc_batch.specs.Log.{log_writes}
@@ -53,23 +53,32 @@ unless_faulty m options keeps queries writes (ended.Torn offset) = of_writes m o
 unless_faulty m options keeps queries writes (ended.LogFault fault offset) = bad_log (ended.LogFault fault offset)
 unless_faulty m options keeps queries writes (ended.BatchFault number fault) = bad_log (ended.BatchFault number fault)
 
-abbrev pub of_log : Operation → Options → List ℕ → List Asked → WriteLog → Output
-of_log m options keeps queries log = unless_faulty m options keeps queries log.list log.ended
+-- writes without the last ones: without all, where there are fewer
+abbrev pub without_last : ℕ → List Write → List Write
+without_last later writes = take (length writes - later) writes
+
+-- what is printed of a log whose last writes come later
+abbrev pub of_log : Operation → Options → List ℕ → List Asked → ℕ → WriteLog → Output
+of_log m options keeps queries later log = unless_faulty m options keeps queries (without_last later log.list) log.ended
 
 -- the first fault of the head, or what is printed of the log behind it
-abbrev pub asked_of : Operation → Options → List ℕ → Result Head ℕ → Output
-asked_of m options input (Err line) = refused (numbered_line (codes "fault line ") line)
-asked_of m options input (Ok head) = of_log m options head.keeps head.queries (log_writes (drop head.size input))
+abbrev pub asked_of : Operation → Options → ℕ → List ℕ → Result Head ℕ → Output
+asked_of m options later input (Err line) = refused (numbered_line (codes "fault line ") line)
+asked_of m options later input (Ok head) = of_log m options head.keeps head.queries later (log_writes (drop head.size input))
 
--- what is printed for the bytes of a head and a log, under an operator and options
-abbrev pub ask_of : Operation → Options → List ℕ → Output
-ask_of m options input = asked_of m options input (head_of input)
+-- what is printed for the bytes of a head and a log, under an operator and options, where so many of the log's last writes come later
+abbrev pub ask_of : Operation → Options → ℕ → List ℕ → Output
+ask_of m options later input = asked_of m options later input (head_of input)
+
+-- what refuses a log whose last writes come later: a fault anywhere in it has no cause, and an opening is judged without these writes
+abbrev pub opened_cause : Options → List ℕ → ℕ → WriteLog → Option Cause
+opened_cause options keeps later log = log_cause options keeps (record log { list = without_last later log.list })
 
 -- what refuses a head and the log behind it, by what is read of the head
-abbrev pub head_cause : Options → List ℕ → Result Head ℕ → Option Cause
-head_cause options input (Err line) = Some (AtLine source.Head input line)
-head_cause options input (Ok head) = log_cause options head.keeps (log_writes (drop head.size input))
+abbrev pub head_cause : Options → ℕ → List ℕ → Result Head ℕ → Option Cause
+head_cause options later input (Err line) = Some (AtLine source.Head input line)
+head_cause options later input (Ok head) = opened_cause options head.keeps later (log_writes (drop head.size input))
 
 -- what the bytes of a head and a log are refused for, under options, if they are
-abbrev pub cause_of : Options → List ℕ → Option Cause
-cause_of options input = head_cause options input (head_of input)
+abbrev pub cause_of : Options → ℕ → List ℕ → Option Cause
+cause_of options later input = head_cause options later input (head_of input)

@@ -1,5 +1,5 @@
 //! The answers to the queries of a head, printed some at a time.
-ghost use Rattle.std.specs.Prelude.{◌≡◌, ◌<◌, ◌≤◌, ◌++◌, [], map, vec_len, length, IfOk, OnOk};
+ghost use Rattle.std.specs.Prelude.{◌≡◌, ◌<◌, ◌≤◌, ◌++◌, true, [], map, vec_len, length, IfOk, OnOk};
 ghost use Rattle.std.specs.List.{flat_map};
 ghost use Rattle.uc_script.specs.Head.{queries_in};
 ghost use Rattle.uc_query_read.specs.Answers.{answer_of};
@@ -68,7 +68,8 @@ fn queries_of(
         .collect(alloc)
 }
 
-/// The lines of the answers to some lines of a head, and the readers, as many as before.
+/// The lines of the answers to some lines of a head, and the readers, as many as before. As the store's keeps stay, each query has
+/// one answer, whatever is installed meanwhile.
 fn lines_of<O: Operator + Sync, N: Name + Send, R: Threads + Sync>(
     rt: &R,
     alloc: Global,
@@ -77,7 +78,8 @@ fn lines_of<O: Operator + Sync, N: Name + Send, R: Threads + Sync>(
     asked: Vec<uc_script::Query>,
     plan: Plan,
 ) -> Result<(Vec<Reader<O, N>>, Vec<u8>), AllocError>
-    requires { plan.workers ≤ vec_len readers }
+    requires readers { plan.workers ≤ vec_len readers }
+    requires stay { N.keeps_stay ≡ true }
     ensures readers { IfOk result (λ done. vec_len done.0 ≡ vec_len readers) }
     ensures lines { IfOk result (λ done. ForEachHistory O.meaning N.base (λ h.
         done.1.items ≡ joined (replies_given O.meaning h last asked.items))) }
@@ -109,7 +111,8 @@ pub(crate) fn print_answers<O: Operator + Sync, N: Name + Send, R: Threads + Syn
     lent: &mut Vec<Reader<O, N>>,
     writer: &mut W,
 ) -> Result<Done, RunError>
-    requires { plan.workers ≤ vec_len lent.old }
+    requires readers { plan.workers ≤ vec_len lent.old }
+    requires stay { N.keeps_stay ≡ true }
     ensures printed { ForEachHistory O.meaning N.base (λ h.
         Prints (replies_given O.meaning h last (queries_in head.now)) (W.contents writer.old) (W.contents writer.new) result) }
     ensures done { IfOk result (λ done. done ≡ Done.Fine) }

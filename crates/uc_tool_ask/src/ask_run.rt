@@ -1,6 +1,6 @@
-//! `ask`: the queries in front of a log, answered beside compactors.
+//! `ask`: the queries in front of a log, answered beside compactors and a feeder.
 ghost use denote.Param.Send.{IsSync, IsSend};
-ghost use Rattle.std.specs.Prelude.{◌≡◌, ◌+◌, ◌≤◌, All, List, None, drop, take, length, vec_len};
+ghost use Rattle.std.specs.Prelude.{◌≡◌, ◌+◌, ◌≤◌, All, List, None, true, drop, take, length, vec_len, ◌-◌};
 ghost use Rattle.uc_share.specs.Stores.{IsNamed};
 ghost use Rattle.std.specs.Prelude.{IfOk, OnOk, IfSome};
 ghost use Rattle.uc_batch.specs.Log.{log_writes};
@@ -11,20 +11,23 @@ ghost use Rattle.uc_version_state.specs.Openings.{Opening as OpeningOf};
 ghost use Rattle.uc_version_open.specs.Progress.{progress_of};
 ghost use Rattle.uc_query_shared.specs.Given.{ForEachHistory};
 ghost use Rattle.uc_tool_io.specs.Output.{Prints, HasWritten};
-ghost use Rattle.uc_tool_opening.specs.Reasons.{IsReason, TellsOpening, opening_cause, log_cause};
-ghost use Rattle.uc_tool_ask.specs.Ask.{ask_of, of_log, of_writes, cause_of};
+ghost use Rattle.uc_tool_opening.specs.Reasons.{IsReason, TellsOpening, opening_cause};
+ghost use Rattle.uc_tool_ask.specs.Ask.{ask_of, of_log, of_writes, cause_of, opened_cause, without_last};
 ghost use Rattle.uc_tool_ask.specs.Given.{replies_given};
 ghost use Rattle.uc_tool_ask.specs.Plans.{IsPlan};
 
 use crate::answers::print_answers;
-use crate::compactor::{Compactor, all_installs};
+use crate::beside::{Beside, Helpers, work_beside};
+use crate::compactor::Compactor;
+use crate::feeder::feeder_of;
+use crate::opened_part::recover_part;
 use crate::plan::Plan;
 use std::alloc::{AllocError, Global};
 use std::io::{Read, Write};
 use std::marker::{Brand, Send, Sync};
 use std::sync::Wait;
 use std::thread::{Threads, join_mut};
-use uc_batch::Ended;
+use uc_batch::{Ended, Write as LogWrite};
 use uc_oper::Operator;
 use uc_script::{Head, ScriptError, Source, read_head};
 use uc_share::{Name, Opening, Options, Reader, Seat, Store, TurnGate, Ungated};
@@ -33,34 +36,34 @@ use uc_tool_opening::{
     Outcome, Reason, print_bad_log, print_fault, print_refused_opening, reason_of_line,
     reason_of_opening,
 };
-use uc_version_open::{OpenError, Opener, Recovered, no_refusal_is_leave_to_open, recover};
+use uc_version_open::{OpenError, Opener, Recovered, no_refusal_is_leave_to_open};
 
-/// How a run ended, and how many installs its compactors made.
-type Asked = (Result<Done, RunError>, u64);
+/// How a run ended, and what was done to the store meanwhile.
+type Asked = (Result<Done, RunError>, Beside);
 
 /// What is told of a run beside how it ended.
 #[derive(Debug, Drop)]
 struct Told {
     /// Why it was refused.
     reason: Option<Reason>,
-    /// How many installs its compactors made.
-    installs: u64,
+    /// What was done to the store meanwhile.
+    beside: Beside,
 }
 
 impl Told {
-    /// A reason, if there is one, and no install.
+    /// A reason, if there is one, where nothing was done.
     fn reason_alone(reason: Option<Reason>) -> Told
-        ensures { result ≡ record { reason = reason; installs = 0 } }
+        ensures { result ≡ record { reason = reason; beside = record { installs = 0; fed = 0 } } }
     {
         Told {
             reason,
-            installs: 0,
+            beside: Beside::nothing(),
         }
     }
 
-    /// No reason, and no install.
+    /// No reason, and nothing was done.
     fn nothing() -> Told
-        ensures { result ≡ record { reason = None; installs = 0 } }
+        ensures { result ≡ record { reason = None; beside = record { installs = 0; fed = 0 } } }
     {
         Told::reason_alone(None)
     }
@@ -91,14 +94,14 @@ fn crew_of<O: Operator, N: Name, W: Wait + Drop>(
     Ok(crew)
 }
 
-/// Prints the answers to the queries of a head while a crew compacts, which has ended when it returns. The crew is moved to its
-/// thread: what is lent to both closures can be followed through one of them alone.
+/// Prints the answers to the queries of a head while a crew compacts and a feeder feeds, which have ended when it returns. They
+/// are moved to their thread: what is lent to both closures can be followed through one of them alone.
 fn answer_beside_crew<O, N, W, G, R, V>(
     rt: &R,
     alloc: Global,
     store: &Store<O, N, W>,
     gate: &G,
-    mut crew: Vec<Compactor<O, N>>,
+    mut helpers: Helpers<O, N>,
     readers: &mut Vec<Reader<O, N>>,
     last: u64,
     head: &[u8],
@@ -112,29 +115,32 @@ where
     G: TurnGate,
     R: Threads + Wait + Sync,
     V: Write,
-    requires crew { All (λ x. x.seat.table ≡ store.now.table) crew.items }
+    requires crew { All (λ x. x.seat.table ≡ store.now.table) helpers.crew.items }
     requires readers { plan.workers ≤ vec_len readers.old }
+    requires stay { N.keeps_stay ≡ true }
     ensures printed { ForEachHistory O.meaning N.base (λ h.
         Prints (replies_given O.meaning h last (queries_in head.now)) (V.contents writer.old) (V.contents writer.new) result.0) }
     ensures done { IfOk result.0 (λ done. done ≡ Done.Fine) }
 {
-    let (installs, printed) = join_mut(
+    let (beside, printed) = join_mut(
         rt,
-        &mut move || -> u64
-            requires { All (λ x. x.seat.table ≡ store.now.table) crew.items }
-        { all_installs(rt, alloc, store, gate, &mut crew) },
+        &mut move || -> Beside
+            requires { All (λ x. x.seat.table ≡ store.now.table) helpers.crew.items }
+        { work_beside(rt, alloc, store, gate, &mut helpers) },
         &mut || -> Result<Done, RunError>
-            requires { plan.workers ≤ vec_len readers.now }
+            requires { (plan.workers ≤ vec_len readers.now) × (N.keeps_stay ≡ true) }
         { print_answers(rt, alloc, head, last, plan, readers, writer) },
     );
-    (printed, installs)
+    (printed, beside)
 }
 
-/// Names a store that threads share, and prints the answers to the queries of a head while compactors compact it.
+/// Names a store that threads share, and prints the answers to the queries of a head while compactors compact it and a feeder
+/// feeds these writes, if a reader is left for it. Nobody keeps a sequence or releases one meanwhile.
 fn answer_shared<O, N, G, R, V>(
     rt: &R,
     alloc: Global,
     opening: Opening<O>,
+    behind: Vec<LogWrite>,
     head: &[u8],
     plan: Plan,
     gate: &G,
@@ -147,7 +153,8 @@ where
     R: Threads + Wait + Sync,
     V: Write,
     requires named { IsNamed opening N.book N.table N.base }
-    requires plan { (opening.readers ≡ plan.workers + plan.compactors) × (opening.seats ≡ plan.compactors) }
+    requires plan { (plan.workers + plan.compactors ≤ opening.readers) × (opening.seats ≡ plan.compactors) }
+    requires stay { N.keeps_stay ≡ true }
     ensures printed { ForEachHistory O.meaning N.base (λ h.
         Prints (replies_given O.meaning h opening.version.last (queries_in head.now))
         (V.contents writer.old) (V.contents writer.new) result.0) }
@@ -155,17 +162,18 @@ where
 {
     let last = opening.version().last();
     let Ok((store, mut readers, seats)) = opening.named::<N, &R>(alloc, rt) else {
-        return (Err(RunError::Memory), 0);
+        return (Err(RunError::Memory), Beside::nothing());
     };
     let Ok(crew) = crew_of(alloc, &store, &mut readers, seats) else {
-        return (Err(RunError::Memory), 0);
+        return (Err(RunError::Memory), Beside::nothing());
     };
+    let feeder = feeder_of(plan.workers, &mut readers, behind);
     answer_beside_crew(
         rt,
         alloc,
         &store,
         gate,
-        crew,
+        Helpers { crew, feeder },
         &mut readers,
         last,
         head,
@@ -174,11 +182,20 @@ where
     )
 }
 
-/// Opens the store that has taken some writes, and prints why it is refused, or the answers to the queries of a head.
+/// How many feeders these writes have: none if there are none.
+fn feeders_of(behind: &[LogWrite]) -> usize
+    ensures { result ≤ 1 }
+{
+    if behind.is_empty() { 0 } else { 1 }
+}
+
+/// Opens the store that has taken some writes, and prints why it is refused, or the answers to the queries of a head. The writes
+/// behind those come meanwhile.
 fn print_opened<O: Operator + Send + Sync, G: TurnGate, R: Threads + Wait + Sync, V: Write>(
     rt: &R,
     alloc: Global,
     opener: Opener,
+    behind: Vec<LogWrite>,
     keeps: &[u64],
     head: &[u8],
     options: &Options,
@@ -203,15 +220,15 @@ fn print_opened<O: Operator + Send + Sync, G: TurnGate, R: Threads + Wait + Sync
     no_refusal_is_leave_to_open();
     match opener.finish(alloc, keeps) {
         Ok(version) => {
-            let readers = plan.workers + plan.compactors;
+            let readers = plan.workers + plan.compactors + feeders_of(&behind);
             let Ok(opening) = Opening::of(alloc, version, *options, readers, plan.compactors) else {
                 return (Err(RunError::Memory), Told::nothing());
             };
-            let (outcome, installs) = answer_shared::<O, Brand, G, R, V>(
-                rt, alloc, opening, head, plan, gate, writer,
+            let (outcome, beside) = answer_shared::<O, Brand, G, R, V>(
+                rt, alloc, opening, behind, head, plan, gate, writer,
             );
             let reason = None;
-            (outcome, Told { reason, installs })
+            (outcome, Told { reason, beside })
         }
         Err(OpenError::Memory) => (Err(RunError::Memory), Told::nothing()),
         Err(error) => {
@@ -222,28 +239,31 @@ fn print_opened<O: Operator + Send + Sync, G: TurnGate, R: Threads + Wait + Sync
     }
 }
 
-/// A store that is being opened from the log behind a head of `size` bytes, and how far that was read, with the bytes of the
-/// head. The log is let go of.
+/// A store that is being opened from the log behind a head of `size` bytes, without its last writes, and how far that was read;
+/// these writes; and the bytes of the head. The log is let go of.
 fn recover_behind(
     alloc: Global,
     mut input: Vec<u8>,
     size: usize,
     options: Options,
-) -> Result<(Recovered, Vec<u8>), AllocError>
+    later: u64,
+) -> Result<(Recovered, Vec<LogWrite>, Vec<u8>), AllocError>
     requires { size ≤ vec_len input }
-    ensures opener { IfOk result (λ found.
-        found.0.opener ≡ progress_of options (log_writes (drop size input.items)).list) }
+    ensures opener { IfOk result (λ found. found.0.opener ≡ progress_of options
+        (without_last later (log_writes (drop size input.items)).list)) }
     ensures ended { IfOk result (λ found. found.0.ended ≡ (log_writes (drop size input.items)).ended) }
-    ensures rising { IfOk result (λ _. IsRising 0 (log_writes (drop size input.items)).list) }
-    ensures head { IfOk result (λ found. found.1.items ≡ take size input.items) }
+    ensures rising { IfOk result (λ _. IsRising 0 (without_last later (log_writes (drop size input.items)).list)) }
+    ensures behind { IfOk result (λ found. let all = (log_writes (drop size input.items)).list in
+        found.1.items ≡ drop (length all - later) all) }
+    ensures head { IfOk result (λ found. found.2.items ≡ take size input.items) }
 {
-    let recovered = recover(alloc, &input[size..], options)?;
+    let (recovered, behind) = recover_part(alloc, &input[size..], options, later)?;
     input.truncate(size);
     input.shrink_to_fit();
-    Ok((recovered, input))
+    Ok((recovered, behind, input))
 }
 
-/// Answers the queries of a head over the log that stands behind it.
+/// Answers the queries of a head over the log that stands behind it, whose last writes come meanwhile.
 fn answer_log<O: Operator + Send + Sync, G: TurnGate, R: Threads + Wait + Sync, V: Write>(
     rt: &R,
     alloc: Global,
@@ -251,19 +271,21 @@ fn answer_log<O: Operator + Send + Sync, G: TurnGate, R: Threads + Wait + Sync, 
     head: Head,
     options: &Options,
     plan: Plan,
+    later: u64,
     gate: &G,
     writer: &mut V,
 ) -> Worked
     requires { head.size ≤ vec_len input }
     ensures printed { Prints (of_log O.meaning options.now head.keeps (queries_in (take head.size input.items))
-        (log_writes (drop head.size input.items))).replies (V.contents writer.old) (V.contents writer.new) result.0 }
+        later (log_writes (drop head.size input.items))).replies (V.contents writer.old) (V.contents writer.new) result.0 }
     ensures done { IfOk result.0 (λ done. done ≡ (of_log O.meaning options.now head.keeps
-        (queries_in (take head.size input.items)) (log_writes (drop head.size input.items))).done) }
-    ensures told { IsReason (log_cause options.now head.keeps (log_writes (drop head.size input.items))) result.1.reason }
+        (queries_in (take head.size input.items)) later (log_writes (drop head.size input.items))).done) }
+    ensures told { IsReason (opened_cause options.now head.keeps later (log_writes (drop head.size input.items))) result.1.reason }
     ensures opening { OnOk result.0
-        (TellsOpening (log_cause options.now head.keeps (log_writes (drop head.size input.items))) result.1.reason) }
+        (TellsOpening (opened_cause options.now head.keeps later (log_writes (drop head.size input.items))) result.1.reason) }
 {
-    let Ok((recovered, lines)) = recover_behind(alloc, input, head.size, *options) else {
+    let Ok((recovered, behind, lines)) = recover_behind(alloc, input, head.size, *options, later)
+    else {
         return (Err(RunError::Memory), Told::nothing());
     };
     let Recovered { opener, ended } = recovered;
@@ -272,6 +294,7 @@ fn answer_log<O: Operator + Send + Sync, G: TurnGate, R: Threads + Wait + Sync, 
             rt,
             alloc,
             opener,
+            behind,
             head.keeps.as_slice(),
             &lines,
             options,
@@ -292,17 +315,20 @@ fn run<O: Operator + Send + Sync, G: TurnGate, R: Threads + Wait + Sync, V: Writ
     input: Vec<u8>,
     options: &Options,
     plan: Plan,
+    later: u64,
     gate: &G,
     writer: &mut V,
 ) -> Worked
-    ensures printed { Prints (ask_of O.meaning options.now input.items).replies
+    ensures printed { Prints (ask_of O.meaning options.now later input.items).replies
         (V.contents writer.old) (V.contents writer.new) result.0 }
-    ensures done { IfOk result.0 (λ done. done ≡ (ask_of O.meaning options.now input.items).done) }
-    ensures told { IsReason (cause_of options.now input.items) result.1.reason }
-    ensures opening { OnOk result.0 (TellsOpening (cause_of options.now input.items) result.1.reason) }
+    ensures done { IfOk result.0 (λ done. done ≡ (ask_of O.meaning options.now later input.items).done) }
+    ensures told { IsReason (cause_of options.now later input.items) result.1.reason }
+    ensures opening { OnOk result.0 (TellsOpening (cause_of options.now later input.items) result.1.reason) }
 {
     match read_head(alloc, &input) {
-        Ok(head) => answer_log::<O, G, R, V>(rt, alloc, input, head, options, plan, gate, writer),
+        Ok(head) => answer_log::<O, G, R, V>(
+            rt, alloc, input, head, options, plan, later, gate, writer,
+        ),
         Err(ScriptError::Fault(line)) => {
             let reason = reason_of_line(alloc, Source::Head, &input, line);
             let outcome = print_fault(alloc, line, writer);
@@ -323,13 +349,14 @@ pub fn ask_through<O: Operator + Send + Sync, R: Read, W: Write, G: TurnGate>(
     piece: usize,
     compactors: usize,
     gate: &G,
-) -> (Outcome, u64)
+    later: u64,
+) -> (Outcome, Beside)
     requires { IsPlan workers piece compactors }
     ensures written { IfSome (R.remaining reader.old) (λ input.
-        HasWritten (ask_of O.meaning options.now input) input (W.contents writer.old) (W.contents writer.new) result.0.done) }
-    ensures told { IfSome (R.remaining reader.old) (λ input. IsReason (cause_of options.now input) result.0.reason) }
+        HasWritten (ask_of O.meaning options.now later input) input (W.contents writer.old) (W.contents writer.new) result.0.done) }
+    ensures told { IfSome (R.remaining reader.old) (λ input. IsReason (cause_of options.now later input) result.0.reason) }
     ensures opening { result.0.done ≡ Done.Refused →
-        IfSome (R.remaining reader.old) (λ input. TellsOpening (cause_of options.now input) result.0.reason) }
+        IfSome (R.remaining reader.old) (λ input. TellsOpening (cause_of options.now later input) result.0.reason) }
 {
     let plan = Plan {
         workers,
@@ -337,23 +364,27 @@ pub fn ask_through<O: Operator + Send + Sync, R: Read, W: Write, G: TurnGate>(
         compactors,
     };
     let (done, told) = run_over_input(alloc, reader, writer, |input: Vec<u8>, writer: &mut W| {
-        run::<O, G, _, W>(rt, alloc, input, options, plan, gate, writer)
+        run::<O, G, _, W>(rt, alloc, input, options, plan, later, gate, writer)
     });
-    let Told { reason, installs } = told.unwrap_or(Told::nothing());
-    (Outcome { done, reason }, installs)
+    let Told { reason, beside } = told.unwrap_or(Told::nothing());
+    (Outcome { done, reason }, beside)
 }
 
 /// Answers the queries in front of a log: reads all of the input, checks its head, opens a store from the log behind that, and
 /// prints the answers in the order of the queries. `workers` threads answer pieces of `piece` queries, from the versions that are
 /// shown meanwhile, while `compactors` threads compact what universal compaction picks, each until nothing is picked, an
-/// allocation fails, or it took 256 turns. All have ended when it returns. The number is that of the installs that the compactors
-/// made.
+/// allocation fails, or it took 256 turns. The store opens without the log's last `later` writes: without all, where there are
+/// fewer. One thread more feeds them to it meanwhile, one by one, until one is refused. All threads have ended when it returns,
+/// which says what they did to the store.
 ///
-/// What is written is the text of `ask_of`, a function of the bytes that were read, the operator's meaning and the options:
-/// not of workers, pieces or compactors. A fault of the head is refused with the line that it stands in, then a log with a fault,
-/// and then an opening. If an allocation fails it is some whole first replies of that text, and then `out of memory`; if the
-/// reader or the writer fails, or the input is longer than 64 MiB, it is a front of a text that says so or of that one. A head
-/// or an opening that is refused has a reason.
+/// What is written is the text of `ask_of`, a function of the bytes that were read, the operator's meaning, the options and
+/// `later`: not of workers, pieces or compactors, nor of how many writes were fed and when. It is the text of the log without
+/// its last `later` writes, but a fault anywhere in the log is told. A fault of the head is refused with the line that it stands
+/// in, then a log with a fault, and then an opening. If an allocation fails it is some whole first replies of that text, and then
+/// `out of memory`; if the reader or the writer fails, or the input is longer than 64 MiB, it is a front of a text that says so or
+/// of that one. A head or an opening that is refused has a reason.
+///
+/// It goes over the log once if `later` is 0, and else twice, and then holds the last writes beside the store.
 ///
 /// [`is_plan`](crate::is_plan) says which numbers go together.
 pub fn ask<O: Operator + Send + Sync, R: Read, W: Write>(
@@ -365,15 +396,16 @@ pub fn ask<O: Operator + Send + Sync, R: Read, W: Write>(
     workers: usize,
     piece: usize,
     compactors: usize,
-) -> (Outcome, u64)
+    later: u64,
+) -> (Outcome, Beside)
     requires { IsPlan workers piece compactors }
     ensures written { IfSome (R.remaining reader.old) (λ input.
-        HasWritten (ask_of O.meaning options.now input) input (W.contents writer.old) (W.contents writer.new) result.0.done) }
-    ensures told { IfSome (R.remaining reader.old) (λ input. IsReason (cause_of options.now input) result.0.reason) }
+        HasWritten (ask_of O.meaning options.now later input) input (W.contents writer.old) (W.contents writer.new) result.0.done) }
+    ensures told { IfSome (R.remaining reader.old) (λ input. IsReason (cause_of options.now later input) result.0.reason) }
     ensures opening { result.0.done ≡ Done.Refused →
-        IfSome (R.remaining reader.old) (λ input. TellsOpening (cause_of options.now input) result.0.reason) }
+        IfSome (R.remaining reader.old) (λ input. TellsOpening (cause_of options.now later input) result.0.reason) }
 {
     ask_through::<O, R, W, Ungated>(
-        rt, alloc, reader, writer, options, workers, piece, compactors, &Ungated,
+        rt, alloc, reader, writer, options, workers, piece, compactors, &Ungated, later,
     )
 }

@@ -1,22 +1,27 @@
-//! `ask`: the queries in front of a log, answered by workers while compactors install.
+//! `ask`: the queries in front of a log, answered by workers while compactors install and a feeder feeds.
 //!
 //! It reads a head of queries, opens a store that threads share from the log behind it, and prints the answers, which workers
-//! take from whatever versions are shown, while compactors compact what universal compaction picks. What it prints is `ask_of`,
-//! a function of the bytes that it reads, of the operator and of the options: workers, pieces and compactors aren't in it. The
-//! law `queries_are_answered_from_the_log` says what that means in the words of plain writes.
+//! take from whatever versions are shown, while compactors compact what universal compaction picks and a feeder feeds the log's
+//! last writes, which aren't opened. What it prints is `ask_of`, a function of the bytes that it reads, of the operator, of the
+//! options and of how many writes come later: workers, pieces, compactors and the feeder aren't in it. The law
+//! `queries_are_answered_from_the_log` says what that means in the words of plain writes.
 //!
-//! Read `specs/Ask.antt` first, then `ask_run.rt`, `answers.rt` and `compactor.rt`. Tests hold compactors up by a
+//! Read `specs/Ask.antt` first, then `ask_run.rt`, `answers.rt`, `compactor.rt` and `feeder.rt`. Tests hold compactors up by a
 //! [`TurnGate`](uc_share::TurnGate). Recovering, refusing and the lines of answers stand in `uc_tool_opening`, batches in
 //! `uc_query_shared`, and the store with a compactor's turn in `uc_share`.
 #![tactic(auto)]
 
 mod answers;
 mod ask_run;
+mod beside;
 mod compactor;
+mod feeder;
 mod laws;
+mod opened_part;
 mod plan;
 
 pub use ask_run::{ask, ask_through};
-pub use laws::queries_are_answered_from_the_log;
+pub use beside::Beside;
+pub use laws::{nothing_later_leaves_all_writes, queries_are_answered_from_the_log};
 pub use plan::{MOST_COMPACTORS, is_plan};
 pub use uc_share::TurnGate;

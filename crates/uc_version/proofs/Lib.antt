@@ -10,8 +10,5 @@ pub mod Staying
 pub mod KeptClaims
 pub mod CompactedNow
 pub mod Feeding
-pub mod KeepsSince
-pub mod StandingLast
-pub mod InstallableLater
 pub mod OwnCompactions
 pub mod HeldOn

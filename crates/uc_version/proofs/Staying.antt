@@ -1,5 +1,5 @@
 -- What claims, abandons and installs leave is an owner's.
-use Rattle.std.proofs.Common.{◌≡◌, ℕ, ◌+◌, ◌<◌, ◌≤◌, ◌≢◌, Bool, true, false, not, cond, eqb, ltb, ◌&&◌, List, [], ◌∷◌, length, get_or, refl, sym, ap, ◌∙◌, subst, eq-eqb, get_or-set_same, arith}
+use Rattle.std.proofs.Common.{◌≡◌, ℕ, ◌+◌, ◌<◌, ◌≤◌, ◌≢◌, Bool, true, false, cond, eqb, ltb, ◌&&◌, List, [], ◌∷◌, length, get_or, refl, sym, ap, ◌∙◌, subst, eq-eqb, get_or-set_same, arith}
 use Rattle.std.specs.Prelude.{Option, Some, None, Contains, option_map}
 use Rattle.std.specs.Option.{option_or}
 use Rattle.std.specs.List.{AllByRecursion, list_any}
@@ -10,13 +10,13 @@ use Rattle.std.proofs.lemmas.List.Elements.{All-from_recursion}
 use Rattle.uc_oper.specs.Operation.{Operation}
 use Rattle.uc_claims.specs.Claims.{times}
 use Rattle.uc_claims.specs.Holding.{NoneHeld}
-use Rattle.uc_claims.proofs.Times.{times-cons, one_same, times-from_Contains, Contains-from_times, list_any-times}
+use Rattle.uc_claims.proofs.Times.{times-from_Contains, list_any-times}
 use Rattle.uc_version_state.specs.declared.stretch.Stretch.{Stretch}
 use Rattle.uc_compact_rules.specs.Inputs.{Compaction, Stand}
 use Rattle.uc_compact_rules.specs.Output.{output_of}
 use Rattle.uc_version_state.specs.Versions.{Stored, IsVersion, ids_of, slots_of}
-use Rattle.uc_version_state.specs.Installs.{Install, MayInstall, Terms, KeepsKnown, NothingBelow, terms_of, behind, part_of, installed}
-use Rattle.uc_version_state.specs.Refusals.{AreInPlace, first_unknown}
+use Rattle.uc_version_state.specs.Installs.{Install, MayInstall, NothingBelow, terms_of, behind, part_of, installed}
+use Rattle.uc_version_state.specs.Refusals.{AreInPlace}
 use Rattle.uc_version_state.proofs.Found.{standing_is, behind_is}
 use Rattle.uc_version.specs.declared.held_stretch.HeldStretch.{HeldStretch}
 use Rattle.uc_version_compact.specs.declared.claim_error.ClaimError.{ClaimError}
@@ -30,6 +30,7 @@ use Rattle.uc_version_compact.specs.Compacting.{Fits, IsNotInstallable}
 use Rattle.uc_version.specs.Installing.{stretch_in, stretch_of, compaction_of, IdLeft, MayReplace, IsRefused, after_install, install_of}
 use Rattle.uc_version.proofs.HeldClaims.{free_none}
 use Rattle.uc_version_compact.proofs.InRange.{range_holds}
+use Rattle.uc_version_compact.proofs.OwnKeeps.{none_unknown}
 use Rattle.uc_version.proofs.Taking.{number_is_free, with_one_more, with_one_less, held_stands}
 use Rattle.uc_version.proofs.Moving.{owner_after}
 use Rattle.uc_version.proofs.Legal.{is_legal, is_replaced}
@@ -106,23 +107,6 @@ installed_stays m o c made is_owner held stand may gives =
     let is = is_replaced m o.version is_owner.version (stretch_of o c) at.0 at.1 made stand may in
     owner_after o is_owner (claimed_slots o) (λ k. refl) c.number (stretch_of o c) (held_is o c held) (output_of m made)
     (subst IsVersion is (gives o.version (install_of m o.version (stretch_of o c) made) is_owner.version legal))
-
--- no keep is unknown where each below the inputs' greatest sequence is one of the compaction's
-is_own : (t : Terms) (k : ℕ) → (k < t.high → Contains t.keeps k) → (below : Bool) → ltb k t.high ≡ below → (below && not (list_any (λ x. eqb x k) t.keeps)) ≡ false
-is_own t k own false e = refl
-is_own t k own true e =
-    let lt : k < t.high = grind (arith, nat_tests) in
-    ap not (list_any-times k t.keeps ∙ there (times k t.keeps) (times-from_Contains k t.keeps (own lt)))
-
-all_own : (t : Terms) (keeps : List ℕ) → ((k : ℕ) → 0 < times k keeps → k < t.high → Contains t.keeps k) → first_unknown t keeps ≡ None
-all_own t [] own = refl
-all_own t (keep ∷ keeps) own =
-    ap (λ b. cond b (Some keep) (first_unknown t keeps))
-    (is_own t keep (own keep (let e = times-cons keep keep keeps in let one = one_same keep keep refl in omega (arith, e, one))) (ltb keep t.high) refl)
-    ∙ all_own t keeps (λ k some. own k (let e = times-cons k keep keeps in omega (arith, e, some)))
-
-pub none_unknown : (t : Terms) (keeps : List ℕ) → KeepsKnown keeps t → first_unknown t keeps ≡ None
-none_unknown t keeps known = all_own t keeps (λ k some lt. known k (Contains-from_times k keeps some) lt)
 
 module _ (v : Stored) (is_version : IsVersion v) (h : HeldStretch) (two : 2 ≤ h.count) (within : h.first + h.count ≤ length v.runs) where
   -- the runs of a stretch are in place

@@ -20,6 +20,7 @@ ghost use Rattle.uc_version_compact.specs.declared.install_error.InstallError.{I
 ghost use Rattle.uc_version_compact.specs.declared.install_error.InstallError.TheVariants.{IdsSpent};
 
 use uc_oper::Operator;
+use uc_version_compact::own_compactions_stay_installable;
 use uc_version_state::{
     feeds_and_keeps_give_versions, install_gives_a_version, picks_are_unclaimed_runs,
 };
@@ -122,7 +123,9 @@ pub fn own_compactions_are_refused_for_ids_alone<O: Operator>()
         claimed_runs p c ≡ claimed_runs o c →
         IsRefused p.version (stretch_of p c) (compaction_of o.version (stretch_of o c)) error →
         (error ≡ IdsSpent) × ¬ IdLeft p.version }
-{}
+{
+    own_compactions_stay_installable::<O>();
+}
 
 /// A stretch that can be claimed can be compacted at once if an id is left. It is claimed, its compaction is an event
 /// that may happen, and the install gives the claim back. So the owner holds the same claims as before.

@@ -17,7 +17,6 @@ mod live;
 mod opened_writes;
 mod owned;
 mod owned_claim;
-mod release_error;
 mod runs;
 mod slots;
 
@@ -31,7 +30,6 @@ pub use laws::{
 pub use opened_writes::open_plain;
 pub use owned::Owned;
 pub use owned_claim::OwnedClaim;
-pub use release_error::ReleaseError;
 pub use uc_claims::MOST_SLOTS;
 pub use uc_version_compact::{
     ClaimError, InstallError, are_inputs, compact_stretch, error_of, install_of, install_refusal,
@@ -39,5 +37,5 @@ pub use uc_version_compact::{
 };
 pub use uc_version_open::{OpenError, Opener, open_version};
 pub use uc_version_state::{
-    Candidate, Event, FeedError, Install, Options, Placed, Refusal, Stretch, Version,
+    Candidate, Event, FeedError, Install, Options, Placed, Refusal, ReleaseError, Stretch, Version,
 };

@@ -3,16 +3,17 @@ ghost use Rattle.std.specs.Prelude.{◌≡◌, ◌⊎◌, ◌+◌, ◌≤◌, No
 ghost use Rattle.uc_version_state.specs.Feeds.{memtables_in, feed_refusal};
 ghost use Rattle.uc_version_state.specs.declared.feed_error.FeedError.TheVariants.{Memory};
 ghost use Rattle.uc_version.specs.Feeding as feeding;
-ghost use Rattle.uc_version.specs.declared.release_error.ReleaseError.TheVariants.{NotKept};
+ghost use Rattle.uc_version_state.specs.declared.release_error.ReleaseError.TheVariants.{NotKept};
 
 use crate::claims::move_down;
 use crate::owned::Owned;
-use crate::release_error::ReleaseError;
 use std::alloc::{AllocError, Global};
 use uc_batch::Writes;
 use uc_oper::Operator;
 use uc_version_open::fed_version;
-use uc_version_state::{FeedError, feeds_and_keeps_give_versions, no_refusal_is_leave_to_feed};
+use uc_version_state::{
+    FeedError, ReleaseError, feeds_and_keeps_give_versions, no_refusal_is_leave_to_feed,
+};
 
 impl<O: Operator> Owned<O> {
     /// Feeds writes: they fill memtables, and each becomes a run before all others. Returns how many runs there are more.

@@ -5,3 +5,7 @@ pub mod Inputs
 pub mod InRange
 pub mod Standing
 pub mod Fitting
+pub mod OwnKeeps
+pub mod KeepsSince
+pub mod StandingLast
+pub mod InstallableLater

@@ -5,3 +5,4 @@ pub mod Refused
 pub mod Taken
 pub mod Inserting
 pub mod Feeding
+pub mod Counting

@@ -2,3 +2,4 @@ pub mod Refusal
 pub mod Progress
 pub mod Steps
 pub mod HeldProgress
+pub mod Parting

@@ -4,7 +4,7 @@ ghost use Rattle.uc_batch.specs.Rising as rising;
 ghost use Rattle.uc_batch.specs.Rising.{IsRising};
 ghost use Rattle.uc_run.specs.Flush.{flushed};
 ghost use Rattle.uc_version_state.specs.Flushes.{memtables as memtables_of};
-ghost use Rattle.uc_version_state.specs.Feeds.{MayFeed, fed};
+ghost use Rattle.uc_version_state.specs.Feeds.{MayFeed, fed, memtables_in};
 
 use crate::memtables::Memtables;
 use std::alloc::{AllocError, Global};
@@ -24,7 +24,7 @@ fn last_of(last: u64, writes: &[Write]) -> u64
 
 /// The runs of the memtables that writes fill, the oldest first. A memtable is flushed from `limit` bytes on, and what is
 /// left at the end too. It costs a copy of each text, and a sort of each memtable.
-fn flush_writes(alloc: Global, limit: u64, writes: &[Write]) -> Result<Vec<Run>, AllocError>
+pub fn flush_writes(alloc: Global, limit: u64, writes: &[Write]) -> Result<Vec<Run>, AllocError>
     requires limit { 1 ≤ limit }
     requires rising { IsRising 0 writes.now }
     ensures { IfOk result (λ runs. runs.items ≡ map flushed (memtables_of limit writes.now)) }
@@ -34,6 +34,23 @@ fn flush_writes(alloc: Global, limit: u64, writes: &[Write]) -> Result<Vec<Run>,
         memtables.insert(alloc, limit, &WriteRef::of(write))?;
     }
     memtables.into_runs(alloc)
+}
+
+/// The version after writes were fed to it whose memtables these are, flushed, the oldest first: a new one that shares the
+/// runs which were there. It costs one look at the runs for their slots, and no look at a text.
+pub fn version_with_flushed(
+    alloc: Global,
+    version: &Version,
+    writes: &[Write],
+    runs: Vec<Run>,
+) -> Result<Version, AllocError>
+    requires may { MayFeed version.now writes.now }
+    requires runs { runs.items ≡ map flushed (memtables_in version.now writes.now) }
+    ensures { IfOk result (λ next. next ≡ fed writes.now version.now) }
+{
+    version.recall();
+    feeds_and_keeps_give_versions();
+    version.with_runs(alloc, runs, last_of(version.last(), writes))
 }
 
 /// The version after writes were fed to it, as a new one that shares the runs which were there. It costs a copy of each
@@ -47,7 +64,6 @@ pub fn fed_version(
     ensures { IfOk result (λ next. next ≡ fed writes.now version.now) }
 {
     version.recall();
-    feeds_and_keeps_give_versions();
     let runs = flush_writes(alloc, version.limit(), writes)?;
-    version.with_runs(alloc, runs, last_of(version.last(), writes))
+    version_with_flushed(alloc, version, writes, runs)
 }

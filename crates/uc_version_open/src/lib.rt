@@ -5,10 +5,12 @@
 //! refused opening. Read `specs/Refusal.antt` first, which says when a store isn't opened, then `specs/Progress.antt`
 //! and `opener.rt`. A store opens with `opened` of `uc_version_state`.
 //!
-//! Writes that are fed to a store later fill the same memtables: [`fed_version`].
+//! Writes that are fed to a store later fill the same memtables: [`fed_version`], or in two steps [`flush_writes`] and
+//! [`version_with_flushed`].
 //!
 //! [`recover`] goes once through a write-ahead log and hands each write, borrowed from the log's bytes, to an opener.
-//! Read `recovery.rt`.
+//! [`recover_first`] does so for the first writes alone, and hands those behind them out; [`count_writes`] tells how many
+//! there are. Read `recovery.rt`.
 //!
 //! An `Err(AllocError)`, or a variant `Memory`, comes only if an allocation fails.
 #![tactic(auto)]
@@ -23,8 +25,8 @@ mod opener;
 mod recovery;
 
 pub use first_version::open_version;
-pub use flushes::fed_version;
+pub use flushes::{fed_version, flush_writes, version_with_flushed};
 pub use laws::no_refusal_is_leave_to_open;
 pub use open_error::OpenError;
 pub use opener::Opener;
-pub use recovery::{Recovered, recover};
+pub use recovery::{Counted, Recovered, count_writes, recover, recover_first};

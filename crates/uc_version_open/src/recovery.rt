@@ -1,14 +1,16 @@
-//! [`recover`]: a log's writes in a store that is being opened.
-ghost use Rattle.std.specs.Prelude.{◌≡◌, ◌++◌, List, IfOk, OnOk};
+//! [`recover`] and [`recover_first`]: a log's writes in a store that is being opened.
+ghost use Rattle.std.specs.Prelude.{◌≡◌, ◌<◌, ◌+◌, ◌^◌, ◌++◌, ◌∷◌, [], ℕ, List, IfOk, OnOk, drop, length, take};
 ghost use Rattle.uc_bytes.specs.declared.write.Write.{Write as WriteOf};
 ghost use Rattle.uc_batch.specs.Log.{log_writes};
 ghost use Rattle.uc_batch.specs.Rising.{IsRising};
 ghost use Rattle.uc_version_state.specs.declared.options.Options.{Options as OptionsOf};
+ghost use Rattle.uc_version_open.specs.Parting.{ComeNext, IsParted};
 ghost use Rattle.uc_version_open.specs.Progress.{progress_of};
 
 use crate::opener::Opener;
 use std::alloc::{AllocError, Global};
 use uc_batch::{Advance, BatchReader, BatchWrites, Ended};
+use uc_bytes::{Write, WriteRef};
 use uc_version_state::Options;
 
 /// A store that is being opened, with the writes of a log up to the log's first fault, and how far that was read.
@@ -49,6 +51,112 @@ pub fn recover(alloc: Global, log: &[u8], options: Options) -> Result<Recovered,
         match batches.advance()? {
             Advance::Batch => insert_batch(alloc, &mut opener, batches.writes())?,
             Advance::Ended(ended) => return Ok(Recovered { opener, ended }),
+        }
+    }
+}
+
+/// How many writes a log has up to its first fault, and how far it was read.
+#[derive(Clone, Copy, Debug)]
+pub struct Counted {
+    /// The number of its writes.
+    pub count: u64,
+    /// How far the log was read.
+    pub ended: Ended,
+}
+
+/// How many writes a batch has, and `count`.
+fn count_batch(mut count: u64, writes: BatchWrites<'_>) -> u64
+    requires { count + length writes < 2 ^ 64 }
+    ensures { result ≡ count + length writes.entry }
+{
+    for _ in writes {
+        count += 1;
+    }
+    count
+}
+
+/// How many writes a log has, up to its first fault. It goes once over the log, and keeps no write of it.
+pub fn count_writes(alloc: Global, log: &[u8]) -> Result<Counted, AllocError>
+    ensures count { IfOk result (λ counted. counted.count ≡ length (log_writes log.now).list) }
+    ensures ended { IfOk result (λ counted. counted.ended ≡ (log_writes log.now).ended) }
+{
+    let mut count = 0_u64;
+    let mut batches = BatchReader::new(alloc, log);
+    loop {
+        match batches.advance()? {
+            Advance::Batch => count = count_batch(count, batches.writes()),
+            Advance::Ended(ended) => return Ok(Counted { count, ended }),
+        }
+    }
+}
+
+/// The writes of a log so far: the first ones in a store that is being opened, and those behind them.
+#[derive(Debug, Drop)]
+struct Parted {
+    opener: Opener,
+    /// How many more the store takes.
+    left: u64,
+    behind: Vec<Write>,
+}
+
+/// Takes the next write of a log.
+fn part_write(alloc: Global, parted: &mut Parted, write: &WriteRef<'_>) -> Result<(), AllocError>
+    requires above { 0 < parted.old.left → parted.old.opener.last < write.now.seq }
+    requires below { write.now.seq < 2 ^ 56 }
+    ensures parted { (options : OptionsOf) (most : ℕ) (before : List WriteOf) →
+        IsParted options most before parted.old.opener parted.old.left parted.old.behind.items → OnOk result
+        (IsParted options most (before ++ write.now ∷ []) parted.new.opener parted.new.left parted.new.behind.items) }
+    ensures last { OnOk result (0 < parted.new.left → parted.new.opener.last ≡ write.now.seq) }
+{
+    if parted.left > 0 {
+        parted.opener.insert(alloc, write)?;
+        parted.left -= 1;
+    } else {
+        parted.behind.push(write.to_write(alloc)?)?;
+    }
+    Ok(())
+}
+
+/// Takes the writes of a batch.
+fn part_batch(alloc: Global, parted: &mut Parted, writes: BatchWrites<'_>) -> Result<(), AllocError>
+    requires { ComeNext parted.old.opener parted.old.left writes }
+    ensures { (options : OptionsOf) (most : ℕ) (before : List WriteOf) →
+        IsParted options most before parted.old.opener parted.old.left parted.old.behind.items → OnOk result
+        (IsParted options most (before ++ writes.entry) parted.new.opener parted.new.left parted.new.behind.items) }
+{
+    for write in writes {
+        part_write(alloc, parted, &write)?;
+    }
+    Ok(())
+}
+
+/// As [`recover`], for the first `most` writes alone. Those behind them come as they are, the oldest first. It holds them
+/// beside what `recover` holds.
+pub fn recover_first(
+    alloc: Global,
+    log: &[u8],
+    options: Options,
+    most: u64,
+) -> Result<(Recovered, Vec<Write>), AllocError>
+    ensures opener { IfOk result (λ found.
+        found.0.opener ≡ progress_of options (take most (log_writes log.now).list)) }
+    ensures behind { IfOk result (λ found. found.1.items ≡ drop most (log_writes log.now).list) }
+    ensures ended { IfOk result (λ found. found.0.ended ≡ (log_writes log.now).ended) }
+    ensures rising { IfOk result (λ _. IsRising 0 (log_writes log.now).list) }
+{
+    let mut parted = Parted {
+        opener: Opener::new(alloc, options),
+        left: most,
+        behind: Vec::new(alloc),
+    };
+    let mut batches = BatchReader::new(alloc, log);
+    loop {
+        match batches.advance()? {
+            Advance::Batch => part_batch(alloc, &mut parted, batches.writes())?,
+            Advance::Ended(ended) => {
+                let Parted { opener, behind, .. } = parted;
+                return Ok((Recovered { opener, ended }, behind));
+            }
         }
     }
 }

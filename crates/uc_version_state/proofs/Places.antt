@@ -1,13 +1,19 @@
--- A stretch of runs stays where another one, apart from it, is replaced by a run.
+-- A stretch of runs stays where another one, apart from it, is replaced by a run, and where runs come before all others.
 use Rattle.std.proofs.Common.{◌≡◌, ℕ, zero, suc, ◌+◌, ◌-◌, ◌<◌, ◌≤◌, List, [], ◌∷◌, ◌++◌, length, get_or, take, drop, ◌⊎◌, inl, inr, ⊎_elim, refl, sym, ap, ◌∙◌, subst, arith}
 use Rattle.std.proofs.lemmas.Bool.{cases_lt}
 use Rattle.std.proofs.lemmas.List.{length-append, length-take-le, length-drop, take-append-drop, take-append-le, drop-append-le, drop-drop}
 use Rattle.std.proofs.Math.Seq.{drop-append-add}
 use Rattle.uc_claims.specs.Claims.{times}
 use Rattle.uc_claims.proofs.Times.{times-append, times-from_Contains}
+use Rattle.uc_bytes.specs.declared.write.Write.{Write}
 use Rattle.uc_run_entry.specs.Run.{Contents}
+use Rattle.uc_run.specs.Flush.{flushed}
 use Rattle.uc_version_state.specs.Versions.{PlacedRun, Stored, slots_of}
+use Rattle.uc_version_state.specs.Flushes.{with_run, flushed_onto}
+use Rattle.uc_version_state.specs.Feeds.{memtables_in, fed}
+use Rattle.uc_version_state.specs.Snapshots.{kept, released}
 use Rattle.uc_version_state.specs.Installs.{part_of, slot_of, replaced}
+use Rattle.uc_version_state.proofs.Placing.{count_flushed}
 
 -- runs that stand in a version as neighbours, in order, behind so many
 pub record Stands (v : Stored) (noted : List PlacedRun) : Type 0 where
@@ -117,3 +123,26 @@ module _ (v : Stored) (f n : ℕ) (some : 0 < n) (f_within : f + n ≤ length v.
       })
       (lie_apart v.runs f n stands.first (length noted) some f_within some_noted stands.within
       (λ x. subst (λ (ps : List PlacedRun). times x (slots_of (part_of f n v.runs)) + times x (slots_of ps) ≤ 1) (sym stands.there) (once x)))
+
+-- ---- runs that come before all others
+
+-- neighbouring runs stand so many places further back
+part_behind : (id : ℕ) (runs : List PlacedRun) (ps : List (List Write)) (first count : ℕ) → part_of (first + length ps) count (flushed_onto id runs ps) ≡ part_of first count runs
+part_behind id runs [] first count = ap (λ n. part_of n count runs) (let e : first + 0 ≡ first = omega arith in e)
+part_behind id runs (p ∷ ps) first count =
+    ap (λ n. part_of n count (flushed_onto (id + 1) (with_run id runs (flushed p)) ps)) (let e : first + suc (length ps) ≡ suc first + length ps = omega arith in e)
+    ∙ part_behind (id + 1) (with_run id runs (flushed p)) ps (suc first) count
+
+pub stands_fed : (v : Stored) (ws : List Write) (noted : List PlacedRun) → Stands v noted → Stands (fed ws v) noted
+stands_fed v ws noted stands = record {
+  first = stands.first + length (memtables_in v ws);
+  within = let count = count_flushed v.next_id v.runs (memtables_in v ws) in let w = stands.within in omega (arith, count, w);
+  there = part_behind v.next_id v.runs (memtables_in v ws) stands.first (length noted) ∙ stands.there;
+}
+
+-- keeps move no run
+pub stands_kept : (v : Stored) (noted : List PlacedRun) → Stands v noted → Stands (kept v) noted
+stands_kept v noted stands = record { first = stands.first; within = stands.within; there = stands.there }
+
+pub stands_released : (seq : ℕ) (v : Stored) (noted : List PlacedRun) → Stands v noted → Stands (released seq v) noted
+stands_released seq v noted stands = record { first = stands.first; within = stands.within; there = stands.there }

@@ -15,15 +15,16 @@ use Rattle.uc_compact_rules.specs.Output.{output_of}
 use Rattle.uc_version_state.specs.Versions.{PlacedRun, Stored, IsVersion, ids_of, slots_of}
 use Rattle.uc_version_state.specs.Openings.{Opening, opened}
 use Rattle.uc_version_state.specs.Installs.{Install, MayInstall, MayReplace, part_of, standing, behind, replaced, terms_of}
-use Rattle.uc_version_state.specs.declared.event.Event.TheVariants.{Installed}
-use Rattle.uc_version_state.specs.Histories.{after, IsLegal, version_after}
-use Rattle.uc_version_state.proofs.Installed.{installed_is_version}
+use Rattle.uc_version_state.specs.declared.event.Event.{Event}
+use Rattle.uc_version_state.specs.declared.event.Event.TheVariants.{Installed, Flushed, Kept, Released}
+use Rattle.uc_version_state.specs.Histories.{MayHappen, after, IsLegal, version_after}
+use Rattle.uc_version_state.proofs.Along.{version_stays}
 use Rattle.uc_version_state.proofs.Placing.{FlushesAreRuns}
 use Rattle.uc_version_state.proofs.Growing.{follow-append, after-append}
 use Rattle.uc_version_state.proofs.Found.{first_is, count_is}
-use Rattle.uc_version_state.specs.Machine.{Phase, Idle, Taking, Taken, Checked, Giving, Machine, Action, Pin, Take, Check, Publish, Abandon, Give, present, version_at, phase_of, slots_held, IsMadeFor, MayAct, still_stand, compaction_for, giving, taking, enters, tried, after_action}
-use Rattle.uc_version_state.specs.Courses.{Step, Acts, MayStep, after_step, started, MayCome}
-use Rattle.uc_version_state.proofs.Places.{Stands, stands_on}
+use Rattle.uc_version_state.specs.Machine.{Phase, Idle, Taking, Taken, Checked, Giving, Machine, Action, Pin, Take, Check, Publish, Abandon, Give, present, version_at, phase_of, slots_held, IsMadeFor, MayAct, still_stand, compaction_for, giving, taking, enters, happens, tried, after_action}
+use Rattle.uc_version_state.specs.Courses.{Step, Acts, Flush, Keep, Release, MayStep, after_step, started, MayCome}
+use Rattle.uc_version_state.proofs.Places.{Stands, stands_on, stands_fed, stands_kept, stands_released}
 use Rattle.uc_version_state.proofs.Noted.{IsNoted, slot_below, noted_on, noted_at, found, standing_noted}
 use Rattle.uc_version_state.proofs.Counted.{held_times, all_times, one_of, two_of}
 
@@ -231,50 +232,69 @@ module _ (m : Operation) (v : Stored) (is_version : IsVersion v) (noted : List P
       ap (λ n. replaced n (length i.ids) i.output v) (first_is v is_version i.ids stands.first (length noted) some stands.within are)
       ∙ ap (λ n. replaced stands.first n i.output v) (count_is v is_version i.ids stands.first (length noted) some stands.within are)
 
-  -- what the others noted is untouched
-  pub holds_on : (p : Phase) → Holds v p → ((k : ℕ) → times k (slots_of noted) + held_times k p ≤ 1) → Holds (after v (Installed i)) p
-  holds_on Idle holds once = tt
-  holds_on (Taking other taken) holds once = (noted_on m v (Installed i) other holds.0, holds.1)
-  holds_on (Taken other) holds once = noted_on m v (Installed i) other holds
-  holds_on (Checked other) holds once = (
-    noted_on m v (Installed i) other holds.0,
-    subst (λ (w : Stored). Stands w other) (sym is_replaced)
-        (stands_on v stands.first (length noted) some stands.within i.output other (let t = holds.0.two in omega (arith, t)) holds.1
-        (λ k. subst (λ (ps : List PlacedRun). times k (slots_of ps) + times k (slots_of other) ≤ 1) (sym stands.there) (once k))),
-  )
-  holds_on (Giving left) holds once = tt
+  -- what another compactor noted is untouched
+  pub stands_beside : (other : List PlacedRun) → IsNoted v other → Stands v other → ((k : ℕ) → times k (slots_of noted) + times k (slots_of other) ≤ 1) → Stands (after v (Installed i)) other
+  stands_beside other is_other other_stands once =
+      subst (λ (w : Stored). Stands w other) (sym is_replaced)
+      (stands_on v stands.first (length noted) some stands.within i.output other (let t = is_other.two in omega (arith, t)) other_stands
+      (λ k. subst (λ (ps : List PlacedRun). times k (slots_of ps) + times k (slots_of other) ≤ 1) (sym stands.there) (once k)))
+
+-- ---- an event
+
+-- what holds of a compactor holds on, if its runs stand on where it checked them
+holds_on : (m : Operation) (v : Stored) (e : Event) (p : Phase) → Holds v p → ((noted : List PlacedRun) → p ≡ Checked noted → IsNoted v noted → Stands v noted → Stands (after v e) noted) → Holds (after v e) p
+holds_on m v e Idle holds stand = tt
+holds_on m v e (Taking noted taken) holds stand = (noted_on m v e noted holds.0, holds.1)
+holds_on m v e (Taken noted) holds stand = noted_on m v e noted holds
+holds_on m v e (Checked noted) holds stand = (noted_on m v e noted holds.0, stand noted refl holds.0 holds.1)
+holds_on m v e (Giving left) holds stand = tt
 
 -- ---- every step
 
 module _ (is_run : FlushesAreRuns) (m : Operation) (laws : IsLawful m) where
+  module _ (s : Machine) (keeps : Keeps m s) (e : Event) (may : MayHappen m (present s) e) where
+    grown : version_after (happens e s).history ≡ after (present s) e
+    grown = after-append (opened s.history.opening) s.history.events e
+
+    -- a step with an event, that changes no word
+    happened : (phases : List Phase) → ((k : ℕ) → all_times k phases ≡ all_times k s.phases) → ((d : ℕ) → Holds (after (present s) e) (get_or phases d Idle)) →
+        Keeps m (happens e (record s { phases = phases }))
+    happened phases counted each = record {
+      legal = record { opens = keeps.legal.opens; follow = follow-append m (opened s.history.opening) s.history.events e keeps.legal.follow may };
+      opens = keeps.opens;
+      version = subst IsVersion (sym grown) (version_stays is_run m laws (present s) e keeps.version may);
+      a_word_each = keeps.a_word_each;
+      counted = λ k. keeps.counted k ∙ sym (counted k);
+      small = keeps.small;
+      each = λ d. subst (λ (w : Stored). Holds w (get_or phases d Idle)) (sym grown) (each d);
+    }
+
+    -- one that leaves noted runs where they stand, or moves them together
+    happens_beside : ((noted : List PlacedRun) → Stands (present s) noted → Stands (after (present s) e) noted) → Keeps m (happens e s)
+    happens_beside stand =
+        happened s.phases (λ k. refl) (λ d. holds_on m (present s) e (phase_of d s) (keeps.each d) (λ noted checked is stands. stand noted stands))
+
   module _ (s : Machine) (keeps : Keeps m s) (c : ℕ) (lt : c < length s.phases) where
     publishes : (noted : List PlacedRun) (i : Install) → phase_of c s ≡ Checked noted → IsMadeFor m (present s) noted i → Keeps m (after_action c s (Checked noted) (Publish i))
-    publishes noted i is made = record {
-      legal = record { opens = keeps.legal.opens; follow = follow-append m (opened s.history.opening) s.history.events (Installed i) keeps.legal.follow may };
-      opens = keeps.opens;
-      version = subst IsVersion (sym grown) (installed_is_version m laws (present s) i keeps.version may);
-      a_word_each = keeps.a_word_each;
-      counted = λ k.
-          let e = sum_by-set (held_times k) s.phases c (giving (slots_of noted)) Idle lt in
-          let was : held_times k (get_or s.phases c Idle) ≡ times k (slots_of noted) = ap (held_times k) is in
-          let now : held_times k (giving (slots_of noted)) ≡ times k (slots_of noted) = ap (times k) (held_giving (slots_of noted)) in
-          let so_far = keeps.counted k in
-          omega (arith, e, was, now, so_far);
-      small = keeps.small;
-      each = λ d.
-          subst (λ (w : Stored). Holds w (get_or (set s.phases c (giving (slots_of noted))) d Idle)) (sym grown)
-          (phase_after (Holds (after (present s) (Installed i))) s.phases c d (giving (slots_of noted)) lt (holds_giving (after (present s) (Installed i)) (slots_of noted))
-          (λ ne. holds_on m (present s) keeps.version noted holds.0 holds.1 i made (phase_of d s) (keeps.each d) (once d ne)));
-    }
+    publishes noted i is made =
+        happened s keeps (Installed i) may (set s.phases c (giving (slots_of noted)))
+        (λ k.
+        let e = sum_by-set (held_times k) s.phases c (giving (slots_of noted)) Idle lt in
+        let was : held_times k (get_or s.phases c Idle) ≡ times k (slots_of noted) = ap (held_times k) is in
+        let now : held_times k (giving (slots_of noted)) ≡ times k (slots_of noted) = ap (times k) (held_giving (slots_of noted)) in
+        omega (arith, e, was, now))
+        (λ d.
+        phase_after (Holds (after (present s) (Installed i))) s.phases c d (giving (slots_of noted)) lt (holds_giving (after (present s) (Installed i)) (slots_of noted))
+        (λ ne. holds_on m (present s) (Installed i) (phase_of d s) (keeps.each d)
+        (λ other checked is_other stands.
+        stands_beside m (present s) keeps.version noted holds.0 holds.1 i made other is_other stands
+        (λ k. subst (λ (p : Phase). times k (slots_of noted) + held_times k p ≤ 1) checked (once d ne k)))))
       where
         holds : IsNoted (present s) noted × Stands (present s) noted
         holds = subst (Holds (present s)) is (keeps.each c)
 
         may : MayInstall m (present s) i
         may = may_install m (present s) keeps.version noted holds.0 holds.1 i made
-
-        grown : version_after (record s.history { events = s.history.events ++ Installed i ∷ [] }) ≡ after (present s) (Installed i)
-        grown = after-append (opened s.history.opening) s.history.events (Installed i)
 
         once : (d : ℕ) → d ≢ c → (k : ℕ) → times k (slots_of noted) + held_times k (phase_of d s) ≤ 1
         once d ne k =
@@ -304,6 +324,9 @@ module _ (is_run : FlushesAreRuns) (m : Operation) (laws : IsLawful m) where
 
   pub keeps_on : (s : Machine) (step : Step) → Keeps m s → MayStep m s step → Keeps m (after_step s step)
   keeps_on s (Acts c action) keeps may = acts s keeps c may.0 (phase_of c s) action refl may.1
+  keeps_on s (Flush ws) keeps may = happens_beside s keeps (Flushed ws) may (stands_fed (present s) ws)
+  keeps_on s Keep keeps may = happens_beside s keeps Kept may (stands_kept (present s))
+  keeps_on s (Release seq) keeps may = happens_beside s keeps (Released seq) may (stands_released seq (present s))
 
   pub keeps_along : (s : Machine) (steps : List Step) → Keeps m s → MayCome m s steps → Keeps m (fold after_step s steps)
   keeps_along s [] keeps come = keeps

@@ -110,11 +110,12 @@ known_at_first o = record { writes = o.writes; keeps = rising (o.keeps ++ last_o
 abbrev pub known : History → Known
 known h = fold known_after (known_at_first h.opening) h.events
 
--- ---- histories of installs alone
+-- ---- events that leave the keeps alone
 
-abbrev pub AreInstalls : List Event → Type 0
-AreInstalls [] = ⊤
-AreInstalls (Installed i ∷ es) = AreInstalls es
-AreInstalls (Flushed ws ∷ es) = ⊥
-AreInstalls (Kept ∷ es) = ⊥
-AreInstalls (Released seq ∷ es) = ⊥
+-- no keep comes, and none goes
+abbrev pub KeepsStay : List Event → Type 0
+KeepsStay [] = ⊤
+KeepsStay (Installed i ∷ es) = KeepsStay es
+KeepsStay (Flushed ws ∷ es) = KeepsStay es
+KeepsStay (Kept ∷ es) = ⊥
+KeepsStay (Released seq ∷ es) = ⊥

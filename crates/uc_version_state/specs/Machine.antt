@@ -2,7 +2,8 @@
 --
 -- A compactor notes a stretch of neighbouring runs at a pin. It takes the claim words of their slots one by one, and
 -- checks that the runs are still in place. It installs what it made of them, and gives the words back one by one.
--- Between two steps of one compactor the others make any number of theirs.
+-- Between two steps of one compactor the others make any number of theirs. Writes are fed, keeps taken and released in
+-- between too, by callers that need no claim word (`Courses`).
 use Rattle.std.specs.Prelude.{◌≡◌, ℕ, ◌+◌, ◌≤◌, ◌==◌, ◌&&◌, Bool, true, false, ⊤, List, [], ◌∷◌, ◌++◌, Contains, length, take, slice_index, slice_index_or, slice_set, if◌then◌else◌}
 use Rattle.std.specs.List.Sorted.{IsStrictlySortedBy}
 use Rattle.std.specs.Ordering.{nat_cmp}
@@ -12,6 +13,7 @@ use Rattle.uc_compact_rules.specs.Inputs.{Compaction}
 use Rattle.uc_compact_rules.specs.Output.{output_of}
 use Rattle.uc_version_state.specs.Versions.{PlacedRun, Stored, contents_of, ids_of, slots_of}
 use Rattle.uc_version_state.specs.Installs.{Install, MayReplace, terms_of, part_of, standing, behind}
+use Rattle.uc_version_state.specs.declared.event.Event.{Event}
 use Rattle.uc_version_state.specs.declared.event.Event.TheVariants.{Installed}
 use Rattle.uc_version_state.specs.Histories.{History, version_after}
 
@@ -119,6 +121,10 @@ giving (slot ∷ slots) = Giving (slot ∷ slots)
 abbrev pub enters : ℕ → Phase → Machine → Machine
 enters c phase s = record s { phases = slice_set s.phases c phase }
 
+-- the machine after an event: it leaves words and phases as they are
+abbrev pub happens : Event → Machine → Machine
+happens e s = record s { history = record s.history { events = s.history.events ++ e ∷ [] } }
+
 -- the phase of one that won another word
 abbrev pub taking : List PlacedRun → ℕ → Phase
 taking noted taken = if taken == length noted then Taken noted else Taking noted taken
@@ -135,8 +141,7 @@ after_action c s Idle (Pin seen first count) = enters c (Taking (part_of first c
 after_action c s (Taking noted taken) Take = tried c noted taken s
 after_action c s (Taken noted) Check = enters c (if still_stand noted (present s) then Checked noted else giving (slots_of noted)) s
 after_action c s (Taken noted) Abandon = enters c (giving (slots_of noted)) s
-after_action c s (Checked noted) (Publish i) =
-    record (enters c (giving (slots_of noted)) s) { history = record s.history { events = s.history.events ++ Installed i ∷ [] } }
+after_action c s (Checked noted) (Publish i) = happens (Installed i) (enters c (giving (slots_of noted)) s)
 after_action c s (Checked noted) Abandon = enters c (giving (slots_of noted)) s
 after_action c s (Giving left) (Give slot) = record (enters c (giving (without (slot ∷ []) left)) s) { words = slice_set s.words slot 0 }
 after_action c s _ _ = s

@@ -76,10 +76,18 @@ impl Version {
     pub fn feed_refusal(&self, writes: &[Write]) -> Option<FeedError>
         ensures { result ≡ feeds.feed_refusal self.now writes.now }
     {
+        self.flushed_refusal(writes, memtable_count(self.limit(), writes))
+    }
+
+    /// Why writes that fill `count` memtables aren't fed, if they aren't. It looks at the first of them alone, and doesn't
+    /// allocate.
+    pub fn flushed_refusal(&self, writes: &[Write], count: usize) -> Option<FeedError>
+        requires { count ≡ length (feeds.memtables_in self.now writes.now) }
+        ensures { result ≡ feeds.feed_refusal self.now writes.now }
+    {
         if !begin_above(self.last(), writes) {
             return Some(FeedError::Back(self.last()));
         }
-        let count = memtable_count(self.limit(), writes);
         if count > MOST_SLOTS || self.runs().len() > MOST_SLOTS - count {
             return Some(FeedError::TooManyRuns);
         }

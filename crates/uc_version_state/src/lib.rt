@@ -10,8 +10,8 @@
 //! `picking.rt` picks, and `pick_laws.rt` has the laws of a pick.
 //!
 //! Concurrent compactors are a machine of single steps. `specs/Machine.antt` is the whole machine: what a compactor
-//! does, when it may, and what follows. In `specs/Courses.antt` any number of compactors make their steps in any order.
-//! `step_laws.rt` has the law that no checked compactor is ever displaced.
+//! does, when it may, and what follows. In `specs/Courses.antt` any number of compactors make their steps in any order,
+//! and others feed, keep and release between them. `step_laws.rt` has the law that no checked compactor is ever displaced.
 //!
 //! An `Err(AllocError)` comes only if an allocation fails.
 #![tactic(auto)]
@@ -29,6 +29,7 @@ mod picking;
 mod placed;
 mod refusal;
 mod refusing;
+mod release_error;
 mod replace;
 mod snapshots;
 mod standing;
@@ -62,6 +63,7 @@ pub use pick_laws::{
 pub use picking::pick_among;
 pub use placed::Placed;
 pub use refusal::Refusal;
+pub use release_error::ReleaseError;
 pub use step_laws::{a_lone_compactor_installs, never_stale};
 pub use stretch::Stretch;
 pub use terms::Terms;

@@ -1,11 +1,12 @@
 //! Snapshots: sequences that become keeps, and keeps that are released.
-ghost use Rattle.std.specs.Prelude.{◌≡◌, ◌↔◌, Contains, IsTrue, OnOk, OnErr};
+ghost use Rattle.std.specs.Prelude.{◌≡◌, ◌↔◌, Contains, IsTrue, IfOk, OnOk, OnErr};
 ghost use Rattle.std.specs.List.Sorted.{IsStrictlySortedBy};
 ghost use Rattle.std.specs.Ordering.{nat_cmp};
 ghost use Rattle.uc_version_state.specs.Snapshots as snapshots;
 
+use crate::placed::push_shared;
 use crate::version::Version;
-use std::alloc::AllocError;
+use std::alloc::{AllocError, Global};
 
 /// Whether a sequence is among keeps, which rise. It searches by halves.
 pub(crate) fn is_among(keeps: &[u64], seq: u64) -> bool
@@ -35,6 +36,35 @@ fn take_out(keeps: &mut Vec<u64>, seq: u64)
 }
 
 impl Version {
+    /// A copy, which shares the runs.
+    fn again(&self, alloc: Global) -> Result<Version, AllocError>
+        ensures { IfOk result (λ copy. copy ≡ self.now) }
+    {
+        self.recall();
+        let mut runs = Vec::with_capacity(alloc, self.runs.len())?;
+        push_shared(&mut runs, &self.runs)?;
+        let keeps = self.keeps.to_vec(alloc)?;
+        Ok(Version::new(runs, keeps, self.last, self.next_id, self.limit()))
+    }
+
+    /// The version after its last sequence was kept, as a new one that shares the runs.
+    pub fn kept(&self, alloc: Global) -> Result<Version, AllocError>
+        ensures { IfOk result (λ version. version ≡ snapshots.kept self.now) }
+    {
+        let mut next = self.again(alloc)?;
+        next.keep()?;
+        Ok(next)
+    }
+
+    /// The version after a keep was released, as a new one that shares the runs.
+    pub fn released(&self, alloc: Global, seq: u64) -> Result<Version, AllocError>
+        ensures { IfOk result (λ version. version ≡ snapshots.released seq self.now) }
+    {
+        let mut next = self.again(alloc)?;
+        next.release(seq);
+        Ok(next)
+    }
+
     /// Whether a sequence is a keep. It searches by halves.
     pub fn is_kept(&self, seq: u64) -> bool
         ensures { IsTrue result ↔ Contains self.now.keeps seq }

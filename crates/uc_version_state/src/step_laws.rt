@@ -13,9 +13,10 @@ ghost use Rattle.uc_version_state.specs.Courses.{Course, IsPossible, machine_aft
 use crate::laws::opening_gives_a_version;
 use uc_run::flushed_writes_are_a_run;
 
-/// A checked compactor is never displaced, whatever steps any number of compactors make, in any order. The runs that a
-/// checked compactor noted are in the present version, the same, as neighbours and in order. No slot is held by two
-/// compactors. Every install that a checked compactor made may happen, so the history is legal.
+/// A checked compactor is never displaced, whatever steps any number of compactors make, in any order, and whatever is
+/// fed, kept and released between them. The runs that a checked compactor noted are in the present version, the same, as
+/// neighbours and in order. No slot is held by two compactors. Every install that a checked compactor made may happen, so
+/// the history is legal.
 pub fn never_stale()
     ensures in_place { (m : Operation) (course : Course) (c : ℕ) (noted : List PlacedRun) →
         IsLawful m → IsPossible m course → phase_of c (machine_after course) ≡ Checked noted →

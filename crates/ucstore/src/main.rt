@@ -55,23 +55,24 @@ fn ask_log<R: Read, W: Write>(
         workers,
         piece,
         compactors,
+        later,
     } = uc_command::plan_of(matches);
     // The parser lets no other numbers through.
     if !is_plan(workers, piece, compactors) {
         return Outcome::without_reason(Done::Refused);
     }
-    let (outcome, _installs) = match uc_command::operator_name(matches) {
+    let (outcome, _beside) = match uc_command::operator_name(matches) {
         Some(OperatorName::Counter) => ask::<Counter, R, W>(
-            rt, alloc, reader, writer, &options, workers, piece, compactors,
+            rt, alloc, reader, writer, &options, workers, piece, compactors, later,
         ),
         Some(OperatorName::Append) => ask::<Append<COMMA>, R, W>(
-            rt, alloc, reader, writer, &options, workers, piece, compactors,
+            rt, alloc, reader, writer, &options, workers, piece, compactors, later,
         ),
         Some(OperatorName::Maximum) => ask::<Maximum, R, W>(
-            rt, alloc, reader, writer, &options, workers, piece, compactors,
+            rt, alloc, reader, writer, &options, workers, piece, compactors, later,
         ),
         // The parser lets no other name through.
-        None => (Outcome::without_reason(Done::Refused), 0),
+        None => return Outcome::without_reason(Done::Refused),
     };
     outcome
 }

@@ -6,7 +6,7 @@ use std::env::FillError;
 use std::test::Fail;
 
 /// Refused command lines, one for each reason.
-static REFUSED: [&str; 7] = [
+static REFUSED: [&str; 8] = [
     "ucstore",
     "ucstore pley",
     "ucstore dump log",
@@ -14,6 +14,7 @@ static REFUSED: [&str; 7] = [
     "ucstore play --operator minimum",
     "ucstore play --operator counter --operator append",
     "ucstore ask --operator counter --workers 65",
+    "ucstore play --operator counter --later 1",
 ];
 
 /// A refused command line ends with status 2.

@@ -1,11 +1,11 @@
 use Rattle.std.proofs.Common.{subst, rules}
-use Rattle.uc_query_workers.specs.Drawing.{AreLeft, HaveDrawn}
+use Rattle.uc_query_workers.specs.Drawing.{AreLeft, StandsIn}
 use Rattle.uc_query_workers.proofs.Shares.{all_left}
 use Rattle.uc_query_workers.proofs.gathered.gathered.Goals as goal
 
 pub joined-requires-clause-drawn : goal.joined-requires-clause-drawn
-joined-requires-clause-drawn g c = λ κs a.
-    let gives = g.S.Source.gives c.args.source.now in
-    let are : HaveDrawn gives c.args.batch.now c.args.counter.now.pieces c.in_ok-seat.seat.numbers c.in_ok-seat.draws.items = search rules in
-    subst (λ n. AreLeft gives c.args.batch.now 0 n c.in_ok-seat.draws.items) (search rules)
-    (all_left gives c.args.batch.now c.args.counter.now.pieces c.in_ok-seat.seat.numbers c.in_ok-seat.draws.items are c.recall_all_drawn.ensures.once)
+joined-requires-clause-drawn c =
+    let batch = c.args.batch.now in
+    let draws = c.args.draws.items in
+    subst (λ n. AreLeft (StandsIn batch draws) batch 0 n draws) (search rules)
+    (all_left (StandsIn batch draws) batch c.args.counter.now.pieces c.args.seat.numbers draws c.requires.drawn c.recall_all_drawn.ensures.once)

@@ -5,7 +5,7 @@ use Rattle.uc_query_workers.proofs.worker.draw_pieces.Given as goal
 
 abbrev pub invariant-loop-number : goal.invariant-loop-number
 invariant-loop-number g l = record {
-  drawn : DrawsOn (g.S.Source.gives l.fn.job.source.now) l.fn.job.batch.now l.fn.job.counter.now.pieces l.fn.seat l.seat l.numbers.items l.answers.items;
+  drawn : DrawsOn (g.S.Source.gives l.fn.job.source.now l.fn.place l.place) l.fn.job.batch.now l.fn.job.counter.now.pieces l.fn.seat l.seat l.numbers.items l.answers.items;
   goes_on : g.S.Source.goes_on l.fn.place l.place;
 }
 

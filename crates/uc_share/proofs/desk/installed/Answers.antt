@@ -8,8 +8,8 @@ use Rattle.uc_share.proofs.desk.installed.Goals as goal
 
 pub returns-clause-installed : goal.returns-clause-installed
 returns-clause-installed g c =
-    let made : c.publish-publisher.result.0 ≡ after_event (event_of g.O.Operator.meaning (claimed_runs c.args.held.now) c.args.made.now) c.args.publisher = search rules in
-    let events : c.sees-2.new.self ≡ c.publish-publisher.result.0.events = search rules in (
+    let made : c.publish_install-publisher.result.0 ≡ after_event (event_of g.O.Operator.meaning (claimed_runs c.args.held.now) c.args.made.now) c.args.publisher = search rules in
+    let events : c.sees-2.new.self ≡ c.publish_install-publisher.result.0.events = search rules in (
       c.args.publisher.events,
       subst (λ (es : List Event). IsPrefix c.args.reader.now es) c.refusal.ensures.all c.refusal.ensures.seen,
       events ∙ ap (λ (s : Moment). s.events) made,

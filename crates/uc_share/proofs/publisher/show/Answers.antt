@@ -9,7 +9,7 @@ publish_as-back-requires g c next is =
     let before = drop c.args.writer.behind c.args.writer.log.items in
     let n : next ≡ c.args.next = is ∙ (ap (λ (l : List Moment). fold (λ (a : Moment) (b : Moment). b) x l) c.loop.invariant.1 ∙ last_taken x c.args.next before) in
     let up : length x.events ≤ length next.events = rw (c.loop.invariant.0, n) c.requires.longer in
-    rises g.O.Operator.meaning g.N.Name.book g.N.Name.base _ _ x next up (subst (λ (s : Moment). IsMoment g.O.Operator.meaning g.N.Name.book g.N.Name.base s) (sym n) c.requires.moment)
+    rises g.O.Operator.meaning g.N.Name.keeps_stay g.N.Name.book g.N.Name.base _ _ x next up (subst (λ (s : Moment). IsMoment g.O.Operator.meaning g.N.Name.keeps_stay g.N.Name.book g.N.Name.base s) (sym n) c.requires.moment)
 
 pub returns-in-Ok : goal.returns-in-Ok
 returns-in-Ok g c =

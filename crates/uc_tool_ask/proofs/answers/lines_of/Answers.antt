@@ -14,7 +14,7 @@ pub returns-in-Ok-clause-lines : goal.returns-in-Ok-clause-lines
 returns-in-Ok-clause-lines g c h legal leads =
     let m = g.O.Operator.meaning in
     let queries = c.deref.ensures.value ∙ c.in_ok-queries.ensures in
-    let answered : c.in-Ok.answers.items ≡ answers_given m h c.deref.result.now = (rw c.in-Ok.is at c.answer_all-readers.ensures.answers) h legal leads in
+    let answered : c.in-Ok.answers.items ≡ answers_given m h c.deref.result.now = (rw c.in-Ok.is at (c.answer_all-readers.ensures.stay c.requires.stay)) h legal leads in
     let value : c.deref-in-Ok.result.now ≡ c.in-Ok.answers.items = search rules in
     c.in_ok-answers_lines-in-Ok.ensures
     ∙ ap (λ (xs : List Answer). flat_map answer_lines xs) (value ∙ answered ∙ ap (λ (xs : List Query). answers_given m h xs) queries)

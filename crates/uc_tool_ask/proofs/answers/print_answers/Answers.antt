@@ -24,7 +24,7 @@ pub asked-init : goal.asked-init
 asked-init g c =
     let old = g.W.Write.contents c.args.writer.now in
     record {
-      enough = rw c.replace-readers.ensures.value c.requires;
+      enough = rw c.replace-readers.ensures.value c.requires.readers;
       some = c.args.plan.is_plan.some_worker;
       goes = λ h legal leads. let all = replies_given g.O.Operator.meaning h c.args.last (queries_in c.args.head.now) in
           subst (λ (qs : List Query). GoesOn all (replies_given g.O.Operator.meaning h c.args.last qs) old old) (sym c.new-ahead.ensures) (begins all old);

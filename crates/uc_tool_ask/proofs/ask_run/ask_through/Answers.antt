@@ -22,11 +22,11 @@ pub returns-clause-written : goal.returns-clause-written
 returns-clause-written g c =
     let m = g.O.Operator.meaning in
     let o = c.args.options.now in
-    c.run_over_input-done.ensures.written (ask_of m o) (ask_whole m o) (λ input before after outcome told short call. search rules)
+    c.run_over_input-done.ensures.written (ask_of m o c.args.later) (ask_whole m o c.args.later) (λ input before after outcome told short call. search rules)
 
 pub returns-clause-told : goal.returns-clause-told
 returns-clause-told g c =
-    let cause = cause_of c.args.options.now in
+    let cause = cause_of c.args.options.now c.args.later in
     let remaining = g.R.Read.remaining c.args.reader.now in
     let told = c.run_over_input-done.result.1 in
     let is : reason_in reason_of told ≡ c.unwrap_or-reason.result.reason = reason_is c.nothing.result (ap reason_of c.nothing.ensures) told ∙ sym (ap reason_of c.unwrap_or-reason.ensures) in
@@ -35,7 +35,7 @@ returns-clause-told g c =
 
 pub returns-clause-opening : goal.returns-clause-opening
 returns-clause-opening g c refused =
-    let cause = cause_of c.args.options.now in
+    let cause = cause_of c.args.options.now c.args.later in
     let remaining = g.R.Read.remaining c.args.reader.now in
     let told = c.run_over_input-done.result.1 in
     let is : reason_in reason_of told ≡ c.unwrap_or-reason.result.reason = reason_is c.nothing.result (ap reason_of c.nothing.ensures) told ∙ sym (ap reason_of c.unwrap_or-reason.ensures) in

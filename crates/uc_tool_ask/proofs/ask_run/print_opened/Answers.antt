@@ -4,8 +4,8 @@ use Rattle.uc_script.specs.Head.{queries_in}
 use Rattle.uc_tool_ask.proofs.Opened.{printed_of_writes}
 use Rattle.uc_tool_ask.proofs.ask_run.print_opened.Goals as goal
 
-pub returns-in-Ok-of-clause-printed : goal.returns-in-Ok-of-clause-printed
-returns-in-Ok-of-clause-printed g c writes rising from =
+pub returns-in-Ok-clause-printed : goal.returns-in-Ok-clause-printed
+returns-in-Ok-clause-printed g c writes rising from =
     let m = g.O.Operator.meaning in
     let contents = g.V.Write.contents in
     let ok = c.in-Ok.ensures.ok c.args.options.now writes rising from in

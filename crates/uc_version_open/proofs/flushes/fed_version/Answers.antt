@@ -1,7 +1,4 @@
-use Rattle.std.proofs.Common.{subst, sym, ap, ◌∙◌, rules}
-use Rattle.uc_version_state.specs.Versions.{IsVersion}
 use Rattle.uc_version_state.proofs.Memtables.{rising_from_any}
-use Rattle.uc_version_open.proofs.Feeding.{are_fed}
 use Rattle.uc_version_open.proofs.flushes.fed_version.Goals as goal
 
 pub flush_writes-requires-clause-rising : goal.flush_writes-requires-clause-rising

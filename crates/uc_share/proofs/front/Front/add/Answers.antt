@@ -1,5 +1,4 @@
 use Rattle.std.proofs.Common.{sym, ◌∙◌, ap}
-use Rattle.uc_version_state.specs.declared.event.Event.TheVariants.{Installed}
 use Rattle.uc_share.proofs.Adding.{adds_moves}
 use Rattle.uc_share.proofs.front.Front.add.Goals as goal
 
@@ -12,5 +11,5 @@ compare_exchange-found-requires g c =
       c.self.invariant.1 ∙ sym (ap (λ w. w.book) h),
       pen.0 ∙ (c.self.invariant.1 ∙ sym (ap (λ w. w.book) h)),
       offer.0,
-      rw (ap (λ w. w.key) h, pen.1, offer.1, offer.3) (adds_moves c.self.inside.seen.log (Installed c.args.install.now) c.self.inside.count (sym c.self.invariant.0)),
+      rw (ap (λ w. w.key) h, pen.1, offer.1, offer.3 ∙ c.requires.plain) (adds_moves c.self.inside.seen.log (g.M.Plain.ask c.args.about.now) c.self.inside.count (sym c.self.invariant.0)),
     )

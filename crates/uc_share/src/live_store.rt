@@ -1,0 +1,117 @@
+//! Writes that are fed to a store that threads share, and snapshots that come and go.
+ghost use Rattle.std.specs.Prelude.{◌≡◌, IfErr, IfOk, OnOk, false, fold, length, map};
+ghost use mathlib.Core.List.{IsPrefix};
+ghost use Rattle.uc_run.specs.Flush.{flushed};
+ghost use Rattle.uc_version_state.specs.Flushes.{memtables};
+ghost use Rattle.uc_version_state.specs.Histories.{MayFollow, after};
+ghost use Rattle.uc_version_state.specs.declared.event.Event.TheVariants.{Flushed, Kept, Released};
+ghost use Rattle.uc_share.specs.Installing.{EndsWith};
+ghost use Rattle.uc_share.specs.Live.{IsFeedRefused, IsReleaseRefused};
+
+use crate::name::Name;
+use crate::pin::Pin;
+use crate::reader::Reader;
+use crate::store::Store;
+use std::alloc::{AllocError, Global};
+use std::sync::Wait;
+use uc_batch::Writes;
+use uc_oper::Operator;
+use uc_run::Run;
+use uc_version_open::flush_writes;
+use uc_version_state::{FeedError, ReleaseError};
+
+impl<O: Operator, N: Name, W: Wait + Drop> Store<O, N, W> {
+    /// Feeds writes: they fill memtables, and each becomes a run before all others, for all readers at once. Returns how many
+    /// runs there are more. The last sequence becomes theirs; keeps stay, and so do claims. No writes change nothing, and are an
+    /// event too.
+    ///
+    /// It is refused if the first write isn't above the last sequence, then if a run would have no slot, then if no id is left
+    /// for one. The version that the reader then has seen shows it. Want of memory may be told in place of another refusal.
+    ///
+    /// It looks at a pin first, so most refusals are told before anything is flushed. The writes are flushed before the lock is
+    /// taken, and no text is looked at behind it. It waits for others that publish, and for readers that still look at the version
+    /// before. It costs a copy of each text and a sort of what is fed.
+    pub fn feed(
+        &self,
+        rt: &impl Wait,
+        alloc: Global,
+        writes: &Writes,
+        reader: &mut Reader<O, N>,
+    ) -> Result<u64, FeedError>
+        ensures seen { IsPrefix reader.old reader.new }
+        ensures legal { MayFollow O.meaning N.base reader.new }
+        ensures fed { OnOk result (EndsWith reader.old (Flushed writes.now.list) reader.new) }
+        ensures count { IfOk result (λ count. count ≡ length (memtables N.base.limit writes.now.list)) }
+        ensures refused { IfErr result (IsFeedRefused (fold after N.base reader.new) writes.now.list) }
+    {
+        let runs = runs_to_feed(alloc, writes, reader)?;
+        let count = runs.len() as u64;
+        let mut desk = self.desk.lock(rt);
+        desk.feed(rt, alloc, writes, runs, reader)?;
+        Ok(count)
+    }
+
+    /// Takes a snapshot: the last sequence becomes a keep, if it isn't one, for all readers at once. Returns it. Keeps aren't
+    /// counted: one release ends a keep that was taken twice. It waits as [`feed`](Store::feed) does.
+    pub fn keep(
+        &self,
+        rt: &impl Wait,
+        alloc: Global,
+        reader: &mut Reader<O, N>,
+    ) -> Result<u64, AllocError>
+        requires { N.keeps_stay ≡ false }
+        ensures seen { IsPrefix reader.old reader.new }
+        ensures legal { MayFollow O.meaning N.base reader.new }
+        ensures kept { OnOk result (EndsWith reader.old Kept reader.new) }
+        ensures last { IfOk result (λ seq. seq ≡ (fold after N.base reader.new).last) }
+    {
+        let mut desk = self.desk.lock(rt);
+        desk.keep(rt, alloc, reader)
+    }
+
+    /// Releases a snapshot: the sequence is a keep no more, for all readers at once. It is refused if it is none, which the version
+    /// that the reader then has seen shows, and for want of memory. It waits as [`feed`](Store::feed) does.
+    pub fn release(
+        &self,
+        rt: &impl Wait,
+        alloc: Global,
+        seq: u64,
+        reader: &mut Reader<O, N>,
+    ) -> Result<(), ReleaseError>
+        requires { N.keeps_stay ≡ false }
+        ensures seen { IsPrefix reader.old reader.new }
+        ensures legal { MayFollow O.meaning N.base reader.new }
+        ensures released { OnOk result (EndsWith reader.old (Released seq) reader.new) }
+        ensures refused { IfErr result (IsReleaseRefused (fold after N.base reader.new) seq) }
+    {
+        let mut desk = self.desk.lock(rt);
+        desk.release(rt, alloc, seq, reader)
+    }
+}
+
+/// No event changes from how many bytes on a memtable is flushed. It does nothing.
+fn recall_limit<O: Operator, N: Name>(pin: &Pin<O, N>)
+    ensures { pin.now.version.limit ≡ N.base.limit }
+{
+    pin.recall();
+}
+
+/// The runs of the memtables that writes fill, the oldest first, unless the version that is shown refuses the writes.
+fn runs_to_feed<O: Operator, N: Name>(
+    alloc: Global,
+    writes: &Writes,
+    reader: &mut Reader<O, N>,
+) -> Result<Vec<Run>, FeedError>
+    ensures seen { IsPrefix reader.old reader.new }
+    ensures legal { MayFollow O.meaning N.base reader.new }
+    ensures runs { IfOk result (λ runs. runs.items ≡ map flushed (memtables N.base.limit writes.now.list)) }
+    ensures refused { IfErr result (IsFeedRefused (fold after N.base reader.new) writes.now.list) }
+{
+    let pin = reader.pin()?;
+    recall_limit(&pin);
+    pin.version().recall();
+    if let Some(error) = pin.version().feed_refusal(writes.list()) {
+        return Err(error);
+    }
+    Ok(flush_writes(alloc, pin.version().limit(), writes.list())?)
+}

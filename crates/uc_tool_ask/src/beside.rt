@@ -1,0 +1,75 @@
+//! [`Beside`]: what is done to a store while queries are answered.
+ghost use denote.Param.Send.{IsSync, IsSend};
+ghost use Rattle.std.specs.Prelude.{◌≡◌, All};
+
+use crate::compactor::{Compactor, all_installs};
+use crate::feeder::{Feeder, feed_all};
+use std::alloc::Global;
+use std::marker::{Send, Sync};
+use std::mem;
+use std::sync::Wait;
+use std::thread::{Threads, join};
+use uc_oper::Operator;
+use uc_share::{Name, Store, TurnGate};
+
+/// What was done to a store beside the answers.
+#[derive(Clone, Copy, Debug, PartialEq, Eq)]
+pub struct Beside {
+    /// How many installs its compactors made.
+    pub installs: u64,
+    /// How many writes were fed to it.
+    pub fed: u64,
+}
+
+impl Beside {
+    /// Nothing was done.
+    pub(crate) fn nothing() -> Beside
+        ensures { result ≡ record { installs = 0; fed = 0 } }
+    {
+        Beside {
+            installs: 0,
+            fed: 0,
+        }
+    }
+}
+
+/// Who works beside the answers: a crew of compactors, and a feeder, if there is one.
+#[derive(Drop)]
+pub(crate) struct Helpers<O: Operator, N: Name> {
+    pub(crate) crew: Vec<Compactor<O, N>>,
+    pub(crate) feeder: Option<Feeder<O, N>>,
+}
+
+/// Lets a crew compact while a feeder feeds, if there is one. Where no thread can be made, the crew compacts first. All have
+/// ended then, and none is left.
+pub(crate) fn work_beside<O, N, W, G, R>(
+    rt: &R,
+    alloc: Global,
+    store: &Store<O, N, W>,
+    gate: &G,
+    helpers: &mut Helpers<O, N>,
+) -> Beside
+where
+    O: Operator + Send + Sync,
+    N: Name + Send + Sync,
+    W: Wait + Drop + Send,
+    G: TurnGate,
+    R: Threads + Wait + Sync,
+    requires { All (λ x. x.seat.table ≡ store.now.table) helpers.old.crew.items }
+{
+    let Some(feeder) = helpers.feeder.take() else {
+        return Beside {
+            installs: all_installs(rt, alloc, store, gate, &mut helpers.crew),
+            fed: 0,
+        };
+    };
+    let mut crew = mem::replace(&mut helpers.crew, Vec::new(alloc));
+    let (fed, installs) = join(
+        rt,
+        move || -> u64 { feed_all(rt, alloc, store, feeder) },
+        move || -> u64
+            requires { All (λ x. x.seat.table ≡ store.now.table) crew.items }
+        { all_installs(rt, alloc, store, gate, &mut crew) },
+    );
+    Beside { installs, fed }
+}

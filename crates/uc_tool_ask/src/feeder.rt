@@ -1,0 +1,69 @@
+//! [`Feeder`]: a thread that feeds a log's last writes to a store while queries are answered.
+ghost use Rattle.std.specs.Prelude.{◌≤◌, vec_len};
+
+use std::alloc::Global;
+use std::sync::Wait;
+use uc_batch::{Write, Writes};
+use uc_oper::Operator;
+use uc_share::{Name, Reader, Store};
+
+/// What a feeder has: a reader of the store, and the writes that come to it, the oldest first.
+#[derive(Drop)]
+pub(crate) struct Feeder<O: Operator, N: Name> {
+    pub(crate) reader: Reader<O, N>,
+    pub(crate) writes: Vec<Write>,
+}
+
+/// A feeder of these writes, if a reader is left beside those of the workers. So many are left for them.
+pub(crate) fn feeder_of<O: Operator, N: Name>(
+    workers: usize,
+    readers: &mut Vec<Reader<O, N>>,
+    writes: Vec<Write>,
+) -> Option<Feeder<O, N>>
+    requires { workers ≤ vec_len readers.old }
+    ensures { workers ≤ vec_len readers.new }
+{
+    if readers.len() <= workers {
+        return None;
+    }
+    let reader = readers.pop()?;
+    Some(Feeder { reader, writes })
+}
+
+/// Feeds one write, and says whether the store took it.
+fn feed_one<O: Operator, N: Name, W: Wait + Drop>(
+    rt: &impl Wait,
+    alloc: Global,
+    store: &Store<O, N, W>,
+    reader: &mut Reader<O, N>,
+    write: Write,
+) -> bool {
+    let mut list = Vec::new(alloc);
+    if list.push(write).is_err() {
+        return false;
+    }
+    match Writes::of(list) {
+        None => false,
+        Some(writes) => store.feed(rt, alloc, &writes, reader).is_ok(),
+    }
+}
+
+/// Feeds a feeder's writes one by one, until one is refused, and says how many were fed.
+pub(crate) fn feed_all<O: Operator, N: Name, W: Wait + Drop>(
+    rt: &impl Wait,
+    alloc: Global,
+    store: &Store<O, N, W>,
+    feeder: Feeder<O, N>,
+) -> u64
+    ensures { result ≤ vec_len feeder.writes }
+{
+    let Feeder { mut reader, writes } = feeder;
+    let mut fed = 0_u64;
+    for write in writes {
+        if !feed_one(rt, alloc, store, &mut reader, write) {
+            return fed;
+        }
+        fed += 1;
+    }
+    fed
+}

@@ -1,0 +1,34 @@
+//! The part of a log that a store opens from, and the writes that come later.
+ghost use Rattle.std.specs.Prelude.{◌≡◌, ◌-◌, IfOk, drop, length};
+ghost use Rattle.uc_batch.specs.Log.{log_writes};
+ghost use Rattle.uc_batch.specs.Rising.{IsRising};
+ghost use Rattle.uc_version_open.specs.Progress.{progress_of};
+ghost use Rattle.uc_tool_ask.specs.Ask.{without_last};
+
+use std::alloc::{AllocError, Global};
+use uc_batch::Write;
+use uc_version_open::{Recovered, count_writes, recover, recover_first};
+use uc_version_state::Options;
+
+/// A store that is being opened from a log without its last writes, how far the log was read, and these writes. It goes once
+/// over the log if nothing comes later, and else twice.
+pub(crate) fn recover_part(
+    alloc: Global,
+    log: &[u8],
+    options: Options,
+    later: u64,
+) -> Result<(Recovered, Vec<Write>), AllocError>
+    ensures opener { IfOk result (λ found.
+        found.0.opener ≡ progress_of options (without_last later (log_writes log.now).list)) }
+    ensures ended { IfOk result (λ found. found.0.ended ≡ (log_writes log.now).ended) }
+    ensures rising { IfOk result (λ _. IsRising 0 (without_last later (log_writes log.now).list)) }
+    ensures behind { IfOk result (λ found. let all = (log_writes log.now).list in
+        found.1.items ≡ drop (length all - later) all) }
+{
+    if later == 0 {
+        let recovered = recover(alloc, log, options)?;
+        return Ok((recovered, Vec::new(alloc)));
+    }
+    let counted = count_writes(alloc, log)?;
+    recover_first(alloc, log, options, counted.count.saturating_sub(later))
+}
