@@ -7,8 +7,9 @@ use Rattle.uc_version_state.specs.Refusals.{IsRefused}
 use Rattle.uc_version_state.specs.declared.refusal.Refusal.{Refusal}
 use Rattle.uc_version_state.specs.declared.refusal.Refusal.TheVariants as refusal
 use Rattle.uc_version_compact.specs.Compacting.{Fits, IsInstallable, IsNotInstallable, error_of}
-use Rattle.uc_version_compact.specs.declared.install_error.InstallError.TheVariants.{Memory}
-use Rattle.uc_share.specs.Installing.{ShowsRefusal}
+use Rattle.uc_version_compact.specs.declared.install_error.InstallError.{InstallError}
+use Rattle.uc_version_compact.specs.declared.install_error.InstallError.TheVariants.{WrongInputs, WrongKeeps, Stale, IdsSpent, Memory}
+use Rattle.uc_share.specs.Installing.{IsOwnRefusal, ShowsRefusal}
 
 not_installable : (v : Stored) (claimed : List PlacedRun) (made : Compaction) (r : Refusal) → made.inputs ≡ contents_of claimed → IsRefused v (ids_of claimed) (terms_of made) r → IsNotInstallable v claimed made (error_of r)
 not_installable v claimed made refusal.OlderBehind inputs h = λ (fits : Fits v claimed made). h fits.oldest
@@ -35,3 +36,13 @@ memory_shown v seen claimed made same may = record {
   shown = λ not. absurd (not refl);
   else_memory = λ _. subst (λ (w : Stored). IsInstallable w claimed made) (sym same) may;
 }
+
+-- ---- what the claimed runs themselves were compacted to
+
+-- what shows a refusal of it shows one of two reasons, or want of memory
+pub own_shown : (v : Stored) (claimed : List PlacedRun) (made : Compaction) (error : InstallError) → ShowsRefusal v claimed made error → ((e : InstallError) → IsNotInstallable v claimed made e → IsOwnRefusal e) → IsOwnRefusal error
+own_shown v claimed made WrongInputs h law = law WrongInputs (h.shown (λ e. cc (e)))
+own_shown v claimed made (WrongKeeps keep) h law = law (WrongKeeps keep) (h.shown (λ e. cc (e)))
+own_shown v claimed made Stale h law = tt
+own_shown v claimed made IdsSpent h law = tt
+own_shown v claimed made Memory h law = tt

@@ -21,7 +21,7 @@ use Rattle.uc_share.specs.declared.turn.Turn.TheVariants.{Late, Installed}
 use Rattle.uc_share.specs.Fronts.{Moment, moment}
 use Rattle.uc_share.specs.Picking.{IsPick}
 use Rattle.uc_share.specs.Claims.{Claim, IsClaimRefused, claim_of, claimed_runs}
-use Rattle.uc_share.specs.Installing.{EndsWith, ShowsRefusal, event_of}
+use Rattle.uc_share.specs.Installing.{EndsWith, IsOwnRefusal, ShowsRefusal, event_of}
 use Rattle.uc_share.specs.Turns.{CameOf, FailedFor, IsPicked, Turning, last_seen, refused_turn}
 use Rattle.uc_share.proofs.Prefixes.{prefix_behind}
 
@@ -60,7 +60,7 @@ late_failed t refused.OutOfRange = tt
 late_failed t refused.TooNarrow = tt
 late_failed t (refused.Busy slot) = tt
 late_failed t refused.Moved = tt
-late_failed t refused.Memory = λ ne. absurd (ne refl)
+late_failed t refused.Memory = (tt, λ ne. absurd (ne refl))
 
 -- the compaction of a claim, and its event
 abbrev pub made_of : Claim → Compaction
@@ -77,7 +77,10 @@ finished m t pin s held between (Ok turn) is claim front which ends =
 finished m t pin s held between (Err error) is claim front which ends = tt
 
 -- it is made, and its compaction isn't installed
-pub unfinished : (t : Turning) (pin : Moment) (s : Stretch) (held : Claim) (came : Result Turn InstallError) → IsPicked t pin s → held ≡ claim_of t.seat pin s → IfErr came (λ error. error ≢ Memory → ShowsRefusal (last_seen t) (claimed_runs held) (made_of held) error) → IfErr came (FailedFor t)
-unfinished t pin s held (Ok turn) is claim h = tt
-unfinished t pin s held (Err error) is claim h = λ ne.
-    (pin, s, is, subst (λ (c : Claim). ShowsRefusal (last_seen t) (claimed_runs c) (made_of c) error) claim (h ne))
+pub unfinished : (t : Turning) (pin : Moment) (s : Stretch) (held : Claim) (came : Result Turn InstallError) → IsPicked t pin s → held ≡ claim_of t.seat pin s → IfErr came IsOwnRefusal → IfErr came (λ error. error ≢ Memory → ShowsRefusal (last_seen t) (claimed_runs held) (made_of held) error) → IfErr came (FailedFor t)
+unfinished t pin s held (Ok turn) is claim own h = tt
+unfinished t pin s held (Err error) is claim own h = (
+  own,
+  λ ne.
+      (pin, s, is, subst (λ (c : Claim). ShowsRefusal (last_seen t) (claimed_runs c) (made_of c) error) claim (h ne)),
+)

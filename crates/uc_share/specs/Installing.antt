@@ -1,5 +1,5 @@
 -- Installs of what was compacted of claimed runs.
-use Rattle.std.specs.Prelude.{◌≡◌, ◌≢◌, List, [], ◌∷◌, ◌++◌}
+use Rattle.std.specs.Prelude.{◌≡◌, ◌≢◌, ⊤, List, [], ◌∷◌, ◌++◌}
 use mathlib.Core.List.{IsPrefix}
 use Rattle.uc_oper.specs.Operation.{Operation}
 use Rattle.uc_compact_rules.specs.Inputs.{Compaction}
@@ -10,7 +10,7 @@ use Rattle.uc_version_state.specs.declared.event.Event.{Event}
 use Rattle.uc_version_state.specs.declared.event.Event.TheVariants.{Installed}
 use Rattle.uc_version_compact.specs.Compacting.{install_for, IsInstallable, IsNotInstallable}
 use Rattle.uc_version_compact.specs.declared.install_error.InstallError.{InstallError}
-use Rattle.uc_version_compact.specs.declared.install_error.InstallError.TheVariants.{Memory}
+use Rattle.uc_version_compact.specs.declared.install_error.InstallError.TheVariants.{WrongInputs, WrongKeeps, Stale, IdsSpent, Memory}
 
 -- the event that puts what was compacted in place of claimed runs
 abbrev pub event_of : Operation → List PlacedRun → Compaction → Event
@@ -24,6 +24,14 @@ EndsWith old e new = (before : List Event) × IsPrefix old before × (new ≡ be
 pub record ShowsRefusal (v : Stored) (claimed : List PlacedRun) (made : Compaction) (error : InstallError) : Type 0 where
   pub shown : error ≢ Memory → IsNotInstallable v claimed made error
   pub else_memory : error ≡ Memory → IsInstallable v claimed made
+
+-- why what a claim's own runs were compacted to isn't installed: they stand no more, no id is left, or memory ran out
+abbrev pub IsOwnRefusal : InstallError → Type 0
+IsOwnRefusal WrongInputs = ⊥
+IsOwnRefusal (WrongKeeps keep) = ⊥
+IsOwnRefusal Stale = ⊤
+IsOwnRefusal IdsSpent = ⊤
+IsOwnRefusal Memory = ⊤
 
 -- the claimed runs stand in the version, and what was compacted of them may be installed in their place
 pub record MayInstallHere (m : Operation) (v : Stored) (claimed : List PlacedRun) (made : Compaction) : Type 0 where

@@ -1,5 +1,5 @@
 -- What comes of a compactor's turn.
-use Rattle.std.specs.Prelude.{◌≡◌, ◌≢◌, ⊤, List, Some, None, Result, Ok, Err, fold}
+use Rattle.std.specs.Prelude.{◌≡◌, ◌≢◌, ⊤, List, Option, Some, None, Result, Ok, Err, fold}
 use mathlib.Core.List.{IsPrefix}
 use Rattle.uc_claims.specs.Holding.{Holding}
 use Rattle.uc_oper.specs.Operation.{Operation}
@@ -18,7 +18,7 @@ use Rattle.uc_share.specs.declared.turn.Turn.TheVariants.{Idle, Late, Installed}
 use Rattle.uc_share.specs.Fronts.{Moment}
 use Rattle.uc_share.specs.Picking.{IsPick}
 use Rattle.uc_share.specs.Claims.{IsClaimRefused}
-use Rattle.uc_share.specs.Installing.{EndsWith, ShowsRefusal, event_of}
+use Rattle.uc_share.specs.Installing.{EndsWith, IsOwnRefusal, ShowsRefusal, event_of}
 
 -- A turn in a store that is compacted so and was opened with this version: with which seat, and what its reader had seen of the
 -- history before it, and has seen after it
@@ -31,6 +31,11 @@ pub record Turning : Type 0 where
 
 abbrev pub turning : Options → Stored → Holding → List Event → List Event → Turning
 turning options base seat old new = record { options = options; base = base; seat = seat; old = old; new = new }
+
+-- a compactor: the seat that it has between turns, and what its reader has seen of the history
+pub record Seated : Type 0 where
+  pub seat : Option Holding
+  pub seen : List Event
 
 -- a stretch that the turn picks, of a version that it pins: it comes after all that the reader had seen, and the reader has seen it
 pub record IsPicked (t : Turning) (pin : Moment) (s : Stretch) : Type 0 where
@@ -61,12 +66,16 @@ CameOf m t Installed =
     (pin : Moment) × (s : Stretch) × IsPicked t pin s
     × EndsWith pin.events (event_of m (runs_at pin.version s) (compaction_at pin.version s)) t.new
 
--- Why nothing came of it: memory ran out, or the version that was seen last shows why the compaction of what was picked isn't
--- installed.
-abbrev pub FailedFor : Turning → InstallError → Type 0
-FailedFor t error = error ≢ Memory →
+-- the version that was seen last shows why the compaction of what was picked isn't installed
+abbrev pub IsUninstalled : Turning → InstallError → Type 0
+IsUninstalled t error =
     (pin : Moment) × (s : Stretch) × IsPicked t pin s
     × ShowsRefusal (last_seen t) (runs_at pin.version s) (compaction_at pin.version s) error
+
+-- Why nothing came of it: memory ran out; or the runs of what was picked stand no more, or no id is left, as the version that was
+-- seen last shows.
+abbrev pub FailedFor : Turning → InstallError → Type 0
+FailedFor t error = IsOwnRefusal error × (error ≢ Memory → IsUninstalled t error)
 
 -- what a refused claim makes of a turn
 abbrev pub refused_turn : ClaimError → Result Turn InstallError

@@ -1,5 +1,5 @@
 //! [`Desk`]: what stands behind a store's lock, and what is done there.
-ghost use Rattle.std.specs.Prelude.{◌≡◌, ◌≢◌, None, IfErr, IfOk, IfSome, IfNone, OnOk, fold, option_map};
+ghost use Rattle.std.specs.Prelude.{◌≡◌, ◌≢◌, List, None, IfErr, IfOk, IfSome, IfNone, OnOk, fold, option_map};
 ghost use mathlib.Core.List.{IsPrefix};
 ghost use Rattle.uc_version_state.specs.Versions.{contents_of, ids_of};
 ghost use Rattle.uc_version_state.specs.Installs.{terms_of};
@@ -7,12 +7,15 @@ ghost use Rattle.uc_version_state.specs.Refusals.{IsRefused};
 ghost use Rattle.uc_version_state.specs.Histories.{MayFollow, after};
 ghost use Rattle.uc_share.specs.Fronts.{after_event};
 ghost use Rattle.uc_share.specs.Claims.{claimed_runs};
-ghost use Rattle.uc_version_compact.specs.Compacting.{install_for};
-ghost use Rattle.uc_share.specs.Installing.{event_of, EndsWith, MayInstallHere, ShowsRefusal};
+ghost use Rattle.uc_version_state.specs.declared.event.Event.{Event};
+ghost use Rattle.uc_version_compact.specs.Compacting.{IsNotInstallable, compaction_at, install_for};
+ghost use Rattle.uc_version_compact.specs.declared.install_error.InstallError.{InstallError};
+ghost use Rattle.uc_share.specs.Installing.{event_of, EndsWith, IsOwnRefusal, MayInstallHere, ShowsRefusal};
 
 use crate::front::Front;
 use crate::front_laws::claimed_runs_stay_the_same;
 use crate::held::Held;
+use crate::laws::own_compactions_are_refused_for_two_reasons;
 use crate::name::Name;
 use crate::pin::Pin;
 use crate::publisher::Publisher;
@@ -76,6 +79,8 @@ impl<O: Operator, N: Name, W: Wait + Drop> Desk<O, N, W> {
             (EndsWith reader.old (event_of O.meaning (claimed_runs held.now) made.now) reader.new) }
         ensures refused { IfErr result (λ error.
             ShowsRefusal (fold after N.base reader.new) (claimed_runs held.now) made.now error) }
+        ensures own { IfErr result (λ error.
+            made.now ≡ compaction_at held.now.pin.version held.now.stretch → IsOwnRefusal error) }
     {
         let Some(publisher) = self.publisher.take() else {
             unreachable!()
@@ -108,8 +113,11 @@ fn installed<O: Operator, N: Name, W: Wait + Drop, R: Wait>(
         (EndsWith reader.old (event_of O.meaning (claimed_runs held.now) made.now) reader.new) }
     ensures refused { IfErr result.1 (λ error.
         ShowsRefusal (fold after N.base reader.new) (claimed_runs held.now) made.now error) }
+    ensures own { IfErr result.1 (λ error.
+        made.now ≡ compaction_at held.now.pin.version held.now.stretch → IsOwnRefusal error) }
 {
     if let Some(refusal) = refusal(rt, &publisher, held, made, reader) {
+        own_is_refused_for_two_reasons(held);
         return (publisher, Err(error_of(refusal)));
     }
     let Ok(install) = install else {
@@ -137,6 +145,7 @@ fn refusal<O: Operator, N: Name, W: Wait + Drop, R: Wait>(
     ensures seen { IsPrefix reader.old reader.new }
     ensures legal { MayFollow O.meaning N.base reader.new }
     ensures all { reader.new ≡ publisher.now.events }
+    ensures behind { IsPrefix held.now.pin.events reader.new }
     ensures may { IfNone result (MayInstallHere O.meaning publisher.now.version (claimed_runs held.now) made.now) }
     ensures refused { IfSome result (λ refusal.
         IsRefused publisher.now.version (ids_of (claimed_runs held.now)) (terms_of made.now) refusal) }
@@ -168,4 +177,18 @@ fn version_refusal<O: Operator, N: Name, W: Wait + Drop>(
     claimed_runs_stay_the_same::<O>();
     what_fits_may_be_installed::<O>();
     present_refusal(held.runs(), publisher.shown().version(), made)
+}
+
+/// What the claimed runs themselves were compacted to is refused for two reasons by all versions behind the one that was pinned.
+/// Proof step: does nothing when it runs.
+fn own_is_refused_for_two_reasons<O: Operator, N: Name>(held: &Held<O, N>)
+    ensures { (now : List Event) (error : InstallError) → IsPrefix held.now.pin.events now → MayFollow O.meaning N.base now →
+        IsNotInstallable (fold after N.base now) (claimed_runs held.now)
+        (compaction_at held.now.pin.version held.now.stretch) error →
+        IsOwnRefusal error }
+{
+    held.recall();
+    held.pin().recall();
+    held.pin().version().recall();
+    own_compactions_are_refused_for_two_reasons::<O>();
 }

@@ -12,7 +12,8 @@
 //! | [`Held`] | `Held::look` | and found its runs in place in a version that was shown after that |
 //! | [`Seat`] | [`Store::install`], [`Store::abandon`] | published, to which the slots are lent, or not; and given them back |
 //!
-//! [`Store::compact_once`] takes a whole turn, and says by a [`Turn`] what came of it.
+//! [`Store::compact_once`] takes a whole turn, and says by a [`Turn`] what came of it. A [`Compactor`] is a reader with a seat, for
+//! who takes turns alone.
 //!
 //! Meanwhile [`Store::feed`] feeds writes, and [`Store::keep`] and [`Store::release`] take and release snapshots. Each of these, as
 //! each install, is one event behind the history, and shown to all readers at once.
@@ -29,6 +30,7 @@
 #![tactic(auto)]
 
 mod book;
+mod compactor;
 mod desk;
 mod first_readers;
 mod front;
@@ -51,6 +53,7 @@ mod turn;
 mod turn_gate;
 mod words;
 
+pub use compactor::Compactor;
 pub use first_readers::MOST_READERS;
 pub use front::Front;
 pub use front_laws::{
@@ -59,7 +62,7 @@ pub use front_laws::{
 pub use held::Held;
 pub use laws::{own_compactions_are_refused_for_two_reasons, steps_are_those_of_the_machine};
 pub use name::Name;
-pub use opening::{MOST_SEATS, Opening};
+pub use opening::{MOST_SEATS, Opening, are_counts};
 pub use pin::Pin;
 pub use reader::Reader;
 pub use store::Store;

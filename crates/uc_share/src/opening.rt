@@ -29,7 +29,7 @@ use uc_version_state::{Options, Version};
 pub const MOST_SEATS: usize = 64;
 
 /// Whether a store opens for `readers` readers, from 1 to [`MOST_READERS`], and `seats` seats, up to [`MOST_SEATS`].
-fn are_counts(readers: usize, seats: usize) -> bool
+pub fn are_counts(readers: usize, seats: usize) -> bool
     ensures { result ≡ stores.are_counts readers seats }
 {
     0 < readers && readers <= MOST_READERS && seats <= MOST_SEATS

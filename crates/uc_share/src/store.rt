@@ -8,13 +8,14 @@ ghost use Rattle.uc_version_state.specs.Options.{are_good};
 ghost use Rattle.uc_version_state.specs.Versions.{ids_of};
 ghost use Rattle.uc_version_state.specs.Refusals.{AreInPlace};
 ghost use Rattle.uc_version_state.specs.Histories.{MayFollow, after};
+ghost use Rattle.uc_version_compact.specs.Compacting.{compaction_at};
 ghost use Rattle.uc_version_compact.specs.Ranges.{range_refusal};
 ghost use Rattle.uc_version_compact.specs.declared.claim_error.ClaimError.TheVariants.{Memory};
 ghost use Rattle.uc_share.specs.Fronts.{moment};
 ghost use Rattle.uc_share.specs.Picking.{AreFlags, IsPick};
 ghost use Rattle.uc_share.specs.Claims as claims;
 ghost use Rattle.uc_share.specs.Claims.{claim_of, claimed_runs, IsClaimRefused};
-ghost use Rattle.uc_share.specs.Installing.{event_of, EndsWith, ShowsRefusal};
+ghost use Rattle.uc_share.specs.Installing.{event_of, EndsWith, IsOwnRefusal, ShowsRefusal};
 
 use crate::desk::Desk;
 use crate::held::{Held, LookError};
@@ -70,6 +71,13 @@ impl<O: Operator, N: Name, W: Wait + Drop> Store<O, N, W> {
             options,
             desk: Mutex::new(Desk::new(publisher)),
         }
+    }
+
+    /// Its claim words are those of its name. Proof step: does nothing when it runs.
+    pub(crate) fn recall_table(&self)
+        ensures { self.now.table ≡ N.table }
+    {
+        let _ = &self.options;
     }
 
     /// Whether the slot is taken, at one moment during the call. The seat stays as it was. It waits for nobody.
@@ -167,7 +175,8 @@ impl<O: Operator, N: Name, W: Wait + Drop> Store<O, N, W> {
 
     /// Puts what was compacted of the claimed runs in their place, for all readers at once, and shows it to this one. Of several
     /// refusals the first of these is answered: `WrongInputs`, `WrongKeeps`, `Stale`, `IdsSpent`; and `Memory` only if none of
-    /// these holds. The inputs' points are compared before the lock is taken, and none behind it. It waits for other installs,
+    /// these holds. What [`Held::compact`] makes is never told the first two, whatever was fed, kept, released and installed
+    /// meanwhile. The inputs' points are compared before the lock is taken, and none behind it. It waits for other installs,
     /// and for readers that still look at the version before.
     pub fn install(
         &self,
@@ -185,6 +194,8 @@ impl<O: Operator, N: Name, W: Wait + Drop> Store<O, N, W> {
         ensures err { IfErr result (λ refused. (refused.0 ≡ held) × (refused.1 ≡ made)) }
         ensures refused { IfErr result (λ refused.
             ShowsRefusal (fold after N.base reader.new) (claimed_runs held) made refused.2) }
+        ensures own { IfErr result (λ refused.
+            made ≡ compaction_at held.pin.version held.stretch → IsOwnRefusal refused.2) }
     {
         match self.replace(rt, alloc, &held, &made, reader) {
             Ok(()) => Ok(self.abandon(held).0),
@@ -208,6 +219,8 @@ impl<O: Operator, N: Name, W: Wait + Drop> Store<O, N, W> {
             (EndsWith reader.old (event_of O.meaning (claimed_runs held.now) made.now) reader.new) }
         ensures refused { IfErr result (λ error.
             ShowsRefusal (fold after N.base reader.new) (claimed_runs held.now) made.now error) }
+        ensures own { IfErr result (λ error.
+            made.now ≡ compaction_at held.now.pin.version held.now.stretch → IsOwnRefusal error) }
     {
         reader.recall();
         if !are_inputs(made, held.runs()) {

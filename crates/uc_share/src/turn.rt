@@ -6,7 +6,7 @@ ghost use Rattle.uc_version_state.specs.Histories.{MayFollow, after};
 ghost use Rattle.uc_version_compact.specs.Compacting.{compaction_at};
 ghost use Rattle.uc_version_compact.specs.declared.install_error.InstallError.TheVariants.{Memory};
 ghost use Rattle.uc_share.specs.Claims.{claimed_runs};
-ghost use Rattle.uc_share.specs.Installing.{event_of, EndsWith, ShowsRefusal};
+ghost use Rattle.uc_share.specs.Installing.{event_of, EndsWith, IsOwnRefusal, ShowsRefusal};
 ghost use Rattle.uc_share.specs.Turns as turns;
 ghost use Rattle.uc_share.specs.Turns.{CameOf, FailedFor, turning};
 
@@ -48,7 +48,7 @@ impl<O: Operator + Sync, N: Name, W: Wait + Drop> Store<O, N, W> {
     /// A compactor's turn: it pins what is shown, claims the stretch that is picked of it, compacts this, and installs the
     /// compaction. The seat comes back as it was, whatever comes of the turn: a claim that isn't installed is abandoned.
     ///
-    /// `Err` says why the compaction isn't installed, or that memory ran out. It waits as [`install`](Store::install) does.
+    /// `Err` is `Memory`, or `Stale` or `IdsSpent` if the compaction isn't installed for that. It waits as [`install`](Store::install) does.
     pub fn compact_once(
         &self,
         rt: &(impl Threads + Wait + Sync),
@@ -115,6 +115,7 @@ impl<O: Operator + Sync, N: Name, W: Wait + Drop> Store<O, N, W> {
             (event_of O.meaning (claimed_runs held) (compaction_at held.pin.version held.stretch)) reader.new) }
         ensures refused { IfErr result.1 (λ error. error ≢ Memory → ShowsRefusal (fold after N.base reader.new)
             (claimed_runs held) (compaction_at held.pin.version held.stretch) error) }
+        ensures own { IfErr result.1 IsOwnRefusal }
     {
         reader.recall();
         let Ok(made) = held.compact(rt, alloc) else {

@@ -1,4 +1,4 @@
-use Rattle.std.proofs.Common.{◌≡◌, ◌⊎◌, ◌++◌, List, fold, ap, sym, subst}
+use Rattle.std.proofs.Common.{◌≡◌, ◌++◌, List, fold, sym, subst}
 use Rattle.uc_version_state.specs.Versions.{Stored}
 use Rattle.uc_version_state.specs.Histories.{MayFollow, after}
 use Rattle.uc_version_state.specs.declared.event.Event.{Event}

@@ -34,4 +34,4 @@ returns-in-Ok-claim-clause-failed g c =
     let picked : IsPicked t pin s =
     is_picked t g.N.Name.book c.pin.new.reader pin s c.pick.result c.pin.ensures.seen back c.in-Ok.ensures.pinned c.pick.ensures.picked c.in-Some.is in
     let claim : held ≡ claim_of c.args.seat pin s = subst (λ (seat : Holding). held ≡ claim_of seat pin s) c.pick.ensures.seat c.in-Ok-claim.ensures.ok in
-    unfinished t pin s held c.compact_held.result.1 picked claim c.compact_held.ensures.refused
+    unfinished t pin s held c.compact_held.result.1 picked claim c.compact_held.ensures.own c.compact_held.ensures.refused
