@@ -1,2 +1,3 @@
+mod FedNext
 mod Numbered
 mod Released

@@ -6,4 +6,11 @@ pub use Rattle.uc_version_state.specs.Feeds
 pub use Rattle.uc_version_state.specs.Snapshots
 pub use Rattle.uc_version.specs.Feeding
 pub use Rattle.uc_query_read.specs.Answers
-mod Batches
+pub use Rattle.uc_version_state.specs.Histories
+pub use Rattle.uc_share.specs.Stores
+pub use Rattle.uc_share.specs.Live
+pub use Rattle.uc_share.specs.Installing
+pub use Rattle.uc_share.specs.Turns
+pub use Rattle.uc_query_shared.specs.Given
+pub mod Batches
+pub mod SharedBatches

@@ -12,7 +12,7 @@ use uc_oper::Operator;
 use uc_version::Owned;
 
 /// Operations as writes, with sequences from `seq` on.
-fn numbered(alloc: Global, mut seq: u64, ops: Vec<Op>) -> Result<Vec<Write>, AllocError>
+pub(crate) fn numbered(alloc: Global, mut seq: u64, ops: Vec<Op>) -> Result<Vec<Write>, AllocError>
     requires { seq + length ops.items ≤ 2 ^ 56 }
     ensures { IfOk result (λ writes. writes.items ≡ batch.numbered seq ops.items) }
 {

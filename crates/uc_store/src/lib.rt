@@ -3,23 +3,39 @@
 //! [`open_log`] opens a store from the bytes of a write-ahead log, and says how far the log could be read. [`get`] looks a key
 //! up at a sequence that a snapshot protects, [`answer_one`] answers any query and [`answer_plain`] a batch of them by many
 //! workers. [`feed_batch`] writes, and [`get_last`] and [`answer_last`] read at the last sequence. [`Owned`] takes snapshots, and
-//! picks what to compact; [`report`] says what a store holds. Begin with `opened_log.rt`, `batches.rt` and `last_reads.rt`; all
-//! else is given out from the crates below.
+//! picks what to compact; [`report`] says what a store holds.
+//!
+//! [`open_shared`] opens a [`Store`] that threads share. [`feed_shared_batch`] writes to it, [`Store::keep`] and [`Store::release`]
+//! take and release snapshots, and [`Store::turn`] compacts for a [`Compactor`]. A [`Reader`] pins versions without waiting, and
+//! [`answer_all`] answers a batch by workers that have a reader each.
+//!
+//! Begin with `opened_log.rt`, `batches.rt` and `last_reads.rt`, then `opened_shared.rt` and `shared_batches.rt`; all else is given
+//! out from the crates below.
 #![tactic(auto)]
 
 mod batches;
+mod compactors;
 mod feed_batch_error;
 mod last_reads;
 mod opened_log;
+mod opened_shared;
+mod shared_batches;
 
 pub use batches::feed_batch;
+pub use compactors::next_compactor;
 pub use feed_batch_error::FeedBatchError;
 pub use last_reads::{answer_last, get_last};
 pub use opened_log::{OpenedLog, open_log};
-pub use uc_batch::{Ended, Op};
-pub use uc_bytes::Bytes;
+pub use opened_shared::{OpenedShared, open_shared};
+pub use shared_batches::feed_shared_batch;
+pub use uc_batch::{Ended, Op, Writes};
+pub use uc_bytes::{Bytes, Write};
 pub use uc_oper::{Append, Counter, Maximum, Operator};
 pub use uc_query::{Answer, AskError, Query, Report, Rows, answer_one, answer_plain, get, report};
+pub use uc_query_shared::{Free, Gate, MOST_WORKERS, answer_all};
+pub use uc_share::{
+    Compactor, Held, MOST_READERS, MOST_SEATS, Name, Opening, Pin, Reader, Seat, Store, Turn,
+};
 pub use uc_version::{
     ClaimError, CompactError, FeedError, InstallError, Options, Owned, OwnedClaim, Placed,
     ReleaseError, Stretch, Version,

@@ -1,4 +1,4 @@
-use Rattle.std.proofs.Common.{◌≡◌, ◌+◌, ◌∷◌, ◌++◌, [], ℕ, List, length, length-append, ap, sym, ◌∙◌, arith}
+use Rattle.std.proofs.Common.{◌∷◌, ◌++◌, [], List, length-append, ap, sym, ◌∙◌, arith}
 use Rattle.uc_bytes.specs.declared.write.Write.{Write}
 use Rattle.uc_batch.specs.Batch.{numbered}
 use Rattle.uc_store.proofs.Numbered.{numbered_push}

@@ -1,6 +1,4 @@
-use Rattle.std.proofs.Common.{◌≡◌, ℕ, List, Contains, ap, sym, ◌∙◌, subst}
-use Rattle.std.proofs.lemmas.Bool.{false≢true}
-use Rattle.uc_version_state.specs.Versions.{Stored}
+use Rattle.std.proofs.Common.{Contains, ap, sym, ◌∙◌, subst}
 use Rattle.uc_version.specs.Owners.{Owner}
 use Rattle.uc_version.specs.Feeding.{after_release}
 use Rattle.uc_store.proofs.Released.{is_new_keep, has_kept, is_as_before}

@@ -1,0 +1,36 @@
+//! Batches that count visits, and the number that was counted.
+use anyhow::Result;
+use std::alloc::{AllocError, Global};
+use uc_store::{Answer, Bytes, Op, Query};
+
+/// The key that is counted under.
+pub(crate) const VISITS: &[u8] = b"visits";
+
+/// A batch that counts so many visits.
+pub(crate) fn batch_of(alloc: Global, visits: u64) -> Result<Vec<Op>, AllocError> {
+    let operand = Bytes::from_slice(alloc, &visits.to_le_bytes())?;
+    let op = Op::Merge(Bytes::from_slice(alloc, VISITS)?, operand);
+    Ok(vec![in alloc; op]?)
+}
+
+/// Two lookups of the visits at a sequence.
+pub(crate) fn lookups(alloc: Global, at: u64) -> Result<[Query; 2], AllocError> {
+    Ok([
+        Query::Get {
+            key: Bytes::from_slice(alloc, VISITS)?,
+            at,
+        },
+        Query::Get {
+            key: Bytes::from_slice(alloc, VISITS)?,
+            at,
+        },
+    ])
+}
+
+/// The number that an answer has.
+pub(crate) fn number(answer: &Answer) -> Result<u64> {
+    match answer {
+        Answer::Value(Some(value)) => Ok(u64::from_le_bytes(value.as_slice().try_into()?)),
+        _ => Ok(0),
+    }
+}
