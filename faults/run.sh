@@ -146,11 +146,20 @@ threads() {
     printf '%-34s %9s %9s %9s %7s\n' 'refused threads' requests refused wanting wrong
     for workers in 1 4 64; do
         for compactors in 0 2 16; do
-            "$work/drive" threads "$work/refuse.so" "ask, $workers beside $compactors" "$work/queries" "$ours" ask \
-                --operator append --piece 2 --memtable 1 --trigger 2 --percent 25 --workers "$workers" \
-                --compactors "$compactors" || wrong=$((wrong + 1))
+            refuse_threads "ask, $workers beside $compactors" "$workers" "$compactors"
         done
     done
+    for workers in 1 3; do
+        for compactors in 0 2; do
+            refuse_threads "ask, $workers beside $compactors, 3 later" "$workers" "$compactors" --later 3
+        done
+    done
+}
+
+# Refuses `ask` each thread.
+refuse_threads() { # NAME WORKERS COMPACTORS WORDS..
+    "$work/drive" threads "$work/refuse.so" "$1" "$work/queries" "$ours" ask --operator append --piece 2 --memtable 1 \
+        --trigger 2 --percent 25 --workers "$2" --compactors "$3" "${@:4}" || wrong=$((wrong + 1))
 }
 
 # Single calls of the library, each request refused between two marks. The probe judges what comes of it.

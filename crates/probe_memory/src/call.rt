@@ -2,6 +2,7 @@
 use crate::effects::{effect_applied, effects_folded, effects_joined};
 use crate::formats::{batch_read, batch_written, log_read, payload_added, writes_read};
 use crate::live::{live_calls_made, snapshot_released, snapshot_taken, writes_fed};
+use crate::live_shared::{LiveCall, store_changed};
 use crate::owned::{
     claim_compacted, claim_installed, compacted_now, log_opened, stretch_claimed, version_opened,
 };
@@ -51,6 +52,7 @@ pub(crate) enum Call {
     HeldCompact,
     StoreInstall,
     StoreAbandon,
+    StoreLive(LiveCall),
     AnswerAll,
     AnswerWrites,
     AnswerOneGet,
@@ -62,7 +64,7 @@ pub(crate) enum Call {
 }
 
 /// Each call with its name.
-static CALLS: [(Call, &str); 38] = [
+static CALLS: [(Call, &str); 46] = [
     (Call::ReadLog, "read_log"),
     (Call::LogWriterAdd, "LogWriter::add"),
     (Call::ReadBatch, "read_batch"),
@@ -93,6 +95,23 @@ static CALLS: [(Call, &str); 38] = [
     (Call::HeldCompact, "Held::compact"),
     (Call::StoreInstall, "Store::install"),
     (Call::StoreAbandon, "Store::abandon"),
+    (Call::StoreLive(LiveCall::FeedRuns), "Store::feed"),
+    (
+        Call::StoreLive(LiveCall::FeedNothing),
+        "Store::feed, no writes",
+    ),
+    (Call::StoreLive(LiveCall::FeedBack), "Store::feed, back"),
+    (
+        Call::StoreLive(LiveCall::FeedTooMany),
+        "Store::feed, too many runs",
+    ),
+    (Call::StoreLive(LiveCall::KeepNew), "Store::keep"),
+    (Call::StoreLive(LiveCall::KeepAgain), "Store::keep, kept"),
+    (Call::StoreLive(LiveCall::ReleaseKeep), "Store::release"),
+    (
+        Call::StoreLive(LiveCall::ReleaseNone),
+        "Store::release, not kept",
+    ),
     (Call::AnswerAll, "answer_all"),
     (Call::AnswerWrites, "answer_writes"),
     (Call::AnswerOneGet, "answer_one, get"),
@@ -112,6 +131,7 @@ pub(crate) fn calls() -> &'static [(Call, &'static str)] {
 fn verdict_above<R: Threads + Wait + Sync>(rt: &R, alloc: Global, call: Call) -> Option<Verdict> {
     let call = match call {
         Call::StoreOpen => return store_opened(rt, alloc),
+        Call::StoreLive(call) => return store_changed(rt, alloc, call),
         Call::AnswerWrites => return writes_asked(alloc),
         Call::AnswerOneGet => return lookup_asked(alloc),
         Call::AnswerOneScan => return scan_asked(alloc),

@@ -2,7 +2,7 @@
 use crate::probe::{Fault, Outcome, Probe, Verdict, marked, tried};
 use crate::queries::have_names;
 use crate::settings::{
-    CHANGES, KEEPS, Texts, answer_fed, is_busy, later_writes, lookup, owned, owned_fed,
+    KEEPS, LAST, Texts, answer_fed, is_busy, later_writes, lookup, owned, owned_fed, owned_unkept,
     same_version, scan, version,
 };
 use std::alloc::Global;
@@ -16,21 +16,11 @@ use uc_version::{FeedError, Owned, OwnedClaim, Stretch, Version};
 /// The runs that are claimed.
 const STRETCH: Stretch = Stretch { first: 2, count: 2 };
 
-/// The last sequence once the later changes are fed.
-const LAST: u64 = CHANGES + 2;
-
 /// A store that is fed the later changes.
 fn fed(alloc: Global) -> Option<Owned<Texts>> {
     let writes = later_writes(alloc)?;
     let mut owned = owned(alloc)?;
     owned.feed(alloc, &writes).ok()?;
-    Some(owned)
-}
-
-/// A store of all changes, opened from all at once, that keeps no sequence of the later ones.
-fn unkept(alloc: Global) -> Option<Owned<Texts>> {
-    let mut owned = owned_fed(alloc, &KEEPS)?;
-    owned.release(LAST).ok()?;
     Some(owned)
 }
 
@@ -63,7 +53,7 @@ impl Probe for Feeds {
 
 /// Feeds writes to a store with a claim.
 pub(crate) fn writes_fed(alloc: Global) -> Option<Verdict> {
-    let (writes, before, wanted) = (later_writes(alloc)?, version(alloc)?, unkept(alloc)?);
+    let (writes, before, wanted) = (later_writes(alloc)?, version(alloc)?, owned_unkept(alloc)?);
     let mut owned = owned(alloc)?;
     let claim = owned.claim(STRETCH).ok()?;
     let mut probe = Feeds {
@@ -100,7 +90,7 @@ impl Probe for Keeps {
 
 /// Takes a snapshot behind a feed.
 pub(crate) fn snapshot_taken(alloc: Global) -> Option<Verdict> {
-    let (owned, before) = (fed(alloc)?, unkept(alloc)?);
+    let (owned, before) = (fed(alloc)?, owned_unkept(alloc)?);
     let wanted = owned_fed(alloc, &KEEPS)?;
     let mut probe = Keeps {
         owned,
@@ -230,7 +220,7 @@ impl Between {
     fn made(rt: &(impl Threads + Sync), alloc: Global) -> Option<Between> {
         Some(Between {
             before: version(alloc)?,
-            fed: unkept(alloc)?,
+            fed: owned_unkept(alloc)?,
             kept: owned_fed(alloc, &KEEPS)?,
             installed: installed(rt, alloc)?,
         })

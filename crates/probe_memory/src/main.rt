@@ -8,13 +8,14 @@
 //! once after it. Without words it makes each call once. `probe_memory list` prints their names.
 //!
 //! Read `probe.rt` first. `settings.rt` has what the calls borrow; the calls are in `formats.rt`, `effects.rt`,
-//! `runs.rt`, `owned.rt`, `live.rt`, `shared.rt` and `queries.rt`.
+//! `runs.rt`, `owned.rt`, `live.rt`, `shared.rt`, `live_shared.rt` and `queries.rt`.
 #![tactic(auto)]
 
 mod call;
 mod effects;
 mod formats;
 mod live;
+mod live_shared;
 mod marks;
 mod owned;
 mod probe;

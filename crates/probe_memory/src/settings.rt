@@ -18,6 +18,9 @@ pub(crate) type Texts = Append<b','>;
 /// How many changes there are. Each is a run of its own.
 pub(crate) const CHANGES: u64 = 8;
 
+/// The last sequence once the later changes are fed.
+pub(crate) const LAST: u64 = CHANGES + 2;
+
 /// The keeps beside the last sequence.
 pub(crate) const KEEPS: [u64; 2] = [2, 5];
 
@@ -42,7 +45,7 @@ fn change(number: u64) -> OpRef<'static> {
 }
 
 /// The changes with these numbers, as writes.
-fn numbered(alloc: Global, first: u64, last: u64) -> Option<Writes> {
+pub(crate) fn numbered(alloc: Global, first: u64, last: u64) -> Option<Writes> {
     let mut list = Vec::new(alloc);
     for number in first..=last {
         let write = WriteRef::new(number, change(number)).to_write(alloc).ok()?;
@@ -58,7 +61,12 @@ pub(crate) fn writes(alloc: Global) -> Option<Writes> {
 
 /// Two later changes as writes, numbered behind them.
 pub(crate) fn later_writes(alloc: Global) -> Option<Writes> {
-    numbered(alloc, CHANGES + 1, CHANGES + 2)
+    numbered(alloc, CHANGES + 1, LAST)
+}
+
+/// Later changes as writes, numbered behind them. Each would be a run, and one would have no slot.
+pub(crate) fn too_many_writes(alloc: Global) -> Option<Writes> {
+    numbered(alloc, CHANGES + 1, MOST_SLOTS as u64 + 1)
 }
 
 /// The changes.
@@ -111,7 +119,19 @@ pub(crate) fn owned(alloc: Global) -> Option<Owned<Texts>> {
 pub(crate) fn owned_fed(alloc: Global, keeps: &[u64]) -> Option<Owned<Texts>> {
     let mut all = keeps.to_vec(alloc).ok()?;
     all.push(CHANGES).ok()?;
-    open_plain(alloc, &numbered(alloc, 1, CHANGES + 2)?, &all, small_runs()).ok()
+    open_plain(alloc, &numbered(alloc, 1, LAST)?, &all, small_runs()).ok()
+}
+
+/// A store of them and the later ones, opened from all at once, that keeps no sequence of the later ones.
+pub(crate) fn owned_unkept(alloc: Global) -> Option<Owned<Texts>> {
+    let mut owned = owned_fed(alloc, &KEEPS)?;
+    owned.release(LAST).ok()?;
+    Some(owned)
+}
+
+/// A store of them, opened with one keep fewer.
+pub(crate) fn owned_released(alloc: Global) -> Option<Owned<Texts>> {
+    open_plain(alloc, &writes(alloc)?, &[2], small_runs()).ok()
 }
 
 /// A store of them, after the compaction of a stretch.
@@ -163,8 +183,8 @@ pub(crate) fn answer(alloc: Global, query: &Query) -> Option<Answer> {
 
 /// The answer to a query at the last of the later writes, from all plain writes.
 pub(crate) fn answer_fed(alloc: Global, query: &Query) -> Option<Answer> {
-    let writes = numbered(alloc, 1, CHANGES + 2)?;
-    answer_writes::<Texts>(alloc, &writes, &[CHANGES + 2], query).ok()
+    let writes = numbered(alloc, 1, LAST)?;
+    answer_writes::<Texts>(alloc, &writes, &[LAST], query).ok()
 }
 
 /// The answers to queries from the plain writes.

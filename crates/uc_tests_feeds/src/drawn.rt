@@ -6,6 +6,12 @@ use uc_oper::Operator;
 use uc_query_read::{Answer, Query, answer_writes};
 use uc_tests_shared::dice::{Dice, KEYS};
 
+/// How many writes a store opens with.
+pub(crate) const OPENED: u64 = 8;
+
+/// A sequence of these that is kept.
+pub(crate) const KEPT: u64 = 5;
+
 /// The write with this sequence. Whoever feeds it, it is the same.
 fn write_at(alloc: Global, seq: u64) -> Result<Write, AllocError> {
     let mut dice = Dice::new(seq);

@@ -1,5 +1,5 @@
 use Rattle.std.proofs.Common.{false}
-use Rattle.uc_tests_feeds.proofs.rows.feeds_end_with_slots_and_sequences.Given as goal
+use Rattle.uc_tests_feeds.proofs.limits.feeds_end_with_slots_and_sequences.Given as goal
 
 -- the book, the claim words and the version of what was opened; keeps come and go
 abbrev pub ghosts-opened_feeds_come_to : goal.ghosts-opened_feeds_come_to

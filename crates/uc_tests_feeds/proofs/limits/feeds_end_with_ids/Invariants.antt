@@ -1,5 +1,5 @@
 use Rattle.std.proofs.Common.{false}
-use Rattle.uc_tests_feeds.proofs.rows.feeds_end_with_ids.Given as goal
+use Rattle.uc_tests_feeds.proofs.limits.feeds_end_with_ids.Given as goal
 
 -- the book, the claim words and the version of what was opened; keeps come and go
 abbrev pub ghosts-last_id_is_given : goal.ghosts-last_id_is_given
