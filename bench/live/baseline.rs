@@ -1,26 +1,32 @@
 //! What `bench_live` does, in plain Rust with a `BTreeMap` of values, to measure it against.
 //!
-//!     baseline live|feeds SIZE COUNT
+//!     baseline live|feeds|fed SIZE COUNT
 //!     baseline writes COUNT
 //!
 //! It reads a log of counters from standard input, and applies its first COUNT batches of SIZE writes to the map: the same line as
 //! `bench_live`, with one run, a point for each key, and no time for compactions. It has no snapshots: each lookup reads what is
-//! there then. `writes` writes the first COUNT writes for `rocksdb`, each as a byte for its kind and two texts, each behind its
-//! length of 4 bytes, low byte first.
+//! there then. `fed` does what `bench_shared fed` does, by versions of our layout behind `RwLock<Arc<_>>` (`fed.rs`). `writes` writes
+//! the first COUNT writes for `rocksdb`, each as a byte for its kind and two texts, each behind its length of 4 bytes, low byte first.
 
+#[path = "../compaction.rs"]
+mod compaction;
+mod fed;
 #[path = "../log.rs"]
 mod log;
+#[path = "../report/picking.rs"]
+mod picking;
+mod reading;
 #[path = "../store.rs"]
 mod store;
+mod writes;
 
-use log::{read_batch, Ended, LogReader, Op};
 use std::collections::BTreeMap;
 use std::io::{self, BufWriter, Read, Write as _};
 use std::ops::Bound;
 use std::time::{Duration, Instant};
 use store::Numbers;
+use writes::{key_of, number, with_value, writes_of, Write, KEYS};
 
-const KEYS: u64 = 300_000;
 /// How many lookups there are behind each batch of live writes.
 const LOOKUPS: usize = 100;
 /// How many lookups there are behind all feeds.
@@ -29,60 +35,6 @@ const LAST_LOOKUPS: usize = 20_000;
 const AROUND: usize = 11;
 
 type Values = BTreeMap<Vec<u8>, Vec<u8>>;
-
-enum Write {
-    Put(Vec<u8>, Vec<u8>),
-    Delete(Vec<u8>),
-    Merge(Vec<u8>, Vec<u8>),
-    Range(Vec<u8>, Vec<u8>),
-}
-
-impl Write {
-    fn of(op: Op) -> Write {
-        match op {
-            Op::Put(key, value) => Write::Put(key.to_vec(), value.to_vec()),
-            Op::Delete(key) => Write::Delete(key.to_vec()),
-            Op::Merge(key, operand) => Write::Merge(key.to_vec(), operand.to_vec()),
-            Op::Range(begin, end) => Write::Range(begin.to_vec(), end.to_vec()),
-        }
-    }
-
-    /// A byte for its kind, and its texts.
-    fn parts(&self) -> (u8, [&[u8]; 2]) {
-        match self {
-            Write::Put(key, value) => (b'p', [key, value]),
-            Write::Delete(key) => (b'd', [key, &[]]),
-            Write::Merge(key, operand) => (b'm', [key, operand]),
-            Write::Range(begin, end) => (b'r', [begin, end]),
-        }
-    }
-}
-
-/// The writes of a log that has to end clean.
-fn writes_of(log: &[u8]) -> Vec<Write> {
-    let mut reader = LogReader::new(log);
-    let mut writes = Vec::new();
-    let mut last = 0;
-    for number in 1.. {
-        let payload = match reader.payload() {
-            Ok(payload) => payload,
-            Err(Ended::Clean) => break,
-            Err(ended) => panic!("{ended}"),
-        };
-        let mut ops = Vec::new();
-        match read_batch(payload, last, &mut ops) {
-            Ok(seq) => last = seq + ops.len() as u64 - 1,
-            Err(fault) => panic!("{}", Ended::Batch(number, fault)),
-        }
-        writes.extend(ops.into_iter().map(Write::of));
-    }
-    writes
-}
-
-/// The number that 8 bytes stand for, low byte first; 0 for any other text.
-fn number(bytes: &[u8]) -> u64 {
-    bytes.try_into().map_or(0, u64::from_le_bytes)
-}
 
 /// Changes values as a write does.
 fn apply(values: &mut Values, write: &Write) {
@@ -112,20 +64,6 @@ fn apply(values: &mut Values, write: &Write) {
             }
         }
     }
-}
-
-fn key_of(number: u64) -> Vec<u8> {
-    format!("account/{number:08}").into_bytes()
-}
-
-/// A checksum and then the value of a key.
-fn with_value(sum: u64, value: &Option<Vec<u8>>) -> u64 {
-    let bytes = value.as_deref().unwrap_or_default();
-    let sum = bytes.iter().fold(sum, |sum, &byte| {
-        sum.wrapping_mul(31).wrapping_add(u64::from(byte))
-    });
-    sum.wrapping_mul(31)
-        .wrapping_add(u64::from(value.is_some()))
 }
 
 /// Values that batches change, and what came of it so far.
@@ -204,7 +142,7 @@ fn measure(writes: &[Write], mode: &str, size: usize, count: usize) {
     let (each, last) = match mode {
         "live" => (LOOKUPS, 0),
         "feeds" => (0, LAST_LOOKUPS),
-        _ => panic!("it is live or feeds"),
+        _ => panic!("it is live, feeds or fed"),
     };
     let mut live = Live::new();
     for batch in writes.chunks(size).take(count) {
@@ -250,9 +188,12 @@ fn main() -> io::Result<()> {
                 size.parse().expect("a number"),
                 count.parse().expect("a number"),
             );
-            measure(&writes, mode, size, count);
+            match *mode {
+                "fed" => fed::measure(&writes, size, count),
+                _ => measure(&writes, mode, size, count),
+            }
             Ok(())
         }
-        _ => panic!("usage: baseline live|feeds SIZE COUNT, or baseline writes COUNT"),
+        _ => panic!("usage: baseline live|feeds|fed SIZE COUNT, or baseline writes COUNT"),
     }
 }

@@ -1,35 +1,32 @@
 // What `bench_live` does, by RocksDB in its memory environment: batches are written to a store that is empty at first.
 //
-//     rocksdb live|feeds|written SIZE COUNT
+//     rocksdb live|feeds|written|fed SIZE COUNT
 //
 // It reads the writes that `baseline writes` makes from standard input, and makes the first COUNT batches of SIZE writes before any clock
 // starts. Each batch goes by `DB::Write` without a log, and is flushed. Behind it the program waits until nothing is picked for a
 // compaction any more, and `live` takes a snapshot, gets 100 keys at it, and releases it. `feeds` gets 20,000 keys at the end alone.
 // `written` is `feeds` with no flush but those of full memtables, and waits for nothing in between. It prints the same line as
-// `bench_live`, with the flushes among the feeds.
+// `bench_live`, with the flushes among the feeds. `fed` does what `bench_shared fed` does, by one compaction at a time (fed.h).
+
+#include "compactions.h"
+#include "fed.h"
 
 #include "../queries.h"
 #include "../rocksdb_store.h"
 
-#include <rocksdb/listener.h>
 #include <rocksdb/write_batch.h>
 
-#include <atomic>
 #include <numeric>
 
 namespace {
 
 using namespace counters;
-using Clock = std::chrono::steady_clock;
 
-// How many lookups there are behind each batch of live writes, and behind all feeds.
+// How many lookups there are behind each batch of live writes.
 const int kLookups = 100;
-const int kLastLookups = 20'000;
 
 // Of how many feeds around a place the median is taken.
 const size_t kAround = 11;
-
-int64_t Since(Clock::time_point start) { return std::chrono::nanoseconds(Clock::now() - start).count(); }
 
 // Reads `size` bytes, or ends the program.
 std::string ReadBytes(size_t size) {
@@ -75,32 +72,10 @@ std::vector<rocksdb::WriteBatch> ReadBatches(size_t size, size_t count) {
   return batches;
 }
 
-// Counts the compactions that are done.
-class Compactions : public rocksdb::EventListener {
- public:
-  void OnCompactionCompleted(rocksdb::DB*, const rocksdb::CompactionJobInfo&) override { count_++; }
-
-  // How many there are once all that are scheduled are done. What was put off meanwhile is scheduled then.
-  uint64_t CountDone(rocksdb::DB* db) {
-    Expect(db->PauseBackgroundWork(), "pause");
-    uint64_t count = count_;
-    Expect(db->ContinueBackgroundWork(), "continue");
-    return count;
-  }
-
-  // Waits until nothing is picked any more: a pause behind which there are no more compactions than behind the one before it. The
-  // property of pending compactions doesn't say that: it is also set where there are enough runs and none are picked.
-  void WaitForAll(rocksdb::DB* db) {
-    uint64_t before = CountDone(db);
-    for (uint64_t now = CountDone(db); now != before; now = CountDone(db)) before = now;
-  }
-
- private:
-  std::atomic<uint64_t> count_{0};
-};
-
 // What the words ask for.
 struct Asked {
+  // Whether the store is read and compacted beside the writes.
+  bool is_shared;
   bool flushes;
   // How many lookups there are behind each batch, and at the end.
   int each;
@@ -110,10 +85,11 @@ struct Asked {
 };
 
 Asked AskedBy(int count, char** words) {
-  if (count != 4) Fail("usage: rocksdb live|feeds|written SIZE COUNT");
+  if (count != 4) Fail("usage: rocksdb live|feeds|written|fed SIZE COUNT");
   std::string mode = words[1];
-  if (mode != "live" && mode != "feeds" && mode != "written") Fail("it is live, feeds or written");
+  if (mode != "live" && mode != "feeds" && mode != "written" && mode != "fed") Fail("it is live, feeds, written or fed");
   Asked asked;
+  asked.is_shared = mode == "fed";
   asked.flushes = mode != "written";
   asked.each = mode == "live" ? kLookups : 0;
   asked.last = mode == "live" ? 0 : kLastLookups;
@@ -215,12 +191,18 @@ int main(int count, char** words) {
   std::vector<rocksdb::WriteBatch> batches = ReadBatches(asked.size, asked.count);
   std::unique_ptr<rocksdb::Env> env(rocksdb::NewMemEnv(rocksdb::Env::Default()));
   auto compactions = std::make_shared<Compactions>();
-  rocksdb::Options options = OptionsIn(env.get(), Settings());
+  Settings settings;
+  if (asked.is_shared) settings.compactions = 1;
+  rocksdb::Options options = OptionsIn(env.get(), settings);
   options.listeners.push_back(compactions);
   std::unique_ptr<rocksdb::DB> db = Open(options);
-  Live live(db.get(), compactions.get());
-  TakeAll(&live, &batches, asked);
-  live.Print(asked.size);
+  if (asked.is_shared) {
+    MeasureFed(db.get(), compactions.get(), &batches);
+  } else {
+    Live live(db.get(), compactions.get());
+    TakeAll(&live, &batches, asked);
+    live.Print(asked.size);
+  }
   Expect(db->Close(), "close");
   return 0;
 }

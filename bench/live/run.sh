@@ -1,14 +1,16 @@
 #!/bin/bash
-# Measures live writes in one owner's store, against RocksDB and against plain Rust with a BTreeMap.
+# Measures live writes in one owner's store, against RocksDB and against plain Rust with a BTreeMap; and in a store that threads share,
+# against RocksDB and against plain Rust with an RwLock.
 #
 #     bench/live/run.sh [PART..]
 #
-# The parts are live and feeds, or both where none is named.
+# The parts are live, feeds and shared, or all where none is named.
 #
-# It measures crates/bench_live/out/bench_live (or OURS), which `rt run` in crates/bench_live builds; OURS=none leaves it out.
-# baseline.rs and ../make_log.rs are built by `rustc -O` in a temporary folder, and rocksdb.cc by `g++ -O2` against RocksDB without
-# assertions (../rocksdb/build.sh makes it) and against Debian's (librocksdb-dev), whose assertions are on; what isn't there is left out.
-# RocksDB has the options of ../rocksdb_store.h, which are printed, in its memory environment. It writes no log, as ours writes none.
+# It measures crates/bench_live/out/bench_live (or OURS), and in the part shared crates/bench_shared/out/bench_shared (or OURS_SHARED).
+# `rt run` in their crates builds them; `none` leaves one out. baseline.rs and ../make_log.rs are built by `rustc -O` in a temporary
+# folder, and rocksdb.cc by `g++ -O2` against RocksDB without assertions (../rocksdb/build.sh makes it) and against Debian's
+# (librocksdb-dev), whose assertions are on; what isn't there is left out. RocksDB has the options of ../rocksdb_store.h, which are
+# printed, in its memory environment. It writes no log, as ours writes none.
 #
 # `live`: the first WRITES writes (1300000) of a log of counters (`make_log counters`) are fed to a store that is empty at first, in
 # batches of 1,000 and of 10,000. Behind each, what is picked is compacted until nothing is, a snapshot is taken, 100 drawn keys are
@@ -20,13 +22,24 @@
 # compactions in between, which don't count. A write's time is that of all feeds over the writes. RocksDB does so with a flush behind each
 # batch, and without, where it flushes by itself as its memtables are full, and nothing is waited for.
 #
+# `shared`: one thread feeds WRITES writes in batches of 1,000 to a store that is empty at first. Behind each it takes a snapshot, and
+# releases the one before. A compactor works all the time, until all is fed and nothing is picked. From the first batch's snapshot until
+# all is fed two readers look drawn keys up one by one, with a clock around each lookup. A lookup pins what is shown, and reads at the
+# newest snapshot there: in RocksDB it holds on to the snapshot that was taken last, which is released behind its last holder. The plain
+# Rust (fed.rs) has versions of our layout behind `RwLock<Arc<_>>`. RocksDB compacts by one thread. The time goes from the first feed
+# until nothing is picked any more. A feed waits from 19 runs on, as RocksDB's flush does by default. A keep is a whole call that takes a
+# snapshot and shows it to readers. It stands for the time that a feed of ours holds the lock: both copy the list of runs there and
+# publish the copy, and a feed also finds slots for its runs. In the end 20,000 fixed keys are looked up at the last sequence, which are
+# compared.
+#
 # Writes, batches and keys are made before any clock starts. Each program runs in a process of its own, in turn, TURNS times (3), and
 # Debian's RocksDB in the first turn alone. All programs must come to the same answers. Each figure is the median of its turns. RESULTS
-# names a file for the figures as JSON. It takes three to four minutes, and more with Debian's RocksDB.
+# names a file for the figures as JSON. It takes five minutes, and more with Debian's RocksDB.
 set -u -o pipefail
 
 here=$(cd "$(dirname "${BASH_SOURCE[0]}")" && pwd) || exit 1
 ours=${OURS:-$here/../../crates/bench_live/out/bench_live}
+ours_shared=${OURS_SHARED:-$here/../../crates/bench_shared/out/bench_shared}
 turns=${TURNS:-3}
 writes=${WRITES:-1300000}
 read -ra feed_counts <<< "${FEEDS:-2000 2000 2000 1000 100}"
@@ -49,7 +62,6 @@ build() { # SOURCE
 build_all() {
     build "$here/../make_log.rs"
     build "$here/baseline.rs"
-    if [ "$ours" != none ]; then ours=$(realpath -e "$ours") || exit 2; fi
     build_rocksdb "$here/rocksdb.cc"
 }
 
@@ -66,6 +78,7 @@ declare -A programs words
 plan() { # NAME PROGRAM WORDS: adds a row, where the program is there
     case $2 in
         ours) if [ "$ours" = none ]; then return; fi ;;
+        ours_shared) if [ "$ours_shared" = none ]; then return; fi ;;
         rocksdb | debian) if ! has_rocksdb "$2"; then return; fi ;;
     esac
     names+=("$1")
@@ -79,6 +92,7 @@ run_once() { # NAME
     read -ra asked <<< "${words[$1]}"
     case $program in
         ours) "$ours" "${asked[@]}" < "$folder/log" ;;
+        ours_shared) "$ours_shared" "${asked[@]}" < "$folder/log" ;;
         baseline) "$folder/baseline" "${asked[@]}" < "$folder/log" ;;
         *) "$folder/$program" "${asked[@]}" < "$folder/writes" ;;
     esac >> "$folder/row.$1" || fail "$1 fails"
@@ -247,10 +261,71 @@ feeds() {
     forget
 }
 
-if [ $# -eq 0 ]; then set -- live feeds; fi
+# How a figure of ours stands to RocksDB's, and whether it keeps to a goal.
+say_goal() { # WHAT EXPRESSION BOUND
+    local ratio
+    ratio=$(over ours_1000 RocksDB_1000 "$2")
+    echo "goal, $1 at most $3 of RocksDB's: $ratio, $(verdict "$ratio" "$3")"
+}
+
+print_shared() { # NAME
+    local column
+    printf '%-10s %9s %9s %9s' "${1%_*}" "$(as_number "$(median "$1" '$1')" 1e9 3)" "$(as_number "$(median "$1" '$2')" 1e9 3)" \
+        "$(as_number "$(median "$1" '$3')" 1e3 1)"
+    for column in 4 5 6 7 10 11 12; do printf ' %9s' "$(median "$1" "\$$column")"; done
+    printf ' %9s %9s\n' "$(over "$1" RwLock_1000 '$1')" "$(over "$1" RocksDB_1000 '$1')"
+}
+
+# Keeps a row's seconds, the times of its lookups, and of ours the time of a keep.
+keep_shared() { # NAME
+    local program=${1%_*} column=4 share
+    keep_seconds 'live writes, shared' 'batches of 1,000' "$program" "$(($(median "$1" '$1') / 1000))"
+    for share in median 99 99.9 longest; do
+        keep 'lookups beside feeds' "$share" "$program" ns "$(median "$1" "\$$column")"
+        column=$((column + 1))
+    done
+    if [ "$program" = ours ]; then keep 'a publication' 'a keep beside feeds' ours µs "$(as_number "$(median "$1" '$3')" 1e3 1)"; fi
+}
+
+# Says and sets the goals of live writes that are shared.
+set_shared_goals() {
+    local share lock
+    say_goal 'the whole' '$1' 0.5
+    say_goal 'the median of a lookup' '$4' 0.5
+    say_goal 'the 99th of a hundred' '$5' 0.5
+    say_goal 'the 999th of a thousand' '$6' 0.5
+    lock=$(as_number "$(median ours_1000 '$3')" 1e3 1)
+    echo "goal, the median of a keep at most 30 microseconds: $lock, $(verdict "$lock" 30)"
+    goal 'live writes, shared' '*' RocksDB s 'at most' 0.5
+    for share in median 99 99.9; do goal 'lookups beside feeds' "$share" RocksDB ns 'at most' 0.5; done
+    goal 'a publication' '*' ours µs 'at most' 30
+}
+
+# 3. Live writes in a store that threads share.
+shared() {
+    local name count=$((writes / 1000))
+    plan ours_1000 ours_shared fed 1000 "$count"
+    plan RwLock_1000 baseline fed 1000 "$count"
+    plan RocksDB_1000 rocksdb fed 1000 "$count"
+    plan "Debian's_1000" debian fed 1000 "$count"
+    measure 1000
+    echo "$writes writes in batches of 1,000 beside a compactor and two readers; lookups in ns"
+    printf '%-10s %9s %9s %9s %9s %9s %9s %9s %9s %9s %9s %9s %9s\n' '' seconds 'feeds s' 'keep us' median 99 99.9 longest lookups \
+        stalls runs '/ RwLock' '/ RocksDB'
+    for name in "${names[@]}"; do
+        keep_shared "$name"
+        print_shared "$name"
+    done
+    if [ "$ours_shared" != none ]; then set_shared_goals; fi
+    echo
+    forget
+}
+
+if [ $# -eq 0 ]; then set -- live feeds shared; fi
 for part; do
     case $part in
-        live | feeds) ;;
+        live | feeds) if [ "$ours" != none ]; then ours=$(realpath -e "$ours") || exit 2; fi ;;
+        shared) if [ "$ours_shared" != none ]; then ours_shared=$(realpath -e "$ours_shared") || exit 2; fi ;;
         *) fail "there is no part $part" ;;
     esac
 done
@@ -258,7 +333,7 @@ done
 build_all
 make_writes
 say_machine
-rocksdb_options+=", no log"
+rocksdb_options+=", no log; in shared one compaction at once and max_subcompactions 1"
 say_rocksdb
 echo
 for part; do "$part"; done

@@ -43,8 +43,16 @@ pub(crate) fn asked_by(mode: &str, numbers: &[String]) -> Result<Asked> {
                 compactors: compactors.parse::<usize>()?,
             }))
         }
-        _ => bail!("it is plain, beside or lookups"),
+        _ => bail!("it is plain, beside, lookups or fed"),
     }
+}
+
+/// The size of a batch and the number of batches that words ask for.
+pub(crate) fn size_and_count(numbers: &[String]) -> Result<(usize, usize)> {
+    let [size, count] = numbers else {
+        bail!("fed takes SIZE and COUNT");
+    };
+    Ok((size.parse::<usize>()?, count.parse::<usize>()?))
 }
 
 /// The queries of what is asked for, at a sequence.

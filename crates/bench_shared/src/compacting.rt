@@ -4,7 +4,8 @@ ghost use Rattle.std.specs.Prelude.{◌≡◌, IfSome, All};
 use std::alloc::Global;
 use std::marker::{Send, Sync};
 use std::sync::Wait;
-use std::thread::{Threads, join};
+use std::sync::atomic::{AtomicBool, Ordering};
+use std::thread::{Threads, join, yield_now};
 use uc_oper::Counter;
 use uc_share::{Name, Reader, Seat, Store, Turn};
 
@@ -18,7 +19,7 @@ pub(crate) type Compactor<N> = (Reader<Counter, N>, Seat);
 pub(crate) type Compactors<N> = (Option<Compactor<N>>, Option<Compactor<N>>);
 
 /// A compactor of the readers and seats of a store, where a seat is left.
-fn next_compactor<N: Name, W: Wait + Drop>(
+pub(crate) fn next_compactor<N: Name, W: Wait + Drop>(
     store: &Store<Counter, N, W>,
     readers: &mut Vec<Reader<Counter, N>>,
     seats: &mut Vec<Seat>,
@@ -102,4 +103,48 @@ where
         { compact_picked(rt, alloc, store, other) },
     );
     Some(one?.saturating_add(other?))
+}
+
+/// How many compactions a compactor installs until all is to stop and nothing is picked any more, unless one is refused.
+fn compact_until_stopped<N: Name, W: Wait + Drop>(
+    rt: &(impl Threads + Wait + Sync),
+    alloc: Global,
+    store: &Store<Counter, N, W>,
+    compactor: Compactor<N>,
+    stopped: &AtomicBool,
+) -> Option<u64>
+    requires { compactor.1.table ≡ store.now.table }
+{
+    let (mut reader, mut seat) = compactor;
+    let mut installs = 0_u64;
+    for _ in rt.forever() {
+        let is_last = stopped.load(Ordering::Acquire);
+        let (back, came) = store.compact_once(rt, alloc, seat, &mut reader);
+        seat = back;
+        match came {
+            Ok(Turn::Idle) if is_last => return Some(installs),
+            Ok(Turn::Idle | Turn::Late(_)) => yield_now(),
+            Ok(Turn::Installed) => installs = installs.saturating_add(1),
+            Err(_) => return None,
+        }
+    }
+    unreachable!()
+}
+
+/// How many compactions a compactor installs until all is to stop and nothing is picked any more. If one is refused, all is told
+/// to stop.
+pub(crate) fn compact_beside<N: Name, W: Wait + Drop>(
+    rt: &(impl Threads + Wait + Sync),
+    alloc: Global,
+    store: &Store<Counter, N, W>,
+    compactor: Compactor<N>,
+    stopped: &AtomicBool,
+) -> Option<u64>
+    requires { compactor.1.table ≡ store.now.table }
+{
+    let installs = compact_until_stopped(rt, alloc, store, compactor, stopped);
+    if installs.is_none() {
+        stopped.store(true, Ordering::Release);
+    }
+    installs
 }

@@ -4,6 +4,7 @@ ghost use Rattle.uc_share.specs.Stores.{IsNamed};
 
 use crate::asking::nanoseconds_since;
 use crate::compacting::{Compactor, Compactors, all_compact, two_compactors};
+use crate::times::Times;
 use bench_queries::checksum::with_answer;
 use std::alloc::Global;
 use std::fmt;
@@ -21,8 +22,8 @@ use uc_share::{Name, Opening, Reader, Seat, Store};
 pub(crate) struct Latencies {
     answers: usize,
     pub(crate) checksum: u64,
-    /// The nanoseconds of those that came while compactors were at work, the shortest first once all are there.
-    times: Vec<u64>,
+    /// The times of those that came while compactors were at work, the shortest first once all are there.
+    times: Times,
 }
 
 impl Latencies {
@@ -31,7 +32,7 @@ impl Latencies {
         Some(Latencies {
             answers: 0,
             checksum: 0,
-            times: Vec::with_capacity(alloc, count).ok()?,
+            times: Times::with_capacity(alloc, count).ok()?,
         })
     }
 
@@ -40,30 +41,17 @@ impl Latencies {
         self.answers = self.answers.saturating_add(1);
         self.checksum = with_answer(self.checksum, answer);
         if let Some(time) = time {
-            self.times.push(time).ok()?;
+            self.times.add(time).ok()?;
         }
         Some(())
-    }
-
-    /// The time that so many of 1,000 don't pass.
-    fn below(&self, share: usize) -> u64 {
-        let place = self.times.len().saturating_mul(share) / 1000;
-        self.times.get(place).copied().unwrap_or(0)
     }
 }
 
 impl fmt::Display for Latencies {
     fn fmt<W: fmt::Write>(&self, f: &mut fmt::Formatter<W>) -> fmt::Result {
         let (answers, checksum) = (self.answers, self.checksum);
-        let longest = self.times.last().copied().unwrap_or(0);
-        write!(f, "{answers} {checksum:016x} {}", self.times.len())?;
-        write!(
-            f,
-            " {} {} {} {longest}",
-            self.below(500),
-            self.below(990),
-            self.below(999)
-        )
+        let times = &self.times;
+        write!(f, "{answers} {checksum:016x} {} {times}", times.len())
     }
 }
 
@@ -116,7 +104,7 @@ fn ask_each<N: Name, W: Wait + Drop>(
             &mut latencies,
         )?;
     }
-    latencies.times.sort_unstable();
+    latencies.times.sort();
     Some(latencies)
 }
 

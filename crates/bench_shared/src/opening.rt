@@ -2,8 +2,9 @@
 ghost use Rattle.std.specs.Prelude.{◌≡◌, true};
 ghost use Rattle.uc_version_state.specs.Options.{are_good};
 
-use anyhow::{Result, bail};
+use anyhow::{Context, Result, bail};
 use std::alloc::Global;
+use uc_batch::Writes;
 use uc_oper::Counter;
 use uc_share::{Opening, Options, Version};
 
@@ -19,6 +20,19 @@ pub(crate) fn opening_of(
 {
     let readers = askers.saturating_add(compactors);
     match Opening::of(alloc, version, options, readers, compactors) {
+        Ok(opening) => Ok(opening),
+        Err(_) => bail!("the store isn't opened"),
+    }
+}
+
+/// A store that is empty, for so many readers and one compactor.
+pub(crate) fn empty_opening(
+    alloc: Global,
+    options: Options,
+    readers: usize,
+) -> Result<Opening<Counter>> {
+    let nothing = Writes::of(Vec::new(alloc)).context("no writes rise")?;
+    match Opening::open(alloc, &nothing, &[], options, readers, 1) {
         Ok(opening) => Ok(opening),
         Err(_) => bail!("the store isn't opened"),
     }
