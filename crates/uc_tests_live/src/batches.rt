@@ -100,15 +100,20 @@ fn reads_at_the_last_sequence_leave_no_keep(rt: HostRuntime) -> Result<(), Fail>
     Ok(())
 }
 
-/// A log whose one batch has the greatest sequence.
-fn full_log(alloc: Global) -> Result<Vec<u8>, Fail> {
+/// A log whose one batch merges `a` into the key `k`, with this sequence.
+pub(crate) fn log_of(alloc: Global, seq: u64) -> Result<Vec<u8>, Fail> {
     let mut log = LogWriter::new(alloc);
     let ops = merges(alloc, &[b"a"])?;
-    if !fits_batch(MAX_SEQUENCE, &ops) {
+    if !fits_batch(seq, &ops) {
         return Err("the batch doesn't fit")?;
     }
-    log.add(&write_batch(alloc, MAX_SEQUENCE, &ops)?)?;
+    log.add(&write_batch(alloc, seq, &ops)?)?;
     Ok(log.finish())
+}
+
+/// A log whose one batch has the greatest sequence.
+pub(crate) fn full_log(alloc: Global) -> Result<Vec<u8>, Fail> {
+    log_of(alloc, MAX_SEQUENCE)
 }
 
 /// Feeds a batch for which no sequence is left.

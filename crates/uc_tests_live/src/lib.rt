@@ -1,10 +1,12 @@
 //! A store that a program writes to, by the crate that programs name, worked by hand.
 //!
 //! `batches.rt` feeds batches, and reads at the last sequence. `logs.rt` writes each batch to a log first, and recovers what was
-//! fed.
+//! fed. `shared.rt` feeds and compacts a store that threads share.
 #![tactic(auto)]
 
 #[cfg(test)]
 mod batches;
 #[cfg(test)]
 mod logs;
+#[cfg(test)]
+mod shared;
