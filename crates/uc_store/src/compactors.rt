@@ -1,11 +1,12 @@
 //! [`next_compactor`]: who compacts a store that threads share.
-ghost use Rattle.std.specs.Prelude.{◌≡◌, ◌++◌, ◌∷◌, [], All, IfSome};
+ghost use Rattle.std.specs.Prelude.{◌≡◌, ◌⊎◌, ◌++◌, ◌∷◌, [], All, IfNone, IfSome};
 
 use std::sync::Wait;
 use uc_oper::Operator;
 use uc_share::{Compactor, Name, Reader, Seat, Store};
 
-/// A compactor with the last of the readers and the last of the seats of a store, if one of each is left.
+/// A compactor with the last of the readers and the last of the seats of a store, if one of each is left. If only a seat is, it
+/// is let go of.
 pub fn next_compactor<O: Operator, N: Name, W: Wait + Drop>(
     store: &Store<O, N, W>,
     readers: &mut Vec<Reader<O, N>>,
@@ -15,6 +16,7 @@ pub fn next_compactor<O: Operator, N: Name, W: Wait + Drop>(
     ensures reader { IfSome result (λ compactor. readers.old.items ≡ readers.new.items ++ compactor.seen ∷ []) }
     ensures seat { IfSome result (λ compactor.
         IfSome compactor.seat (λ seat. seats.old.items ≡ seats.new.items ++ seat ∷ [])) }
+    ensures none { IfNone result ((readers.old.items ≡ []) ⊎ (seats.old.items ≡ [])) }
     ensures rest { All (λ seat. seat.table ≡ store.now.table) seats.new.items }
 {
     let seat = seats.pop()?;
