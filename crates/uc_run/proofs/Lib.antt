@@ -11,8 +11,12 @@ pub mod KeyPoints
 pub mod PrefixOrder
 pub mod Fronts
 pub mod Decided
+pub mod RankedOrder
 pub mod LeastKey
 pub mod Passing
 pub mod NearPlace
 pub mod FoundThere
 pub mod Hiding
+pub mod Words
+pub mod BitLaws
+pub mod Admitting

@@ -1,5 +1,5 @@
 -- Prefixes rise with the bytes.
-use Rattle.std.proofs.Common.{◌≡◌, ℕ, zero, suc, ◌+◌, ◌*◌, ◌^◌, ◌<◌, ◌≤◌, true, List, [], ◌∷◌, take, refl, sym, ap, ◌∙◌, arith}
+use Rattle.std.proofs.Common.{◌≡◌, ℕ, zero, suc, ◌+◌, ◌*◌, ◌^◌, ◌<◌, ◌≤◌, true, List, [], ◌∷◌, length, min, take, refl, sym, ap, ◌∙◌, arith}
 use Rattle.std.specs.declared.cmp.Ordering.{Ordering}
 use Rattle.std.specs.declared.cmp.Ordering.TheVariants.{Less, Equal, Greater}
 use Rattle.std.specs.Ordering.{nat_cmp, ordering_then, ordering_reverse, is_le}
@@ -82,3 +82,45 @@ lower_prefix xs ys bytes lower = by (bytes_cmp xs ys) refl
 
 pub higher_prefix : (xs ys : List ℕ) → AreBytes xs → prefix_of ys < prefix_of xs → bytes_cmp xs ys ≡ Greater
 higher_prefix xs ys bytes higher = nat_list_cmp_total.antisymm xs ys ∙ ap ordering_reverse (lower_prefix ys xs bytes higher)
+
+-- ---- one prefix
+
+pub less_is : (a b : ℕ) → a < b → nat_cmp a b ≡ Less
+less_is a b lt = grind (arith, nat_tests)
+
+pub greater_is : (a b : ℕ) → b < a → nat_cmp a b ≡ Greater
+greater_is a b lt = grind (arith, nat_tests)
+
+one_more : (a b : ℕ) (o : Ordering) → nat_cmp a b ≡ o → nat_cmp (suc a) (suc b) ≡ o
+one_more a b Less e = less_is (suc a) (suc b) (let lt : a < b = grind (arith, nat_tests) in omega (arith, lt))
+one_more a b Equal e = let same : a ≡ b = grind (arith, nat_tests) in grind (arith, nat_tests)
+one_more a b Greater e = greater_is (suc a) (suc b) (let lt : b < a = grind (arith, nat_tests) in omega (arith, lt))
+
+-- a first byte that is higher outweighs the others
+outweighs : (n x y : ℕ) (xs ys : List ℕ) → AreBytes xs → x < y → x * 256 ^ n + number n xs < y * 256 ^ n + number n ys
+outweighs n x y xs ys bytes lt =
+    let up : suc x * 256 ^ n ≤ y * 256 ^ n = mul-le-mul_right (256 ^ n) lt in
+    omega (arith, up, suc-mul x (256 ^ n), number_below n xs bytes)
+
+-- of two lists with one number the shorter is below, if the number tells all of it
+equal_number : (n : ℕ) (xs ys : List ℕ) → AreBytes xs → AreBytes ys → number n xs ≡ number n ys → min (length xs) (length ys) ≤ n → bytes_cmp xs ys ≡ nat_cmp (length xs) (length ys)
+equal_number n [] [] bx by e le = refl
+equal_number n [] (y ∷ ys) bx by e le = sym (less_is 0 (length (y ∷ ys)) (omega arith))
+equal_number n (x ∷ xs) [] bx by e le = sym (greater_is (length (x ∷ xs)) 0 (omega arith))
+equal_number zero (x ∷ xs) (y ∷ ys) bx by e le = absurd (omega (arith, le))
+equal_number (suc n) (x ∷ xs) (y ∷ ys) bx by e le = split (nat_cmp x y) refl (equal_number n xs ys (λ i. bx (suc i)) (λ i. by (suc i)))
+  where
+    split : (o : Ordering) → nat_cmp x y ≡ o → (number n xs ≡ number n ys → min (length xs) (length ys) ≤ n → bytes_cmp xs ys ≡ nat_cmp (length xs) (length ys)) → ordering_then o (bytes_cmp xs ys) ≡ nat_cmp (length (x ∷ xs)) (length (y ∷ ys))
+    split Less f behind =
+        let lt : x < y = grind (arith, nat_tests) in
+        absurd (omega (arith, e, outweighs n x y xs ys (λ i. bx (suc i)) lt))
+    split Equal f behind =
+        let same : x ≡ y = grind (arith, nat_tests) in
+        let times : x * 256 ^ n ≡ y * 256 ^ n = ap (λ z. z * 256 ^ n) same in
+        behind (omega (arith, e, times)) (omega (arith, le)) ∙ sym (one_more (length xs) (length ys) (nat_cmp (length xs) (length ys)) refl)
+    split Greater f behind =
+        let lt : y < x = grind (arith, nat_tests) in
+        absurd (omega (arith, e, outweighs n y x ys xs (λ i. by (suc i)) lt))
+
+pub equal_prefix : (xs ys : List ℕ) → AreBytes xs → AreBytes ys → prefix_of xs ≡ prefix_of ys → min (length xs) (length ys) ≤ 8 → bytes_cmp xs ys ≡ nat_cmp (length xs) (length ys)
+equal_prefix xs ys bx by e le = equal_number 8 xs ys bx by (sym (is_number xs) ∙ e ∙ is_number ys) le

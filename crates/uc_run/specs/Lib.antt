@@ -8,6 +8,9 @@ pub mod Blocks
 pub mod Fences
 pub mod Places
 pub mod Prefixes
+pub mod Ranks
 pub mod NextKey
 pub mod Cursors
 pub mod Hiding
+pub mod KeyHash
+pub mod Filters

@@ -1,8 +1,11 @@
 //! [`EntryRef`]: a point with borrowed texts.
 ghost use Rattle.std.specs.Prelude.{◌≡◌, ◌<◌, ◌^◌, IfOk};
+ghost use Rattle.std.specs.Ordering.{nat_cmp};
 ghost use Rattle.uc_run_entry.specs.Order.{entry_cmp};
 ghost use Rattle.uc_run_entry.specs.Packed as packed;
+ghost use Rattle.uc_run.specs.Ranks.{behind_cmp};
 
+use crate::prefixes::PREFIX_BYTES;
 use std::alloc::{AllocError, Global};
 use std::cmp::Ordering;
 use std::marker::Model;
@@ -34,12 +37,43 @@ impl<'a> EntryRef<'a> {
         EntryRef { key, seq, what }
     }
 
+    /// The key.
+    #[inline]
+    pub(crate) fn key(&self) -> &'a [u8]
+        ensures { result.now ≡ self.now.key }
+    {
+        self.key
+    }
+
     /// Its order to another: by key, the newest of a key first.
     #[inline]
     pub(crate) fn order(&self, other: &EntryRef<'_>) -> Ordering
         ensures { result ≡ entry_cmp self.now other.now }
     {
-        self.key.cmp(&other.key).then(other.seq.cmp(&self.seq))
+        self.key.cmp(&other.key).then(self.newest_first(other))
+    }
+
+    /// Its order to another whose key has the same front of shared bytes and the same prefix behind it. A key that ends
+    /// within the prefix is told from others by its length.
+    #[inline]
+    pub(crate) fn order_behind(&self, other: &EntryRef<'_>, shared: usize) -> Ordering
+        ensures { result ≡ behind_cmp shared self.now other.now }
+    {
+        let rest = self.key.len().saturating_sub(shared);
+        let other_rest = other.key.len().saturating_sub(shared);
+        if rest.min(other_rest) <= PREFIX_BYTES {
+            rest.cmp(&other_rest).then(self.newest_first(other))
+        } else {
+            self.order(other)
+        }
+    }
+
+    /// Its order to another of the same key.
+    #[inline]
+    fn newest_first(&self, other: &EntryRef<'_>) -> Ordering
+        ensures { result ≡ nat_cmp other.now.seq self.now.seq }
+    {
+        other.seq.cmp(&self.seq)
     }
 
     /// The point, packed, with a copy of its texts.

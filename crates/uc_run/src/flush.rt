@@ -4,9 +4,11 @@ ghost use Rattle.std.specs.List.{AllByRecursion};
 ghost use Rattle.uc_bytes.specs.Borrowed.{op_of};
 ghost use Rattle.uc_run.specs.Slots.{slot_write, slot_writes, LiesWithin, LieWithin};
 ghost use Rattle.uc_run.specs.Points.{HaveOwnSeqs};
+ghost use Rattle.uc_run.specs.Ranks.{points_of};
 ghost use Rattle.uc_run.specs.Flush as flush;
 
 use crate::entry_ref::EntryRef;
+use crate::ranked_point::{RankedPoint, pack_ranked, sort_by_key};
 use crate::slot::Slot;
 use std::alloc::{AllocError, Global};
 use uc_bytes::OpKind;
@@ -53,14 +55,14 @@ fn points_in<'a>(
     alloc: Global,
     text: &'a [u8],
     slots: &[Slot],
-) -> Result<Vec<EntryRef<'a>>, AllocError>
+) -> Result<Vec<RankedPoint<'a>>, AllocError>
     requires { LieWithin text.now slots.now }
-    ensures { IfOk result (λ points. points.items ≡ flush.points_in (slot_writes text.now slots.now)) }
+    ensures { IfOk result (λ points. points_of points.items ≡ flush.points_in (slot_writes text.now slots.now)) }
 {
     let mut points = Vec::with_capacity(alloc, slots.len())?;
     for slot in slots {
         if let Some(point) = point_at(text, slot) {
-            points.push(point)?;
+            points.push(RankedPoint::new(point))?;
         }
     }
     Ok(points)
@@ -84,26 +86,6 @@ pub(crate) fn ranges_in<'a>(
     Ok(ranges)
 }
 
-/// Sorts points by key, the newest of a key first.
-fn sort_points(points: &mut [EntryRef<'_>])
-    requires { HaveOwnSeqs points.old }
-    ensures { points.new ≡ flush.by_key points.old }
-{
-    points.sort_unstable_by(|point, other| point.order(other));
-}
-
-/// Points, packed, with copies of their texts. An `Err` loses them.
-fn pack_points(alloc: Global, points: &[EntryRef<'_>]) -> Result<Vec<Point>, AllocError>
-    requires { AllByRecursion (λ p. p.seq < 2 ^ 56) points.now }
-    ensures { IfOk result (λ packed. packed.items ≡ points.now) }
-{
-    let mut packed = Vec::with_capacity(alloc, points.len())?;
-    for point in points {
-        packed.push(point.to_point(alloc)?)?;
-    }
-    Ok(packed)
-}
-
 /// The points among the slots' writes, by key, the newest of a key first. The texts are copied in this order. An `Err`
 /// loses them.
 pub(crate) fn points_by_key(
@@ -118,8 +100,8 @@ pub(crate) fn points_by_key(
     ensures { IfOk result (λ points. points.items ≡ flush.by_key (flush.points_in (slot_writes text.now slots.now))) }
 {
     let mut points = points_in(alloc, text, slots)?;
-    sort_points(&mut points);
-    pack_points(alloc, &points)
+    sort_by_key(&mut points);
+    pack_ranked(alloc, &points)
 }
 
 /// The sequence of the first slot, or 0 if there is none.

@@ -2,11 +2,12 @@
 //!
 //! A [`Memtable`] keeps the texts of its writes one after the other in one arena, and a small slot for each write. A
 //! contract sees it as the list of the writes that were inserted. [`Memtable::flush`] makes a [`Run`] of it. Read
-//! `specs/Flush.antt` and `memtable.rt`.
+//! `specs/Flush.antt` and `memtable.rt`, then `ranked_point.rt`, which sorts the points.
 //!
-//! A [`Run`] is immutable. It keeps its points, packed, in blocks of 16 in order of key. A contract sees it as its
-//! contents (`uc_run_entry`'s `specs/Run.antt`); only the contracts of [`Run::blocks`] and [`Run::fence`] speak of
-//! blocks. A [`Cursor`] walks over a run in order of key. Read `run.rt`, then `lookup.rt` and `cursor.rt`.
+//! A [`Run`] is immutable. It keeps its points, packed, in blocks of 16 in order of key, and a Bloom filter of their keys
+//! (`filter.rt`). A contract sees it as its contents (`uc_run_entry`'s `specs/Run.antt`); only the contracts of
+//! [`Run::blocks`] and [`Run::fence`] speak of blocks. A [`Cursor`] walks over a run in order of key. Read `run.rt`, then
+//! `lookup.rt` and `cursor.rt`.
 //!
 //! This crate re-exports the public items of `uc_run_entry` that runs are made of.
 //!
@@ -16,13 +17,17 @@
 mod cursor;
 mod entry_ref;
 mod fences;
+mod filter;
+mod filter_bits;
 mod flush;
+mod key_hash;
 mod laws;
 mod lookup;
 mod memtable;
 mod near;
 mod places;
 mod prefixes;
+mod ranked_point;
 mod run;
 mod run_size;
 mod same;

@@ -8,6 +8,7 @@ ghost use Rattle.uc_run_entry.specs.Run.{covers};
 ghost use Rattle.uc_run_entry.specs.Lookup as lookup;
 ghost use Rattle.uc_run.specs.Places.{PointsFall};
 
+use crate::near::fragments_near;
 use crate::places::newer_than;
 use std::alloc::{AllocError, Global};
 use uc_oper::{Effect, Operator};
@@ -40,7 +41,8 @@ fn points_effect<O: Operator>(
     Ok(effect)
 }
 
-/// The sequence of the newest range deletion over the key at or below the sequence.
+/// The sequence of the newest range deletion over the key at or below the sequence. For a key before the first fragment or
+/// behind the last it is a few comparisons, and otherwise a binary search.
 fn newest_over(fragments: &[Fragment], key: &[u8], at: u64) -> Option<u64>
     requires order { AreInOrder fragments.now }
     requires falling { AllByRecursion (λ f. IsFalling f.seqs) fragments.now }
@@ -49,7 +51,8 @@ fn newest_over(fragments: &[Fragment], key: &[u8], at: u64) -> Option<u64>
         (filter (λ seq. nat_le seq at)
         (flat_map (λ f. f.seqs) (filter (λ f. covers f key.now) fragments.now))) 0 }
 {
-    let fragment = covering_fragment(fragments, key)?;
+    let near = fragments_near(fragments, fragments.len(), key);
+    let fragment = covering_fragment(near, key)?;
     fragment.seqs.newest_at_or_below(at)
 }
 

@@ -6,10 +6,12 @@ ghost use Rattle.uc_run_entry.specs.Order.{entry_cmp, IsFalling};
 ghost use Rattle.uc_run_entry.specs.Seek as seek;
 ghost use Rattle.uc_run_entry.specs.Lookup as lookup;
 ghost use Rattle.uc_run.specs.Fences.{IsFenced};
+ghost use Rattle.uc_run.specs.Filters.{AdmitsAll};
 ghost use Rattle.uc_run.specs.Places as places;
 ghost use Rattle.uc_run.specs.Places.{PointsFall};
 
-use crate::fences::{Fences, seek_by_fences};
+use crate::fences::{Fences, passed_from, seek_by_fences};
+use crate::filter::Filter;
 use std::cmp::Ordering;
 use uc_run_entry::Point;
 
@@ -65,20 +67,25 @@ pub(crate) fn points_between<'a>(
     &points[begin + newer..end]
 }
 
-/// The points of the key at or below the sequence, the newest first.
+/// The points of the key at or below the sequence, the newest first. They are searched only if the filter admits the key.
 pub(crate) fn points_on<'a>(
     points: &'a [Point],
     fences: &Fences,
+    key_filter: &Filter,
     key: &[u8],
     at: u64,
 ) -> &'a [Point]
     requires sorted { IsStrictlySortedBy entry_cmp points.now }
     requires fenced { IsFenced points.now fences.now }
+    requires admitted { AdmitsAll key_filter.now points.now }
     ensures points { result.now ≡ filter (lookup.is_visible key.now at) points.now }
     ensures fall { PointsFall result.now }
 {
-    let end = seek_by_fences(points, fences, key, true);
+    if !key_filter.admits(key) {
+        return &[];
+    }
     let begin = seek_by_fences(points, fences, key, false);
+    let end = passed_from(points, fences, begin, key, true);
     points_between(points, begin, end, key, at)
 }
 

@@ -11,9 +11,12 @@ use crate::places::is_passed;
 use std::alloc::{AllocError, Global};
 use uc_bytes::Bytes;
 
+/// How many bytes of a key a prefix is made of.
+pub(crate) const PREFIX_BYTES: usize = 8;
+
 /// The byte at a place, or 0 if there is none.
 #[inline]
-fn byte_or_zero(bytes: &[u8], place: usize) -> u8
+pub(crate) fn byte_or_zero(bytes: &[u8], place: usize) -> u8
     ensures { result ≡ slice_index bytes.now place }
 {
     match bytes.get(place) {
@@ -40,7 +43,7 @@ fn padded_prefix(bytes: &[u8]) -> u64
 
 /// The first eight bytes as a number: read at once if there are eight.
 #[inline]
-fn prefix_of(bytes: &[u8]) -> u64
+pub(crate) fn prefix_of(bytes: &[u8]) -> u64
     ensures prefix { result ≡ prefixes.prefix_of bytes.now }
     ensures bytes { AreBytes bytes.now }
 {
@@ -51,7 +54,7 @@ fn prefix_of(bytes: &[u8]) -> u64
 }
 
 /// How many bytes two keys have in common at their front.
-fn common_prefix_len(first: &[u8], last: &[u8]) -> usize
+pub(crate) fn common_prefix_len(first: &[u8], last: &[u8]) -> usize
     ensures { result ≡ list.common_prefix_len nat_eq first.now last.now }
 {
     let short = first.len().min(last.len());

@@ -13,6 +13,7 @@ ghost use Rattle.uc_run.specs.NextKey.{IsNextKey};
 
 use crate::cursor::Cursor;
 use crate::fences::{Fences, fences_of, seek_by_fences};
+use crate::filter::{Filter, filter_of};
 use crate::lookup::effect_found;
 use crate::places::points_on;
 use crate::run_size::size_of;
@@ -32,6 +33,7 @@ pub struct Run {
     high: u64,
     points: Vec<Point>,
     fences: Fences,
+    filter: Filter,
     fragments: Fragments,
     size: u64,
 }
@@ -86,11 +88,13 @@ impl Run {
     {
         let size = size_of(&points, fragments.as_slice());
         let fences = fences_of(alloc, &points)?;
+        let filter = filter_of(alloc, &points)?;
         Ok(Run {
             low,
             high,
             points,
             fences,
+            filter,
             fragments,
             size,
         })
@@ -204,7 +208,8 @@ impl Run {
     }
 
     /// What the run's writes at or below a sequence together do to a key. It costs the logarithms of the numbers of
-    /// points and fragments, and a step for each of the key's points from its last put or delete on.
+    /// points and fragments, and a step for each of the key's points from its last put or delete on. For a key without
+    /// points it mostly costs a look at the filter in place of the first logarithm.
     pub fn effect<O: Operator>(
         &self,
         alloc: Global,
@@ -214,7 +219,7 @@ impl Run {
         ensures { IfOk result (λ effect. effect ≡ effect_on O.meaning (plain_list self.now) key.now at) }
     {
         plain_list_does_what_is_found::<O>();
-        let on = points_on(&self.points, &self.fences, key, at);
+        let on = points_on(&self.points, &self.fences, &self.filter, key, at);
         effect_found::<O>(alloc, on, self.fragments.as_slice(), key, at)
     }
 

@@ -1,8 +1,8 @@
 //! Worked examples of runs: what is found in them, and how they are compacted.
 //!
 //! Everything here runs the calls of other crates as their users do, over points that were worked out by hand.
-//! `blocks.rt` has runs of some sizes and lookups in them, `cursors.rt` walks over their points, and `memtables.rt`
-//! memtables and the runs that they are flushed to. `compactions.rt` has whole compactions, `hot.rt` one of thousands
+//! `blocks.rt` has runs of some sizes and lookups in them, `filters.rt` lookups of keys that are there and of others,
+//! `cursors.rt` walks over the points of runs, and `memtables.rt` memtables and the runs that they are flushed to. `compactions.rt` has whole compactions, `hot.rt` one of thousands
 //! of merges of a key, and `overlaps.rt` flushes and compactions of random overlapping range deletions. `given.rt`
 //! makes runs that are written down, `drawn.rt` runs of drawn writes, and `lookups.rt` has the checks of a run.
 #![tactic(auto)]
@@ -15,6 +15,8 @@ mod compactions;
 mod cursors;
 #[cfg(test)]
 mod drawn;
+#[cfg(test)]
+mod filters;
 #[cfg(test)]
 mod given;
 #[cfg(test)]

@@ -8,6 +8,6 @@ use Rattle.uc_run.proofs.lookup.newest_over.Goals as goal
 
 pub newest_at_or_below-requires : goal.newest_at_or_below-requires
 newest_at_or_below-requires c =
-    let all = all-filtered (λ f. IsFalling f.seqs) (λ g. covers g c.args.key.now) c.args.fragments.now c.requires.falling in
+    let all = all-filtered (λ f. IsFalling f.seqs) (λ g. covers g c.args.key.now) c.fragments_near-near.result.now c.fragments_near-near.ensures.falling in
     let one = subst (AllByRecursion (λ (f : Fragment). IsFalling f.seqs)) c.in_ok-fragment.ensures.some all in
     one.0

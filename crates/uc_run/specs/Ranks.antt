@@ -1,0 +1,56 @@
+-- Points beside the prefixes of their keys.
+use Rattle.std.specs.Prelude.{◌≡◌, ℕ, ◌-◌, ◌≤◌, nat_le, min, if◌then◌else◌, List, [], ◌∷◌, length, map, take, drop}
+use Rattle.std.specs.List.{All}
+use Rattle.std.specs.declared.cmp.Ordering.{Ordering}
+use Rattle.std.specs.Ordering.{nat_cmp, ordering_then}
+use Rattle.uc_bytes.specs.Bytes.{bytes_cmp}
+use Rattle.uc_run_entry.specs.declared.entry.Entry.{Entry}
+use Rattle.uc_run.specs.Prefixes.{prefix_of, AreBytes}
+
+-- how many bytes a key has behind those that all share, or 9 if there are more than eight
+abbrev pub rest_length : ℕ → Entry → ℕ
+rest_length shared p = min (length p.key - shared) 9
+
+-- the text that a prefix doesn't tell: none if the key has at most eight bytes behind those that all share
+abbrev pub untold : ℕ → Entry → List ℕ
+untold shared p = if nat_le (length p.key - shared) 8 then [] else p.key
+
+-- points of one prefix: by length, then by text, the newest of a key first
+abbrev pub behind_cmp : ℕ → Entry → Entry → Ordering
+behind_cmp shared p q =
+    ordering_then (nat_cmp (rest_length shared p) (rest_length shared q)) (ordering_then (bytes_cmp (untold shared p) (untold shared q)) (nat_cmp q.seq p.seq))
+
+-- by prefix, then as points of one prefix
+abbrev pub ranked_cmp : ℕ → ℕ × Entry → ℕ × Entry → Ordering
+ranked_cmp shared r s = ordering_then (nat_cmp r.0 s.0) (behind_cmp shared r.1 s.1)
+
+abbrev pub points_of : List (ℕ × Entry) → List Entry
+points_of ranked = map (λ r. r.1) ranked
+
+abbrev pub first_key : List Entry → List ℕ
+first_key [] = []
+first_key (p ∷ ps) = p.key
+
+-- a key begins with the first bytes of another
+pub record HasFront (shared : ℕ) (first key : List ℕ) : Type 0 where
+  pub long : shared ≤ length key
+  pub same : take shared key ≡ take shared first
+
+abbrev pub HaveFront : ℕ → List ℕ → List Entry → Type 0
+HaveFront shared first points = All (λ p. HasFront shared first p.key) points
+
+-- Beside a point is the prefix of its key after the first bytes.
+pub record IsRanked (shared : ℕ) (r : ℕ × Entry) : Type 0 where
+  pub prefix : r.0 ≡ prefix_of (drop shared r.1.key)
+  pub bytes : AreBytes (drop shared r.1.key)
+
+pub record AreRanked (shared : ℕ) (points : List Entry) (ranked : List (ℕ × Entry)) : Type 0 where
+  pub listed : points_of ranked ≡ points
+  pub each : All (IsRanked shared) ranked
+
+-- a point beside the prefix of its key after the first bytes
+abbrev pub ranked_at : ℕ → ℕ × Entry → ℕ × Entry
+ranked_at shared r = (prefix_of (drop shared r.1.key), r.1)
+
+abbrev pub HaveBytes : List Entry → Type 0
+HaveBytes points = All (λ p. AreBytes p.key) points

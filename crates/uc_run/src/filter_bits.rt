@@ -1,0 +1,108 @@
+//! The bits of a filter: where those of a key lie, and whether they are set.
+ghost use Rattle.std.specs.Prelude.{◌≡◌, ℕ, List, ◌-◌, ◌<◌, ◌≤◌, ◌↔◌, IsTrue, length};
+ghost use Rattle.uc_run.specs.Filters as filters;
+ghost use Rattle.uc_run.specs.Filters.{HasBits, Admits};
+
+use crate::key_hash::key_hash;
+
+/// How many words each block has: one cache line.
+pub(crate) const BLOCK_WORDS: usize = 8;
+
+/// How many words half a block has.
+const HALF_WORDS: usize = 4;
+
+/// Where the bits of a key lie: some in a word of a block's first half, and some in a word of its second half.
+#[derive(Clone, Copy, Debug)]
+struct Probes {
+    first: usize,
+    first_bits: u64,
+    second: usize,
+    second_bits: u64,
+}
+
+/// A block for a hash, by its upper bits (Lemire, "Fast Random Integer Generation in an Interval").
+#[inline]
+#[tactic(auto, unfolding(crate::specs::Filters::block_of))]
+fn block_of(hash: u64, blocks: usize) -> usize
+    ensures block { result ≡ filters.block_of hash blocks }
+    ensures within { result ≤ blocks - 1 }
+{
+    (u128::from(hash) * blocks as u128 >> 64) as usize
+}
+
+/// One bit of a word, by the lower six bits of a hash.
+#[inline]
+fn one_bit(hash: u64) -> u64
+    ensures { result ≡ filters.one_bit hash }
+{
+    1 << (hash % 64)
+}
+
+/// Up to three bits of a word, by the lower 18 bits of a hash.
+#[inline]
+#[tactic(auto, unfolding(crate::specs::Filters::three_bits))]
+fn three_bits(hash: u64) -> u64
+    ensures { result ≡ filters.three_bits hash }
+{
+    one_bit(hash) | one_bit(hash >> 6) | one_bit(hash >> 12)
+}
+
+/// Where the bits of a key with this hash lie, among so many words.
+#[inline]
+#[tactic(auto, unfolding(crate::specs::Filters::probes_of))]
+fn probes_of(hash: u64, words: usize) -> Probes
+    ensures probes { result ≡ filters.probes_of hash words }
+    ensures first_within { BLOCK_WORDS ≤ words → result.first < words }
+    ensures second_within { BLOCK_WORDS ≤ words → result.second < words }
+{
+    let block = block_of(hash, words / BLOCK_WORDS) * BLOCK_WORDS;
+    Probes {
+        first: block + (hash >> 36) as usize % HALF_WORDS,
+        first_bits: three_bits(hash),
+        second: block + HALF_WORDS + (hash >> 38) as usize % HALF_WORDS,
+        second_bits: three_bits(hash >> 18),
+    }
+}
+
+/// Whether the word at a place has all of these bits.
+#[inline]
+fn has_bits(words: &[u64], place: usize, bits: u64) -> bool
+    ensures { IsTrue result ↔ HasBits words.now place bits }
+{
+    match words.get(place) {
+        Some(word) => *word & bits == bits,
+        None => false,
+    }
+}
+
+/// Sets these bits in the word at a place.
+#[inline]
+fn set_bits(words: &mut [u64], place: usize, bits: u64)
+    requires { place < length words.old }
+    ensures set { HasBits words.new place bits }
+    ensures kept { (other more : ℕ) → HasBits words.old other more → HasBits words.new other more }
+{
+    words[place] |= bits;
+}
+
+/// Whether the words admit a key.
+#[inline]
+pub(crate) fn is_admitted(words: &[u64], key: &[u8]) -> bool
+    ensures { IsTrue result ↔ Admits words.now key.now }
+{
+    let probes = probes_of(key_hash(key), words.len());
+    has_bits(words, probes.first, probes.first_bits)
+        && has_bits(words, probes.second, probes.second_bits)
+}
+
+/// Makes the words admit a key.
+#[inline]
+pub(crate) fn admit(words: &mut [u64], key: &[u8])
+    requires { BLOCK_WORDS ≤ length words.old }
+    ensures admitted { Admits words.new key.now }
+    ensures kept { (other : List ℕ) → Admits words.old other → Admits words.new other }
+{
+    let probes = probes_of(key_hash(key), words.len());
+    set_bits(words, probes.first, probes.first_bits);
+    set_bits(words, probes.second, probes.second_bits);
+}
