@@ -2,7 +2,7 @@
 
 use clap::{Arg, ArgMatches, Command, value_parser};
 use std::alloc::{AllocError, Global};
-use uc_tool_io::OperatorName;
+use uc_tool_io::{OPERATORS, OperatorName};
 use uc_version_state::Options;
 
 const ABOUT: &str = "A log-structured merge store in memory, proved.";
@@ -25,7 +25,7 @@ lines that begin with # are skipped. Keys and values are hexadecimal, . for the 
 Change number i has the sequence i. Changes after open are gathered, and `feed` writes them. A `keep`
 after open keeps the last sequence written; `release` ends it. SEQUENCE is a number, or after open
 `last`, the last sequence at opening. It has to be kept to be read, as `last` is until its release.
-HIGH is a key or - for none. NAME is a number below 32; FIRST counts runs from 0, the newest.
+HIGH is a key or - for none. NAME is a number below 128; FIRST counts runs from 0, the newest.
 
 A script with a fault prints `fault line N` and nothing else; standard error says what is wrong with
 that line. A refused opening prints `refused` and why; standard error names the option or number.
@@ -46,7 +46,7 @@ const LATER: &str = "0";
 /// in one place.
 #[derive(Debug, Drop)]
 pub struct Shown {
-    operators: [&'static str; 3],
+    operators: [&'static str; OPERATORS],
     memtable: String,
     trigger: String,
     ratio: String,
@@ -92,7 +92,7 @@ fn operator<'a>(alloc: Global, shown: &'a Shown) -> Arg<'a> {
         .required(true)
         .value_parser(shown.operators.as_slice())
         .help(
-            "How merges combine: sums of 64-bit numbers, texts joined by commas, or the greater text",
+            "How merges combine: sums of 64-bit numbers, texts joined by commas, the greater text, or the last 4 bytes of all texts",
         )
 }
 

@@ -62,12 +62,14 @@ fn each_option_sets_its_field(rt: HostRuntime) -> Result<(), Fail> {
 }
 
 /// The operators by their names.
-const OPERATORS: [(&str, OperatorName); 5] = [
+const OPERATORS: [(&str, OperatorName); 7] = [
     ("ucstore play --operator counter", OperatorName::Counter),
     ("ucstore play --operator=append", OperatorName::Append),
     ("ucstore play --operator maximum", OperatorName::Maximum),
+    ("ucstore play --operator tail", OperatorName::Tail),
     ("ucstore report --operator counter", OperatorName::Counter),
     ("ucstore ask --operator maximum", OperatorName::Maximum),
+    ("ucstore ask --operator=tail", OperatorName::Tail),
 ];
 
 /// Without words for them the options are the usual ones.

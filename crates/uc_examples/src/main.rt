@@ -11,11 +11,14 @@ use std::marker::Sync;
 use std::rt::Files;
 use std::sync::Wait;
 use std::thread::Threads;
-use uc_oper::{Append, Counter, Operator};
+use uc_oper::{Append, Counter, Operator, Tail};
 use uc_tool::{Done, Options, ask, dump, is_plan, play, report_log};
 
 /// The delimiter of `--operator append`.
 const COMMA: u8 = b',';
+
+/// How many bytes `--operator tail` keeps.
+const KEPT: usize = 4;
 
 /// Compares what was printed with what a file says, and how the run ended: a log whose name says that
 /// it has a fault is a bad one.
@@ -138,9 +141,10 @@ fn main(rt: HostRuntime) -> Result<()> {
     check_script::<Counter, _>(&rt, "first", usual)?;
     check_script::<Append<COMMA>, _>(&rt, "merge", usual)?;
     check_script::<Counter, _>(&rt, "compaction", 1)?;
+    check_script::<Tail<KEPT>, _>(&rt, "tail", 1)?;
     check_script::<Append<COMMA>, _>(&rt, "live", 1)?;
     check_ask(&rt)?;
     check_report(&rt)?;
-    println!(rt; "{logs} logs, 4 scripts, queries and a report print what stands beside them")?;
+    println!(rt; "{logs} logs, 5 scripts, queries and a report print what stands beside them")?;
     Ok(())
 }

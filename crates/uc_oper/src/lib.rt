@@ -14,6 +14,7 @@ mod laws;
 mod maximum;
 mod merging;
 mod operator;
+mod tail;
 
 pub use append::Append;
 pub use counter::Counter;
@@ -22,3 +23,4 @@ pub use laws::{apply_composes, keep_is_unit, then_is_associative};
 pub use maximum::Maximum;
 pub use merging::merged;
 pub use operator::Operator;
+pub use tail::Tail;

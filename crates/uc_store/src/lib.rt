@@ -30,7 +30,7 @@ pub use opened_shared::{OpenedShared, open_shared};
 pub use shared_batches::feed_shared_batch;
 pub use uc_batch::{Ended, Op, Writes};
 pub use uc_bytes::{Bytes, Write};
-pub use uc_oper::{Append, Counter, Maximum, Operator};
+pub use uc_oper::{Append, Counter, Maximum, Operator, Tail};
 pub use uc_query::{Answer, AskError, Query, Report, Rows, answer_one, answer_plain, get, report};
 pub use uc_query_shared::{Free, Gate, MOST_WORKERS, answer_all};
 pub use uc_share::{

@@ -46,7 +46,7 @@ pub use line::{
     fields_line, numbered_line, push_counted, push_fields_line, push_numbered_line, push_text_line,
 };
 pub use logs::{ended_line, push_write};
-pub use operator_name::OperatorName;
+pub use operator_name::{OPERATORS, OperatorName};
 pub use output::write_bytes;
 pub use refusal::Refusal;
 pub use refused_run::print_refusal;

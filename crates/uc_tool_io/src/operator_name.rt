@@ -4,6 +4,9 @@ ghost use Rattle.std.specs.Prelude.{◌≡◌, map};
 ghost use Rattle.uc_tool_io.specs.OperatorName as names;
 ghost use Rattle.uc_tool_io.specs.OperatorName.{operators, word_of};
 
+/// How many operators the command line can name.
+pub const OPERATORS: usize = 4;
+
 /// A merge operator that the command line can name.
 ///
 /// What the parser lets through, and what the program runs, both come from here: a name that isn't in
@@ -16,14 +19,17 @@ pub enum OperatorName {
     Append,
     /// `maximum`: the greater text.
     Maximum,
+    /// `tail`: the last bytes of all texts.
+    Tail,
 }
 
 impl OperatorName {
     /// All of them.
-    const ALL: [OperatorName; 3] = [
+    const ALL: [OperatorName; OPERATORS] = [
         OperatorName::Counter,
         OperatorName::Append,
         OperatorName::Maximum,
+        OperatorName::Tail,
     ];
 
     /// The word for it.
@@ -34,11 +40,12 @@ impl OperatorName {
             OperatorName::Counter => "counter",
             OperatorName::Append => "append",
             OperatorName::Maximum => "maximum",
+            OperatorName::Tail => "tail",
         }
     }
 
     /// The words for all of them.
-    pub fn words() -> [&'static str; 3]
+    pub fn words() -> [&'static str; OPERATORS]
         ensures { map (λ word. word.now) result ≡ map word_of operators }
     {
         OperatorName::ALL.map(OperatorName::word)

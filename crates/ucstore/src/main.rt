@@ -16,11 +16,14 @@ use std::rt::Env;
 use std::sync::Wait;
 use std::thread::Threads;
 use uc_command::{Plan, Shown};
-use uc_oper::{Append, Counter, Maximum};
+use uc_oper::{Append, Counter, Maximum, Tail};
 use uc_tool::{Done, OperatorName, Outcome, Refusal, ask, dump, is_plan, play, report_log};
 
 /// The delimiter of `--operator append`.
 const COMMA: u8 = b',';
+
+/// How many bytes `--operator tail` keeps.
+const KEPT: usize = 4;
 
 /// Plays a script under the operator that the words name.
 fn play_script<R: Read, W: Write>(
@@ -37,6 +40,7 @@ fn play_script<R: Read, W: Write>(
             rt, alloc, reader, writer, &options,
         ),
         Some(OperatorName::Maximum) => play::<Maximum, R, W>(rt, alloc, reader, writer, &options),
+        Some(OperatorName::Tail) => play::<Tail<KEPT>, R, W>(rt, alloc, reader, writer, &options),
         // The parser lets no other name through.
         None => Outcome::without_reason(Done::Refused),
     }
@@ -71,6 +75,9 @@ fn ask_log<R: Read, W: Write>(
         Some(OperatorName::Maximum) => ask::<Maximum, R, W>(
             rt, alloc, reader, writer, &options, workers, piece, compactors, later,
         ),
+        Some(OperatorName::Tail) => ask::<Tail<KEPT>, R, W>(
+            rt, alloc, reader, writer, &options, workers, piece, compactors, later,
+        ),
         // The parser lets no other name through.
         None => return Outcome::without_reason(Done::Refused),
     };
@@ -95,6 +102,9 @@ fn report<R: Read, W: Write>(
         ),
         Some(OperatorName::Maximum) => {
             report_log::<Maximum, R, W>(rt, alloc, reader, writer, &options)
+        }
+        Some(OperatorName::Tail) => {
+            report_log::<Tail<KEPT>, R, W>(rt, alloc, reader, writer, &options)
         }
         // The parser lets no other name through.
         None => Outcome::without_reason(Done::Refused),

@@ -141,3 +141,39 @@ fn writes_that_fail_are_the_last(rt: HostRuntime) -> Result<(), Fail> {
     }
     Ok(())
 }
+
+/// A value of five bytes, and an operand of one.
+const SCRIPT: &[u8] = b"put 6b 6162636465\nmerge 6b 66\nopen\nget 6b last\n";
+
+/// What `play` prints of it under each operator.
+static PLAYED: [(&str, &[u8]); 4] = [
+    ("counter", b"opened 2\nvalue 0000000000000000\n"),
+    ("append", b"opened 2\nvalue 61626364652c66\n"),
+    ("maximum", b"opened 2\nvalue 66\n"),
+    ("tail", b"opened 2\nvalue 63646566\n"),
+];
+
+/// Plays the script under an operator.
+fn played(
+    rt: &(impl Threads + Wait + Sync),
+    alloc: Global,
+    operator: &str,
+) -> Result<Vec<u8>, Fail> {
+    let shown = Shown::new(alloc)?;
+    let words = ["ucstore", "play", "--operator", operator];
+    let matches = uc_command::ucstore(alloc, &shown)?.try_get_matches_from(&words)?;
+    let mut script = SCRIPT;
+    let mut text = Vec::new(alloc);
+    run_buffered(rt, alloc, &matches, &mut script, &mut text)?;
+    Ok(text)
+}
+
+/// Each operator is the one that its word names.
+#[test]
+fn operators_by_their_words(rt: HostRuntime) -> Result<(), Fail> {
+    for (operator, printed) in &PLAYED {
+        let text = played(&rt, rt.alloc(), operator)?;
+        assert_eq!(rt; text.as_slice(), *printed, "{operator}");
+    }
+    Ok(())
+}

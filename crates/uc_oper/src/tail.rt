@@ -1,0 +1,97 @@
+//! [`Tail`]: the last bytes of texts put together.
+ghost use Rattle.uc_oper.specs.Tails as tails;
+ghost use Rattle.std.specs.Prelude.{◌≡◌, ◌≤◌, length, drop, IfOk};
+
+use crate::operator::Operator;
+use std::alloc::{AllocError, Global};
+
+/// Puts texts behind one another and keeps the last `N` bytes, as a log of bounded length does. A value that was put
+/// stays whole until an operand meets it.
+///
+/// A join or a pair copies at most `N` bytes.
+pub enum Tail<const N: usize> {}
+
+/// The last bytes of a text, or all if it has fewer.
+fn last_bytes(text: &[u8], count: usize) -> &[u8]
+    ensures { result.now ≡ tails.last_bytes count text.now }
+{
+    &text[text.len().saturating_sub(count)..]
+}
+
+/// The last bytes of an older text and a newer one, in memory of their own.
+fn last_of_both(
+    alloc: Global,
+    count: usize,
+    older: &[u8],
+    newer: &[u8],
+) -> Result<Vec<u8>, AllocError>
+    ensures { IfOk result (λ text. text.items ≡ tails.last_of_both count older.now newer.now) }
+{
+    let newer = last_bytes(newer, count);
+    let older = last_bytes(older, count - newer.len());
+    let mut text = Vec::with_capacity(alloc, older.len() + newer.len())?;
+    text.extend_from_slice(older)?;
+    text.extend_from_slice(newer)?;
+    Ok(text)
+}
+
+/// The text without its first bytes, in its memory.
+fn without_front(mut text: Vec<u8>, count: usize) -> Vec<u8>
+    requires { count ≤ length text.items }
+    ensures { result.items ≡ drop count text.items }
+{
+    let len = text.len();
+    text.copy_within(count..len, 0);
+    text.truncate(len - count);
+    text
+}
+
+/// The last bytes of an older text and a newer one, in the memory of the older one. If that is longer than what stays, its
+/// memory is let go.
+fn keep_last(
+    alloc: Global,
+    count: usize,
+    older: Vec<u8>,
+    newer: &[u8],
+) -> Result<Vec<u8>, AllocError>
+    ensures { IfOk result (λ text. text.items ≡ tails.last_of_both count older.items newer.now) }
+{
+    if count < older.len() {
+        return last_of_both(alloc, count, older.as_slice(), newer);
+    }
+    let newer = last_bytes(newer, count);
+    let cut = older.len().saturating_sub(count - newer.len());
+    let mut text = without_front(older, cut);
+    text.extend_from_slice(newer)?;
+    Ok(text)
+}
+
+impl<const N: usize> Operator for Tail<N> {
+    ghost meaning = { tails.tail N };
+
+    ghost lawful = { tails.tail_lawful N };
+
+    fn first(alloc: Global, operand: &[u8]) -> Result<Vec<u8>, AllocError> {
+        Vec::from_slice(alloc, last_bytes(operand, N))
+    }
+
+    fn join(alloc: Global, base: &[u8], operand: &[u8]) -> Result<Vec<u8>, AllocError> {
+        last_of_both(alloc, N, base, operand)
+    }
+
+    fn pair(alloc: Global, older: &[u8], newer: &[u8]) -> Result<Vec<u8>, AllocError> {
+        last_of_both(alloc, N, older, newer)
+    }
+
+    /// Moves what stays of the value to its front. It allocates only if the value is longer than `N` bytes, or has no
+    /// room for the operand.
+    fn join_onto(alloc: Global, base: Vec<u8>, operand: &[u8]) -> Result<Vec<u8>, AllocError> {
+        keep_last(alloc, N, base, operand)
+    }
+
+    /// Moves what stays of the older operand to its front. It allocates only if that is longer than `N` bytes, or has
+    /// no room for the newer one.
+    fn pair_onto(alloc: Global, older: Vec<u8>, newer: &[u8]) -> Result<Vec<u8>, AllocError> {
+        keep_last(alloc, N, older, newer)
+    }
+}
