@@ -1,6 +1,7 @@
 //! An installer, which compacts the two newest runs until one is left.
 ghost use Rattle.std.specs.Prelude.{◌≡◌, IfSome};
 
+use crate::stores::RUNS;
 use crate::times::Times;
 use anyhow::Result;
 use std::alloc::Global;
@@ -11,8 +12,8 @@ use std::time::{Clock, Instant};
 use uc_oper::Operator;
 use uc_share::{Held, Name, Reader, Seat, Store, Stretch};
 
-/// How many installs a store of 64 runs has.
-const INSTALLS: usize = 63;
+/// How many installs make all runs of a store one.
+pub(crate) const INSTALLS: u64 = RUNS - 1;
 
 /// The two newest runs.
 const NEWEST: Stretch = Stretch { first: 0, count: 2 };

@@ -1,8 +1,8 @@
 //! Pins and installs of a store that threads share, for `bench/share`.
 //!
 //! `bench_share pins READERS ROUNDS` lets 1, 2 or 4 readers pin ROUNDS times each without an installer, and prints the
-//! nanoseconds and the number of pins. `bench_share beside READERS STORES` opens STORES stores of 64 runs, one after
-//! the other. In each an installer makes them one by 63 installs while the readers pin. It prints the nanoseconds of
+//! nanoseconds and the number of pins. `bench_share beside READERS STORES` opens STORES stores of 256 runs, one after
+//! the other. In each an installer makes them one by 255 installs while the readers pin. It prints the nanoseconds of
 //! these installs together, and the number of pins meanwhile. `bench_share times READERS STORES` does the same with a
 //! clock around each pin, and prints the median, the 99th and the 99.99th percentile, and the longest, in nanoseconds.
 //! `bench_share installs POINTS STORES` has stores whose runs have POINTS points, and no readers. It prints the medians
@@ -18,7 +18,7 @@ mod pinning;
 mod stores;
 mod times;
 
-use crate::installing::{Work, install_all};
+use crate::installing::{INSTALLS, Work, install_all};
 use crate::pinning::{DONE, INSTALLING, Way, Window, all_pin};
 use crate::stores::{opened, opening_of};
 use crate::times::Times;
@@ -223,8 +223,8 @@ fn small(rt: &(impl Threads + Wait + Clock + Sync + Print), alloc: Global) -> Re
         outcomes(rt, alloc, plan, 1, 2, &mut work)?;
     }
     ensure!(
-        work.installs.calls() == 252,
-        "there aren't 63 installs of each of four stores"
+        work.installs.calls() == 4 * INSTALLS,
+        "a store of four hasn't all its installs"
     );
     println!(rt; "all pins and installs went well")?;
     Ok(())

@@ -1,4 +1,4 @@
-//! Stores of 64 runs.
+//! Stores of as many runs as a store may have.
 ghost use Rattle.std.specs.Prelude.{◌≡◌, IfSome, All};
 ghost use Rattle.uc_share.specs.Stores.{IsNamed};
 
@@ -10,8 +10,8 @@ use uc_bytes::{OpRef, WriteRef};
 use uc_oper::Operator;
 use uc_share::{Name, Opening, Options, Reader, Seat, Store};
 
-/// How many runs a store has at first.
-const RUNS: u64 = 64;
+/// How many runs a store has at first: all that it may have.
+pub(crate) const RUNS: u64 = 256;
 
 /// Options under which each `memtable` bytes are a run.
 fn options(memtable: u64) -> Options {
@@ -21,7 +21,7 @@ fn options(memtable: u64) -> Options {
     }
 }
 
-/// A store of 64 runs, each of `points` puts of keys of eight bytes and values of one, for `readers` readers and a
+/// A store of [`RUNS`] runs, each of `points` puts of keys of eight bytes and values of one, for `readers` readers and a
 /// seat.
 pub(crate) fn opening_of<O: Operator>(
     alloc: Global,
@@ -41,8 +41,8 @@ pub(crate) fn opening_of<O: Operator>(
         bail!("the store isn't opened");
     };
     ensure!(
-        opening.version().runs().len() == 64,
-        "the store hasn't 64 runs"
+        opening.version().runs().len() as u64 == RUNS,
+        "the store hasn't as many runs as it may have"
     );
     Ok(opening)
 }

@@ -15,7 +15,7 @@ use std::alloc::{AllocError, Global};
 use std::marker::Model;
 
 /// The most slots that a table may have.
-pub const MOST_SLOTS: usize = 64;
+pub const MOST_SLOTS: usize = 256;
 
 /// A claim word while nobody has its slot.
 const FREE: u64 = 0;

@@ -1,4 +1,4 @@
--- The names in a script that is read are below 32.
+-- The names in a script that is read are below NAMES.
 use Rattle.std.proofs.Common.{◌≡◌, ℕ, ◌<◌, Bool, true, false, cond, ltb, List, [], ◌∷◌, Option, Some, None, Result, Ok, refl, ap, subst, codes}
 use Rattle.std.specs.Prelude.{All}
 use Rattle.std.specs.List.{AllByRecursion, cons_option}
@@ -14,6 +14,7 @@ use Rattle.uc_script.specs.Script.{claim_of, compact_of, call_alone, named_call,
 use Rattle.uc_script.specs.Cases.{ComesTo, asks, no_setup, no_open, no_call, no_feed}
 use Rattle.uc_script.specs.Names.{NameIsGood}
 use Rattle.uc_script.specs.declared.call.Call.{Call}
+use Rattle.uc_script.specs.declared.call.TheConstants.{NAMES}
 use Rattle.uc_script.specs.declared.call.Call.TheVariants.{Keep, Release, Read, Claim, Install, Abandon, Compact, Pick, Report}
 use Rattle.uc_script.specs.declared.query.Query.{Query}
 use Rattle.uc_script.specs.declared.seq.Seq.{Seq}
@@ -34,21 +35,21 @@ IsGood (Some call) = IsPlain call
 
 -- ---- what fields say
 
-name_step : (t : Bool) (m n : ℕ) → ltb m 32 ≡ t → cond t (Some m) None ≡ Some n → n < 32
-name_step true m n is e = let same : m ≡ n = cc in subst (λ (k : ℕ). k < 32) same (ltb-true m 32 is)
+name_step : (t : Bool) (m n : ℕ) → ltb m NAMES ≡ t → cond t (Some m) None ≡ Some n → n < NAMES
+name_step true m n is e = let same : m ≡ n = cc in subst (λ (k : ℕ). k < NAMES) same (ltb-true m NAMES is)
 name_step false m n is e = absurd cc
 
-number_step : (o : Option ℕ) (n : ℕ) → (o >>= λ m. cond (ltb m 32) (Some m) None) ≡ Some n → n < 32
+number_step : (o : Option ℕ) (n : ℕ) → (o >>= λ m. cond (ltb m NAMES) (Some m) None) ≡ Some n → n < NAMES
 number_step None n e = absurd cc
-number_step (Some m) n e = name_step (ltb m 32) m n refl e
+number_step (Some m) n e = name_step (ltb m NAMES) m n refl e
 
--- a name is below 32
-name_small : (field : List ℕ) (n : ℕ) → name_of field ≡ Some n → n < 32
+-- a name is below NAMES
+name_small : (field : List ℕ) (n : ℕ) → name_of field ≡ Some n → n < NAMES
 unfolding name_of
 name_small field n e = number_step (number_of field) n e
 
 abbrev IsSmall : Option ℕ → Type 0
-IsSmall name = (n : ℕ) → name ≡ Some n → n < 32
+IsSmall name = (n : ℕ) → name ≡ Some n → n < NAMES
 
 query_good : (query : Option Query) → IsGood (option_map Read query)
 query_good None = tt
@@ -75,7 +76,7 @@ alone_good false true u = (tt, refl)
 alone_good false false true = (tt, refl)
 alone_good false false false = tt
 
-one_choice : (t u : Bool) (n : ℕ) → n < 32 → IsGood (cond t (Some (Install n)) (cond u (Some (Abandon n)) None))
+one_choice : (t u : Bool) (n : ℕ) → n < NAMES → IsGood (cond t (Some (Install n)) (cond u (Some (Abandon n)) None))
 one_choice true u n small = (small, refl)
 one_choice false true n small = (small, refl)
 one_choice false false n small = tt

@@ -13,6 +13,7 @@ use Rattle.uc_script.specs.Parts.{part_of, first_words}
 use Rattle.uc_script.specs.Shortened.{is_printable, shortened}
 use Rattle.uc_script.specs.FaultTexts.{fault_text, line_text, missing_text}
 use Rattle.uc_script.specs.Words.{named, is_word, kinds, form_of}
+use Rattle.uc_script.specs.declared.call.TheConstants.{NAMES}
 use Rattle.uc_script.specs.declared.fault.LineFault.{LineFault}
 use Rattle.uc_script.specs.declared.fault.LineFault.TheVariants.{UnknownWord, Misplaced, TooFew, TooMany, BadField, NoLineFeed}
 use Rattle.uc_script.specs.declared.field_kind.FieldKind.{FieldKind}
@@ -35,7 +36,9 @@ kind_shown : (kind : FieldKind) → IsShown (kind_text kind)
 kind_shown Text = refl
 kind_shown High = refl
 kind_shown Number = refl
-kind_shown Name = refl
+kind_shown Name =
+    let few = joined (decimal (NAMES - 1)) (codes ", without sign or needless zeros") (number_shown (NAMES - 1) (omega arith)) refl in
+    joined (codes "a number from 0 to ") (decimal (NAMES - 1) ++ codes ", without sign or needless zeros") refl few
 kind_shown Seq = refl
 
 form_shown : (word : Word) → IsShown (form_of word)

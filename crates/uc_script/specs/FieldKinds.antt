@@ -1,6 +1,8 @@
 -- What a field after a line's word may be.
-use Rattle.std.specs.Prelude.{ℕ, List, codes, Bool, is_some}
+use Rattle.std.specs.Prelude.{ℕ, ◌-◌, List, ◌++◌, codes, Bool, is_some}
+use Rattle.std.specs.Fmt.{decimal}
 use Rattle.uc_script.specs.Texts.{number_of, name_of, text_of, seq_of, high_of}
+use Rattle.uc_script.specs.declared.call.TheConstants.{NAMES}
 use Rattle.uc_script.specs.declared.field_kind.FieldKind.{FieldKind}
 use Rattle.uc_script.specs.declared.field_kind.FieldKind.TheVariants.{Text, High, Number, Name, Seq}
 
@@ -17,5 +19,5 @@ abbrev pub kind_text : FieldKind → List ℕ
 kind_text Text = codes "hexadecimal, two digits for each byte, or . for no bytes"
 kind_text High = codes "hexadecimal, two digits for each byte, or . for no bytes, or - for no end"
 kind_text Number = codes "a number from 0 to 18446744073709551615, without sign or needless zeros"
-kind_text Name = codes "a number from 0 to 31, without sign or needless zeros"
+kind_text Name = codes "a number from 0 to " ++ (decimal (NAMES - 1) ++ codes ", without sign or needless zeros")
 kind_text Seq = codes "last, or a number from 0 to 18446744073709551615, without sign or needless zeros"

@@ -7,6 +7,7 @@ use Rattle.std.specs.List.{list_all}
 use Rattle.std.specs.Str.Parse.{digits_value}
 use Rattle.hex.specs.Hex.{decode_of, encode_lower}
 use Rattle.uc_script.specs.Lines.{says}
+use Rattle.uc_script.specs.declared.call.TheConstants.{NAMES}
 use Rattle.uc_script.specs.declared.seq.Seq.{Seq}
 use Rattle.uc_script.specs.declared.seq.Seq.TheVariants.{Number, Last}
 
@@ -24,11 +25,11 @@ is_numeral (digit ∷ next ∷ rest) = not (digit == 48) && list_all is_ascii_di
 unfoldable pub number_of : List ℕ → Option ℕ
 number_of field = if is_numeral field && nat_lt (digits_value 10 field) (2 ^ 64) then Some (digits_value 10 field) else None
 
--- The name of a claim: a number below 32.
+-- The name of a claim: a number below NAMES.
 unfoldable pub name_of : List ℕ → Option ℕ
 name_of field = do
   name ← number_of field
-  if nat_lt name 32 then Some name else None
+  if nat_lt name NAMES then Some name else None
 
 -- A key or a value: `.` for no bytes, else two hexadecimal digits, in either case, for each byte.
 unfoldable pub text_of : List ℕ → Option (List ℕ)

@@ -4,8 +4,8 @@ use crate::query::Query;
 use crate::script::Ops;
 use crate::seq::Seq;
 
-/// How many names a script has for its claims: 0 to 31.
-pub const NAMES: usize = 32;
+/// How many names a script has for its claims, from 0 on: as many as a store's owner holds claims at once.
+pub const NAMES: usize = 128;
 
 /// What a script asks of the store after its `open`.
 #[derive(Debug, Drop, PartialEq, Eq)]

@@ -4,6 +4,7 @@ ghost use Rattle.std.specs.Prelude.{◌≡◌, Some, IfOk};
 ghost use Rattle.uc_script.specs.FieldKinds as kinds;
 ghost use Rattle.uc_script.specs.FieldKinds.{kind_text};
 
+use crate::call::NAMES;
 use crate::field;
 use std::alloc::{AllocError, Global};
 use std::fmt;
@@ -43,18 +44,26 @@ impl fmt::Display for FieldKind {
     ghost output = { λ kind. Some (kind_text kind) };
 
     fn fmt<W: fmt::Write>(&self, f: &mut fmt::Formatter<W>) -> fmt::Result {
-        f.write_str(match self {
-            FieldKind::Text => "hexadecimal, two digits for each byte, or . for no bytes",
-            FieldKind::High => {
-                "hexadecimal, two digits for each byte, or . for no bytes, or - for no end"
+        match self {
+            FieldKind::Text => {
+                f.write_str("hexadecimal, two digits for each byte, or . for no bytes")
             }
-            FieldKind::Number => {
-                "a number from 0 to 18446744073709551615, without sign or needless zeros"
+            FieldKind::High => f.write_str(
+                "hexadecimal, two digits for each byte, or . for no bytes, or - for no end",
+            ),
+            FieldKind::Number => f.write_str(
+                "a number from 0 to 18446744073709551615, without sign or needless zeros",
+            ),
+            FieldKind::Name => {
+                let last = NAMES - 1;
+                write!(
+                    f,
+                    "a number from 0 to {last}, without sign or needless zeros"
+                )
             }
-            FieldKind::Name => "a number from 0 to 31, without sign or needless zeros",
-            FieldKind::Seq => {
-                "last, or a number from 0 to 18446744073709551615, without sign or needless zeros"
-            }
-        })
+            FieldKind::Seq => f.write_str(
+                "last, or a number from 0 to 18446744073709551615, without sign or needless zeros",
+            ),
+        }
     }
 }

@@ -40,7 +40,7 @@ pub fn a_script_names_no_more_than_it_has()
         → AreNoLonger (length text) (all_ops script) }
 {}
 
-/// Every name of a claim in a script that is read is below 32.
+/// Every name of a claim in a script that is read is below [`NAMES`](crate::NAMES).
 pub fn names_are_in_range()
     ensures { (text : List ℕ) (script : Script) → script_of text ≡ Ok script
         → All NameIsGood script.calls }

@@ -10,11 +10,11 @@ use std::test::Fail;
 use std::thread::{Threads, join};
 use uc_batch::Writes;
 use uc_bytes::Bytes;
-use uc_oper::{Append, Counter, Maximum, Operator};
+use uc_oper::{Append, Counter, Maximum, Operator, Tail};
 use uc_query_read::{Answer, Query, answer_writes};
 use uc_query_shared::{Free, answer_all};
 use uc_share::{Name, Opening, Reader, Seat, Store};
-use uc_tests_compactors::drawn::drawn_store;
+use uc_tests_compactors::drawn::{MANY, SOME, Size, drawn_store};
 use uc_tests_compactors::turns::{four_compact, shows_installs};
 use uc_tests_compactors::worker::{Pair, next_pairs};
 use uc_tests_shared::dice::{Dice, KEYS};
@@ -190,11 +190,12 @@ fn installs_of<O: Operator + Send + Sync, R: Threads + Wait + Sync>(
     rt: &R,
     alloc: Global,
     dice: &mut Dice,
+    size: Size,
     stores: usize,
 ) -> Result<u64, Fail> {
     let mut installs = 0_u64;
     for _ in 0..stores {
-        let (writes, opening) = drawn_store::<O>(alloc, dice, 9).ok_or("no store is drawn")?;
+        let (writes, opening) = drawn_store::<O>(alloc, dice, size, 9).ok_or("no store is drawn")?;
         let batch = drawn_batch::<O>(alloc, dice, &writes, opening.version().keeps())?;
         let seed = dice.roll(u64::MAX);
         let made = soaks_opened::<O, Brand, &R, R>(rt, rt, alloc, opening, &batch, seed);
@@ -207,8 +208,10 @@ fn installs_of<O: Operator + Send + Sync, R: Threads + Wait + Sync>(
 fn batches_are_answered_beside_four_compactors(rt: HostRuntime) -> Result<(), Fail> {
     let alloc = rt.alloc();
     let mut dice = Dice::new(25);
-    assert!(rt; installs_of::<Append<0x2C>, _>(&rt, alloc, &mut dice, 40)? >= 40);
-    assert!(rt; installs_of::<Counter, _>(&rt, alloc, &mut dice, 40)? >= 40);
-    assert!(rt; installs_of::<Maximum, _>(&rt, alloc, &mut dice, 40)? >= 40);
+    assert!(rt; installs_of::<Append<0x2C>, _>(&rt, alloc, &mut dice, SOME, 30)? >= 30);
+    assert!(rt; installs_of::<Counter, _>(&rt, alloc, &mut dice, SOME, 30)? >= 30);
+    assert!(rt; installs_of::<Maximum, _>(&rt, alloc, &mut dice, SOME, 30)? >= 30);
+    assert!(rt; installs_of::<Tail<2>, _>(&rt, alloc, &mut dice, SOME, 30)? >= 30);
+    assert!(rt; installs_of::<Append<0x2C>, _>(&rt, alloc, &mut dice, MANY, 6)? >= 6);
     Ok(())
 }

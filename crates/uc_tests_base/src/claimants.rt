@@ -1,6 +1,7 @@
 //! Four threads that take and give lists of slots of one table.
-ghost use Rattle.std.specs.Prelude.{◌≡◌, ◌<◌};
+ghost use Rattle.std.specs.Prelude.{◌≡◌};
 
+use crate::draws::Draws;
 use crate::slots::{are_below, are_distinct};
 use std::array;
 use std::sync::atomic::{AtomicU64, Ordering};
@@ -8,32 +9,14 @@ use std::test::Fail;
 use std::thread::{Threads, join};
 use uc_claims::{ClaimTable, MOST_SLOTS, Seat};
 
-const COUNT: usize = 8;
+const COUNT: usize = MOST_SLOTS;
 
 const ROUNDS: u32 = 10_000;
 
-// Numbers in no visible order.
-#[derive(Drop)]
-struct Draws {
-    state: u64,
-}
-
-impl Draws {
-    fn below(&mut self, bound: u64) -> usize
-        requires { 0 < bound }
-        ensures { result < bound }
-    {
-        self.state ^= self.state << 13;
-        self.state ^= self.state >> 7;
-        self.state ^= self.state << 17;
-        (self.state % bound) as usize
-    }
-}
-
-// The slots in some order.
-fn shuffled(draws: &mut Draws) -> [usize; COUNT] {
-    let mut slots = [0, 1, 2, 3, 4, 5, 6, 7];
-    for place in 0..COUNT {
+// Eight slots, two of each group of 64, in some order.
+fn shuffled(draws: &mut Draws) -> [usize; 8] {
+    let mut slots = [0, 63, 64, 127, 128, 191, 192, 255];
+    for place in 0..8 {
         slots.swap(place, draws.below(8));
     }
     slots
@@ -60,7 +43,7 @@ fn work(
     requires count { table.now.count ≡ COUNT }
     ensures { result.0.table ≡ table.now.table }
 {
-    let mut draws = Draws { state: seed };
+    let mut draws = Draws::new(seed);
     let mut alone = true;
     for _ in 0..ROUNDS {
         let order = shuffled(&mut draws);

@@ -1,4 +1,5 @@
 //! Sequences of takes and gives with their answers, worked by hand.
+use std::alloc::Global;
 use std::test::Fail;
 use uc_claims::{Busy, ClaimTable, MOST_SLOTS};
 
@@ -66,10 +67,10 @@ fn slots_change_in_the_owners_hands(rt: HostRuntime) -> Result<(), Fail> {
 fn dropped_slots_stay_taken(rt: HostRuntime) -> Result<(), Fail> {
     let (table, seat) = ClaimTable::new(rt.alloc(), MOST_SLOTS)?;
     let (a, b) = table.split(seat);
-    let Ok(held) = table.take(a, &[63, 5]) else {
-        panic!(rt; "slots 63 and 5 are free")
+    let Ok(held) = table.take(a, &[255, 64, 5]) else {
+        panic!(rt; "slots 255, 64 and 5 are free")
     };
-    assert!(rt; held.has(63) && !held.has(64));
+    assert!(rt; held.has(255) && held.has(64) && !held.has(63) && !held.has(256));
     drop(held);
     let Err((b, busy)) = table.take(b, &[4, 5, 6]) else {
         panic!(rt; "slot 5 is taken for good")
@@ -77,7 +78,24 @@ fn dropped_slots_stay_taken(rt: HostRuntime) -> Result<(), Fail> {
     assert_eq!(rt; busy, Busy(5));
     let flags = table.close(b);
     for (slot, taken) in flags.iter().enumerate() {
-        assert_eq!(rt; *taken, slot == 5 || slot == 63, "slot {slot}");
+        assert_eq!(rt; *taken, [5, 64, 255].contains(&slot), "slot {slot}");
+    }
+    Ok(())
+}
+
+/// Whether no slot of a new table of so many slots is taken. It says so of 256 slots, of whatever number it is.
+fn is_free(alloc: Global, count: usize) -> Result<bool, Fail> {
+    if count == 0 || MOST_SLOTS < count {
+        return Err("no table has so many slots")?;
+    }
+    let (table, seat) = ClaimTable::new(alloc, count)?;
+    Ok(table.close(seat) == [false; 256])
+}
+
+#[test]
+fn new_tables_are_free(rt: HostRuntime) -> Result<(), Fail> {
+    for count in [1, 2, 63, 64, 65, 128, 255, 256] {
+        assert!(rt; is_free(rt.alloc(), count)?, "of {count} slots");
     }
     Ok(())
 }

@@ -1,7 +1,8 @@
 //! A lone seat compared with a plain list of flags, over all sequences of four takes and gives.
-ghost use Rattle.std.specs.Prelude.{◌≡◌, ◌<◌, ◌^◌, IsTrue, All, Contains};
+ghost use Rattle.std.specs.Prelude.{◌≡◌, ◌<◌, ◌^◌, All};
 ghost use Rattle.uc_claims.specs.Holding.{AreDistinct};
 
+use crate::slots::holds_all;
 use std::process::Abort;
 use std::test::Fail;
 use uc_claims::{Busy, ClaimTable, HeldSlots};
@@ -24,17 +25,6 @@ fn asked(list: u64) -> &'static [usize]
         3 => &[2, 1, 0],
         _ => &[],
     }
-}
-
-fn holds_all(held: &HeldSlots, slots: &[usize]) -> bool
-    ensures { IsTrue result → All (Contains held.now.slots) slots.now }
-{
-    for slot in slots {
-        if !held.has(*slot) {
-            return false;
-        }
-    }
-    true
 }
 
 fn set_all(flags: &mut [bool; COUNT], slots: &[usize], taken: bool)

@@ -7,7 +7,7 @@ use std::process::Abort;
 use std::test::Fail;
 use uc_bytes::Bytes;
 use uc_oper::{
-    Append, Counter, Effect, Maximum, Operator, apply_composes, keep_is_unit, merged,
+    Append, Counter, Effect, Maximum, Operator, Tail, apply_composes, keep_is_unit, merged,
     then_is_associative,
 };
 
@@ -58,6 +58,23 @@ fn wants_first<O: Operator>(
     Ok(())
 }
 
+/// Joins and pairs the texts of rows, in memory of their own and in place, and checks what lone operands make.
+fn wants_all<O: Operator>(
+    rt: &impl Abort,
+    alloc: Global,
+    rows: &[Row],
+    firsts: &[(&[u8], &[u8])],
+) -> Result<(), Fail> {
+    for row in rows {
+        wants_both::<O>(rt, alloc, row)?;
+        wants_both_in_place::<O>(rt, alloc, row)?;
+    }
+    for (operand, want) in firsts {
+        wants_first::<O>(rt, alloc, operand, want)?;
+    }
+    Ok(())
+}
+
 /// Numbers and their sums. What doesn't have eight bytes counts as zero.
 static SUMS: [Row; 5] = [
     (&FIVE, &SEVEN, &TWELVE),
@@ -67,47 +84,12 @@ static SUMS: [Row; 5] = [
     (b"nine byte", b"", &ZERO),
 ];
 
-#[test]
-fn counters_add_and_wrap(rt: HostRuntime) -> Result<(), Fail> {
-    let alloc = rt.alloc();
-    for row in &SUMS {
-        wants_both::<Counter>(&rt, alloc, row)?;
-    }
-    wants_first::<Counter>(&rt, alloc, &SEVEN, &SEVEN)?;
-    wants_first::<Counter>(&rt, alloc, &[1, 2, 3], &ZERO)
-}
-
-#[test]
-fn counters_add_in_place(rt: HostRuntime) -> Result<(), Fail> {
-    for row in &SUMS {
-        wants_both_in_place::<Counter>(&rt, rt.alloc(), row)?;
-    }
-    Ok(())
-}
-
 /// Texts, joined with a comma.
 static JOINED: [Row; 3] = [
     (b"", b"b", b",b"),
     (b"b", b"c", b"b,c"),
     (b"b,c", b"", b"b,c,"),
 ];
-
-#[test]
-fn texts_append_with_a_delimiter(rt: HostRuntime) -> Result<(), Fail> {
-    let alloc = rt.alloc();
-    for row in &JOINED {
-        wants_both::<Append<44>>(&rt, alloc, row)?;
-    }
-    wants_first::<Append<44>>(&rt, alloc, b"b", b"b")
-}
-
-#[test]
-fn texts_are_extended(rt: HostRuntime) -> Result<(), Fail> {
-    for row in &JOINED {
-        wants_both_in_place::<Append<44>>(&rt, rt.alloc(), row)?;
-    }
-    Ok(())
-}
 
 /// Texts, and the greater of them.
 static GREATER: [Row; 3] = [
@@ -116,21 +98,43 @@ static GREATER: [Row; 3] = [
     (b"b", b"b", b"b"),
 ];
 
+/// Texts, and the last four bytes of both.
+static LAST_FOUR: [Row; 8] = [
+    (b"", b"", b""),
+    (b"a", b"b", b"ab"),
+    (b"ab", b"cd", b"abcd"),
+    (b"ab", b"cde", b"bcde"),
+    (b"abcde", b"f", b"cdef"),
+    (b"abcde", b"", b"bcde"),
+    (b"", b"abcde", b"bcde"),
+    (b"abcde", b"fghij", b"ghij"),
+];
+
+/// The last byte, and none.
+static LAST_ONE: [Row; 2] = [(b"a", b"b", b"b"), (b"ab", b"", b"b")];
+
+static LAST_NONE: [Row; 2] = [(b"a", b"b", b""), (b"", b"", b"")];
+
 #[test]
-fn the_greater_text_stays(rt: HostRuntime) -> Result<(), Fail> {
+fn operators_on_a_few_texts(rt: HostRuntime) -> Result<(), Fail> {
     let alloc = rt.alloc();
-    for row in &GREATER {
-        wants_both::<Maximum>(&rt, alloc, row)?;
-    }
-    wants_first::<Maximum>(&rt, alloc, b"b", b"b")
+    wants_all::<Counter>(&rt, alloc, &SUMS, &[(&SEVEN, &SEVEN), (&[1, 2, 3], &ZERO)])?;
+    wants_all::<Append<44>>(&rt, alloc, &JOINED, &[(b"b", b"b")])?;
+    wants_all::<Maximum>(&rt, alloc, &GREATER, &[(b"b", b"b")])
 }
 
 #[test]
-fn the_greater_text_stays_in_place(rt: HostRuntime) -> Result<(), Fail> {
-    for row in &GREATER {
-        wants_both_in_place::<Maximum>(&rt, rt.alloc(), row)?;
-    }
-    Ok(())
+fn last_bytes_of_a_few_texts(rt: HostRuntime) -> Result<(), Fail> {
+    let alloc = rt.alloc();
+    wants_all::<Tail<4>>(
+        &rt,
+        alloc,
+        &LAST_FOUR,
+        &[(b"abcde", b"bcde"), (b"abc", b"abc")],
+    )?;
+    wants_all::<Tail<1>>(&rt, alloc, &LAST_ONE, &[(b"ab", b"b")])?;
+    wants_all::<Tail<0>>(&rt, alloc, &LAST_NONE, &[(b"a", b"")])?;
+    wants_all::<Tail<1000>>(&rt, alloc, &[(b"ab", b"c", b"abc")], &[(b"ab", b"ab")])
 }
 
 /// Keeps the newest text. It has only the required functions.
@@ -227,4 +231,5 @@ fn laws_hold() {
     then_is_associative::<Counter>();
     keep_is_unit::<Maximum>();
     apply_composes::<Append<44>>();
+    apply_composes::<Tail<4>>();
 }

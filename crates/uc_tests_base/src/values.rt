@@ -10,7 +10,7 @@ use uc_model::{
     later_writes_change_nothing, touches_key, untouched_key_keeps_its_value, value_at,
     value_is_given,
 };
-use uc_oper::{Append, Counter, Effect, Maximum, Operator};
+use uc_oper::{Append, Counter, Effect, Maximum, Operator, Tail};
 
 /// Whether a value is this one, or there is none if none is expected.
 fn is_value(value: &Option<Bytes>, want: Option<&[u8]>) -> bool {
@@ -56,15 +56,15 @@ static VALUES: [(u64, Option<&[u8]>); 7] = [
 ];
 
 /// Checks the value of `k` at a sequence, as it is read and by the effect.
-fn wants_value(
+fn wants_value<O: Operator>(
     rt: &impl Abort,
     alloc: Global,
     writes: &[Write],
     (at, want): (u64, Option<&[u8]>),
 ) -> Result<(), Fail> {
-    let is_read = has_value::<Append<44>>(alloc, writes, b"k", at, want)?;
+    let is_read = has_value::<O>(alloc, writes, b"k", at, want)?;
     assert!(rt; is_read, "at {at}");
-    let is_given = gives_value::<Append<44>>(alloc, writes, b"k", at, want)?;
+    let is_given = gives_value::<O>(alloc, writes, b"k", at, want)?;
     assert!(rt; is_given, "by the effect at {at}");
     Ok(())
 }
@@ -74,7 +74,7 @@ fn values_by_sequence(rt: HostRuntime) -> Result<(), Fail> {
     let alloc = rt.alloc();
     let writes = written(alloc, &MERGES)?;
     for &row in &VALUES {
-        wants_value(&rt, alloc, &writes, row)?;
+        wants_value::<Append<44>>(&rt, alloc, &writes, row)?;
     }
     assert!(rt; has_value::<Append<44>>(alloc, &writes, b"l", 5, Some(b"x"))?);
     Ok(())
@@ -143,6 +143,32 @@ fn the_greatest_operand(rt: HostRuntime) -> Result<(), Fail> {
     let writes = written(alloc, &GREATEST)?;
     assert!(rt; has_value::<Maximum>(alloc, &writes, b"k", 3, Some(b"ab"))?);
     Ok(())
+}
+
+/// A value of five bytes, and two operands.
+static CUT: [(u64, Change); 3] = [
+    (1, Change::Put(b"k", b"abcde")),
+    (2, Change::Merge(b"k", b"f")),
+    (3, Change::Merge(b"k", b"g")),
+];
+
+/// A lone operand of five bytes.
+static LONG: [(u64, Change); 1] = [(1, Change::Merge(b"k", b"abcde"))];
+
+/// What is put stays whole until an operand meets it.
+#[test]
+fn the_last_bytes(rt: HostRuntime) -> Result<(), Fail> {
+    let alloc = rt.alloc();
+    let writes = written(alloc, &CUT)?;
+    for row in [
+        (1, Some(b"abcde".as_slice())),
+        (2, Some(b"cdef")),
+        (3, Some(b"defg")),
+    ] {
+        wants_value::<Tail<4>>(&rt, alloc, &writes, row)?;
+    }
+    let writes = written(alloc, &LONG)?;
+    wants_value::<Tail<4>>(&rt, alloc, &writes, (1, Some(b"bcde")))
 }
 
 /// A number of other than eight bytes, which counts as zero.

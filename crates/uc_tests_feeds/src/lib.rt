@@ -1,8 +1,8 @@
 //! A store that threads share, which is fed while it lives, and whose snapshots come and go, called as its users call it.
 //!
-//! `stores.rt` opens stores and looks at them. `rows.rt` has what feeds, keeps and releases show, worked by hand, and what refuses
-//! them; `limits.rt` where slots, sequences and ids end; `traps.rt` claims and installs around feeds. `unreleased.rt` asks at
-//! snapshots that nobody releases, beside one who feeds and compacts.
+//! `stores.rt` opens stores and looks at them, and `steps.rt` walks lists of what is done to them. `rows.rt` has what feeds, keeps and
+//! releases show, worked by hand, and what refuses them; `limits.rt` where slots, sequences and ids end; `traps.rt` claims and installs
+//! around feeds. `unreleased.rt` asks at snapshots that nobody releases, beside one who feeds and compacts.
 //!
 //! `soak.rt` has two feeders (`feeders.rt`), two compactors (`compactors.rt`), one who keeps and releases (`keeper.rt`), and two who
 //! ask at what is kept (`askers.rt`), all at once, over many stores. `drawn.rt` has writes that are drawn by their number, and
@@ -27,6 +27,8 @@ mod limits;
 mod rows;
 #[cfg(test)]
 mod soak;
+#[cfg(test)]
+mod steps;
 #[cfg(test)]
 mod stores;
 #[cfg(test)]

@@ -18,7 +18,7 @@ use std::process::Abort;
 use std::sync::{RwLock, Wait};
 use std::test::Fail;
 use std::thread::{Threads, join};
-use uc_oper::{Append, Counter, Maximum, Operator};
+use uc_oper::{Append, Counter, Maximum, Operator, Tail};
 use uc_share::{Name, Opening, Reader, Seat, Store, Version};
 use uc_tests_compactors::drawn::small_runs;
 use uc_tests_compactors::worker::{Pair, next_pair};
@@ -31,7 +31,7 @@ const WRITES: u64 = OPENED + 2 * FEEDS as u64 * MOST_FED + 1;
 const LAST_QUERIES: usize = 40;
 
 /// How many stores of each operator there are.
-const STORES: u64 = 6;
+const STORES: u64 = 5;
 
 /// One who keeps and releases beside two who ask. What was kept and released, where all is answered as it should be.
 fn keeps_beside<O, N, W, R>(
@@ -265,7 +265,8 @@ fn stores_answer_while_they_are_fed_kept_and_released(rt: HostRuntime) -> Result
     let appended = done_to::<Append<0x2C>, _>(&rt, alloc, STORES)?;
     let counted = done_to::<Counter, _>(&rt, alloc, STORES)?;
     let greatest = done_to::<Maximum, _>(&rt, alloc, STORES)?;
-    let all = appended.and(counted).and(greatest);
-    assert!(rt; is_enough(all, 3 * STORES));
+    let last = done_to::<Tail<2>, _>(&rt, alloc, STORES)?;
+    let all = appended.and(counted).and(greatest).and(last);
+    assert!(rt; is_enough(all, 4 * STORES));
     Ok(())
 }

@@ -3,7 +3,8 @@ ghost use Rattle.std.specs.Prelude.{◌≡◌, false, IfSome};
 ghost use Rattle.uc_share.specs.Stores.{IsNamed};
 
 use crate::rows::put_and_merges;
-use crate::stores::{Change, Read, Wanted, compacts, feed, opened, reads, shows, store_of};
+use crate::steps::{Step, come_so};
+use crate::stores::{Change, Read, Wanted, compacts, opened, reads, store_of};
 use std::alloc::Global;
 use std::marker::{Brand, Sync};
 use std::process::Abort;
@@ -40,41 +41,27 @@ fn held_now<O: Operator, N: Name, W: Wait + Drop>(
 }
 
 /// A merge is fed, its sequence is kept, and the opening's first keep is released.
-fn is_fed_kept_and_released<O: Operator, N: Name, W: Wait + Drop>(
-    rt: &impl Wait,
-    alloc: Global,
-    store: &Store<O, N, W>,
-    reader: &mut Reader<O, N>,
-) -> bool
-    requires { N.keeps_stay ≡ false }
-{
-    let fed = feed(rt, alloc, store, reader, &[Change::Merge(4, b"d")]) == Some(Ok(1));
-    let kept = store.keep(rt, alloc, reader) == Ok(4);
-    let released = store.release(rt, alloc, 1, reader) == Ok(());
-    fed && kept && released
-}
+static FED_KEPT_AND_RELEASED: [Step; 3] = [
+    Step::Feed(&[Change::Merge(4, b"d")], Ok(1)),
+    Step::Keep(4),
+    Step::Release(1, Ok(())),
+];
 
-/// Whether three runs were replaced behind a feed, a keep and a release, and reads stay as they were.
-fn is_installed_behind<O: Operator, N: Name, W: Wait + Drop>(
-    alloc: Global,
-    store: &Store<O, N, W>,
-    reader: &mut Reader<O, N>,
-) -> bool {
-    let right = [
+/// Three runs were replaced behind a feed, a keep and a release, and reads stay as they were.
+static INSTALLED_BEHIND: [Step; 2] = [
+    Step::Reads(&[
         Read::NotProtected(1),
         Read::Value(3, b"a,b,c"),
         Read::Value(4, b"a,b,c,d"),
-    ];
-    let right = reads(alloc, store, reader, &right);
-    let wanted = Wanted {
+    ]),
+    Step::Shows(Wanted {
         ids: &[4, 5],
         slots: &[3, 2],
         keeps: &[3, 4],
         last: 4,
         events: 4,
-    };
-    right && shows(store, reader, &wanted)
-}
+    }),
+];
 
 /// What was claimed and compacted is installed behind a feed, a keep and a release by another.
 fn made_is_installed<O: Operator, N: Name, W: Wait + Drop>(
@@ -89,9 +76,9 @@ fn made_is_installed<O: Operator, N: Name, W: Wait + Drop>(
     requires keeps { N.keeps_stay ≡ false }
 {
     let (reader, other) = readers;
-    let goes_on = is_fed_kept_and_released(rt, alloc, store, other);
+    let goes_on = come_so(rt, alloc, store, other, &FED_KEPT_AND_RELEASED);
     let installed = store.install(rt, alloc, held, made, reader).is_ok();
-    goes_on && installed && is_installed_behind(alloc, store, reader)
+    goes_on && installed && come_so(rt, alloc, store, reader, &INSTALLED_BEHIND)
 }
 
 /// What was claimed is compacted and installed behind a feed, a keep and a release by another.
@@ -106,9 +93,9 @@ fn held_is_installed<O: Operator + Sync, N: Name, W: Wait + Drop>(
     requires keeps { N.keeps_stay ≡ false }
 {
     let (reader, other) = readers;
-    let goes_on = is_fed_kept_and_released(rt, alloc, store, other);
+    let goes_on = come_so(rt, alloc, store, other, &FED_KEPT_AND_RELEASED);
     let installed = installed(rt, alloc, store, held, reader).is_some();
-    goes_on && installed && is_installed_behind(alloc, store, reader)
+    goes_on && installed && come_so(rt, alloc, store, reader, &INSTALLED_BEHIND)
 }
 
 /// What was claimed is installed behind a feed, a keep and a release by another, and compacted before or behind these.
@@ -183,6 +170,18 @@ fn claims_outlive_feeds_keeps_and_releases(rt: HostRuntime) -> Result<(), Fail> 
     Ok(())
 }
 
+/// Two runs take the two slots that are free once three are compacted.
+static TWO_ARE_FED: [Step; 2] = [
+    Step::Feed(&[Change::Merge(4, b"d"), Change::Merge(5, b"e")], Ok(2)),
+    Step::Shows(Wanted {
+        ids: &[6, 5, 4],
+        slots: &[1, 0, 2],
+        keeps: &[3],
+        last: 5,
+        events: 2,
+    }),
+];
+
 /// All three runs are compacted, and two others take the two slots that are free. The seat comes back.
 fn slots_are_taken_anew<O: Operator + Sync, N: Name, W: Wait + Drop>(
     rt: &(impl Threads + Wait + Sync),
@@ -191,20 +190,12 @@ fn slots_are_taken_anew<O: Operator + Sync, N: Name, W: Wait + Drop>(
     seat: Seat,
     reader: &mut Reader<O, N>,
 ) -> Option<(Seat, bool)>
-    requires { seat.table ≡ store.now.table }
+    requires table { seat.table ≡ store.now.table }
+    requires keeps { N.keeps_stay ≡ false }
     ensures { IfSome result (λ taken. taken.0.table ≡ store.now.table) }
 {
     let seat = compacts(rt, alloc, store, seat, reader, THREE)?;
-    let two = [Change::Merge(4, b"d"), Change::Merge(5, b"e")];
-    let fed = feed(rt, alloc, store, reader, &two) == Some(Ok(2));
-    let wanted = Wanted {
-        ids: &[6, 5, 4],
-        slots: &[1, 0, 2],
-        keeps: &[3],
-        last: 5,
-        events: 2,
-    };
-    let right = fed && shows(store, reader, &wanted);
+    let right = come_so(rt, alloc, store, reader, &TWO_ARE_FED);
     Some((seat, right))
 }
 
@@ -232,7 +223,8 @@ fn old_pin_has_moved<O: Operator + Sync, N: Name, W: Wait + Drop>(
     old: Pin<O, N>,
     pair: Pair<O, N>,
 ) -> Option<bool>
-    requires { (pair.0.1.table ≡ store.now.table) × (pair.1.1.table ≡ store.now.table) }
+    requires table { (pair.0.1.table ≡ store.now.table) × (pair.1.1.table ≡ store.now.table) }
+    requires keeps { N.keeps_stay ≡ false }
 {
     let ((mut reader, seat), (mut other, other_seat)) = pair;
     let (other_seat, taken) = slots_are_taken_anew(rt, alloc, store, other_seat, &mut other)?;
@@ -250,7 +242,8 @@ fn old_pin_of_a_store_has_moved<O: Operator + Sync, N: Name, W: Wait + Drop>(
     alloc: Global,
     opening: Opening<O>,
 ) -> Result<bool, Fail>
-    requires { IsNamed opening N.book N.table N.base }
+    requires name { IsNamed opening N.book N.table N.base }
+    requires keeps { N.keeps_stay ≡ false }
 {
     let (store, ((mut reader, seat), other)) = opened::<O, N, W>(handle, alloc, opening)?;
     let old = store.pin(&mut reader)?;
@@ -283,22 +276,16 @@ fn is_busy<O: Operator, N: Name, W: Wait + Drop>(
 }
 
 /// A merge is fed, and its run gets the slot that an install left.
-fn slot_is_fed<O: Operator, N: Name, W: Wait + Drop>(
-    rt: &impl Wait,
-    alloc: Global,
-    store: &Store<O, N, W>,
-    reader: &mut Reader<O, N>,
-) -> bool {
-    let fed = feed(rt, alloc, store, reader, &[Change::Merge(4, b"d")]) == Some(Ok(1));
-    let wanted = Wanted {
+static SLOT_IS_FED: [Step; 2] = [
+    Step::Feed(&[Change::Merge(4, b"d")], Ok(1)),
+    Step::Shows(Wanted {
         ids: &[5, 3, 4],
         slots: &[0, 2, 1],
         keeps: &[3],
         last: 4,
         events: 2,
-    };
-    fed && shows(store, reader, &wanted)
-}
+    }),
+];
 
 /// Two of three runs are busy while they are claimed. Once they are installed, the slot that is free then gets
 /// a run that is fed, which can be claimed.
@@ -312,11 +299,12 @@ fn slots_are_busy_for_a_while<O: Operator + Sync, N: Name, W: Wait + Drop>(
 ) -> Option<bool>
     requires held { held.seat.table ≡ store.now.table }
     requires other { other.1.table ≡ store.now.table }
+    requires keeps { N.keeps_stay ≡ false }
 {
     let (mut other, seat) = other;
     let (seat, busy) = is_busy(store, seat, &mut other, 1)?;
     installed(rt, alloc, store, held, reader)?;
-    let fed = slot_is_fed(rt, alloc, store, &mut other);
+    let fed = come_so(rt, alloc, store, &mut other, &SLOT_IS_FED);
     let claimed = compacts(rt, alloc, store, seat, &mut other, NEWEST).is_some();
     let right = reads(alloc, store, &mut other, &[Read::Value(3, b"a,b,c")]);
     Some(busy && fed && claimed && right)
@@ -329,7 +317,8 @@ fn slots_of_a_store_are_busy<O: Operator + Sync, N: Name, W: Wait + Drop>(
     alloc: Global,
     opening: Opening<O>,
 ) -> Result<bool, Fail>
-    requires { IsNamed opening N.book N.table N.base }
+    requires name { IsNamed opening N.book N.table N.base }
+    requires keeps { N.keeps_stay ≡ false }
 {
     let (store, ((mut reader, seat), other)) = opened::<O, N, W>(handle, alloc, opening)?;
     let held = held_now(&store, seat, &mut reader, OLDEST).ok_or("the claim is refused")?;
@@ -385,7 +374,14 @@ fn fewer_keeps_are_refused<O: Operator + Sync, N: Name, W: Wait + Drop>(
     }
 }
 
-/// A merge is fed, kept, and another is fed. The three runs are claimed.
+/// A merge is fed, kept, and another is fed.
+static TWO_FED_RUNS: [Step; 3] = [
+    Step::Feed(&[Change::Merge(2, b"b")], Ok(1)),
+    Step::Keep(2),
+    Step::Feed(&[Change::Merge(3, b"c")], Ok(1)),
+];
+
+/// The three runs behind that are claimed.
 fn two_fed_runs_held<O: Operator, N: Name, W: Wait + Drop>(
     rt: &impl Wait,
     alloc: Global,
@@ -397,10 +393,7 @@ fn two_fed_runs_held<O: Operator, N: Name, W: Wait + Drop>(
     requires keeps { N.keeps_stay ≡ false }
     ensures { IfSome result (λ held. held.seat.table ≡ store.now.table) }
 {
-    let one = feed(rt, alloc, store, reader, &[Change::Merge(2, b"b")]) == Some(Ok(1));
-    let kept = store.keep(rt, alloc, reader) == Ok(2);
-    let other = feed(rt, alloc, store, reader, &[Change::Merge(3, b"c")]) == Some(Ok(1));
-    if one && kept && other {
+    if come_so(rt, alloc, store, reader, &TWO_FED_RUNS) {
         held_now(store, seat, reader, THREE)
     } else {
         None

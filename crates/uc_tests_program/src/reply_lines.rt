@@ -35,15 +35,15 @@ enum Said {
 const LAST: u64 = 70;
 
 const ROWS: [(Said, &str); 27] = [
-    (Said::Claimed(31), "claimed 31\n"),
+    (Said::Claimed(127), "claimed 127\n"),
     (
         Said::Refused(ClaimError::OutOfRange),
         "refused out of range\n",
     ),
     (Said::Refused(ClaimError::TooNarrow), "refused too narrow\n"),
-    (Said::Refused(ClaimError::Busy(63)), "refused busy 63\n"),
+    (Said::Refused(ClaimError::Busy(255)), "refused busy 255\n"),
     (Said::Refused(ClaimError::Moved), "refused moved\n"),
-    (Said::Installed(65), "installed 65\n"),
+    (Said::Installed(257), "installed 257\n"),
     (
         Said::NotInstalled(InstallError::IdsSpent),
         "refused ids spent\n",

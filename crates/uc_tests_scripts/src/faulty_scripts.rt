@@ -169,10 +169,10 @@ static CALLS: [Row; 9] = [
             a number from 0 to 18446744073709551615, without sign or needless zeros",
     },
     Row {
-        script: b"open\nclaim 32 0 2\n",
+        script: b"open\nclaim 128 0 2\n",
         number: 2,
-        said: "line 2, `claim 32 0 2`: field 2 of `claim NAME FIRST COUNT` has to be \
-            a number from 0 to 31, without sign or needless zeros",
+        said: "line 2, `claim 128 0 2`: field 2 of `claim NAME FIRST COUNT` has to be \
+            a number from 0 to 127, without sign or needless zeros",
     },
     Row {
         script: b"open\ncompact 0 18446744073709551616\n",
@@ -286,7 +286,7 @@ fn faults_of_live_writes(rt: HostRuntime) -> Result<(), Fail> {
 /// Nothing is said of a line that is right, or of one after the last call.
 #[test]
 fn lines_without_a_fault(rt: HostRuntime) -> Result<(), Fail> {
-    let script = b"keep 1\n\n# put\nopen\nget . last\nscan 6b - 3 0\nabandon 31";
+    let script = b"keep 1\n\n# put\nopen\nget . last\nscan 6b - 3 0\nabandon 127";
     for number in 1..9 {
         let said = explain(rt.alloc(), Source::Script, script, number)?;
         assert!(rt; said.is_none(), "line {number}");

@@ -258,7 +258,21 @@ fn openings_are_refused_for_the_first_reason(rt: HostRuntime) -> Result<(), Fail
         let opened = Opening::<Counter>::open(alloc, &writes, &[*keep], options, *readers, 1);
         assert!(rt; opened.is_err_and(|error| error == *wanted));
     }
-    let many = Opening::<Counter>::open(alloc, &merges(alloc, 64)?, &[], small_runs(), 1, 1);
-    assert!(rt; many.is_err_and(|error| error == OpenError::TooManyRuns));
+    Ok(())
+}
+
+/// Why no store is opened of a put and so many merges, each a run.
+fn refusal_of_merges(alloc: Global, count: u64) -> Result<Option<OpenError>, Fail> {
+    let writes = merges(alloc, count)?;
+    Ok(Opening::<Counter>::open(alloc, &writes, &[], small_runs(), 1, 1).err())
+}
+
+#[test]
+fn stores_open_with_a_slot_for_each_run(rt: HostRuntime) -> Result<(), Fail> {
+    let alloc = rt.alloc();
+    let wanted = Some(OpenError::TooManyRuns);
+    for (count, wanted) in [(254, None), (255, None), (256, wanted), (257, wanted)] {
+        assert!(rt; refusal_of_merges(alloc, count)? == wanted, "{count}");
+    }
     Ok(())
 }

@@ -10,10 +10,10 @@ use std::test::Fail;
 use std::thread::{Threads, join};
 use uc_batch::Writes;
 use uc_bytes::Bytes;
-use uc_oper::{Append, Counter, Maximum, Operator};
+use uc_oper::{Append, Counter, Maximum, Operator, Tail};
 use uc_query_read::{Answer, Query, answer_one, answer_writes};
 use uc_share::{Name, Opening, Reader, Seat, Store, Version};
-use uc_tests_compactors::drawn::drawn_store;
+use uc_tests_compactors::drawn::{MANY, SOME, Size, drawn_store};
 use uc_tests_compactors::turns::{TURNS, four_compact, shows_installs};
 use uc_tests_compactors::worker::{Pair, next_pairs};
 use uc_tests_shared::dice::{Dice, KEYS};
@@ -221,11 +221,12 @@ fn installs_of<O: Operator + Send + Sync, R: Threads + Wait + Sync>(
     rt: &R,
     alloc: Global,
     dice: &mut Dice,
+    size: Size,
     stores: usize,
 ) -> Result<u64, Fail> {
     let mut installs = 0_u64;
     for _ in 0..stores {
-        let (writes, opening) = drawn_store::<O>(alloc, dice, 7).ok_or("no store is drawn")?;
+        let (writes, opening) = drawn_store::<O>(alloc, dice, size, 7).ok_or("no store is drawn")?;
         let asked = questions::<O>(alloc, &writes, opening.version().keeps())?;
         let seed = dice.roll(u64::MAX);
         let made = soaks_opened::<O, Brand, &R, R>(rt, rt, alloc, opening, &asked, seed);
@@ -238,8 +239,10 @@ fn installs_of<O: Operator + Send + Sync, R: Threads + Wait + Sync>(
 fn stores_answer_beside_their_compactors(rt: HostRuntime) -> Result<(), Fail> {
     let alloc = rt.alloc();
     let mut dice = Dice::new(29);
-    assert!(rt; installs_of::<Append<0x2C>, _>(&rt, alloc, &mut dice, 40)? >= 40);
-    assert!(rt; installs_of::<Counter, _>(&rt, alloc, &mut dice, 40)? >= 40);
-    assert!(rt; installs_of::<Maximum, _>(&rt, alloc, &mut dice, 40)? >= 40);
+    assert!(rt; installs_of::<Append<0x2C>, _>(&rt, alloc, &mut dice, SOME, 30)? >= 30);
+    assert!(rt; installs_of::<Counter, _>(&rt, alloc, &mut dice, SOME, 30)? >= 30);
+    assert!(rt; installs_of::<Maximum, _>(&rt, alloc, &mut dice, SOME, 30)? >= 30);
+    assert!(rt; installs_of::<Tail<2>, _>(&rt, alloc, &mut dice, SOME, 30)? >= 30);
+    assert!(rt; installs_of::<Append<0x2C>, _>(&rt, alloc, &mut dice, MANY, 6)? >= 6);
     Ok(())
 }

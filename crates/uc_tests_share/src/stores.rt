@@ -58,15 +58,15 @@ pub(crate) fn merged_runs<O: Operator>(
     small_store(alloc, &merges(alloc, count)?, keeps)
 }
 
-/// A store of 64 puts, each a run, after which no id is left.
+/// A store of 256 puts, each a run, after which no id is left.
 pub(crate) fn last_runs<O: Operator>(alloc: Global) -> Result<Opening<O>, Fail> {
     let mut list = Vec::new(alloc);
-    for seq in 1..=64 {
+    for seq in 1..=256 {
         list.push(WriteRef::new(seq, OpRef::put(b"k", b"a")).to_write(alloc)?)?;
     }
     let writes = Writes::of(list).ok_or("the sequences don't rise")?;
     let options = Options {
-        first_id: u64::MAX - 64,
+        first_id: 18_446_744_073_709_551_359,
         ..small_runs()
     };
     match Opening::open(alloc, &writes, &[], options, 2, 2) {

@@ -184,10 +184,10 @@ where
     installs_of(rt, alloc, &store, readers, seats, asked, first_id)
 }
 
-/// 64 puts and merges of eight keys, three merges behind each put.
+/// 256 puts and merges of eight keys, a run for each slot, three merges behind each put.
 fn plain_writes(alloc: Global) -> Result<Writes, Fail> {
     let mut writes = Vec::new(alloc);
-    for number in 0_u64..64 {
+    for number in 0_u64..256 {
         let key = KEYS[(number & 7) as usize];
         let op = if number & 24 == 0 {
             OpRef::put(key, b"p")
@@ -252,6 +252,6 @@ fn nobody_is_refused_in_200_turns(rt: HostRuntime) -> Result<(), Fail> {
     let installs = installs_of_a_store::<Append<0x2C>, Brand, _, _>(
         &rt, &rt, alloc, opening, &asked,
     );
-    assert!(rt; installs.ok_or("an install was refused, or an answer differs")? >= 30);
+    assert!(rt; installs.ok_or("an install was refused, or an answer differs")? >= 100);
     Ok(())
 }

@@ -28,7 +28,7 @@ enum Step {
     /// Asks for the key's value at this sequence.
     Get(u64),
     /// Feeds letters, from the one with this number on, and so many.
-    Feed(u8, u8),
+    Feed(u64, u64),
     Keep,
     Release(u64),
 }
@@ -75,7 +75,7 @@ enum Batch {
 
 /// Lists of calls to one store, one after the other. Each of its writes is a run of its own.
 struct Row {
-    writes: u8,
+    writes: u64,
     first_id: u64,
     batches: &'static [Batch],
 }
@@ -127,7 +127,7 @@ static ROWS: [Row; 4] = [
                 (Compact(0, 9), Refused(ClaimError::OutOfRange)),
                 (Abandon(0), Abandoned(0)),
                 (Abandon(0), NoClaim(0)),
-                (Claim(31, 0, 4), Claimed(31)),
+                (Claim(127, 0, 4), Claimed(127)),
             ]),
             Stopped(
                 &[(Claim(7, 0, 2), Claimed(7))],
@@ -149,8 +149,8 @@ static ROWS: [Row; 4] = [
     },
     // 2^64 - 1 is never given.
     Row {
-        writes: 64,
-        first_id: 18_446_744_073_709_551_551,
+        writes: 256,
+        first_id: 18_446_744_073_709_551_359,
         batches: &[
             Whole(&[
                 (Compact(0, 2), IdsSpent),
@@ -231,37 +231,37 @@ static LIVE: [Row; 3] = [
     },
     // There are as many runs as slots.
     Row {
-        writes: 64,
+        writes: 256,
         first_id: 1,
         batches: &[Whole(&[
-            (Feed(64, 1), NotFed(FeedError::TooManyRuns)),
-            (Feed(63, 1), NotFed(FeedError::Back(64))),
-            (Feed(64, 0), Fed(0)),
-            (Compact(0, 2), Compacted(65)),
-            (Feed(64, 2), NotFed(FeedError::TooManyRuns)),
-            (Feed(64, 1), Fed(1)),
-            (Step::Report, Runs(64)),
+            (Feed(256, 1), NotFed(FeedError::TooManyRuns)),
+            (Feed(255, 1), NotFed(FeedError::Back(256))),
+            (Feed(256, 0), Fed(0)),
+            (Compact(0, 2), Compacted(257)),
+            (Feed(256, 2), NotFed(FeedError::TooManyRuns)),
+            (Feed(256, 1), Fed(1)),
+            (Step::Report, Runs(256)),
         ])],
     },
     // 2^64 - 1 is never given.
     Row {
-        writes: 63,
-        first_id: 18_446_744_073_709_551_551,
+        writes: 255,
+        first_id: 18_446_744_073_709_551_359,
         batches: &[Whole(&[
             (Compact(0, 2), Compacted(18_446_744_073_709_551_614)),
-            (Feed(63, 1), NotFed(FeedError::IdsSpent)),
-            (Feed(63, 0), Fed(0)),
-            (Keep, Kept(63)),
+            (Feed(255, 1), NotFed(FeedError::IdsSpent)),
+            (Feed(255, 0), Fed(0)),
+            (Keep, Kept(255)),
             (Compact(0, 2), IdsSpent),
-            (Step::Report, Runs(62)),
+            (Step::Report, Runs(254)),
         ])],
     },
 ];
 
-/// A put of the first letter, or a merge of another.
-fn letter(alloc: Global, number: u8) -> Result<Write, AllocError> {
-    let text = [b'a'.wrapping_add(number)];
-    let seq = u64::from(number).wrapping_add(1);
+/// A put of the first letter, or a merge of another: letter 26 is the first once more.
+fn letter(alloc: Global, number: u64) -> Result<Write, AllocError> {
+    let text = [b'a' + (number % 26) as u8];
+    let seq = number.wrapping_add(1);
     let op = match number {
         0 => OpRef::put(b"k", &text),
         _ => OpRef::merge(b"k", &text),
@@ -270,7 +270,7 @@ fn letter(alloc: Global, number: u8) -> Result<Write, AllocError> {
 }
 
 /// Letters, from the one with a number on: a put of the first of all, and merges. Their sequences begin with 1.
-fn letters(alloc: Global, first: u8, count: u8) -> Result<Vec<Write>, AllocError> {
+fn letters(alloc: Global, first: u64, count: u64) -> Result<Vec<Write>, AllocError> {
     let mut writes = Vec::new(alloc);
     for place in 0..count {
         writes.push(letter(alloc, first.wrapping_add(place))?)?;
@@ -286,7 +286,7 @@ fn asked(alloc: Global, at: u64, workers: usize, piece: usize) -> Result<Call, A
 }
 
 /// Feeds letters.
-fn fed(alloc: Global, first: u8, count: u8) -> Result<Call, Fail> {
+fn fed(alloc: Global, first: u64, count: u64) -> Result<Call, Fail> {
     let writes = letters(alloc, first, count)?;
     Ok(Call::Feed(Writes::of(writes).ok_or("sequences don't rise")?))
 }

@@ -7,7 +7,7 @@ use std::thread::Threads;
 use uc_bytes::{MAX_SEQUENCE, Write};
 use uc_compact::{compact, inputs_stand};
 use uc_model::{effect_at, value_at};
-use uc_oper::{Append, Counter, Maximum, Operator};
+use uc_oper::{Append, Counter, Maximum, Operator, Tail};
 use uc_run::{Memtable, Run};
 use uc_tests_shared::dice::{Dice, KEYS};
 
@@ -167,38 +167,29 @@ fn all_stretches_stand<O: Operator + Sync>(
     Ok(true)
 }
 
-#[test]
-fn appended_stores_read_alike(rt: HostRuntime) -> Result<(), Fail> {
-    let alloc = rt.alloc();
-    let mut dice = Dice::new(3);
+/// Compacts every stretch of 20 drawn stores.
+fn drawn_stores_stand<O: Operator + Sync>(
+    rt: &(impl Threads + Sync + Abort),
+    alloc: Global,
+    seed: u64,
+) -> Result<bool, Fail> {
+    let mut dice = Dice::new(seed);
     for _ in 0..20 {
         let runs = 3 + (dice.roll(4) & 3);
-        let store = drawn(&rt, alloc, &mut dice, runs)?;
-        assert!(rt; all_stretches_stand::<Append<0x2C>>(&rt, alloc, &mut dice, &store)?);
+        let store = drawn(rt, alloc, &mut dice, runs)?;
+        if !all_stretches_stand::<O>(rt, alloc, &mut dice, &store)? {
+            return Ok(false);
+        }
     }
-    Ok(())
+    Ok(true)
 }
 
 #[test]
-fn counted_stores_read_alike(rt: HostRuntime) -> Result<(), Fail> {
+fn compacted_stores_read_alike(rt: HostRuntime) -> Result<(), Fail> {
     let alloc = rt.alloc();
-    let mut dice = Dice::new(5);
-    for _ in 0..20 {
-        let runs = 3 + (dice.roll(4) & 3);
-        let store = drawn(&rt, alloc, &mut dice, runs)?;
-        assert!(rt; all_stretches_stand::<Counter>(&rt, alloc, &mut dice, &store)?);
-    }
-    Ok(())
-}
-
-#[test]
-fn greatest_stores_read_alike(rt: HostRuntime) -> Result<(), Fail> {
-    let alloc = rt.alloc();
-    let mut dice = Dice::new(8);
-    for _ in 0..20 {
-        let runs = 3 + (dice.roll(4) & 3);
-        let store = drawn(&rt, alloc, &mut dice, runs)?;
-        assert!(rt; all_stretches_stand::<Maximum>(&rt, alloc, &mut dice, &store)?);
-    }
+    assert!(rt; drawn_stores_stand::<Append<0x2C>>(&rt, alloc, 3)?);
+    assert!(rt; drawn_stores_stand::<Counter>(&rt, alloc, 5)?);
+    assert!(rt; drawn_stores_stand::<Maximum>(&rt, alloc, 8)?);
+    assert!(rt; drawn_stores_stand::<Tail<2>>(&rt, alloc, 9)?);
     Ok(())
 }

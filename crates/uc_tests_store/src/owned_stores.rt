@@ -8,10 +8,10 @@ use std::thread::Threads;
 use uc_batch::Writes;
 use uc_bytes::{Bytes, Write};
 use uc_compact::Compacted;
-use uc_oper::{Append, Counter, Maximum, Operator};
+use uc_oper::{Append, Counter, Maximum, Operator, Tail};
 use uc_query_read::{Query, answer_one, answer_writes};
 use uc_tests_shared::dice::{Dice, KEYS};
-use uc_version::{FeedError, Options, Owned, OwnedClaim, Stretch, open_plain};
+use uc_version::{FeedError, MOST_SLOTS, Options, Owned, OwnedClaim, Stretch, open_plain};
 
 /// A claim that is held, and what its runs were compacted to, if they were.
 #[derive(Drop)]
@@ -171,7 +171,7 @@ fn feed<O: Operator>(
     plain: &mut Plain,
 ) -> Result<(), Fail> {
     let writes = drawn_feed(alloc, dice, plain.last())?;
-    let is_nearly_full = store.version().runs().len() > 60;
+    let is_nearly_full = store.version().runs().len().saturating_add(4) > MOST_SLOTS;
     match store.feed(alloc, &writes) {
         Ok(_) => plain.feed(alloc, &writes),
         Err(FeedError::TooManyRuns) if is_nearly_full => Ok(()),
@@ -390,25 +390,31 @@ fn drawn_store_reads_alike<O: Operator + Sync>(
     stays_alike(rt, alloc, dice, &mut store, &mut plain)
 }
 
+/// Whether so many drawn stores, each opened from up to so many writes, read as the plain program does.
+fn drawn_stores_read_alike<O: Operator + Sync>(
+    rt: &(impl Threads + Sync),
+    alloc: Global,
+    dice: &mut Dice,
+    stores: usize,
+    most: u64,
+) -> Result<bool, Fail> {
+    for _ in 0..stores {
+        if !drawn_store_reads_alike::<O>(rt, alloc, dice, most)? {
+            return Ok(false);
+        }
+    }
+    Ok(true)
+}
+
 #[test]
 fn owned_stores_read_alike(rt: HostRuntime) -> Result<(), Fail> {
     let alloc = rt.alloc();
     let mut dice = Dice::new(13);
-    for _ in 0..10 {
-        assert!(rt; drawn_store_reads_alike::<Append<0x2C>>(&rt, alloc, &mut dice, 40)?);
-        assert!(rt; drawn_store_reads_alike::<Counter>(&rt, alloc, &mut dice, 40)?);
-        assert!(rt; drawn_store_reads_alike::<Maximum>(&rt, alloc, &mut dice, 40)?);
-    }
-    Ok(())
-}
-
-#[test]
-fn short_courses_read_alike(rt: HostRuntime) -> Result<(), Fail> {
-    let alloc = rt.alloc();
-    let mut dice = Dice::new(19);
-    for _ in 0..100 {
-        assert!(rt; drawn_store_reads_alike::<Append<0x2C>>(&rt, alloc, &mut dice, 8)?);
-        assert!(rt; drawn_store_reads_alike::<Counter>(&rt, alloc, &mut dice, 8)?);
+    for (stores, most) in [(10, 40), (75, 8)] {
+        assert!(rt; drawn_stores_read_alike::<Append<0x2C>>(&rt, alloc, &mut dice, stores, most)?);
+        assert!(rt; drawn_stores_read_alike::<Counter>(&rt, alloc, &mut dice, stores, most)?);
+        assert!(rt; drawn_stores_read_alike::<Maximum>(&rt, alloc, &mut dice, stores, most)?);
+        assert!(rt; drawn_stores_read_alike::<Tail<2>>(&rt, alloc, &mut dice, stores, most)?);
     }
     Ok(())
 }

@@ -7,7 +7,7 @@ use std::process::Abort;
 use std::test::Fail;
 use std::thread::Threads;
 use uc_bytes::{OpRef, Write, WriteRef};
-use uc_version::{ClaimError, InstallError, MOST_SLOTS, OwnedClaim, Stretch};
+use uc_version::{ClaimError, InstallError, MOST_CLAIMS, MOST_SLOTS, OwnedClaim, Stretch};
 
 /// A step of a row: a call, and its outcome.
 #[derive(Clone, Copy)]
@@ -115,14 +115,14 @@ static ROWS: [Row; 6] = [
     },
     // 2^64 - 1 is never given.
     Row {
-        merges: 64,
-        first_id: 18_446_744_073_709_551_551,
+        merges: 256,
+        first_id: 18_446_744_073_709_551_359,
         steps: &[
             Claim(0, 2, Ok(0)),
             Install(0, Err(InstallError::IdsSpent)),
-            Busy(63, true),
+            Busy(255, true),
             Abandon(0),
-            Claim(62, 2, Ok(0)),
+            Claim(254, 2, Ok(0)),
         ],
     },
 ];
@@ -265,5 +265,47 @@ fn claims_and_installs(rt: HostRuntime) -> Result<(), Fail> {
     for row in rows() {
         row_stepped(&rt, rt.alloc(), row)?;
     }
+    Ok(())
+}
+
+/// Whether all runs of a full store are claimed, two by two, and no other claim is made beside these.
+fn claims_all(store: &mut Store, claims: &mut Vec<OwnedClaim>) -> Result<bool, Fail> {
+    for number in 0..MOST_CLAIMS {
+        let stretch = Stretch {
+            first: number.saturating_mul(2),
+            count: 2,
+        };
+        if claimed(store, claims, stretch)? != Ok(number) {
+            return Ok(false);
+        }
+    }
+    let again = claimed(store, claims, Stretch { first: 0, count: 2 })?;
+    Ok(again == Err(ClaimError::Busy(255)))
+}
+
+/// Whether all of these claims are installed, the one of the oldest runs first, and half of the runs are left.
+fn installs_all(
+    rt: &(impl Threads + Sync),
+    alloc: Global,
+    store: &mut Store,
+    claims: &mut Vec<OwnedClaim>,
+) -> Result<bool, Fail> {
+    for before in 0..MOST_CLAIMS {
+        let number = MOST_CLAIMS - 1 - before;
+        let id = 257_u64.saturating_add(before as u64);
+        if installed(rt, alloc, store, claims, number)? != Ok(id) {
+            return Ok(false);
+        }
+    }
+    Ok(store.version().runs().len() == MOST_CLAIMS)
+}
+
+#[test]
+fn all_claims_at_once(rt: HostRuntime) -> Result<(), Fail> {
+    let alloc = rt.alloc();
+    let mut store = opened(alloc, merges(alloc, MOST_SLOTS as u64)?, 1)?;
+    let mut claims = Vec::new(alloc);
+    assert!(rt; claims_all(&mut store, &mut claims)?);
+    assert!(rt; installs_all(&rt, alloc, &mut store, &mut claims)?);
     Ok(())
 }

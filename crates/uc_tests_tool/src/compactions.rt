@@ -56,9 +56,9 @@ static JOINED: [Reported; 7] = [
     ),
     // Names: none is held, one is held already (which is said before its stretch is looked at), and given back.
     (
-        "put 6b 61\nmerge 6b 62\nopen\ninstall 2\nabandon 31\nclaim 0 0 2\nclaim 0 9 0\ncompact 0 2\n\
+        "put 6b 61\nmerge 6b 62\nopen\ninstall 2\nabandon 127\nclaim 0 0 2\nclaim 0 9 0\ncompact 0 2\n\
          abandon 0\ncompact 0 2\n",
-        "opened 2\nrefused no claim 2\nrefused no claim 31\nclaimed 0\nrefused name held 0\n\
+        "opened 2\nrefused no claim 2\nrefused no claim 127\nclaimed 0\nrefused name held 0\n\
          refused busy 1\nabandoned 0\ncompacted 3\n",
         "",
     ),
@@ -183,11 +183,28 @@ fn prints(
     assert_eq!(rt; done, ended);
 }
 
+/// What is asked behind 200 puts and their opening, what all of it prints, and how the run ends.
+static NAMES: [(&[u8], &[u8], Done); 2] = [
+    (b"claim 127 0 2\n", b"opened 200\nclaimed 127\n", Done::Fine),
+    (b"claim 128 0 2\n", b"fault line 202\n", Done::Refused),
+];
+
+#[test]
+fn names_of_claims(rt: HostRuntime) -> Result<(), Fail> {
+    let alloc = rt.alloc();
+    for (line, want, ended) in &NAMES {
+        let mut script = puts(alloc, 200)?;
+        script.extend_from_slice(line)?;
+        prints(&rt, alloc, &script, want, *ended);
+    }
+    Ok(())
+}
+
 #[test]
 fn runs_without_a_slot(rt: HostRuntime) -> Result<(), Fail> {
     let alloc = rt.alloc();
     let too_many = b"refused too many runs\n";
-    prints(&rt, alloc, &puts(alloc, 65)?, too_many, Done::Refused);
-    prints(&rt, alloc, &puts(alloc, 64)?, b"opened 64\n", Done::Fine);
+    prints(&rt, alloc, &puts(alloc, 257)?, too_many, Done::Refused);
+    prints(&rt, alloc, &puts(alloc, 256)?, b"opened 256\n", Done::Fine);
     Ok(())
 }

@@ -8,7 +8,7 @@ use std::sync::Wait;
 use std::test::Fail;
 use std::thread::Threads;
 use uc_bytes::Op;
-use uc_oper::{Append, Counter, Maximum, Operator};
+use uc_oper::{Append, Counter, Maximum, Operator, Tail};
 use uc_tests_shared::dice::Dice;
 use uc_tests_shared::lines::op_line;
 use uc_tool_io::Done;
@@ -174,5 +174,6 @@ fn agree<O: Operator + Send + Sync>(
 fn heads_by_lot(rt: HostRuntime) -> Result<(), Fail> {
     agree::<Counter>(&rt, rt.alloc(), 1)?;
     agree::<Append<0x2C>>(&rt, rt.alloc(), 2)?;
-    agree::<Maximum>(&rt, rt.alloc(), 3)
+    agree::<Maximum>(&rt, rt.alloc(), 3)?;
+    agree::<Tail<2>>(&rt, rt.alloc(), 4)
 }

@@ -10,7 +10,7 @@ use std::thread::Threads;
 use std::{mem, str};
 use uc_batch::Writes;
 use uc_bytes::{Op, Write};
-use uc_oper::{Append, Counter, Maximum, Operator};
+use uc_oper::{Append, Counter, Maximum, Operator, Tail};
 use uc_query_read::{Query, answer_writes};
 use uc_tests_shared::lines::op_line;
 use uc_tests_shared::options::small;
@@ -233,5 +233,6 @@ fn all_alike<O: Operator + Sync>(
 fn live_scripts_by_lot(rt: HostRuntime) -> Result<(), Fail> {
     all_alike::<Counter>(&rt, rt.alloc(), 11)?;
     all_alike::<Append<0x2C>>(&rt, rt.alloc(), 12)?;
-    all_alike::<Maximum>(&rt, rt.alloc(), 13)
+    all_alike::<Maximum>(&rt, rt.alloc(), 13)?;
+    all_alike::<Tail<4>>(&rt, rt.alloc(), 14)
 }

@@ -7,7 +7,7 @@ use std::test::Fail;
 use std::thread::Threads;
 use uc_batch::Writes;
 use uc_bytes::{Bytes, Op, OpRef, Write};
-use uc_oper::{Append, Counter, Maximum, Operator};
+use uc_oper::{Append, Counter, Maximum, Operator, Tail};
 use uc_query_read::{Answer, Query, answer_writes};
 use uc_tests_shared::lines::{field, op_line};
 use uc_tests_shared::options::small;
@@ -306,5 +306,6 @@ fn agree<O: Operator + Sync>(
 fn scripts_by_lot(rt: HostRuntime) -> Result<(), Fail> {
     agree::<Counter>(&rt, rt.alloc(), 1)?;
     agree::<Append<0x2C>>(&rt, rt.alloc(), 2)?;
-    agree::<Maximum>(&rt, rt.alloc(), 3)
+    agree::<Maximum>(&rt, rt.alloc(), 3)?;
+    agree::<Tail<4>>(&rt, rt.alloc(), 4)
 }

@@ -8,7 +8,7 @@ use std::thread::Threads;
 use uc_oper::Append;
 use uc_tests_shared::options::small;
 use uc_tool_io::Done;
-use uc_version_state::Options;
+use uc_version_state::{GREATEST_FIRST_ID, Options};
 
 /// Snapshots: which reads are protected, and what they read once more is written and runs are compacted.
 static SNAPSHOTS: [Row; 9] = [
@@ -166,25 +166,25 @@ type Crowd = (&'static str, u32, &'static str, &'static str);
 
 /// More runs than there are slots: the feed is refused whole, its writes are lost, and their numbers stay used.
 static CROWDS: [Crowd; 4] = [
-    ("open\n", 64, "feed\n", "opened 0\nfed 64 64\n"),
+    ("open\n", 256, "feed\n", "opened 0\nfed 256 256\n"),
     (
         "open\n",
-        65,
-        "feed\nput 6b 62\nfeed\nkeep\nget 6b 66\n",
-        "opened 0\nrefused too many runs\nfed 1 66\nkept 66\nvalue 62\n",
+        257,
+        "feed\nput 6b 62\nfeed\nkeep\nget 6b 258\n",
+        "opened 0\nrefused too many runs\nfed 1 258\nkept 258\nvalue 62\n",
     ),
     // Those that are there count too.
     (
         "",
-        63,
+        255,
         "open\nput 6b 62\nput 6b 63\nfeed\nput 6b 64\nfeed\nput 6b 65\nfeed\nfeed\n",
-        "opened 63\nrefused too many runs\nfed 1 66\nrefused too many runs\nfed 0 66\n",
+        "opened 255\nrefused too many runs\nfed 1 258\nrefused too many runs\nfed 0 258\n",
     ),
     (
         "",
-        64,
-        "open\ncompact 0 2\nput 6b 62\nfeed\nkeep\nget 6b 65\n",
-        "opened 64\ncompacted 65\nfed 1 65\nkept 65\nvalue 62\n",
+        256,
+        "open\ncompact 0 2\nput 6b 62\nfeed\nkeep\nget 6b 257\n",
+        "opened 256\ncompacted 257\nfed 1 257\nkept 257\nvalue 62\n",
     ),
 ];
 
@@ -192,15 +192,15 @@ static CROWDS: [Crowd; 4] = [
 static LAST_IDS: [Crowd; 2] = [
     (
         "",
-        63,
+        255,
         "open\nput 6b 62\nfeed\nfeed\ncompact 0 2\n",
-        "opened 63\nfed 1 64\nfed 0 64\nrefused ids spent\n",
+        "opened 255\nfed 1 256\nfed 0 256\nrefused ids spent\n",
     ),
     (
         "",
-        63,
+        255,
         "open\ncompact 0 2\nput 6b 62\nfeed\nfeed\n",
-        "opened 63\ncompacted 18446744073709551614\nrefused ids spent\nfed 0 63\n",
+        "opened 255\ncompacted 18446744073709551614\nrefused ids spent\nfed 0 255\n",
     ),
 ];
 
@@ -252,7 +252,7 @@ fn feeds_in_scripts(rt: HostRuntime) {
 fn feeds_of_many_runs(rt: HostRuntime) -> Result<(), Fail> {
     crowds_show(&rt, rt.alloc(), &small(), &CROWDS)?;
     let late = Options {
-        first_id: u64::MAX - 64,
+        first_id: GREATEST_FIRST_ID,
         ..small()
     };
     crowds_show(&rt, rt.alloc(), &late, &LAST_IDS)

@@ -7,7 +7,7 @@ use std::thread::Threads;
 use uc_oper::{Append, Counter};
 use uc_tests_shared::options::small;
 use uc_tool_io::Done;
-use uc_version_state::Options;
+use uc_version_state::{GREATEST_FIRST_ID, Options};
 
 /// A script, and the line at fault.
 type Fault = (&'static str, &'static str);
@@ -194,7 +194,7 @@ fn bad_options() -> [Options; 9] {
             ..usual
         },
         Options {
-            first_id: 18_446_744_073_709_551_552,
+            first_id: 18_446_744_073_709_551_360,
             ..usual
         },
         Options {
@@ -235,7 +235,7 @@ fn good_options() -> [Options; 7] {
             ..usual
         },
         Options {
-            first_id: 18_446_744_073_709_551_551,
+            first_id: GREATEST_FIRST_ID,
             ..usual
         },
     ]

@@ -1,6 +1,6 @@
 //! Scripts that are answered.
 use crate::plays::{Row, all_show};
-use uc_oper::{Append, Counter, Maximum};
+use uc_oper::{Append, Counter, Maximum, Tail};
 
 /// Numbers of eight bytes are added, any other operand counts as 0, and sums wrap.
 static COUNTED: [Row; 7] = [
@@ -81,11 +81,35 @@ static GREATEST: [Row; 2] = [
     ),
 ];
 
+/// The last four bytes of all texts stay, and what is put stays whole until an operand meets it.
+static LAST_FOUR: [Row; 4] = [
+    (
+        "put 6b 6162636465\nmerge 6b 66\nmerge 6b 67\nkeep 1\nopen\nget 6b 1\ncompact 0 2\nget 6b 3\nreport\n",
+        "opened 3\nvalue 6162636465\ncompacted 4\nvalue 64656667\n\
+         run 4 slot 2 points 1 fragments 0 size 11 seqs 2 3\n\
+         run 1 slot 0 points 1 fragments 0 size 14 seqs 1 1\n\
+         total runs 2 points 2 fragments 0 size 25\nkeeps 1 3\nlast 3\n",
+    ),
+    (
+        "merge 6b 6162636465\nopen\nget 6b 1\n",
+        "opened 1\nvalue 62636465\n",
+    ),
+    (
+        "put 6b 6162636465\nmerge 6b .\nkeep 1\nopen\ncompact 0 2\nget 6b 1\nget 6b 2\nscan . - 1 2\n",
+        "opened 2\ncompacted 3\nvalue 6162636465\nvalue 62636465\nrows 1\n6b 62636465\n",
+    ),
+    (
+        "merge 6b 616263\nmerge 6b 6465\ndelete 6b\nmerge 6b 66\nkeep 2\nopen\nget 6b 2\nget 6b 4\n",
+        "opened 4\nvalue 62636465\nvalue 66\n",
+    ),
+];
+
 #[test]
 fn operators_in_scripts(rt: HostRuntime) {
     all_show::<Counter>(&rt, rt.alloc(), &COUNTED);
     all_show::<Append<0x2C>>(&rt, rt.alloc(), &APPENDED);
     all_show::<Maximum>(&rt, rt.alloc(), &GREATEST);
+    all_show::<Tail<4>>(&rt, rt.alloc(), &LAST_FOUR);
 }
 
 /// Scans over five keys, with and without an upper end, and with limits.

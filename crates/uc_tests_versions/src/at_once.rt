@@ -8,7 +8,7 @@ use std::thread::Threads;
 use uc_bytes::Bytes;
 use uc_query::{Answer, Query, answer_one};
 use uc_version::{ClaimError, CompactError, MOST_SLOTS, Stretch};
-use uc_version_state::Version;
+use uc_version_state::{GREATEST_FIRST_ID, Version};
 
 /// What is claimed before, a stretch that is compacted at once, the outcome, and the runs then, by their ids and slots.
 #[derive(Clone, Copy)]
@@ -188,13 +188,13 @@ fn wants_ids_spent(rt: &(impl Threads + Abort + Sync), alloc: Global, store: &mu
     let error = CompactError::NotClaimed(ClaimError::TooNarrow);
     assert_eq!(rt; store.compact_now(rt, alloc, lone), Err(error));
     assert!(rt; is_free(store));
-    assert_eq!(rt; store.version().runs().len(), 64);
+    assert_eq!(rt; store.version().runs().len(), MOST_SLOTS);
 }
 
 #[test]
 fn nothing_is_compacted_without_an_id(rt: HostRuntime) -> Result<(), Fail> {
     let alloc = rt.alloc();
-    let mut store = opened(alloc, &merges(alloc, 64)?, &[], u64::MAX - 64)?;
+    let mut store = opened(alloc, &merges(alloc, MOST_SLOTS)?, &[], GREATEST_FIRST_ID)?;
     wants_ids_spent(&rt, alloc, &mut store);
     Ok(())
 }

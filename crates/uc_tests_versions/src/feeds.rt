@@ -12,6 +12,7 @@ use uc_batch::Writes;
 use uc_bytes::{Bytes, MAX_SEQUENCE, OpRef, WriteRef};
 use uc_query::{Answer, Query, answer_one};
 use uc_version::{FeedError, InstallError, OwnedClaim, ReleaseError, Stretch};
+use uc_version_state::GREATEST_FIRST_ID;
 
 /// The two newest runs.
 const NEWEST: Stretch = Stretch { first: 0, count: 2 };
@@ -40,26 +41,41 @@ fn feed(
 type Row = (usize, u64, u64, usize, Result<u64, FeedError>, usize);
 
 /// Worked by hand. Each write is a run, and those that are there have the sequences from 1 on.
-static ROWS: [Row; 18] = [
+static ROWS: [Row; 19] = [
     (3, 1, 4, 1, Ok(1), 4),
     (3, 1, 9, 2, Ok(2), 5),
     (3, 1, 4, 0, Ok(0), 3),
     (3, 1, 3, 1, Err(FeedError::Back(3)), 3),
     (3, 1, 3, 2, Err(FeedError::Back(3)), 3),
-    (63, 1, 64, 1, Ok(1), 64),
-    (63, 1, 64, 2, Err(FeedError::TooManyRuns), 63),
-    (64, 1, 65, 1, Err(FeedError::TooManyRuns), 64),
-    (64, 1, 65, 0, Ok(0), 64),
+    (255, 1, 256, 1, Ok(1), 256),
+    (255, 1, 256, 2, Err(FeedError::TooManyRuns), 255),
+    (256, 1, 257, 1, Err(FeedError::TooManyRuns), 256),
+    (256, 1, 257, 0, Ok(0), 256),
     (0, 1, 1, 0, Ok(0), 0),
     (0, 1, 1, 1, Ok(1), 1),
-    (0, 1, 1, 63, Ok(63), 63),
-    (0, 1, 1, 64, Ok(64), 64),
-    (0, 1, 1, 65, Err(FeedError::TooManyRuns), 0),
+    (0, 1, 1, 255, Ok(255), 255),
+    (0, 1, 1, 256, Ok(256), 256),
+    (0, 1, 1, 257, Err(FeedError::TooManyRuns), 0),
     // The order of refusals, and the last ids.
-    (64, u64::MAX - 64, 65, 1, Err(FeedError::TooManyRuns), 64),
-    (64, u64::MAX - 64, 64, 1, Err(FeedError::Back(64)), 64),
-    (64, u64::MAX - 64, 65, 0, Ok(0), 64),
-    (63, u64::MAX - 64, 64, 1, Ok(1), 64),
+    (
+        256,
+        GREATEST_FIRST_ID,
+        257,
+        1,
+        Err(FeedError::TooManyRuns),
+        256,
+    ),
+    (
+        256,
+        GREATEST_FIRST_ID,
+        256,
+        1,
+        Err(FeedError::Back(256)),
+        256,
+    ),
+    (256, GREATEST_FIRST_ID, 257, 0, Ok(0), 256),
+    (255, GREATEST_FIRST_ID, 256, 1, Ok(1), 256),
+    (255, GREATEST_FIRST_ID, 256, 0, Ok(0), 255),
 ];
 
 /// These rows.
@@ -129,32 +145,32 @@ static COURSES: [(usize, u64, Course); 6] = [
         ],
     ),
     (
-        63,
+        255,
         1,
         &[
-            (&[64, 65], Err(FeedError::TooManyRuns), 63, 63, 64),
-            (&[64], Ok(1), 64, 64, 65),
-            (&[65], Err(FeedError::TooManyRuns), 64, 64, 65),
-            (&[64], Err(FeedError::Back(64)), 64, 64, 65),
-            (&[], Ok(0), 64, 64, 65),
+            (&[256, 257], Err(FeedError::TooManyRuns), 255, 255, 256),
+            (&[256], Ok(1), 256, 256, 257),
+            (&[257], Err(FeedError::TooManyRuns), 256, 256, 257),
+            (&[256], Err(FeedError::Back(256)), 256, 256, 257),
+            (&[], Ok(0), 256, 256, 257),
         ],
     ),
     // The last ids.
     (
-        63,
-        u64::MAX - 64,
+        255,
+        GREATEST_FIRST_ID,
         &[
-            (&[64], Ok(1), 64, 64, u64::MAX),
-            (&[], Ok(0), 64, 64, u64::MAX),
+            (&[256], Ok(1), 256, 256, u64::MAX),
+            (&[], Ok(0), 256, 256, u64::MAX),
         ],
     ),
     (
-        64,
-        u64::MAX - 64,
+        256,
+        GREATEST_FIRST_ID,
         &[
-            (&[65], Err(FeedError::TooManyRuns), 64, 64, u64::MAX),
-            (&[64], Err(FeedError::Back(64)), 64, 64, u64::MAX),
-            (&[], Ok(0), 64, 64, u64::MAX),
+            (&[257], Err(FeedError::TooManyRuns), 256, 256, u64::MAX),
+            (&[256], Err(FeedError::Back(256)), 256, 256, u64::MAX),
+            (&[], Ok(0), 256, 256, u64::MAX),
         ],
     ),
     // The greatest sequence.
@@ -254,9 +270,9 @@ fn compacted(rt: &(impl Threads + Sync), alloc: Global, store: &mut Store) -> Re
 #[test]
 fn no_run_gets_the_last_id(rt: HostRuntime) -> Result<(), Fail> {
     let alloc = rt.alloc();
-    let mut store = opened(alloc, &puts(alloc, 63)?, &[], u64::MAX - 64)?;
+    let mut store = opened(alloc, &puts(alloc, 255)?, &[], GREATEST_FIRST_ID)?;
     assert_eq!(rt; compacted(&rt, alloc, &mut store)?, u64::MAX - 1);
-    let spent = feed_at(alloc, &mut store, &[64])?;
+    let spent = feed_at(alloc, &mut store, &[256])?;
     assert_eq!(rt; spent, Err(FeedError::IdsSpent));
     assert_eq!(rt; feed_at(alloc, &mut store, &[])?, Ok(0));
     Ok(())
@@ -427,7 +443,7 @@ fn refuses_behind_a_feed(
     store: &mut Store,
 ) -> Result<bool, Fail> {
     let (claim, made) = made_of(rt, alloc, store)?;
-    let outcome = feed_at(alloc, store, &[63, 64])?;
+    let outcome = feed_at(alloc, store, &[255, 256])?;
     let error = refusal_of(store, claim, made)?;
     Ok(outcome == Ok(2) && error == InstallError::IdsSpent)
 }
@@ -435,9 +451,9 @@ fn refuses_behind_a_feed(
 #[test]
 fn an_install_needs_an_id_behind_a_feed(rt: HostRuntime) -> Result<(), Fail> {
     let alloc = rt.alloc();
-    let mut store = opened(alloc, &puts(alloc, 62)?, &[], u64::MAX - 64)?;
+    let mut store = opened(alloc, &puts(alloc, 254)?, &[], GREATEST_FIRST_ID)?;
     assert!(rt; refuses_behind_a_feed(&rt, alloc, &mut store)?);
-    assert!(rt; is_at(&store, 64, 64, u64::MAX));
+    assert!(rt; is_at(&store, 256, 256, u64::MAX));
     Ok(())
 }
 
@@ -447,7 +463,7 @@ fn refuses_after_a_feed(
     alloc: Global,
     store: &mut Store,
 ) -> Result<bool, Fail> {
-    let outcome = feed_at(alloc, store, &[64])?;
+    let outcome = feed_at(alloc, store, &[256])?;
     let (claim, made) = made_of(rt, alloc, store)?;
     let error = refusal_of(store, claim, made)?;
     Ok(outcome == Ok(1) && error == InstallError::IdsSpent)
@@ -456,8 +472,8 @@ fn refuses_after_a_feed(
 #[test]
 fn the_last_id_is_fed(rt: HostRuntime) -> Result<(), Fail> {
     let alloc = rt.alloc();
-    let mut store = opened(alloc, &puts(alloc, 63)?, &[], u64::MAX - 64)?;
+    let mut store = opened(alloc, &puts(alloc, 255)?, &[], GREATEST_FIRST_ID)?;
     assert!(rt; refuses_after_a_feed(&rt, alloc, &mut store)?);
-    assert!(rt; is_at(&store, 64, 64, u64::MAX));
+    assert!(rt; is_at(&store, 256, 256, u64::MAX));
     Ok(())
 }

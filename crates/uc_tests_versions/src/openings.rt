@@ -40,7 +40,7 @@ const ROW: Case = Case {
 };
 
 /// Worked by hand.
-static CASES: [Case; 17] = [
+static CASES: [Case; 18] = [
     ROW,
     Case {
         keeps: &[2, 2, 1],
@@ -102,24 +102,33 @@ static CASES: [Case; 17] = [
         }),
         ..ROW
     },
-    // There are 64 slots.
+    // There are 256 slots.
     Case {
-        puts: 64,
-        first_id: 18_446_744_073_709_551_551,
+        puts: 255,
         wanted: Ok(Opened {
-            runs: 64,
-            newest: 18_446_744_073_709_551_614,
-            keeps: &[64],
+            runs: 255,
+            newest: 255,
+            keeps: &[255],
         }),
         ..ROW
     },
     Case {
-        puts: 65,
+        puts: 256,
+        first_id: 18_446_744_073_709_551_359,
+        wanted: Ok(Opened {
+            runs: 256,
+            newest: 18_446_744_073_709_551_614,
+            keeps: &[256],
+        }),
+        ..ROW
+    },
+    Case {
+        puts: 257,
         wanted: Err(OpenError::TooManyRuns),
         ..ROW
     },
     Case {
-        puts: 200,
+        puts: 600,
         wanted: Err(OpenError::TooManyRuns),
         ..ROW
     },
@@ -135,20 +144,20 @@ static CASES: [Case; 17] = [
         ..ROW
     },
     Case {
-        puts: 70,
-        keeps: &[70, 71],
-        wanted: Err(OpenError::SnapshotAhead(71)),
+        puts: 270,
+        keeps: &[270, 271],
+        wanted: Err(OpenError::SnapshotAhead(271)),
         ..ROW
     },
     Case {
-        puts: 70,
-        keeps: &[70],
+        puts: 270,
+        keeps: &[270],
         wanted: Err(OpenError::TooManyRuns),
         ..ROW
     },
     // Options come first.
     Case {
-        first_id: 18_446_744_073_709_551_552,
+        first_id: 18_446_744_073_709_551_360,
         keeps: &[4],
         wanted: Err(OpenError::BadOption),
         ..ROW
@@ -159,7 +168,7 @@ static CASES: [Case; 17] = [
         ..ROW
     },
     Case {
-        puts: 65,
+        puts: 257,
         first_id: 0,
         wanted: Err(OpenError::BadOption),
         ..ROW

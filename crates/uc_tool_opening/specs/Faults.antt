@@ -1,6 +1,7 @@
 -- What stands against an opening that is refused.
-use Rattle.std.specs.Prelude.{nat_lt, ◌||◌, ◌^◌, ◌-◌, Option, Some, None, if◌then◌else◌}
+use Rattle.std.specs.Prelude.{nat_lt, ◌||◌, Option, Some, None, if◌then◌else◌}
 use Rattle.uc_version_state.specs.declared.options.Options.{Options}
+use Rattle.uc_version_state.specs.declared.options.TheConstants.{GREATEST_FIRST_ID}
 use Rattle.uc_version_open.specs.declared.open_error.OpenError.{OpenError}
 use Rattle.uc_version_open.specs.declared.open_error.OpenError.TheVariants as opening
 use Rattle.uc_tool_opening.specs.declared.opening_fault.OpeningFault.{OpeningFault}
@@ -13,7 +14,7 @@ option_fault o =
     else if nat_lt o.trigger 1 then Some Trigger
     else if nat_lt o.least 2 then Some (Least o.least)
     else if nat_lt o.greatest o.least then Some (Widths o.least o.greatest)
-    else if nat_lt o.first_id 1 || nat_lt (2 ^ 64 - 65) o.first_id then Some (FirstId o.first_id)
+    else if nat_lt o.first_id 1 || nat_lt GREATEST_FIRST_ID o.first_id then Some (FirstId o.first_id)
     else None
 
 -- what stands against an opening that was refused so

@@ -5,8 +5,9 @@ ghost use Rattle.uc_version_state.specs.Options.{are_good};
 ghost use Rattle.uc_tool_opening.specs.Faults as faults;
 
 use thiserror::Error;
+use uc_claims::MOST_SLOTS;
 use uc_version_open::OpenError;
-use uc_version_state::Options;
+use uc_version_state::{GREATEST_FIRST_ID, Options};
 
 /// Why a store isn't opened, with the option or the number that stands against it.
 #[derive(Clone, Copy, Debug, PartialEq, Eq, Error)]
@@ -29,13 +30,13 @@ pub enum OpeningFault {
         greatest: u32,
     },
     /// A first run whose number is out of its range.
-    #[error("the first run's number is {0}: it is from 1 to 18446744073709551551")]
+    #[error("the first run's number is {0}: it is from 1 to {greatest}", greatest = GREATEST_FIRST_ID)]
     FirstId(u64),
     /// This sequence is to be kept, and is above the last one.
     #[error("sequence {0} is to be kept, and is above the last one")]
     Ahead(u64),
     /// The writes fill more memtables of so many bytes than a store has slots.
-    #[error("the writes fill more than 64 memtables of {0} bytes: --memtable has to be larger")]
+    #[error("the writes fill more than {most} memtables of {0} bytes: --memtable has to be larger", most = MOST_SLOTS)]
     TooManyRuns(u64),
 }
 
@@ -55,7 +56,7 @@ pub fn option_fault(options: &Options) -> Option<OpeningFault>
             least: options.least,
             greatest: options.greatest,
         })
-    } else if options.first_id == 0 || u64::MAX - 64 < options.first_id {
+    } else if options.first_id == 0 || GREATEST_FIRST_ID < options.first_id {
         Some(OpeningFault::FirstId(options.first_id))
     } else {
         None

@@ -7,9 +7,11 @@ ghost use Rattle.uc_version_state.specs.Openings.{opened};
 ghost use Rattle.uc_version_state.specs.Histories.{known_at_first};
 ghost use Rattle.uc_version_open.specs.Refusal.{opening_refusal};
 ghost use Rattle.uc_version.specs.Owners.{unclaimed};
+ghost use Rattle.uc_version.specs.declared.held_stretch.TheConstants.{MOST_CLAIMS};
 ghost use Rattle.uc_query.specs.Running.{run_of, unnamed};
 ghost use Rattle.uc_query.specs.Answered.{AreAnswered};
 ghost use Rattle.uc_script.specs.Script.{script_of};
+ghost use Rattle.uc_script.specs.declared.call.TheConstants.{NAMES};
 ghost use Rattle.uc_script.specs.declared.script.Script.{Script};
 ghost use Rattle.uc_tool_io.specs.declared.input.TheConstants.{INPUT_LIMIT};
 ghost use Rattle.uc_tool_play.specs.Play.{FitLogs, calls_of, opening_of, play_of};
@@ -20,6 +22,11 @@ use uc_query::asks_are_answered_from_plain_writes;
 use uc_script::a_script_names_no_more_than_it_has;
 use uc_version_open::no_refusal_is_leave_to_open;
 use uc_version_state::opening_gives_a_version;
+
+/// A script has a name for each claim that a store's owner may hold at once.
+pub fn scripts_name_as_many_claims_as_are_held()
+    ensures { NAMES ≡ MOST_CLAIMS }
+{}
 
 /// The replies to the calls of a script whose writes rise and whose store opens.
 fn replies_are_answered_from_plain_writes<O: Operator>()

@@ -23,7 +23,7 @@ mod report_laws;
 mod report_run;
 mod script_run;
 
-pub use laws::reads_are_answered_from_plain_writes;
+pub use laws::{reads_are_answered_from_plain_writes, scripts_name_as_many_claims_as_are_held};
 pub use report_laws::compactions_end_where_nothing_is_picked;
 pub use report_run::report_log;
 pub use script_run::play;

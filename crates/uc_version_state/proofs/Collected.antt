@@ -157,3 +157,13 @@ at_most o runs n m =
           let e : 0 + total (take k runs) ≡ total (take k runs) = omega arith in
           subst (λ t. 100 * (get_or runs k d).size ≤ (100 + o.ratio) * t) (sym e) (m.within k d (omega (arith, l)) b);
     })
+
+-- ---- no more are collected than there are
+
+one_more_or_none : (b : Bool) (n m : ℕ) → n ≤ m → cond b (suc n) 0 ≤ suc m
+one_more_or_none true n m le = omega (arith, le)
+one_more_or_none false n m le = omega arith
+
+pub no_more : (o : Options) (before runs : List Candidate) → collected_behind o before runs ≤ length runs
+no_more o before [] = omega arith
+no_more o before (r ∷ runs) = one_more_or_none (is_collected o (length before) (total before) r) (collected_behind o (before ++ r ∷ []) runs) (length runs) (no_more o (before ++ r ∷ []) runs)

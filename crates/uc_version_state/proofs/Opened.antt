@@ -1,11 +1,12 @@
 -- What an opening leaves is a version, which means its writes.
 use Rattle.std.proofs.Common.{◌≡◌, ℕ, ◌≤◌, Bool, true, false, List, [], ◌∷◌, ◌++◌, refl, arith, leb-true}
-use Rattle.std.specs.Prelude.{◌^◌, ◌-◌, ◌&&◌}
+use Rattle.std.specs.Prelude.{◌&&◌}
 use Rattle.uc_oper.specs.Operation.{Operation, IsLawful}
 use Rattle.uc_batch.specs.Rising.{last_of}
 use Rattle.uc_model.specs.Meaning.{effect_on}
 use Rattle.uc_compact_rules.proofs.Lists.{all-append}
 use Rattle.uc_version_state.specs.declared.options.Options.{Options}
+use Rattle.uc_version_state.specs.declared.options.TheConstants.{GREATEST_FIRST_ID}
 use Rattle.uc_version_state.specs.Options.{are_good}
 use Rattle.uc_version_state.specs.Versions.{IsVersion, writes_in}
 use Rattle.uc_version_state.specs.Openings.{Opening, MayOpen, unwritten, opened}
@@ -25,8 +26,8 @@ and_last false b e = absurd cc
 pub limit_good : (o : Options) → are_good o ≡ true → 1 ≤ o.memtable
 limit_good o good = leb-true 1 o.memtable (and_first _ _ (and_first _ _ (and_first _ _ (and_first _ _ (and_first _ _ good)))))
 
-pub first_id_good : (o : Options) → are_good o ≡ true → o.first_id ≤ 2 ^ 64 - 65
-first_id_good o good = leb-true o.first_id (2 ^ 64 - 65) (and_last _ _ good)
+pub first_id_good : (o : Options) → are_good o ≡ true → o.first_id ≤ GREATEST_FIRST_ID
+first_id_good o good = leb-true o.first_id GREATEST_FIRST_ID (and_last _ _ good)
 
 module _ (is_run : FlushesAreRuns) (o : Opening) (may : MayOpen o) where
   placed : ArePlaced (opened o).next_id (opened o).last (opened o).runs

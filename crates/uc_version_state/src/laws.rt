@@ -1,11 +1,12 @@
 //! What holds of versions and of what happens to them.
-ghost use Rattle.std.specs.Prelude.{◌≡◌, ◌≢◌, ◌≤◌, ◌<◌, ◌⊎◌, ◌↔◌, ◌+◌, ◌++◌, ◌∷◌, [], ℕ, List, None, Contains, length};
+ghost use Rattle.std.specs.Prelude.{◌≡◌, ◌≢◌, ◌≤◌, ◌<◌, ◌⊎◌, ◌↔◌, ◌+◌, ◌-◌, ◌^◌, ◌++◌, ◌∷◌, [], ℕ, List, None, Contains, length};
 ghost use Rattle.std.specs.List.{flat_map};
 ghost use Rattle.std.specs.List.Sorted.{IsStrictlySortedBy};
 ghost use Rattle.std.specs.Ordering.{nat_cmp};
 ghost use Rattle.uc_bytes.specs.declared.write.Write.{Write};
 ghost use Rattle.uc_batch.specs.Rising.{IsRising, last_of};
 ghost use Rattle.uc_claims.specs.Holding.{AreDistinct};
+ghost use Rattle.uc_claims.specs.declared.table.TheConstants.{MOST_SLOTS};
 ghost use Rattle.uc_model.specs.Meaning.{effect_on, value_of};
 ghost use Rattle.uc_run.specs.Size.{memtable_size};
 ghost use Rattle.uc_compact_rules.specs.Reading.{IsReadAt};
@@ -13,6 +14,7 @@ ghost use Rattle.uc_version_state.specs.Versions.{PlacedRun, Stored, IsVersion, 
 ghost use Rattle.uc_version_state.specs.Flushes.{memtables, least_free};
 ghost use Rattle.uc_version_state.specs.Feeds.{MayFeed, fed, feed_refusal};
 ghost use Rattle.uc_version_state.specs.Snapshots.{kept, released};
+ghost use Rattle.uc_version_state.specs.declared.options.TheConstants.{GREATEST_FIRST_ID};
 ghost use Rattle.uc_version_state.specs.Openings.{Opening, MayOpen, opened};
 ghost use Rattle.uc_version_state.specs.Installs.{Install, MayInstall, installed, part_of, standing};
 ghost use Rattle.uc_version_state.specs.declared.event.Event.{Event};
@@ -40,6 +42,12 @@ pub fn opened_keeps_are_those_given()
     ensures given { (o : Opening) (seq : ℕ) →
         Contains (opened o).keeps seq ↔ (Contains o.keeps seq ⊎ (seq ≡ last_of 0 o.writes)) }
     ensures in_order { (o : Opening) → IsStrictlySortedBy nat_cmp (opened o).keeps }
+{}
+
+/// The greatest number of a first run leaves one below 2^64 - 1 for a run in each slot. A store whose first run has it can
+/// fill its slots, and has none left for an install.
+pub fn first_ids_leave_a_number_for_each_slot()
+    ensures { GREATEST_FIRST_ID + MOST_SLOTS ≡ 2 ^ 64 - 1 }
 {}
 
 /// A store opens with a version.

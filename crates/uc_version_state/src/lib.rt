@@ -46,14 +46,15 @@ pub use feeds::placed_onto;
 pub use install::Install;
 pub use laws::{
     beginnings_are_legal, events_change_what_they_say, events_give_versions,
-    feeds_and_keeps_give_versions, flushed_runs_take_the_least_slots, histories_grow_by_events,
-    histories_keep_what_is_read, histories_say_writes_and_keeps, install_gives_a_version,
-    install_keeps_what_is_read, memtables_are_filled_in_turn, neighbours_stand_where_their_ids_say,
+    feeds_and_keeps_give_versions, first_ids_leave_a_number_for_each_slot,
+    flushed_runs_take_the_least_slots, histories_grow_by_events, histories_keep_what_is_read,
+    histories_say_writes_and_keeps, install_gives_a_version, install_keeps_what_is_read,
+    memtables_are_filled_in_turn, neighbours_stand_where_their_ids_say,
     no_refusal_is_leave_to_feed, no_writes_change_nothing, opened_keeps_are_those_given,
     opening_gives_a_version, opening_keeps_every_effect, runs_are_replaced_once,
     runs_keep_their_contents, runs_stay_until_replaced,
 };
-pub use options::Options;
+pub use options::{GREATEST_FIRST_ID, Options};
 pub use pick_laws::{
     amplified_runs_are_all_picked, collected_is_the_greatest_number,
     nothing_is_picked_below_the_trigger, number_of_runs_picks_from_the_first_stretch,

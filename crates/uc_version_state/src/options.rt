@@ -1,5 +1,10 @@
 //! [`Options`]: how a store is opened and compacted.
 
+use uc_claims::MOST_SLOTS;
+
+/// The greatest number that the first run may have: as many others as a store has slots come behind it below 2^64.
+pub const GREATEST_FIRST_ID: u64 = u64::MAX - MOST_SLOTS as u64;
+
 /// How a store is opened and compacted, with RocksDB's name for each option (RocksDB wiki, "Universal Compaction").
 #[derive(Clone, Copy, Debug, PartialEq, Eq)]
 pub struct Options {
@@ -17,7 +22,7 @@ pub struct Options {
     pub least: u32,
     /// The greatest number of runs for a compaction (`max_merge_width`).
     pub greatest: u32,
-    /// The number of the first run, from 1 to 2^64 - 65.
+    /// The number of the first run, from 1 to [`GREATEST_FIRST_ID`].
     pub first_id: u64,
 }
 
@@ -57,6 +62,6 @@ impl Options {
     {
         let sizes = 1 <= self.memtable && 1 <= self.trigger;
         let widths = 2 <= self.least && self.least <= self.greatest;
-        sizes && widths && 1 <= self.first_id && self.first_id <= u64::MAX - 64
+        sizes && widths && 1 <= self.first_id && self.first_id <= GREATEST_FIRST_ID
     }
 }

@@ -93,12 +93,13 @@ fn collected_enough(options: &Options, candidates: &[Candidate]) -> usize
     requires few { length candidates.now ≤ 65536 }
     ensures { result ≡ picks.collected_enough options.now candidates.now }
 {
-    let count = collected(options, candidates);
-    if options.least as usize <= count {
-        count
-    } else {
-        0
+    let least = options.least as usize;
+    // Too few are left, so their sizes needn't be looked at: among many runs that saves half of a search.
+    if candidates.len() < least {
+        return 0;
     }
+    let count = collected(options, candidates);
+    if least <= count { count } else { 0 }
 }
 
 /// Size ratio: the first place from which enough runs are collected, and these.

@@ -1,0 +1,93 @@
+//! [`Step`]: what is done to a store, and what has to come of it.
+ghost use Rattle.std.specs.Prelude.{◌≡◌, false};
+ghost use Rattle.uc_share.specs.Stores.{IsNamed};
+
+use crate::stores::{Change, Read, Wanted, feed, opened, reads, shows};
+use std::alloc::Global;
+use std::sync::Wait;
+use std::test::Fail;
+use uc_oper::Operator;
+use uc_share::{FeedError, Name, Opening, Reader, ReleaseError, Store};
+
+/// What is done to a store, and what has to come of it.
+#[derive(Clone, Copy)]
+pub(crate) enum Step {
+    /// Feeds changes: how many runs there are more, or what refuses them.
+    Feed(&'static [Change], Result<u64, FeedError>),
+    /// Keeps the last sequence.
+    Keep(u64),
+    /// Releases a sequence.
+    Release(u64, Result<(), ReleaseError>),
+    /// Reads what is shown.
+    Reads(&'static [Read]),
+    /// Looks at what is shown.
+    Shows(Wanted),
+    /// Counts the runs that are shown, and the events that led to them.
+    Counts(usize, u64),
+}
+
+/// Whether what is shown has so many runs and events.
+fn counts_are<O: Operator, N: Name, W: Wait + Drop>(
+    store: &Store<O, N, W>,
+    reader: &mut Reader<O, N>,
+    runs: usize,
+    events: u64,
+) -> bool {
+    match store.pin(reader) {
+        Ok(pin) => pin.version().runs().len() == runs && pin.front().len() == events,
+        Err(_) => false,
+    }
+}
+
+/// Whether a step comes to what it has to.
+fn comes_so<O: Operator, N: Name, W: Wait + Drop>(
+    rt: &impl Wait,
+    alloc: Global,
+    store: &Store<O, N, W>,
+    reader: &mut Reader<O, N>,
+    step: &Step,
+) -> bool
+    requires { N.keeps_stay ≡ false }
+{
+    match step {
+        Step::Feed(changes, wanted) => feed(rt, alloc, store, reader, changes) == Some(*wanted),
+        Step::Keep(seq) => store.keep(rt, alloc, reader) == Ok(*seq),
+        Step::Release(seq, wanted) => store.release(rt, alloc, *seq, reader) == *wanted,
+        Step::Reads(all) => reads(alloc, store, reader, all),
+        Step::Shows(wanted) => shows(store, reader, wanted),
+        Step::Counts(runs, events) => counts_are(store, reader, *runs, *events),
+    }
+}
+
+/// Whether all steps, one after the other, come to what they have to.
+pub(crate) fn come_so<O: Operator, N: Name, W: Wait + Drop>(
+    rt: &impl Wait,
+    alloc: Global,
+    store: &Store<O, N, W>,
+    reader: &mut Reader<O, N>,
+    steps: &[Step],
+) -> bool
+    requires { N.keeps_stay ≡ false }
+{
+    for step in steps {
+        if !comes_so(rt, alloc, store, reader, step) {
+            return false;
+        }
+    }
+    true
+}
+
+/// The same of a store that is opened here.
+pub(crate) fn opened_come_so<O: Operator, N: Name, W: Wait + Drop>(
+    rt: &impl Wait,
+    handle: W,
+    alloc: Global,
+    opening: Opening<O>,
+    steps: &[Step],
+) -> Result<bool, Fail>
+    requires name { IsNamed opening N.book N.table N.base }
+    requires keeps { N.keeps_stay ≡ false }
+{
+    let (store, ((mut reader, _), _)) = opened::<O, N, W>(handle, alloc, opening)?;
+    Ok(come_so(rt, alloc, &store, &mut reader, steps))
+}
