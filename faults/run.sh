@@ -64,6 +64,7 @@ memory() {
     refuse "play compaction" "$top/examples/compaction.script" play --operator counter --memtable 1
     refuse "play calls" "$here/calls.script" play --operator append --memtable 1
     refuse "play calls, maximum" "$here/calls.script" play --operator maximum --memtable 1
+    refuse "play calls, tail" "$here/calls.script" play --operator tail --memtable 1
     refuse "play fault" "$here/fault.script" play --operator append
     refuse "report" "$top/examples/report.log" report --operator append --memtable 1 --trigger 2
     refuse "report all_kinds" "$top/examples/logs/all_kinds.log" report --operator append --memtable 1 --trigger 2
@@ -115,7 +116,7 @@ asks() {
     build make_log "$top/bench/make_log.rs"
     printf '%-34s %9s %9s %9s %7s\n' 'refused memory' requests refused wanting wrong
     asked_of "$here/queries.script" > "$work/queries"
-    for operator in append maximum; do
+    for operator in append maximum tail; do
         same_as_played "ask $operator" "$here/queries.script" "$work/queries" --operator "$operator" "${runs[@]}"
         refuse_asks "ask $operator" "$work/queries" --operator "$operator" --piece 2 "${runs[@]}"
     done

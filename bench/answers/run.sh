@@ -4,7 +4,7 @@
 #
 #     bench/answers/run.sh [PART..]
 #
-# The parts are answers, workers, uncompacted, hot, deleted and ranged, or all of them where none is named. They take about seven
+# The parts are answers, workers, uncompacted, many, hot, deleted and ranged, or all of them where none is named. They take about seven
 # minutes, of which the workers, who have no RocksDB beside them, take four.
 #
 # It measures crates/bench_answers/out/bench_answers (or OURS), which `rt run` in crates/bench_answers builds; OURS=none
@@ -14,7 +14,7 @@
 #
 # RocksDB has the options of ../rocksdb_store.h, which are printed, and reads all rows once before the clock starts, so that its
 # cache of blocks holds them; all scans go by one iterator. Where nothing is compacted, it is measured with a Bloom filter of 10 bits a
-# key too, of which ours has none. LMDB has one row for each key, as plain Rust folds them: written by
+# key too, as ours has. LMDB has one row for each key, as plain Rust folds them: written by
 # MDB_WRITEMAP, MDB_NOSYNC and MDB_NOMETASYNC to a file in /dev/shm, and read in one transaction that stays open, scans by one
 # cursor. What it takes to load isn't measured.
 #
@@ -28,6 +28,8 @@ set -u -o pipefail
 here=$(cd "$(dirname "${BASH_SOURCE[0]}")" && pwd) || exit 1
 ours=${OURS:-$here/../../crates/bench_answers/out/bench_answers}
 turns=${TURNS:-5}
+many_ours=172000
+many_rocksdb=300000
 folder=$(mktemp -d) || exit 1
 memory=$(mktemp -d -p /dev/shm 2> /dev/null || mktemp -d) || exit 1
 trap 'rm -rf "$folder" "$memory"' EXIT
@@ -158,7 +160,7 @@ keep_row() { # PART NAME
     read -ra times <<< "$times"
     keep_ms "$1" "$row" "$program" "$sum"
     case $1 in
-        answers | uncompacted)
+        answers | uncompacted | many)
             keep_ms "$1, lookups" "$row" "$program" "${times[0]}"
             keep_ms "$1, scans" "$row" "$program" "${times[1]}"
             ;;
@@ -184,6 +186,8 @@ set_goals() {
     goal answers '*' BTreeMap ms 'at most' 1.2
     goal answers '*' RocksDB ms 'at most' 0.66
     goal uncompacted '*' RocksDB ms 'at most' 1.0
+    goal many '*' RocksDB ms 'at most' 0.4
+    goal many '*' RocksDB+filter ms 'at most' 0.4
     goal 'four workers' '*' 'one worker' ms 'at least' 3.2
     goal 'four workers, medians' '*' 'one worker' ms 'at least' 3.2
 }
@@ -275,7 +279,18 @@ uncompacted() {
     print_rows 'said = ms(time[1]) ms(time[2]) ms(sum) over("RocksDB") over("RocksDB+filter") over(debian(""))'
 }
 
-# 4. Few keys with many merges.
+# 4. As many runs as a store may have, and as many files. The sizes of memtables make them so many of this log.
+many() {
+    echo "answers, 256 runs of 5,000 points, not compacted"
+    plan ours ours answers --uncompacted --memtable "$many_ours"
+    plan_rocksdb '' answers --uncompacted --memtable "$many_rocksdb"
+    plan RocksDB+filter filtered answers --uncompacted --memtable "$many_rocksdb"
+    measure many
+    heading 'lookups ms' 'scans ms' 'sum ms' '/ RocksDB' '/ +filter' "/ Debian's"
+    print_rows 'said = ms(time[1]) ms(time[2]) ms(sum) over("RocksDB") over("RocksDB+filter") over(debian(""))'
+}
+
+# 5. Few keys with many merges.
 hot() {
     local memtable trigger operands
     operands=$("$folder/baseline" operands < "$folder/hot.log") || fail "no operands"
@@ -307,7 +322,7 @@ hot_writes() {
     if [ "$ours" = none ]; then echo 0; else cut -d ' ' -f 3 "$folder/least.ours_uncompacted"; fi
 }
 
-# 5. Scans over deleted keys, of the log of a name, which says how they were deleted; with so large memtables.
+# 6. Scans over deleted keys, of the log of a name, which says how they were deleted; with so large memtables.
 over_deleted() { # LOG HOW MEMTABLE
     log=$1
     echo "$1: a scan of 5,000 rows, of 10,000 and of 20,000, nine of ten keys deleted $2"
@@ -333,10 +348,10 @@ ranged() {
     over_deleted ranged 'by ranges' $((1 << 20))
 }
 
-if [ $# -eq 0 ]; then set -- answers workers uncompacted hot deleted ranged; fi
+if [ $# -eq 0 ]; then set -- answers workers uncompacted many hot deleted ranged; fi
 for part; do
     case $part in
-        answers | workers | uncompacted | hot | deleted | ranged) ;;
+        answers | workers | uncompacted | many | hot | deleted | ranged) ;;
         *) fail "there is no part $part" ;;
     esac
 done

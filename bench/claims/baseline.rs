@@ -2,7 +2,7 @@
 use std::sync::atomic::{AtomicU64, Ordering::SeqCst};
 use std::time::Instant;
 
-const COUNT: usize = 64;
+const COUNT: usize = 256;
 
 /// Words that begin 16 bytes into a cache line, as `malloc` lays those of `bench_parts claims`. So in both programs the
 /// same slots share a line: 0 to 5, and 6 to 13.

@@ -34,7 +34,7 @@ rows() {
         echo "$input 67108864 report --operator append"
     done
     echo "operands 2000000 dump"
-    for operator in append counter maximum; do
+    for operator in append counter maximum tail; do
         echo "operands 2000000 report --operator $operator"
         echo "operand_lines 2000000 play --operator $operator"
     done

@@ -23,7 +23,7 @@ use std::process::ExitCode;
 use store::{Kind, Memtable, Run, What};
 
 const INPUT_LIMIT: u64 = 67_108_864;
-const MOST_SLOTS: usize = 64;
+const MOST_SLOTS: usize = 256;
 
 /// A run with its place and the sequences that it spans.
 struct Placed {

@@ -3,7 +3,7 @@ use std::sync::atomic::{AtomicU64, Ordering::{Acquire, Release, SeqCst}};
 use std::sync::{Arc, RwLock};
 use std::time::Instant;
 
-const RUNS: u64 = 64;
+const RUNS: u64 = 256;
 
 struct Run {
     points: Vec<(Vec<u8>, u64, Vec<u8>)>,
@@ -24,7 +24,7 @@ struct Version {
 }
 
 struct Store {
-    words: [AtomicU64; 64],
+    words: [AtomicU64; RUNS as usize],
     shown: RwLock<Arc<Version>>,
 }
 

@@ -1,13 +1,13 @@
 #!/bin/sh
 # Pins and installs of a store that threads share, beside the same in plain Rust over RwLock<Arc<_>>.
 # Needs rustc, GNU time, and crates/bench_share/out/bench_share, which `rt run` in crates/bench_share builds.
-# A store has 64 runs, and an installer makes them one by 63 installs of the two newest. Each line has the medians of 9 runs,
+# A store has 256 runs, and an installer makes them one by 255 installs of the two newest. Each line has the medians of 9 runs,
 # which take turns. RESULTS names a file for the figures as JSON.
 set -eu
 here=$(cd "$(dirname "$0")" && pwd)
 ours=${OURS:-$here/../../crates/bench_share/out/bench_share}
 rounds=${ROUNDS:-5000000}
-stores=${STORES:-160}
+stores=${STORES:-40}
 work=$(mktemp -d)
 trap 'rm -r "$work"' EXIT
 folder=$work
@@ -72,10 +72,10 @@ for points in 1 1000; do
     keep installs "$points points" compaction ns "$(cut -d ' ' -f 1 "$work/ours.medians")"
 done
 printf '%-8s %8s %14s\n' memory installs 'KiB at most'
-for count in 1 160; do
+for count in 1 40; do
     kib=$(/usr/bin/time -f %M "$ours" installs 1 "$count" 2>&1 > /dev/null)
-    printf '%-8s %8s %14s\n' ours $((count * 63)) "$kib"
-    keep memory "$((count * 63)) installs" ours KiB "$kib"
+    printf '%-8s %8s %14s\n' ours $((count * 255)) "$kib"
+    keep memory "$((count * 255)) installs" ours KiB "$kib"
 done
 goal 'pins alone' '1 readers' RwLock M/s 'at least' 0.7
 goal 'pins alone' '4 readers' RwLock M/s 'at least' 1
