@@ -179,7 +179,7 @@ check_refused() {
     check_text "$folder/vector" 0 "$nothing_twice"
     printf 'x' >> "$folder/vector"
     check_text "$folder/vector" 3 "log fault bad checksum 0"
-    yes "put 61 $one" | head -n 65 | "$folder/make_log" lines > "$folder/vector"
+    yes "put 61 $one" | head -n 257 | "$folder/make_log" lines > "$folder/vector"
     check_text "$folder/vector" 2 "refused too many runs" --memtable 1
 }
 
