@@ -1,7 +1,7 @@
 -- The last bytes of texts put together.
 use Rattle.std.specs.Prelude.{◌≡◌, ℕ, ◌+◌, ◌-◌, ◌≤◌, List, [], ◌++◌, length, drop}
-use Rattle.std.proofs.Common.{ap, ◌∙◌, sym, refl, arith, inl, inr, length-drop, length-append, drop-drop}
-use Rattle.std.proofs.Math.Seq.{drop-append_seam, drop-append-add}
+use Rattle.std.proofs.Common.{ap, ◌∙◌, sym, arith, inl, inr, length-drop, length-append, drop-drop}
+use Rattle.std.proofs.Math.Seq.{drop-append-add}
 use Rattle.std.proofs.lemmas.Bool.{cases_lt}
 use Rattle.std.proofs.lemmas.List.{append_assoc, drop-append-le, drop_all}
 use Rattle.uc_oper.specs.Operation.{Operation, IsLawful}

@@ -69,7 +69,7 @@ module _ (low : List ℕ) (strict : Bool) where
       by true e next = later p ps (key_at ps (length (filter test ps))) e next
       by false e next = subst (λ n. IsNextKey (p ∷ ps) low strict (key_at (p ∷ ps) n)) (sym (none_passed p ps e h.0)) (here p ps e h.0)
 
-  next_key : (ps : List Entry) → IsStrictlySortedBy entry_cmp ps → IsNextKey ps low strict (key_at ps (seek_place ps low strict))
+  pub next_key : (ps : List Entry) → IsStrictlySortedBy entry_cmp ps → IsNextKey ps low strict (key_at ps (seek_place ps low strict))
   next_key ps h = subst (λ n. IsNextKey ps low strict (key_at ps n)) (length-filter test ps) (by_filter ps h)
 
   -- what was found at that place is the next key

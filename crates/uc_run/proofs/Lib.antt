@@ -20,3 +20,8 @@ pub mod Hiding
 pub mod Words
 pub mod BitLaws
 pub mod Admitting
+pub mod KeyOrder
+pub mod LeastHead
+pub mod OtherKeys
+pub mod NumberOrder
+pub mod LeastNumber

@@ -1,5 +1,5 @@
 -- Prefixes rise with the bytes.
-use Rattle.std.proofs.Common.{◌≡◌, ℕ, zero, suc, ◌+◌, ◌*◌, ◌^◌, ◌<◌, ◌≤◌, true, List, [], ◌∷◌, length, min, take, refl, sym, ap, ◌∙◌, arith}
+use Rattle.std.proofs.Common.{◌≡◌, ℕ, zero, suc, ◌+◌, ◌*◌, ◌-◌, ◌^◌, ◌<◌, ◌≤◌, true, List, [], ◌∷◌, length, min, take, drop, refl, sym, ap, ◌∙◌, arith}
 use Rattle.std.specs.declared.cmp.Ordering.{Ordering}
 use Rattle.std.specs.declared.cmp.Ordering.TheVariants.{Less, Equal, Greater}
 use Rattle.std.specs.Ordering.{nat_cmp, ordering_then, ordering_reverse, is_le}
@@ -9,6 +9,11 @@ use Rattle.std.proofs.lemmas.Bool.Decides.{nat_tests}
 use Rattle.std.proofs.lemmas.Cmp.{nat_list_cmp_total}
 use Rattle.uc_bytes.specs.Bytes.{bytes_cmp}
 use Rattle.uc_run.specs.Prefixes.{prefix_of, AreBytes}
+
+pub bytes_behind : (n : ℕ) (xs : List ℕ) → AreBytes xs → AreBytes (drop n xs)
+bytes_behind zero xs h = h
+bytes_behind (suc n) [] h = h
+bytes_behind (suc n) (x ∷ xs) h = bytes_behind n xs (λ i. h (suc i))
 
 -- the first n bytes, the first one worth the most
 abbrev number : ℕ → List ℕ → ℕ
@@ -65,6 +70,9 @@ number_le (suc n) (x ∷ xs) (y ∷ ys) bytes le = by (nat_cmp x y) refl le (num
 
 pub prefix_le : (xs ys : List ℕ) → AreBytes xs → is_le (bytes_cmp xs ys) ≡ true → prefix_of xs ≤ prefix_of ys
 prefix_le xs ys bytes le = omega (arith, is_number xs, is_number ys, number_le 8 xs ys bytes le)
+
+pub prefix_bound : (xs : List ℕ) → AreBytes xs → prefix_of xs ≤ 2 ^ 64 - 1
+prefix_bound xs bytes = omega (arith, is_number xs, number_below 8 xs bytes)
 
 -- so what has the lower prefix is below
 pub lower_prefix : (xs ys : List ℕ) → AreBytes ys → prefix_of xs < prefix_of ys → bytes_cmp xs ys ≡ Less

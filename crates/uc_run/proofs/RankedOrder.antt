@@ -1,5 +1,5 @@
 -- Points ranked by prefixes stand as by their keys.
-use Rattle.std.proofs.Common.{◌≡◌, ℕ, zero, suc, ◌+◌, ◌-◌, ◌<◌, ◌≤◌, Bool, true, false, cond, eqb, leb, min, List, [], ◌∷◌, ◌++◌, length, get_or, map, take, drop, refl, sym, ap, ◌∙◌, subst, arith}
+use Rattle.std.proofs.Common.{◌≡◌, ℕ, suc, ◌+◌, ◌-◌, ◌<◌, ◌≤◌, Bool, true, false, cond, eqb, leb, min, List, [], ◌∷◌, ◌++◌, length, get_or, map, take, drop, refl, sym, ap, ◌∙◌, subst, arith}
 use Rattle.std.specs.List.{All, common_prefix_len}
 use Rattle.std.specs.List.Sorted.{IsPermutation, IsSortedBy}
 use Rattle.std.specs.Cmp.{IsTotalOrder}
@@ -17,10 +17,19 @@ use Rattle.uc_run_entry.specs.Order.{entry_cmp}
 use Rattle.uc_run.specs.Points.{HaveOwnSeqs}
 use Rattle.uc_run.specs.Flush.{by_key}
 use Rattle.uc_run.specs.Prefixes.{prefix_of, AreBytes}
-use Rattle.uc_run.specs.Ranks.{rest_length, untold, behind_cmp, ranked_cmp, points_of, ranked_at, HasFront, HaveBytes, HaveFront, IsRanked, AreRanked}
+use Rattle.uc_run.specs.Ranks.{rest_length, untold, behind_cmp, ranked_cmp, points_of, ranked_at, HasFront, HaveBytes, HaveFront}
 use Rattle.uc_run.proofs.ByKey.{sorted_is_by_key}
 use Rattle.uc_run.proofs.Fronts.{behind_front}
-use Rattle.uc_run.proofs.PrefixOrder.{less_is, greater_is, lower_prefix, higher_prefix, equal_prefix}
+use Rattle.uc_run.proofs.PrefixOrder.{bytes_behind, less_is, greater_is, lower_prefix, higher_prefix, equal_prefix}
+
+-- Beside a point is the prefix of its key after the first bytes.
+pub record IsRanked (shared : ℕ) (r : ℕ × Entry) : Type 0 where
+  pub prefix : r.0 ≡ prefix_of (drop shared r.1.key)
+  pub bytes : AreBytes (drop shared r.1.key)
+
+pub record AreRanked (shared : ℕ) (points : List Entry) (ranked : List (ℕ × Entry)) : Type 0 where
+  pub listed : points_of ranked ≡ points
+  pub each : All (IsRanked shared) ranked
 
 pub ranked_total : (shared : ℕ) → IsTotalOrder (ranked_cmp shared)
 ranked_total shared =
@@ -149,11 +158,6 @@ module _ (shared : ℕ) (first : List ℕ) (points : List Entry) (front : HaveFr
           ∙ ap (λ (p : Entry). is_lt (entry_cmp (get_or sorted (k + 1) e).1 p)) (get_or-map (λ (r : ℕ × Entry). r.1) sorted k e d this)
           ∙ ap is_lt (sym (ranked_as_points shared first (get_or sorted (k + 1) e) (get_or sorted k e) (good (k + 1) e next).0 (good k e this).0 (good (k + 1) e next).1 (good k e this).1))
           ∙ order k e (omega arith) next
-
-bytes_behind : (n : ℕ) (xs : List ℕ) → AreBytes xs → AreBytes (drop n xs)
-bytes_behind zero xs h = h
-bytes_behind (suc n) [] h = h
-bytes_behind (suc n) (x ∷ xs) h = bytes_behind n xs (λ i. h (suc i))
 
 module _ (shared : ℕ) where
   same_points : (rs : List (ℕ × Entry)) → points_of (map (ranked_at shared) rs) ≡ points_of rs

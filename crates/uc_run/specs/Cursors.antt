@@ -1,5 +1,5 @@
 -- The place of a walk over the points of a run.
-use Rattle.std.specs.Prelude.{ℕ, Bool, List, ◌≤◌, length}
+use Rattle.std.specs.Prelude.{ℕ, Bool, List, ◌≤◌, length, nat_lt}
 use Rattle.std.specs.Ordering.{is_le}
 use Rattle.uc_bytes.specs.Bytes.{bytes_cmp}
 use Rattle.uc_run_entry.specs.declared.fragment.Fragment.{Fragment}
@@ -21,3 +21,7 @@ IsInside c = c.place ≤ length c.run.now.points
 -- a fragment ends at or before a key
 abbrev pub ends_by : List ℕ → Fragment → Bool
 ends_by key f = is_le (bytes_cmp f.end key)
+
+-- whether a cursor's run has range deletions
+abbrev pub has_ranges : Standing → Bool
+has_ranges c = nat_lt 0 (length c.run.fragments)

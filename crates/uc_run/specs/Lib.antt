@@ -14,3 +14,5 @@ pub mod Cursors
 pub mod Hiding
 pub mod KeyHash
 pub mod Filters
+pub mod Heads
+pub mod HeldHeads

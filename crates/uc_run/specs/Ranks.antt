@@ -39,15 +39,6 @@ pub record HasFront (shared : ℕ) (first key : List ℕ) : Type 0 where
 abbrev pub HaveFront : ℕ → List ℕ → List Entry → Type 0
 HaveFront shared first points = All (λ p. HasFront shared first p.key) points
 
--- Beside a point is the prefix of its key after the first bytes.
-pub record IsRanked (shared : ℕ) (r : ℕ × Entry) : Type 0 where
-  pub prefix : r.0 ≡ prefix_of (drop shared r.1.key)
-  pub bytes : AreBytes (drop shared r.1.key)
-
-pub record AreRanked (shared : ℕ) (points : List Entry) (ranked : List (ℕ × Entry)) : Type 0 where
-  pub listed : points_of ranked ≡ points
-  pub each : All (IsRanked shared) ranked
-
 -- a point beside the prefix of its key after the first bytes
 abbrev pub ranked_at : ℕ → ℕ × Entry → ℕ × Entry
 ranked_at shared r = (prefix_of (drop shared r.1.key), r.1)

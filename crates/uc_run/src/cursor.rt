@@ -5,6 +5,7 @@ ghost use Rattle.uc_run_entry.specs.Run.{IsRun};
 ghost use Rattle.uc_run_entry.specs.PlainList.{plain_list};
 ghost use Rattle.uc_run_entry.specs.Seek.{seek_place};
 ghost use Rattle.uc_model.specs.Meaning.{effect_on};
+ghost use Rattle.uc_run.specs.Cursors.{has_ranges};
 ghost use Rattle.uc_run.specs.Hiding.{hidden_to};
 ghost use Rattle.uc_run.specs.NextKey.{IsNextKey};
 
@@ -68,6 +69,14 @@ impl<'a> Cursor<'a> {
         self.run.recall();
         let point = self.run.entries().get(self.place)?;
         Some(point.key())
+    }
+
+    /// Whether the run has range deletions.
+    #[inline]
+    pub fn has_ranges(&self) -> bool
+        ensures { result ≡ has_ranges self.now }
+    {
+        !self.run.fragments().is_empty()
     }
 
     /// Whether the cursor is just before the key's points. It costs a search by the fences.
@@ -153,5 +162,13 @@ impl<'a> Cursor<'a> {
             } }
     {
         self.pass_to(low, false);
+    }
+
+    /// The run that it walks through.
+    #[inline]
+    pub(crate) fn run(&self) -> &'a Run
+        ensures { result.now ≡ self.now.run }
+    {
+        self.run
     }
 }

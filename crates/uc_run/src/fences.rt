@@ -50,6 +50,12 @@ impl Fences {
     {
         &self.keys
     }
+
+    /// What all of the keys begin with, if there are keys.
+    #[inline]
+    pub(crate) fn front(&self) -> Option<&[u8]> {
+        self.keys.first()?.as_slice().get(..self.shared)
+    }
 }
 
 /// The key of the first point of each block.

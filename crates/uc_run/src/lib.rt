@@ -6,20 +6,22 @@
 //!
 //! A [`Run`] is immutable. It keeps its points, packed, in blocks of 16 in order of key, and a Bloom filter of their keys
 //! (`filter.rt`). A contract sees it as its contents (`uc_run_entry`'s `specs/Run.antt`); only the contracts of
-//! [`Run::blocks`] and [`Run::fence`] speak of blocks. A [`Cursor`] walks over a run in order of key. Read `run.rt`, then
-//! `lookup.rt` and `cursor.rt`.
+//! [`Run::blocks`] and [`Run::fence`] speak of blocks. A [`Cursor`] walks over a run in order of key, and
+//! [`Heads`] has the next keys of several cursors. Read `run.rt`, then `lookup.rt`, `cursor.rt` and `heads.rt`.
 //!
 //! This crate re-exports the public items of `uc_run_entry` that runs are made of.
 //!
 //! An `Err(AllocError)` comes only if an allocation fails.
 #![tactic(auto)]
 
+mod common_front;
 mod cursor;
 mod entry_ref;
 mod fences;
 mod filter;
 mod filter_bits;
 mod flush;
+mod heads;
 mod key_hash;
 mod laws;
 mod lookup;
@@ -35,7 +37,11 @@ mod size;
 mod slot;
 
 pub use cursor::Cursor;
-pub use laws::{flush_keeps_every_effect, flushed_writes_are_a_run};
+pub use heads::Heads;
+pub use laws::{
+    flush_keeps_every_effect, flushed_writes_are_a_run, keys_at_places_are_next,
+    other_keys_are_kept,
+};
 pub use memtable::Memtable;
 pub use run::Run;
 pub use size::op_size;

@@ -136,8 +136,10 @@ impl Memtable {
         Ok(())
     }
 
-    /// The run of its writes. An `Err` changes nothing here.
-    fn to_run(&self, alloc: Global) -> Result<Run, AllocError>
+    /// The run of its writes: the points in order of key, and the range deletions cut into fragments. It costs a sort
+    /// of the points, a copy of their texts, and the fragments. The sort compares a number for each key, and texts only
+    /// where two numbers are equal.
+    pub fn to_run(&self, alloc: Global) -> Result<Run, AllocError>
         requires { self.now ≢ [] }
         ensures { IfOk result (λ run. run ≡ flushed self.now) }
     {
@@ -148,9 +150,8 @@ impl Memtable {
         Run::from_points(alloc, first_seq(&self.slots), self.last, points, fragments)
     }
 
-    /// The run of its writes: the points in order of key, and the range deletions cut into fragments. It costs a sort
-    /// of the points by comparisons, a copy of the texts, and the fragments. An `Err` hands the memtable back with all
-    /// its writes.
+    /// The run of its writes, as [`to_run`](Memtable::to_run) makes it, in place of the memtable. An `Err` hands the
+    /// memtable back with all its writes.
     pub fn flush(self, alloc: Global) -> Result<Run, (Memtable, AllocError)>
         requires { self ≢ [] }
         ensures run { IfOk result (λ run. run ≡ flushed self) }

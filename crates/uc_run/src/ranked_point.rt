@@ -81,7 +81,7 @@ impl<'a> RankedPoint<'a> {
 }
 
 /// How many bytes of a front a key begins with.
-fn begins_with(front: &[u8], key: &[u8]) -> usize
+pub(crate) fn begins_with(front: &[u8], key: &[u8]) -> usize
     ensures bound { result ≤ length front.now }
     ensures front { HasFront result front.now key.now }
     ensures bytes { AreBytes key.now }

@@ -1,8 +1,8 @@
 use Rattle.std.proofs.Common.{◌∙◌, ap, sym, length, subst}
 use Rattle.std.proofs.lemmas.List.{length-map}
 use Rattle.std.proofs.lemmas.List.Sorted.{length_permutation}
-use Rattle.uc_run.specs.Ranks.{first_key, points_of, ranked_at, AreRanked}
-use Rattle.uc_run.proofs.RankedOrder.{are_ranked, ranked_is_by_key}
+use Rattle.uc_run.specs.Ranks.{first_key, points_of, ranked_at}
+use Rattle.uc_run.proofs.RankedOrder.{AreRanked, are_ranked, ranked_is_by_key}
 use Rattle.uc_run.proofs.ranked_point.sort_by_key.Goals as goal
 
 pub returns : goal.returns

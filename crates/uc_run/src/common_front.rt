@@ -1,0 +1,47 @@
+//! What keys begin with: the bytes that they have in common at their front.
+use crate::cursor::Cursor;
+use crate::ranked_point::begins_with;
+use crate::run::Run;
+use uc_run_entry::Point;
+
+/// What a front and a key both begin with; if there is only one of them, all of it.
+fn narrowed<'a>(front: Option<&'a [u8]>, key: Option<&'a [u8]>) -> Option<&'a [u8]> {
+    match (front, key) {
+        (Some(front), Some(key)) => Some(&front[..begins_with(front, key)]),
+        (Some(front), None) => Some(front),
+        (None, key) => key,
+    }
+}
+
+/// What the keys of points in order begin with, if there are points: what the first and the last do.
+fn front_of_points(points: &[Point]) -> Option<&[u8]> {
+    let first = points.first().map(|point| point.key());
+    narrowed(first, points.last().map(|point| point.key()))
+}
+
+/// What most keys of a run begin with, if it has points. The fences tell, and the last point, which may be in no cache,
+/// isn't looked at; but one fence alone tells nothing of the other keys.
+fn front_of_run(run: &Run) -> Option<&[u8]> {
+    if run.blocks() > 1 {
+        return run.fences().front();
+    }
+    front_of_points(run.entries())
+}
+
+/// What the keys of all runs begin with.
+pub(crate) fn front_of_runs<'a>(runs: &[&'a [Point]]) -> &'a [u8] {
+    let mut front = None;
+    for points in runs {
+        front = narrowed(front, front_of_points(points));
+    }
+    front.unwrap_or(&[])
+}
+
+/// What most keys of the runs of all cursors begin with.
+pub(crate) fn front_of_cursors<'a>(cursors: &[Cursor<'a>]) -> &'a [u8] {
+    let mut front = None;
+    for cursor in cursors {
+        front = narrowed(front, front_of_run(cursor.run()));
+    }
+    front.unwrap_or(&[])
+}

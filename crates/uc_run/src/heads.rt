@@ -1,0 +1,233 @@
+//! [`Heads`]: the next keys of several walks.
+ghost use Rattle.std.specs.Prelude.{◌≡◌, ℕ, ◌-◌, ◌^◌, ◌<◌, ◌≤◌, ◌↔◌, List, [], Some, Contains, IsTrue, IfOk, length, map, option_map, unwrap_or};
+ghost use Rattle.std.specs.List.{All, slice_get, slice_set};
+ghost use Rattle.uc_run.specs.Heads as heads;
+ghost use Rattle.uc_run.specs.Heads.{AreNumbered, IsLeast};
+ghost use Rattle.uc_run.specs.Prefixes.{AreBytes};
+
+use crate::common_front::{front_of_cursors, front_of_runs};
+use crate::cursor::Cursor;
+use crate::prefixes::prefix_of;
+use std::alloc::{AllocError, Global};
+use std::marker::Model;
+use uc_run_entry::Point;
+
+/// The next key of each of several walks in order of key, or none where a walk is at its end. A contract sees them as
+/// that, beside a front that most of them begin with.
+#[derive(Debug, Drop)]
+pub struct Heads<'a> {
+    front: &'a [u8],
+    keys: Vec<Option<&'a [u8]>>,
+    /// The number of each key, in one piece: a text is looked at only where numbers are equal.
+    numbers: Vec<u64>,
+}
+
+impl<'a> Model for Heads<'a> {
+    ghost use Rattle.uc_run.specs.Heads.{NextKeys};
+    ghost use Rattle.uc_run.specs.HeldHeads.{next_keys, IsNumbered};
+
+    ghost Value = { NextKeys };
+
+    ghost view = { next_keys };
+
+    ghost invariant = { IsNumbered };
+}
+
+/// The next key of each walk.
+fn keys_of<'a>(alloc: Global, cursors: &[Cursor<'a>]) -> Result<Vec<Option<&'a [u8]>>, AllocError>
+    ensures { IfOk result (λ keys.
+        map (option_map (λ key. key.now)) keys.items ≡ map heads.next_key cursors.now) }
+{
+    let mut keys = Vec::with_capacity(alloc, cursors.len())?;
+    for cursor in cursors {
+        keys.push(cursor.key())?;
+    }
+    Ok(keys)
+}
+
+/// The key of the first point of each run.
+fn first_keys<'a>(alloc: Global, runs: &[&'a [Point]]) -> Result<Vec<Option<&'a [u8]>>, AllocError>
+    ensures { IfOk result (λ keys.
+        map (option_map (λ key. key.now)) keys.items ≡
+        map (λ points. heads.first_key points.now) runs.now) }
+{
+    let mut keys = Vec::with_capacity(alloc, runs.len())?;
+    for points in runs {
+        keys.push(points.first().map(|point| point.key()))?;
+    }
+    Ok(keys)
+}
+
+/// A number that doesn't fall as keys rise: of the eight bytes behind the front, if the key begins with it.
+#[inline]
+fn number_of(front: &[u8], key: &[u8]) -> u64
+    ensures number { result ≡ heads.number_of front.now key.now }
+    ensures bytes { AreBytes key.now }
+{
+    match key.strip_prefix(front) {
+        Some(rest) => prefix_of(rest),
+        None if key.cmp(front).is_lt() => 0,
+        None => u64::MAX,
+    }
+}
+
+/// The number of the next key, or one that none is above if there is no next key.
+#[inline]
+fn next_number(front: &[u8], key: Option<&[u8]>) -> u64
+    ensures number { result ≡ heads.next_number front.now (option_map (λ k. k.now) key.entry) }
+    ensures bytes { AreBytes (unwrap_or (option_map (λ k. k.now) key.entry) []) }
+{
+    match key {
+        Some(key) => number_of(front, key),
+        None => u64::MAX,
+    }
+}
+
+/// The number of each key.
+fn numbers_of(alloc: Global, front: &[u8], keys: &[Option<&[u8]>]) -> Result<Vec<u64>, AllocError>
+    ensures { IfOk result (λ numbers.
+        AreNumbered front.now (map (option_map (λ key. key.now)) keys.now) numbers.items) }
+{
+    let mut numbers = Vec::with_capacity(alloc, keys.len())?;
+    for key in keys {
+        numbers.push(next_number(front, *key))?;
+    }
+    Ok(numbers)
+}
+
+/// The lesser of two keys, if there are two; else the one there is.
+fn lesser<'a>(key: Option<&'a [u8]>, other: Option<&'a [u8]>) -> Option<&'a [u8]>
+    ensures { option_map (λ k. k.now) result ≡
+        heads.lesser_of (option_map (λ k. k.now) key.entry) (option_map (λ k. k.now) other.entry) }
+{
+    match (key, other) {
+        (Some(key), Some(other)) => {
+            if other.cmp(key).is_lt() {
+                Some(other)
+            } else {
+                Some(key)
+            }
+        }
+        (Some(key), None) => Some(key),
+        (None, other) => other,
+    }
+}
+
+/// Whether the next key, if there is one, is this one.
+#[inline]
+fn is_key(next: Option<&[u8]>, key: &[u8]) -> bool
+    ensures { IsTrue result ↔ (option_map (λ k. k.now) next.entry ≡ Some key.now) }
+{
+    match next {
+        Some(next) => next == key,
+        None => false,
+    }
+}
+
+/// The least of some numbers, or 2^64 - 1 if there are none.
+fn least_number(numbers: &[u64]) -> u64
+    ensures lower { All (λ number. result ≤ number) numbers.now }
+    ensures there { result < 2 ^ 64 - 1 → Contains numbers.now result }
+{
+    let mut least = u64::MAX;
+    for number in numbers {
+        least = least.min(*number);
+    }
+    least
+}
+
+/// The least of some keys, of which each has its number behind some front: one of those with the least number.
+fn least_of<'a>(keys: &[Option<&'a [u8]>], numbers: &[u64]) -> Option<&'a [u8]>
+    requires { (front : List ℕ) × AreNumbered front (map (option_map (λ key. key.now)) keys.now) numbers.now }
+    ensures { IsLeast (map (option_map (λ key. key.now)) keys.now) (option_map (λ key. key.now) result) }
+{
+    let low = least_number(numbers);
+    let mut least = None;
+    for (walk, number) in numbers.iter().enumerate() {
+        if *number == low {
+            least = lesser(least, keys[walk]);
+        }
+    }
+    least
+}
+
+impl<'a> Heads<'a> {
+    /// The next keys of walks through runs. It costs a look at each run's first fence and at
+    /// each next key.
+    pub fn of_cursors(alloc: Global, cursors: &[Cursor<'a>]) -> Result<Heads<'a>, AllocError>
+        ensures { IfOk result (λ made. made.keys ≡ map heads.next_key cursors.now) }
+    {
+        let front = front_of_cursors(cursors);
+        let keys = keys_of(alloc, cursors)?;
+        let numbers = numbers_of(alloc, front, &keys)?;
+        Ok(Heads {
+            front,
+            keys,
+            numbers,
+        })
+    }
+
+    /// The keys of the first points of runs. It costs a look at each run's first and last key.
+    pub fn of_runs(alloc: Global, runs: &[&'a [Point]]) -> Result<Heads<'a>, AllocError>
+        ensures { IfOk result (λ made.
+            made.keys ≡ map (λ points. heads.first_key points.now) runs.now) }
+    {
+        let front = front_of_runs(runs);
+        let keys = first_keys(alloc, runs)?;
+        let numbers = numbers_of(alloc, front, &keys)?;
+        Ok(Heads {
+            front,
+            keys,
+            numbers,
+        })
+    }
+
+    /// The least of the keys. It costs one step for each walk, and a comparison of texts for each whose number is the
+    /// least one's.
+    pub fn least(&self) -> Option<&'a [u8]>
+        ensures { IsLeast self.now.keys (option_map (λ key. key.now) result) }
+    {
+        least_of(&self.keys, &self.numbers)
+    }
+
+    /// The number by which [`is_at`](Heads::is_at) finds a key.
+    #[inline]
+    pub fn number_of(&self, key: &[u8]) -> u64
+        ensures { result ≡ heads.number_of self.now.front key.now }
+    {
+        number_of(self.front, key)
+    }
+
+    /// Whether a key, whose number this is, is the next one of the walk with an index. It mostly costs a comparison of
+    /// numbers.
+    #[inline]
+    pub fn is_at(&self, walk: usize, key: &[u8], number: u64) -> bool
+        requires within { walk < length self.now.keys }
+        requires number { number ≡ heads.number_of self.now.front key.now }
+        ensures { IsTrue result ↔ (slice_get self.now.keys walk ≡ Some (Some key.now)) }
+    {
+        self.numbers[walk] == number && is_key(self.keys[walk], key)
+    }
+
+    /// Puts another next key in place of a walk's.
+    #[inline]
+    pub fn set(&mut self, walk: usize, key: Option<&'a [u8]>)
+        requires { walk < length self.old.keys }
+        ensures { self.new ≡
+            record {
+              front = self.old.front;
+              keys = slice_set self.old.keys walk (option_map (λ k. k.now) key.entry);
+            } }
+    {
+        self.numbers[walk] = next_number(self.front, key);
+        self.keys[walk] = key;
+    }
+
+    /// Forgets all walks.
+    pub fn clear(&mut self)
+        ensures { self.new ≡ record { front = self.old.front; keys = [] } }
+    {
+        self.keys.clear();
+        self.numbers.clear();
+    }
+}
