@@ -10,7 +10,7 @@ use Rattle.uc_run_entry.specs.declared.entry.Entry.{Entry}
 use Rattle.uc_run_entry.specs.Run.{Contents}
 use Rattle.uc_run_entry.specs.Seek.{is_passed}
 use Rattle.uc_run.specs.NextKey.{IsLeastKey, IsNextKey}
-use Rattle.uc_compact.specs.Heads.{lesser_of}
+use Rattle.uc_run.specs.Heads.{lesser_of}
 use Rattle.uc_compact.proofs.Keys.{lt_of, le_of_not, le_trans, le_of_lt}
 use Rattle.uc_compact_rules.specs.Inputs.{points_of}
 use Rattle.uc_compact_rules.proofs.Lists.{all-append, all-map}
@@ -22,19 +22,19 @@ module _ (low : List ℕ) (strict : Bool) where
   abbrev IsFrom : List ℕ → Entry → Type 0
   IsFrom key p = is_passed low strict p.key ≡ false → is_le (bytes_cmp key p.key) ≡ true
 
-  in_front : (ps qs : List Entry) (key : List ℕ) → Contains (keys ps) key → Contains (keys (ps ++ qs)) key
+  pub in_front : (ps qs : List Entry) (key : List ℕ) → Contains (keys ps) key → Contains (keys (ps ++ qs)) key
   in_front ps qs key c =
       subst (λ (ks : List (List ℕ)). Contains ks key) (sym (map-append (λ (p : Entry). p.key) ps qs)) (Contains-append_left (keys ps) (keys qs) key c)
 
-  behind : (ps qs : List Entry) (key : List ℕ) → Contains (keys qs) key → Contains (keys (ps ++ qs)) key
+  pub behind : (ps qs : List Entry) (key : List ℕ) → Contains (keys qs) key → Contains (keys (ps ++ qs)) key
   behind ps qs key c =
       subst (λ (ks : List (List ℕ)). Contains ks key) (sym (map-append (λ (p : Entry). p.key) ps qs)) (Contains-append_right (keys ps) (keys qs) key c)
 
-  passed_from : (key : List ℕ) (ps : List Entry) → AllByRecursion (λ p. is_passed low strict p.key ≡ true) ps → AllByRecursion (IsFrom key) ps
+  pub passed_from : (key : List ℕ) (ps : List Entry) → AllByRecursion (λ p. is_passed low strict p.key ≡ true) ps → AllByRecursion (IsFrom key) ps
   passed_from key ps h =
       all-map (λ (p : Entry). is_passed low strict p.key ≡ true) (IsFrom key) (λ p passed ahead. absurd (false≢true (sym ahead ∙ passed))) ps h
 
-  lower : (key other : List ℕ) (ps : List Entry) → is_le (bytes_cmp other key) ≡ true → AllByRecursion (IsFrom key) ps → AllByRecursion (IsFrom other) ps
+  pub lower : (key other : List ℕ) (ps : List Entry) → is_le (bytes_cmp other key) ≡ true → AllByRecursion (IsFrom key) ps → AllByRecursion (IsFrom other) ps
   lower key other ps le h = all-map (IsFrom key) (IsFrom other) (λ p from ahead. le_trans other key p.key le (from ahead)) ps h
 
   least_by : (ps qs : List Entry) (key other : List ℕ) (b : Bool) → is_lt (bytes_cmp other key) ≡ b → IsLeastKey ps low strict key → IsLeastKey qs low strict other → IsNextKey (ps ++ qs) low strict (cond b (Some other) (Some key))

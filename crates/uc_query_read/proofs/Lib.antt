@@ -11,3 +11,4 @@ pub mod NamedKeys
 pub mod FirstRows
 pub mod AnswerLaws
 pub mod Later
+pub mod Beside

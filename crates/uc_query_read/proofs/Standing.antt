@@ -33,7 +33,7 @@ module _ (f g : Entry → Bool) where
   same_by p ps qs false true e rest = absurd (false≢true e)
   same_by p ps qs false false e rest = rest
 
-  same_length : (ps : List Entry) → AllByRecursion (λ p. f p ≡ g p) ps → length (filter f ps) ≡ length (filter g ps)
+  pub same_length : (ps : List Entry) → AllByRecursion (λ p. f p ≡ g p) ps → length (filter f ps) ≡ length (filter g ps)
   same_length [] h = refl
   same_length (p ∷ ps) h = same_by p (filter f ps) (filter g ps) (f p) (g p) h.0 (same_length ps h.1)
 
@@ -129,20 +129,18 @@ at_place low strict cs i c lt is h =
 
 -- ---- a step
 
--- a walk, the cursors that it holds, which were lent, and the least key that was found
-pub record Looks (walk : Walk) (cursors lent : List Standing) (low : List ℕ) (strict : Bool) (high found : Option (List ℕ)) : Type 0 where
+-- a walk, the cursors that it holds, and the least key that was found
+pub record Looks (walk : Walk) (cursors : List Standing) (low : List ℕ) (strict : Bool) (high found : Option (List ℕ)) : Type 0 where
   pub is : walk_at low strict high (runs_of cursors) ≡ walk
-  pub same : lent ≡ cursors
   pub there : AllByRecursion (StandsAt low strict) cursors
-  pub least : (bound : List ℕ) (behind : Bool) → AllByRecursion (StandsAt bound behind) lent → IsNextKey (points_of (runs_of lent)) bound behind found
+  pub least : (bound : List ℕ) (behind : Bool) → AllByRecursion (StandsAt bound behind) cursors → IsNextKey (points_of (runs_of cursors)) bound behind found
 
-module _ (walk : Walk) (cursors lent : List Standing) (low : List ℕ) (strict : Bool) (high found : Option (List ℕ)) (looks : Looks walk cursors lent low strict high found) where
+module _ (walk : Walk) (cursors : List Standing) (low : List ℕ) (strict : Bool) (high found : Option (List ℕ)) (looks : Looks walk cursors low strict high found) where
   abbrev points : List Entry
   points = points_of (runs_of cursors)
 
   next : IsNextKey points low strict found
-  next =
-      subst (λ (cs : List Standing). AllByRecursion (StandsAt low strict) cs → IsNextKey (points_of (runs_of cs)) low strict found) looks.same (looks.least low strict) looks.there
+  next = looks.least low strict looks.there
 
   keys_are : walk.keys ≡ keys_ahead points low strict high
   keys_are = sym (ap (λ (w : Walk). w.keys) looks.is)

@@ -6,13 +6,9 @@ use Rattle.uc_bytes.specs.Bytes.{bytes_cmp}
 use Rattle.uc_oper.specs.Operation.{Operation}
 use Rattle.uc_bytes.specs.declared.write.Write.{Write}
 use Rattle.uc_model.specs.Meaning.{value_of}
-use Rattle.uc_run_entry.specs.Run.{IsRun}
 use Rattle.uc_run.specs.Cursors.{Standing}
 use Rattle.uc_run.specs.Hiding.{hidden_to}
-
--- the contents of the cursor's run make a run
-abbrev pub IsOfRun : Standing → Type 0
-IsOfRun c = IsRun c.run.low c.run.high c.run.points c.run.fragments
+use Rattle.uc_query_read.specs.Walks.{IsOfRun}
 
 -- The first of the cursors' runs that hides a key, by its place, and where the hiding ends.
 pub record IsHidden (cursors : List Standing) (key : List ℕ) (at place : ℕ) (end : List ℕ) : Type 0 where

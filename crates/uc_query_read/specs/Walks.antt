@@ -2,7 +2,7 @@
 use Rattle.std.specs.Prelude.{◌≡◌, ℕ, ◌≤◌, Bool, true, false, List, Option, length, map, max}
 use Rattle.uc_oper.specs.Operation.{Operation}
 use Rattle.uc_query_read.specs.Answers.{rows_of}
-use Rattle.uc_run_entry.specs.Run.{Contents}
+use Rattle.uc_run_entry.specs.Run.{Contents, IsRun}
 use Rattle.uc_run_entry.specs.Seek.{seek_place}
 use Rattle.uc_run.specs.Cursors.{Standing}
 use Rattle.uc_compact_rules.specs.Inputs.{points_of, writes_of}
@@ -33,6 +33,10 @@ standing_at low strict run = record { run = run; place = seek_place run.points l
 
 abbrev pub StandsAt : List ℕ → Bool → Standing → Type 0
 StandsAt low strict c = c.place ≡ seek_place c.run.points low strict
+
+-- the contents of the cursor's run make a run
+abbrev pub IsOfRun : Standing → Type 0
+IsOfRun c = IsRun c.run.low c.run.high c.run.points c.run.fragments
 
 -- past the points at and below a key, never back
 abbrev pub passed : List ℕ → Standing → Standing

@@ -6,7 +6,7 @@
 //! is found; by `answer_laws.rt` the reference finds that.
 //!
 //! [`answer_one`] returns the same answer from a version's runs. Read `answering.rt` first, then `lookup.rt`, and for
-//! scans `specs/Ahead.antt`, `specs/Walks.antt`, `cursors.rt`, `dead_keys.rt` and `scan.rt`.
+//! scans `specs/Ahead.antt`, `specs/Walks.antt`, `walkers.rt`, `cursors.rt`, `dead_keys.rt` and `scan.rt`.
 //!
 //! An `Err(AllocError)` comes only if an allocation fails.
 #![tactic(auto)]
@@ -22,6 +22,7 @@ mod plain;
 mod query;
 mod rows;
 mod scan;
+mod walkers;
 
 pub use answer::Answer;
 pub use answer_laws::{

@@ -11,5 +11,5 @@ returns g c =
     let place = c.in_ok-place.place in
     found_dead m c.plain_list_does_what_is_found.ensures c.effects_of_parts_compose.ensures c.effect_gives_value.ensures.none
     cursors key c.args.at place c.in_ok-place.end.now c.in_ok-place.ensures (option_map (λ k. k.now) c.least_key.result)
-    (c.least_key.ensures key true (all_taken (StandsAt key true) (place + 1) cursors c.requires))
+    (c.least_key.ensures key true (all_taken (StandsAt key true) (place + 1) cursors c.requires.stand))
     c.lesser.result c.lesser.ensures

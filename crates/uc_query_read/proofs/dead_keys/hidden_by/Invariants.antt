@@ -1,7 +1,7 @@
 use Rattle.std.proofs.Common.{◌≡◌, None, take}
 use Rattle.std.specs.List.{AllByRecursion, AllWithin}
 use Rattle.uc_run.specs.Hiding.{hidden_to}
-use Rattle.uc_query_read.specs.Dead.{IsOfRun}
+use Rattle.uc_query_read.specs.Walks.{IsOfRun}
 use Rattle.uc_query_read.proofs.dead_keys.hidden_by.Given as goal
 
 -- none of the runs so far hides the key

@@ -7,8 +7,8 @@ use Rattle.uc_query_read.proofs.cursors.Cursors.from.Goals as goal
 
 pub invariant_of-result : goal.invariant_of-result
 invariant_of-result c =
-    subst (AllByRecursion (StandsAt c.args.low.now false)) (sym c.in_ok-cursors_from.ensures) (all_start c.args.low.now false (contents_of c.args.runs.now))
+    subst (AllByRecursion (StandsAt c.args.low.now false)) (sym c.in_ok-from.ensures) (all_start c.args.low.now false (contents_of c.args.runs.now))
 
 pub returns : goal.returns
 returns c =
-    ap (walk_at c.args.low.now false c.args.high.now) (ap runs_of c.in_ok-cursors_from.ensures ∙ runs_start c.args.low.now false (contents_of c.args.runs.now))
+    ap (walk_at c.args.low.now false c.args.high.now) (ap runs_of c.in_ok-from.ensures ∙ runs_start c.args.low.now false (contents_of c.args.runs.now))

@@ -1,7 +1,7 @@
 use Rattle.std.proofs.Common.{option_map}
 use Rattle.uc_query_read.proofs.LeastKeys.{least_step}
 use Rattle.uc_query_read.proofs.Standing.{at_place}
-use Rattle.uc_query_read.proofs.cursors.least_key.Goals as goal
+use Rattle.uc_query_read.proofs.dead_keys.least_key.Goals as goal
 
 pub loop-cursor-preserved : goal.loop-cursor-preserved
 loop-cursor-preserved c low strict stands =

@@ -3,7 +3,7 @@ use Rattle.std.specs.List.{AllByRecursion}
 use Rattle.uc_run.specs.NextKey.{IsNextKey}
 use Rattle.uc_compact_rules.specs.Inputs.{points_of}
 use Rattle.uc_query_read.specs.Walks.{runs_of, StandsAt}
-use Rattle.uc_query_read.proofs.cursors.least_key.Given as goal
+use Rattle.uc_query_read.proofs.dead_keys.least_key.Given as goal
 
 -- the least key of the runs so far
 abbrev pub invariant-loop-cursor : goal.invariant-loop-cursor

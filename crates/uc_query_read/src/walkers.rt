@@ -1,0 +1,209 @@
+//! [`Walkers`]: a cursor in each of several runs.
+ghost use Rattle.std.specs.Prelude.{◌≡◌, ℕ, Bool, List, true, false, map, option_map, IfOk, IfSome};
+ghost use Rattle.std.specs.List.{AllByRecursion};
+ghost use Rattle.uc_model.specs.Meaning.{effect_on, value_of};
+ghost use Rattle.uc_run.specs.Cursors.{has_ranges};
+ghost use Rattle.uc_run.specs.Heads.{next_key};
+ghost use Rattle.uc_run.specs.NextKey.{IsNextKey};
+ghost use Rattle.uc_compact_rules.specs.Inputs.{points_of, writes_of};
+ghost use Rattle.uc_version_state.specs.Versions.{contents_of};
+ghost use Rattle.uc_query_read.specs.Dead.{AreDead};
+ghost use Rattle.uc_query_read.specs.Walks.{runs_of, standing_at, passed, sought, StandsAt, IsOfRun};
+
+use crate::dead_keys::dead_up_to;
+use std::alloc::{AllocError, Global};
+use std::marker::Model;
+use uc_bytes::Bytes;
+use uc_model::{effect_gives_value, effects_of_parts_compose};
+use uc_oper::{Effect, Operator};
+use uc_run::{Cursor, Heads, keys_at_places_are_next, other_keys_are_kept};
+use uc_version_state::Placed;
+
+/// A cursor in each of several runs, the newest first. A contract sees it as the list of them.
+#[derive(Debug, Drop)]
+pub(crate) struct Walkers<'a> {
+    cursors: Vec<Cursor<'a>>,
+    /// The next key of each: a row touches only the cursors that are at its key.
+    heads: Heads<'a>,
+    /// Which of the runs have range deletions, which say something of other keys too.
+    with_ranges: Vec<bool>,
+}
+
+impl<'a> Model for Walkers<'a> {
+    ghost use Rattle.std.specs.Prelude.{List};
+    ghost use Rattle.uc_run.specs.Cursors.{Standing};
+    ghost use Rattle.uc_query_read.specs.HeldWalkers.{AreKnown};
+
+    ghost Value = { List Standing };
+
+    ghost view = { λ w. w.cursors.items };
+
+    ghost invariant = { AreKnown };
+}
+
+/// A cursor for each run, before the points from `low` on.
+fn cursors_from<'a>(
+    alloc: Global,
+    runs: &'a [Placed],
+    low: &[u8],
+) -> Result<Vec<Cursor<'a>>, AllocError>
+    ensures cursors { IfOk result (λ cursors. cursors.items ≡ map (standing_at low.now false) (contents_of runs.now)) }
+    ensures of_runs { IfOk result (λ cursors. AllByRecursion IsOfRun cursors.items) }
+{
+    let mut cursors = Vec::with_capacity(alloc, runs.len())?;
+    for placed in runs {
+        placed.run().recall();
+        cursors.push(placed.run().cursor(low))?;
+    }
+    Ok(cursors)
+}
+
+/// Which of the cursors' runs have range deletions.
+fn ranges_of(alloc: Global, cursors: &[Cursor<'_>]) -> Result<Vec<bool>, AllocError>
+    ensures { IfOk result (λ ranges. ranges.items ≡ map has_ranges cursors.now) }
+{
+    cursors
+        .iter()
+        .map(|cursor| cursor.has_ranges())
+        .collect(alloc)
+}
+
+/// What the writes of the cursors' runs at or below a sequence together do to a key. The key's points must be the first
+/// ahead. It stops at the first run that puts or deletes the key, since older writes are overwritten.
+fn effect_of_cursors<O: Operator>(
+    alloc: Global,
+    cursors: &[Cursor<'_>],
+    heads: &Heads<'_>,
+    with_ranges: &[bool],
+    key: &[u8],
+    at: u64,
+) -> Result<Effect, AllocError>
+    requires stand { AllByRecursion (StandsAt key.now false) cursors.now }
+    requires of_runs { AllByRecursion IsOfRun cursors.now }
+    requires heads { heads.now.keys ≡ map next_key cursors.now }
+    requires ranges { with_ranges.now ≡ map has_ranges cursors.now }
+    ensures { IfOk result (λ effect. effect ≡ effect_on O.meaning (writes_of (runs_of cursors.now)) key.now at) }
+{
+    effects_of_parts_compose::<O>();
+    other_keys_are_kept::<O>();
+    keys_at_places_are_next();
+    let number = heads.number_of(key);
+    let mut newer = Effect::Keep;
+    for place in 0..cursors.len() {
+        if heads.is_at(place, key, number) || with_ranges[place] {
+            let older = cursors[place].effect::<O>(alloc, key, at)?;
+            newer = older.then::<O>(alloc, newer)?;
+            if let Effect::Set(_) = newer {
+                return Ok(newer);
+            }
+        }
+    }
+    Ok(newer)
+}
+
+/// Moves the cursors that are at a key past it. The others are behind it already.
+fn pass_there<'a>(cursors: &mut [Cursor<'a>], heads: &mut Heads<'a>, key: &[u8])
+    requires stand { AllByRecursion (StandsAt key.now false) cursors.old }
+    requires of_runs { AllByRecursion IsOfRun cursors.old }
+    requires heads { heads.old.keys ≡ map next_key cursors.old }
+    ensures cursors { cursors.new ≡ map (passed key.now) cursors.old }
+    ensures heads { heads.new.keys ≡ map next_key cursors.new }
+{
+    keys_at_places_are_next();
+    let number = heads.number_of(key);
+    for place in 0..cursors.len() {
+        if heads.is_at(place, key, number) {
+            let cursor = &mut cursors[place];
+            cursor.pass(key);
+            heads.set(place, cursor.key());
+        }
+    }
+}
+
+/// Moves each cursor past the points below a key.
+fn seek_each<'a>(cursors: &mut [Cursor<'a>], heads: &mut Heads<'a>, low: &[u8])
+    requires { heads.old.keys ≡ map next_key cursors.old }
+    ensures cursors { cursors.new ≡ map (sought low.now) cursors.old }
+    ensures heads { heads.new.keys ≡ map next_key cursors.new }
+{
+    for place in 0..cursors.len() {
+        let cursor = &mut cursors[place];
+        cursor.seek(low);
+        heads.set(place, cursor.key());
+    }
+}
+
+impl<'a> Walkers<'a> {
+    /// Before the points from `low` on of runs, the newest first. It costs a search in each.
+    pub(crate) fn from(
+        alloc: Global,
+        runs: &'a [Placed],
+        low: &[u8],
+    ) -> Result<Walkers<'a>, AllocError>
+        ensures { IfOk result (λ walkers. walkers ≡ map (standing_at low.now false) (contents_of runs.now)) }
+    {
+        let cursors = cursors_from(alloc, runs, low)?;
+        let heads = Heads::of_cursors(alloc, &cursors)?;
+        let with_ranges = ranges_of(alloc, &cursors)?;
+        Ok(Walkers {
+            cursors,
+            heads,
+            with_ranges,
+        })
+    }
+
+    /// The least of their next keys.
+    pub(crate) fn least(&self) -> Option<&'a [u8]>
+        ensures { (low : List ℕ) (strict : Bool) → AllByRecursion (StandsAt low strict) self.now →
+            IsNextKey (points_of (runs_of self.now)) low strict (option_map (λ k. k.now) result) }
+    {
+        keys_at_places_are_next();
+        self.heads.least()
+    }
+
+    /// The value at a sequence of a key whose points are the first ahead. It costs a step for each of the key's points
+    /// up to the last put or delete, and for each run a comparison of numbers.
+    pub(crate) fn value<O: Operator>(
+        &self,
+        alloc: Global,
+        key: &[u8],
+        at: u64,
+    ) -> Result<Option<Bytes>, AllocError>
+        requires { AllByRecursion (StandsAt key.now false) self.now }
+        ensures { IfOk result (λ value. value ≡ value_of O.meaning (writes_of (runs_of self.now)) key.now at) }
+    {
+        effect_gives_value::<O>();
+        let effect = effect_of_cursors::<O>(
+            alloc,
+            &self.cursors,
+            &self.heads,
+            &self.with_ranges,
+            key,
+            at,
+        )?;
+        effect.apply::<O>(alloc, None)
+    }
+
+    /// Moves past the points at and below a key that are the first ahead.
+    pub(crate) fn pass(&mut self, key: &[u8])
+        requires { AllByRecursion (StandsAt key.now false) self.old }
+        ensures { self.new ≡ map (passed key.now) self.old }
+    {
+        pass_there(&mut self.cursors, &mut self.heads, key);
+    }
+
+    /// Moves past the points below a key.
+    pub(crate) fn seek(&mut self, low: &[u8])
+        ensures { self.new ≡ map (sought low.now) self.old }
+    {
+        seek_each(&mut self.cursors, &mut self.heads, low);
+    }
+
+    /// If a run hides a passed key, a bound above it; no key between them has a value.
+    pub(crate) fn dead_up_to<O: Operator>(&self, key: &[u8], at: u64) -> Option<&'a [u8]>
+        requires { AllByRecursion (StandsAt key.now true) self.now }
+        ensures { IfSome result (λ bound. AreDead O.meaning (writes_of (runs_of self.now)) at key.now bound.now) }
+    {
+        dead_up_to::<O>(&self.cursors, &self.with_ranges, key, at)
+    }
+}
