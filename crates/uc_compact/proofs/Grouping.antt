@@ -12,6 +12,7 @@ use Rattle.uc_compact_rules.specs.Stripes.{Keeping}
 use Rattle.uc_compact_rules.specs.Inputs.{AreRuns, points_of}
 use Rattle.uc_compact_rules.specs.Choice.{AreOfOneKey, points_for, points_named, seqs_over}
 use Rattle.uc_compact.specs.Parts.{points_of_each}
+use Rattle.uc_compact.specs.Kept.{AreOfOneKeyEach}
 use Rattle.uc_compact.proofs.Pushing.{of_groups, HasOneKey}
 
 -- lists that are seen as the points of runs
@@ -59,5 +60,9 @@ module _ (m : Operation) (keeping : Keeping) (cut : List Fragment) (points : Lis
   pub kept_by : (groups : List Group) (before after : List Entry) → groups ≡ groups_of points → before ≡ [] → after ≡ before ++ of_groups m keeping cut groups → after ≡ flat_map (λ key. points_for m keeping key (points_named key points) (seqs_over key cut)) (keys_of points)
   kept_by groups before after e empty made = made ∙ ap (λ (ps : List Entry). ps ++ of_groups m keeping cut groups) empty ∙ ap (of_groups m keeping cut) e ∙ groups_by_key
 
-pub groups_are : {X : Type 0} (f : X → List Entry) (xs lent : List X) (runs : List Contents) (groups : List Group) → map f xs ≡ points_of_each runs → lent ≡ xs → groups ≡ groups_of (flat_map f lent) → groups ≡ groups_of (points_of runs)
-groups_are f xs lent runs groups e same made = made ∙ ap (λ ys. groups_of (flat_map f ys)) same ∙ ap groups_of (joined f xs runs e)
+-- the runs that are lent have the points of the inputs
+pub lent_points : {X : Type 0} (f : X → List Entry) (xs lent : List X) (runs : List Contents) → map f xs ≡ points_of_each runs → lent ≡ xs → flat_map f lent ≡ points_of runs
+lent_points f xs lent runs e same = ap (flat_map f) same ∙ joined f xs runs e
+
+pub each_in_runs : {X : Type 0} (f : X → List Entry) (xs lent : List X) (runs : List Contents) (cut : List Fragment) → map f xs ≡ points_of_each runs → lent ≡ xs → AreOfOneKeyEach cut (points_of runs) → AreOfOneKeyEach cut (flat_map f lent)
+each_in_runs f xs lent runs cut e same each = subst (AreOfOneKeyEach cut) (sym (lent_points f xs lent runs e same)) each

@@ -4,10 +4,12 @@ pub mod Grouping
 pub mod Building
 pub mod Lists
 pub mod Keys
-pub mod Least
 pub mod Taking
 pub mod Merging
 pub mod Stepping
+pub mod Parting
+pub mod Rising
 mod Cutting
 mod Gathered
 mod Fronts
+pub mod NextKeys

@@ -127,12 +127,12 @@ joined-map f xs lists e = ap joined e ∙ over f xs
 
 -- ---- a step of the merge, by what its parts say
 
-pub ends : (old : List Group) (cursors seen : List (List Entry)) (o : Option (List ℕ)) → AllByRecursion Sorted cursors → old ≡ groups_of (joined cursors) → seen ≡ cursors → IsLeast seen o → o ≡ None → old ≡ []
-ends old cursors seen o sorted is same least none = is ∙ none_comes cursors sorted (subst (IsLeast cursors) none (subst (λ (ls : List (List Entry)). IsLeast ls o) same least))
+pub ends : (old : List Group) (cursors : List (List Entry)) (o : Option (List ℕ)) → AllByRecursion Sorted cursors → old ≡ groups_of (joined cursors) → IsLeast cursors o → o ≡ None → old ≡ []
+ends old cursors o sorted is least none = is ∙ none_comes cursors sorted (subst (IsLeast cursors) none least)
 
-module _ (old : List Group) (cursors seen lent left : List (List Entry)) (o : Option (List ℕ)) (key : List ℕ) (before points : List Entry) (sorted : AllByRecursion Sorted cursors) (is : old ≡ groups_of (joined cursors)) (same : seen ≡ cursors) (lends : lent ≡ cursors) (least : IsLeast seen o) (some : o ≡ Some key) where
+module _ (old : List Group) (cursors lent left : List (List Entry)) (o : Option (List ℕ)) (key : List ℕ) (before points : List Entry) (sorted : AllByRecursion Sorted cursors) (is : old ≡ groups_of (joined cursors)) (lends : lent ≡ cursors) (least : IsLeast cursors o) (some : o ≡ Some key) where
   least_here : IsLeast cursors (Some key)
-  least_here = subst (IsLeast cursors) some (subst (λ (ls : List (List Entry)). IsLeast ls o) same least)
+  least_here = subst (IsLeast cursors) some least
 
   pub steps : before ≡ [] → points ≡ before ++ flat_map (λ ps. take (first_named key ps) ps) lent → left ≡ map (λ ps. drop (first_named key ps) ps) lent → old ≡ (record { key = key; points = points }) ∷ groups_of (joined left)
   steps empty taken rest =

@@ -1,15 +1,17 @@
 -- What is ahead of a merge.
-use Rattle.std.specs.Prelude.{List}
+use Rattle.std.specs.Prelude.{◌≡◌, List, map}
 use Rattle.std.specs.List.{AllByRecursion, flat_map}
 use Rattle.std.specs.List.Sorted.{IsStrictlySortedBy}
 use Rattle.uc_run_entry.specs.Order.{entry_cmp}
 use Rattle.uc_compact.specs.Groups.{Group, groups_of}
+use Rattle.uc_compact.specs.Heads.{first_key}
 use Rattle.uc_compact.specs.declared.groups.Groups.TheInside.{Inside}
 
 -- the groups of the points that are ahead of all cursors
 abbrev pub ahead : Inside → List Group
 ahead g = groups_of (flat_map (λ points. points) g.cursors.items)
 
--- each cursor's points are in order
-abbrev pub AreSorted : Inside → Type 0
-AreSorted g = AllByRecursion (IsStrictlySortedBy entry_cmp) g.cursors.items
+-- each cursor's points are in order, and beside the cursors are their next keys
+pub record AreHeld (g : Inside) : Type 0 where
+  pub sorted : AllByRecursion (IsStrictlySortedBy entry_cmp) g.cursors.items
+  pub heads : g.heads.keys ≡ map first_key g.cursors.items

@@ -1,7 +1,7 @@
 -- The first points of lists.
 use Rattle.std.specs.Prelude.{◌≡◌, ℕ, suc, true, List, [], ◌∷◌, Option, Some, None, ⊤, if◌then◌else◌}
 use Rattle.std.specs.List.{AllByRecursion}
-use Rattle.std.specs.Ordering.{is_lt, is_le}
+use Rattle.std.specs.Ordering.{is_le}
 use Rattle.uc_bytes.specs.Bytes.{bytes_cmp, same_bytes}
 use Rattle.uc_run_entry.specs.declared.entry.Entry.{Entry}
 
@@ -14,12 +14,6 @@ first_key (p ∷ ps) = Some p.key
 abbrev pub first_named : List ℕ → List Entry → ℕ
 first_named key [] = 0
 first_named key (p ∷ ps) = if same_bytes p.key key then suc (first_named key ps) else 0
-
--- the lesser of two keys, if there are two; else the one there is
-abbrev pub lesser_of : Option (List ℕ) → Option (List ℕ) → Option (List ℕ)
-lesser_of None other = other
-lesser_of (Some key) None = Some key
-lesser_of (Some key) (Some other) = if is_lt (bytes_cmp other key) then Some other else Some key
 
 -- no key of a first point is below the key
 abbrev pub IsFrom : List ℕ → List Entry → Type 0

@@ -1,6 +1,8 @@
 pub mod Made
 pub mod Parts
 pub mod Groups
+pub mod Kept
+pub mod Cuts
 pub mod Heads
 pub mod Ahead
 pub mod Pieces

@@ -4,12 +4,12 @@ ghost use Rattle.std.specs.List.{AllByRecursion, flat_map};
 ghost use Rattle.std.specs.List.Sorted.{IsStrictlySortedBy};
 ghost use Rattle.uc_run_entry.specs.Order.{entry_cmp};
 ghost use Rattle.uc_compact.specs.Groups.{groups_of, Comes};
-ghost use Rattle.uc_compact.specs.Heads as heads;
-ghost use Rattle.uc_compact.specs.Heads.{IsLeast};
+ghost use Rattle.uc_compact.specs.Heads.{first_key, first_named};
 
 use crate::cursor::Cursor;
 use std::alloc::{AllocError, Global};
 use std::marker::Model;
+use uc_run::Heads;
 use uc_run_entry::Point;
 
 /// The place of a merge in several runs. A contract sees it as the groups that are still ahead: for each key its
@@ -17,63 +17,56 @@ use uc_run_entry::Point;
 #[derive(Debug, Drop)]
 pub struct Groups<'a> {
     cursors: Vec<Cursor<'a>>,
+    /// The next key of each: a step touches only the cursors that are at its key.
+    heads: Heads<'a>,
 }
 
 impl<'a> Model for Groups<'a> {
     ghost use Rattle.std.specs.Prelude.{List};
     ghost use Rattle.uc_compact.specs.Groups.{Group};
-    ghost use Rattle.uc_compact.specs.Ahead.{ahead, AreSorted};
+    ghost use Rattle.uc_compact.specs.Ahead.{ahead, AreHeld};
 
     ghost Value = { List Group };
 
     ghost view = { ahead };
 
-    ghost invariant = { AreSorted };
+    ghost invariant = { AreHeld };
 }
 
-/// The lesser of two keys, if there are two; else the one there is.
-fn lesser<'a>(key: Option<&'a [u8]>, other: Option<&'a [u8]>) -> Option<&'a [u8]>
-    ensures { option_map (λ k. k.now) result ≡
-        heads.lesser_of (option_map (λ k. k.now) key.entry) (option_map (λ k. k.now) other.entry) }
+/// A cursor for each run, before its first point.
+fn cursors_over<'a>(alloc: Global, runs: &[&'a [Point]]) -> Result<Vec<Cursor<'a>>, AllocError>
+    ensures { IfOk result (λ cursors. cursors.items ≡ map (λ points. points.now) runs.now) }
 {
-    match (key, other) {
-        (Some(key), Some(other)) => {
-            if other.cmp(key).is_lt() {
-                Some(other)
-            } else {
-                Some(key)
-            }
-        }
-        (Some(key), None) => Some(key),
-        (None, other) => other,
+    let mut cursors = Vec::with_capacity(alloc, runs.len())?;
+    for points in runs {
+        cursors.push(Cursor::new(points))?;
     }
+    Ok(cursors)
 }
 
-/// The least key that is ahead of any cursor.
-fn least_key<'a>(cursors: &[Cursor<'a>]) -> Option<&'a [u8]>
-    ensures { IsLeast cursors.now (option_map (λ k. k.now) result) }
-{
-    let mut least = None;
-    for cursor in cursors {
-        least = lesser(least, cursor.key());
-    }
-    least
-}
-
-/// Takes the points of the key from each cursor, in order.
+/// Takes the points of the key from each cursor that is at it, in order. After an `Err` the cursors and heads are no
+/// longer of use.
 fn take_from_each<'a>(
     cursors: &mut [Cursor<'a>],
+    heads: &mut Heads<'a>,
     key: &[u8],
     points: &mut Vec<&'a Point>,
 ) -> Result<(), AllocError>
+    requires { heads.old.keys ≡ map first_key cursors.old }
     ensures taken { OnOk result
         (map (λ p. p.now) points.new.items ≡
         map (λ p. p.now) points.old.items
-        ++ flat_map (λ ps. take (heads.first_named key.now ps) ps) cursors.old) }
-    ensures left { OnOk result (cursors.new ≡ map (λ ps. drop (heads.first_named key.now ps) ps) cursors.old) }
+        ++ flat_map (λ ps. take (first_named key.now ps) ps) cursors.old) }
+    ensures left { OnOk result (cursors.new ≡ map (λ ps. drop (first_named key.now ps) ps) cursors.old) }
+    ensures heads { OnOk result (heads.new.keys ≡ map first_key cursors.new) }
 {
-    for cursor in cursors.iter_mut() {
-        cursor.take_named(key, points)?;
+    let number = heads.number_of(key);
+    for place in 0..cursors.len() {
+        if heads.is_at(place, key, number) {
+            let cursor = &mut cursors[place];
+            cursor.take_named(key, points)?;
+            heads.set(place, cursor.key());
+        }
     }
     Ok(())
 }
@@ -84,11 +77,9 @@ impl<'a> Groups<'a> {
         requires { AllByRecursion (λ points. IsStrictlySortedBy entry_cmp points.now) runs.now }
         ensures { IfOk result (λ groups. groups ≡ groups_of (flat_map (λ points. points.now) runs.now)) }
     {
-        let mut cursors = Vec::new(alloc);
-        for points in runs {
-            cursors.push(Cursor::new(points))?;
-        }
-        Ok(Groups { cursors })
+        let cursors = cursors_over(alloc, runs)?;
+        let heads = Heads::of_runs(alloc, runs)?;
+        Ok(Groups { cursors, heads })
     }
 
     /// The next key. Its points replace those in `points`; there are none if there is no key. After an `Err` `points`
@@ -101,11 +92,12 @@ impl<'a> Groups<'a> {
         ensures none_named { OnErr result (points.new.items ≡ []) }
     {
         points.clear();
-        let Some(key) = least_key(&self.cursors) else {
+        let Some(key) = self.heads.least() else {
             return Ok(None);
         };
-        if let Err(error) = take_from_each(&mut self.cursors, key, points) {
+        if let Err(error) = take_from_each(&mut self.cursors, &mut self.heads, key, points) {
             self.cursors.clear();
+            self.heads.clear();
             points.clear();
             return Err(error);
         }

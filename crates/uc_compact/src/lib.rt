@@ -2,7 +2,8 @@
 //!
 //! [`compact`] goes over its inputs' points key by key. Of each stripe, between two neighbouring keeps (snapshots'
 //! sequences), it keeps at most one point. `uc_compact_rules` defines its output; by that crate's laws no read sees a
-//! difference. Read `compaction.rt` first.
+//! difference. Large inputs are cut at a few keys, and the parts between them are merged side by side, in threads. Read
+//! `compaction.rt` first, then `parts.rt` and `points.rt`.
 //!
 //! [`Groups`] merges the inputs' points. It has a cursor in each run, and returns the least key's points next, those of
 //! the newest run first. Read `specs/Groups.antt` first.
@@ -13,15 +14,17 @@
 mod compacted;
 mod compaction;
 mod cursor;
+mod cuts;
 mod fragments;
 mod front;
 mod groups;
 mod inputs;
+mod parts;
 mod piece;
 mod pieces;
 mod points;
 
 pub use compacted::Compacted;
-pub use compaction::compact;
+pub use compaction::{compact, compact_by_parts};
 pub use groups::Groups;
 pub use inputs::inputs_stand;

@@ -1,17 +1,25 @@
-use Rattle.std.proofs.Common.{rules, sym, ap, ◌∙◌, subst, map, take, drop, length, List, ◌++◌, ◌∷◌, ◌≡◌}
+use Rattle.std.proofs.Common.{rules, sym, ap, ◌∙◌, subst, map, take, drop, length, List, Option, ℕ, ◌++◌, ◌∷◌, ◌≡◌}
+use Rattle.std.specs.Prelude.{option_map}
 use Rattle.std.specs.List.{AllByRecursion}
 use Rattle.std.proofs.lemmas.List.{length-map, take_at}
 use Rattle.uc_run_entry.specs.declared.entry.Entry.{Entry}
+use Rattle.uc_run.specs.Heads as heads
 use Rattle.uc_compact.specs.Groups.{groups_of}
-use Rattle.uc_compact.specs.Heads.{first_named}
+use Rattle.uc_compact.specs.Heads.{first_key, first_named, IsLeast}
 use Rattle.uc_compact.proofs.Taking.{Sorted}
-use Rattle.std.specs.Prelude.{option_map}
 use Rattle.uc_compact.proofs.Merging.{joined, ends, steps, stays_sorted}
+use Rattle.uc_compact.proofs.NextKeys.{least_of_firsts}
 use Rattle.uc_compact.proofs.groups.Groups.next_into.Goals as goal
+
+-- the least of the next keys is that of the lists
+least_is : (lists : List (List Entry)) (keys : List (Option (List ℕ))) (least : Option (List ℕ)) → keys ≡ map first_key lists → heads.IsLeast keys least → IsLeast lists least
+least_is lists keys least beside h = least_of_firsts lists least (subst (λ (ks : List (Option (List ℕ))). heads.IsLeast ks least) beside h)
 
 pub returns-in_default-clause-comes : goal.returns-in_default-clause-comes
 returns-in_default-clause-comes c =
-    let none : c.args.self.now ≡ _ = ends c.args.self.now c.self.inside.cursors.items c.deref.result.now (option_map (λ k. k.now) c.least_key.result) c.self.invariant (sym c.self.view_is) c.deref.ensures.value c.least_key.ensures (ap (option_map (λ k. k.now)) c.in_default.is) in
+    let g = c.self.inside in
+    let found = option_map (λ k. k.now) c.least.result in
+    let none : c.args.self.now ≡ _ = ends c.args.self.now g.cursors.items found c.self.invariant.sorted (sym c.self.view_is) (least_is g.cursors.items g.heads.keys found c.self.invariant.heads c.least.ensures) (ap (option_map (λ k. k.now)) c.in_default.is) in
     (none, ap (map (λ p. p.now)) c.clear.ensures.items, none)
 
 -- the cursors that were lent come back
@@ -25,12 +33,20 @@ back c =
 
 pub returns-clause-comes : goal.returns-clause-comes
 returns-clause-comes c =
-    steps c.args.self.now c.self.inside.cursors.items c.deref.result.now c.deref_mut.result.now c.take_from_each.new.cursors (option_map (λ k. k.now) c.least_key.result) c.in-Some.key.now (map (λ p. p.now) c.clear.new.self.items) (map (λ p. p.now) c.take_from_each.new.points.items)
-    c.self.invariant (sym c.self.view_is) c.deref.ensures.value c.deref_mut.ensures.value c.least_key.ensures (ap (option_map (λ k. k.now)) c.in-Some.is) (ap (map (λ p. p.now)) c.clear.ensures.items) c.in_default-take_from_each.ensures.taken c.in_default-take_from_each.ensures.left
+    let g = c.self.inside in
+    let found = option_map (λ k. k.now) c.least.result in
+    steps c.args.self.now g.cursors.items c.deref_mut.result.now c.take_from_each.new.cursors found c.in-Some.key.now (map (λ p. p.now) c.clear.new.self.items) (map (λ p. p.now) c.take_from_each.new.points.items)
+    c.self.invariant.sorted (sym c.self.view_is) c.deref_mut.ensures.value (least_is g.cursors.items g.heads.keys found c.self.invariant.heads c.least.ensures) (ap (option_map (λ k. k.now)) c.in-Some.is) (ap (map (λ p. p.now)) c.clear.ensures.items) c.in_default-take_from_each.ensures.taken c.in_default-take_from_each.ensures.left
     ∙ ap (λ (lists : List (List Entry)). (record { key = c.in-Some.key.now; points = map (λ p. p.now) c.take_from_each.new.points.items }) ∷ groups_of (joined lists)) (sym (back c))
 
 pub invariant_of-self-in_default-take_from_each : goal.invariant_of-self-in_default-take_from_each
 invariant_of-self-in_default-take_from_each c =
-    subst (AllByRecursion Sorted) (sym (back c))
-    (stays_sorted c.args.self.now c.self.inside.cursors.items c.deref.result.now c.deref_mut.result.now c.take_from_each.new.cursors (option_map (λ k. k.now) c.least_key.result) c.in-Some.key.now (map (λ p. p.now) c.clear.new.self.items) (map (λ p. p.now) c.take_from_each.new.points.items)
-    c.self.invariant (sym c.self.view_is) c.deref.ensures.value c.deref_mut.ensures.value c.least_key.ensures (ap (option_map (λ k. k.now)) c.in-Some.is) c.in_default-take_from_each.ensures.left)
+    let g = c.self.inside in
+    let found = option_map (λ k. k.now) c.least.result in
+    record {
+      sorted =
+          subst (AllByRecursion Sorted) (sym (back c))
+          (stays_sorted c.args.self.now g.cursors.items c.deref_mut.result.now c.take_from_each.new.cursors found c.in-Some.key.now (map (λ p. p.now) c.clear.new.self.items) (map (λ p. p.now) c.take_from_each.new.points.items)
+          c.self.invariant.sorted (sym c.self.view_is) c.deref_mut.ensures.value (least_is g.cursors.items g.heads.keys found c.self.invariant.heads c.least.ensures) (ap (option_map (λ k. k.now)) c.in-Some.is) c.in_default-take_from_each.ensures.left);
+      heads = c.in_default-take_from_each.ensures.heads ∙ ap (map first_key) (sym (back c));
+    }

@@ -1,0 +1,93 @@
+-- The next keys beside the points that are ahead.
+use Rattle.std.proofs.Common.{◌≡◌, ◌≢◌, ℕ, suc, ◌+◌, ◌<◌, ◌⊎◌, inl, inr, Bool, true, false, cond, List, [], ◌∷◌, ◌++◌, length, get_or, set, map, take, drop, Option, Some, None, refl, sym, ap, ◌∙◌, subst}
+use Rattle.std.specs.Prelude.{option_map}
+use Rattle.std.specs.List.{AllByRecursion, flat_map, slice_get}
+use Rattle.std.specs.Cmp.Lexicographic.{bytes_decides}
+use Rattle.std.proofs.lemmas.Bool.{false≢true}
+use Rattle.std.proofs.lemmas.List.{get_or_default, append-nil, map-set, set-get_or}
+use Rattle.std.proofs.lemmas.Option.{slice_get_read, slice_get-map}
+use Rattle.uc_bytes.specs.Bytes.{same_bytes}
+use Rattle.uc_run_entry.specs.declared.entry.Entry.{Entry}
+use Rattle.uc_run_entry.proofs.Written.{written}
+use Rattle.uc_run.specs.Heads as heads
+use Rattle.uc_compact.specs.Heads.{first_key, first_named, IsFrom, IsOther, IsLeast}
+use Rattle.uc_compact.proofs.Stepping.{gathered}
+
+-- ---- the first keys of lists
+
+pub same_first : (ps : List Entry) → heads.first_key ps ≡ first_key ps
+same_first [] = refl
+same_first (p ∷ ps) = refl
+
+pub same_firsts : {X : Type 0} (f : X → List Entry) (xs : List X) → map (λ x. heads.first_key (f x)) xs ≡ map first_key (map f xs)
+same_firsts f [] = refl
+same_firsts f (x ∷ xs) = ap (λ (k : Option (List ℕ)). k ∷ map (λ x. heads.first_key (f x)) xs) (same_first (f x)) ∙ ap (λ (ks : List (Option (List ℕ))). first_key (f x) ∷ ks) (same_firsts f xs)
+
+-- ---- the least of them
+
+none_left : (lists : List (List Entry)) → AllByRecursion (λ key. key ≡ None) (map first_key lists) → AllByRecursion (λ (ps : List Entry). ps ≡ []) lists
+none_left [] h = tt
+none_left ([] ∷ lists) h = (refl, none_left lists h.1)
+none_left ((p ∷ ps) ∷ lists) h = absurd cc
+
+all_from : (key : List ℕ) (lists : List (List Entry)) → AllByRecursion (heads.IsFrom key) (map first_key lists) → AllByRecursion (IsFrom key) lists
+all_from key [] h = tt
+all_from key ([] ∷ lists) h = (tt, all_from key lists h.1)
+all_from key ((p ∷ ps) ∷ lists) h = (h.0, all_from key lists h.1)
+
+not_other : (key : List ℕ) (ps : List Entry) → first_key ps ≡ Some key → IsOther key ps → ⊥
+not_other key [] e other = absurd cc
+not_other key (p ∷ ps) e other = other cc
+
+not_all_others : (key : List ℕ) (lists : List (List Entry)) → heads.IsAmong key (map first_key lists) → AllByRecursion (IsOther key) lists → ⊥
+not_all_others key [] among others = among
+not_all_others key (ps ∷ lists) (inl e) others = not_other key ps e others.0
+not_all_others key (ps ∷ lists) (inr among) others = not_all_others key lists among others.1
+
+pub least_of_firsts : (lists : List (List Entry)) (least : Option (List ℕ)) → heads.IsLeast (map first_key lists) least → IsLeast lists least
+least_of_firsts lists None h = none_left lists h
+least_of_firsts lists (Some key) h = (all_from key lists h.0, not_all_others key lists h.1)
+
+-- ---- a cursor moves, and its next key beside it
+
+pub moved : (keys : List (Option (List ℕ))) (lists : List (List Entry)) (i : ℕ) (ps : List Entry) (own : Option (List ℕ)) → keys ≡ map first_key lists → own ≡ first_key ps → set keys i own ≡ map first_key (set lists i ps)
+moved keys lists i ps own beside is =
+    ap (λ (ks : List (Option (List ℕ))). set ks i own) beside
+    ∙ ap (λ (k : Option (List ℕ)). set (map first_key lists) i k) is
+    ∙ sym (map-set first_key lists i ps)
+
+-- ---- nothing is taken from one that isn't at the key
+
+module _ (key : List ℕ) where
+  abbrev left : List Entry → List Entry
+  left ps = drop (first_named key ps) ps
+
+  abbrev taken : List Entry → List Entry
+  taken ps = take (first_named key ps) ps
+
+  unnamed_by : (p : Entry) (ps : List Entry) (b : Bool) → same_bytes p.key key ≡ b → p.key ≢ key → cond b (suc (first_named key ps)) 0 ≡ 0
+  unnamed_by p ps true e other = absurd (other ((bytes_decides p.key key).0 e))
+  unnamed_by p ps false e other = refl
+
+  unnamed : (ps : List Entry) → first_key ps ≢ Some key → first_named key ps ≡ 0
+  unnamed [] other = refl
+  unnamed (p ∷ ps) other = unnamed_by p ps (same_bytes p.key key) refl (λ same. other (ap (λ (k : List ℕ). Some k) same))
+
+  module _ (keys : List (Option (List ℕ))) (old now : List (List Entry)) (i : ℕ) (found : Bool) (lt : i < length old) (lt_now : i < length now) (beside : keys ≡ map first_key now) (is : now ≡ map left (take i old) ++ drop i old) (finds : slice_get keys i ≡ Some (Some key) → found ≡ true) (not : found ≡ false) where
+    abbrev here : List Entry
+    here = get_or now i []
+
+    key_here : slice_get keys i ≡ Some (first_key here)
+    key_here =
+        ap (λ (ks : List (Option (List ℕ))). slice_get ks i) beside
+        ∙ slice_get-map first_key now i
+        ∙ ap (option_map first_key) (slice_get_read now (length now) i here refl lt_now (get_or_default now i [] here lt_now))
+
+    none : first_named key here ≡ 0
+    none = unnamed here (λ same. false≢true (sym not ∙ finds (key_here ∙ ap (λ (k : Option (List ℕ)). Some k) same)))
+
+    pub unmoved : now ≡ map left (take (i + 1) old) ++ drop (i + 1) old
+    unmoved = sym (set-get_or now i []) ∙ written left old now i [] here lt is (ap (λ n. drop n here) (sym none))
+
+    pub untaken : (before so_far : List Entry) → so_far ≡ before ++ flat_map taken (take i old) → so_far ≡ before ++ flat_map taken (take (i + 1) old)
+    untaken before so_far had = gathered left taken old now i [] before so_far so_far lt is had (sym (append-nil so_far) ∙ ap (λ n. so_far ++ take n here) (sym none))

@@ -1,0 +1,144 @@
+//! [`points_kept_by_parts`]: the points that a compaction keeps, of parts of the key space side by side.
+ghost use Rattle.std.specs.Prelude.{◌≡◌, ◌≤◌, length, map, filter, take, drop, IfOk};
+ghost use Rattle.std.specs.Arc.{arc_value};
+ghost use Rattle.std.specs.List.{AllByRecursion, flat_map};
+ghost use Rattle.std.specs.List.Sorted.{IsStrictlySortedBy};
+ghost use Rattle.std.specs.Ordering.{nat_cmp};
+ghost use Rattle.std.specs.Thread.{IsSync};
+ghost use Rattle.uc_run_entry.specs.Order.{AreInOrder, entry_cmp};
+ghost use Rattle.uc_compact.specs.Cuts.{is_below, is_from};
+ghost use Rattle.uc_compact.specs.Kept as by_key;
+ghost use Rattle.uc_compact.specs.Kept.{AreOfOneKeyEach};
+ghost use Rattle.uc_compact.specs.Parts.{points_of_each};
+ghost use Rattle.uc_compact_rules.specs.Inputs.{AreRuns, points_of};
+
+use crate::piece::Piece;
+use crate::points::points_kept;
+use std::alloc::{AllocError, Global};
+use std::marker::Sync;
+use std::sync::Arc;
+use std::thread::{Threads, join};
+use uc_compact_rules::Keeping;
+use uc_oper::Operator;
+use uc_run::Run;
+use uc_run_entry::Point;
+
+/// How many of the points have keys below a key.
+///
+/// It is a binary search.
+fn count_below(points: &[Point], key: &[u8]) -> usize
+    requires { IsStrictlySortedBy entry_cmp points.now }
+    ensures bound { result ≤ length points.now }
+    ensures below { take result points.now ≡ filter (is_below key.now) points.now }
+    ensures from { drop result points.now ≡ filter (is_from key.now) points.now }
+{
+    points.partition_point(|point| point.key().cmp(&key).is_lt())
+}
+
+/// The points of each run below a key, and those from it on.
+fn sides_of<'a>(
+    alloc: Global,
+    runs: &[&'a [Point]],
+    key: &[u8],
+) -> Result<(Vec<&'a [Point]>, Vec<&'a [Point]>), AllocError>
+    requires { AllByRecursion (λ points. IsStrictlySortedBy entry_cmp points.now) runs.now }
+    ensures below { IfOk result (λ sides.
+        map (λ points. points.now) sides.0.items ≡ map (λ points. filter (is_below key.now) points.now) runs.now) }
+    ensures from { IfOk result (λ sides.
+        map (λ points. points.now) sides.1.items ≡ map (λ points. filter (is_from key.now) points.now) runs.now) }
+{
+    let mut below = Vec::with_capacity(alloc, runs.len())?;
+    let mut from = Vec::with_capacity(alloc, runs.len())?;
+    for points in runs {
+        let (front, back) = points.split_at(count_below(points, key));
+        below.push(front)?;
+        from.push(back)?;
+    }
+    Ok((below, from))
+}
+
+/// What is kept of runs' points, key by key. The points from the last cut on are merged in a thread of their own, those
+/// between two cuts too, and those below the first in this one. Wherever the cuts are, the result is the same.
+///
+/// The calling thread starts all others, one after the other. If one can't be started, its part is merged here.
+#[cycle(parts)]
+fn kept_between<O: Operator + Sync, R: Threads + Sync>(
+    rt: &R,
+    alloc: Global,
+    cuts: &[&[u8]],
+    runs: &[&[Point]],
+    pieces: &[Piece<'_>],
+    keeping: &Keeping<'_>,
+) -> Result<Vec<Point>, AllocError>
+    requires sorted { AllByRecursion (λ points. IsStrictlySortedBy entry_cmp points.now) runs.now }
+    requires order { AreInOrder pieces.now }
+    requires keeps_rise { IsStrictlySortedBy nat_cmp keeping.now.keeps }
+    requires each { AreOfOneKeyEach pieces.now (flat_map (λ points. points.now) runs.now) }
+    ensures { IfOk result (λ kept.
+        kept.items ≡
+        by_key.points_kept O.meaning keeping.now pieces.now
+        (flat_map (λ points. points.now) runs.now)) }
+{
+    let Some((last, fewer)) = cuts.split_last() else {
+        return points_kept::<O>(rt, alloc, runs, pieces, keeping);
+    };
+    let (below, from) = sides_of(alloc, runs, last)?;
+    let below = below.as_slice();
+    let from = from.as_slice();
+    let top = move || -> Result<Vec<Point>, AllocError>
+        requires { IsSync R.row × IsSync O.row
+            × AllByRecursion (λ points. IsStrictlySortedBy entry_cmp points.now) from.now
+            × AreInOrder pieces.now × IsStrictlySortedBy nat_cmp keeping.now.keeps
+            × AreOfOneKeyEach pieces.now (flat_map (λ points. points.now) from.now) }
+        ensures { IfOk result (λ kept.
+            kept.items ≡
+            by_key.points_kept O.meaning keeping.entry.now pieces.entry.now
+            (flat_map (λ points. points.now) from.entry.now)) }
+    { points_kept::<O>(rt, alloc, from, pieces, keeping) };
+    let others = move || -> Result<Vec<Point>, AllocError>
+        requires { IsSync R.row × IsSync O.row
+            × AllByRecursion (λ points. IsStrictlySortedBy entry_cmp points.now) below.now
+            × AreInOrder pieces.now × IsStrictlySortedBy nat_cmp keeping.now.keeps
+            × AreOfOneKeyEach pieces.now (flat_map (λ points. points.now) below.now) }
+        ensures { IfOk result (λ kept.
+            kept.items ≡
+            by_key.points_kept O.meaning keeping.entry.now pieces.entry.now
+            (flat_map (λ points. points.now) below.entry.now)) }
+    { kept_between::<O, R>(rt, alloc, fewer, below, pieces, keeping) };
+    let (top, others) = join(rt, top, others);
+    let mut kept = others?;
+    let mut top = top?;
+    kept.append(&mut top)?;
+    Ok(kept)
+}
+
+/// The points of each run.
+fn points_in<'a>(alloc: Global, inputs: &'a [Arc<Run>]) -> Result<Vec<&'a [Point]>, AllocError>
+    ensures { IfOk result (λ runs. map (λ points. points.now) runs.items ≡ points_of_each (map arc_value inputs.now)) }
+{
+    let mut runs = Vec::new(alloc);
+    for run in inputs {
+        runs.push(run.entries())?;
+    }
+    Ok(runs)
+}
+
+/// What is kept of the points of runs, key by key. The parts of the key space between the cuts are merged side by side.
+pub(crate) fn points_kept_by_parts<O: Operator + Sync>(
+    rt: &(impl Threads + Sync),
+    alloc: Global,
+    inputs: &[Arc<Run>],
+    cuts: &[&[u8]],
+    pieces: &[Piece<'_>],
+    keeping: &Keeping<'_>,
+) -> Result<Vec<Point>, AllocError>
+    requires runs { AreRuns (map arc_value inputs.now) }
+    requires order { AreInOrder pieces.now }
+    requires keeps_rise { IsStrictlySortedBy nat_cmp keeping.now.keeps }
+    requires each { AreOfOneKeyEach pieces.now (points_of (map arc_value inputs.now)) }
+    ensures { IfOk result (λ kept.
+        kept.items ≡ by_key.points_kept O.meaning keeping.now pieces.now (points_of (map arc_value inputs.now))) }
+{
+    let runs = points_in(alloc, inputs)?;
+    kept_between::<O, _>(rt, alloc, cuts, &runs, pieces, keeping)
+}
