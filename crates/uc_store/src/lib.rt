@@ -1,9 +1,10 @@
 //! The store for programs: one crate to name.
 //!
-//! [`open_log`] opens a store from the bytes of a write-ahead log, and says how far the log could be read. [`get`] looks a key
-//! up at a sequence that a snapshot protects, [`answer_one`] answers any query and [`answer_plain`] a batch of them by many
-//! workers. [`feed_batch`] writes, and [`get_last`] and [`answer_last`] read at the last sequence. [`Owned`] takes snapshots, and
-//! picks what to compact; [`report`] says what a store holds.
+//! [`open_log`] opens a store from the bytes of a write-ahead log, and says how far the log could be read;
+//! [`open_log_in_threads`] gives the same sooner. [`get`] looks a key up at a sequence that a snapshot protects, [`answer_one`]
+//! answers any query and [`answer_plain`] a batch of them by many workers. [`feed_batch`] writes, and [`get_last`] and
+//! [`answer_last`] read at the last sequence. [`Owned`] takes snapshots, and picks what to compact; [`report`] says what a store
+//! holds.
 //!
 //! [`open_shared`] opens a [`Store`] that threads share. [`feed_shared_batch`] writes to it, [`Store::keep`] and [`Store::release`]
 //! take and release snapshots, and [`Store::turn`] compacts for a [`Compactor`]. A [`Reader`] pins versions without waiting, and
@@ -25,7 +26,7 @@ pub use batches::feed_batch;
 pub use compactors::next_compactor;
 pub use feed_batch_error::FeedBatchError;
 pub use last_reads::{answer_last, get_last};
-pub use opened_log::{OpenedLog, open_log};
+pub use opened_log::{OpenedLog, open_log, open_log_in_threads};
 pub use opened_shared::{OpenedShared, open_shared};
 pub use shared_batches::feed_shared_batch;
 pub use uc_batch::{Ended, Op, Writes};

@@ -1,16 +1,19 @@
-//! [`open_log`]: a store opened from a write-ahead log.
-ghost use Rattle.std.specs.Prelude.{◌≡◌, ◌≢◌, None, Some, IfOk, IfErr};
+//! [`open_log`] and [`open_log_in_threads`]: a store opened from a write-ahead log.
+ghost use Rattle.std.specs.Prelude.{◌≡◌, ◌≢◌, None, Some, true, IfOk, IfErr};
 ghost use Rattle.uc_batch.specs.Log.{log_writes};
+ghost use Rattle.uc_version_state.specs.Options.{are_good};
 ghost use Rattle.uc_version_state.specs.Openings.{Opening, opened};
 ghost use Rattle.uc_version_open.specs.Refusal.{opening_refusal};
 ghost use Rattle.uc_version_open.specs.declared.open_error.OpenError.TheVariants.{Memory};
 ghost use Rattle.uc_version.specs.Owners.{unclaimed};
 
-use std::alloc::Global;
+use std::alloc::{AllocError, Global};
+use std::marker::Sync;
+use std::thread::Threads;
 use uc_batch::Ended;
 use uc_oper::Operator;
-use uc_version::{Options, Owned};
-use uc_version_open::{OpenError, Recovered, recover};
+use uc_version::{Options, Owned, Version};
+use uc_version_open::{OpenError, Recovered, recover, recover_in_threads};
 
 /// A store that was opened from a log, and how far the log could be read.
 #[derive(Drop)]
@@ -19,6 +22,21 @@ pub struct OpenedLog<O: Operator> {
     pub store: Owned<O>,
     /// How the log ended: clean, torn as after a crash, or at a fault, which is named with its place.
     pub ended: Ended,
+}
+
+/// The store of a version, beside how the log ended that the version was made of.
+fn store_of<O: Operator>(
+    alloc: Global,
+    version: Version,
+    ended: Ended,
+    options: Options,
+) -> Result<OpenedLog<O>, AllocError>
+    requires { are_good options ≡ true }
+    ensures store { IfOk result (λ opened_log. opened_log.store ≡ unclaimed version options) }
+    ensures ended { IfOk result (λ opened_log. opened_log.ended ≡ ended) }
+{
+    let store = Owned::new(alloc, version, options)?;
+    Ok(OpenedLog { store, ended })
 }
 
 /// Opens a store from the bytes of a write-ahead log, as point-in-time recovery does (RocksDB wiki, "WAL Recovery Modes"): it has
@@ -44,6 +62,30 @@ pub fn open_log<O: Operator>(
 {
     let Recovered { opener, ended } = recover(alloc, log, options)?;
     let version = opener.finish(alloc, keeps)?;
-    let store = Owned::new(alloc, version, options)?;
-    Ok(OpenedLog { store, ended })
+    Ok(store_of(alloc, version, ended, options)?)
+}
+
+/// As [`open_log`], with full memtables flushed up to four side by side, in threads. What it gives is the same, and so is
+/// what it refuses. It holds up to three more memtables meanwhile.
+pub fn open_log_in_threads<O: Operator>(
+    rt: &(impl Threads + Sync),
+    alloc: Global,
+    log: &[u8],
+    keeps: &[u64],
+    options: Options,
+) -> Result<OpenedLog<O>, OpenError>
+    ensures store { let opening : Opening =
+        record { writes = (log_writes log.now).list; keeps = keeps.now; options = options } in
+        IfOk result (λ opened_log. opened_log.store ≡ unclaimed (opened opening) options) }
+    ensures ended { IfOk result (λ opened_log. opened_log.ended ≡ (log_writes log.now).ended) }
+    ensures may { let opening : Opening =
+        record { writes = (log_writes log.now).list; keeps = keeps.now; options = options } in
+        IfOk result (λ _. opening_refusal opening ≡ None) }
+    ensures err { let opening : Opening =
+        record { writes = (log_writes log.now).list; keeps = keeps.now; options = options } in
+        IfErr result (λ error. error ≢ Memory → opening_refusal opening ≡ Some error) }
+{
+    let Recovered { opener, ended } = recover_in_threads(rt, alloc, log, options)?;
+    let version = opener.finish_in_threads(rt, alloc, keeps)?;
+    Ok(store_of(alloc, version, ended, options)?)
 }

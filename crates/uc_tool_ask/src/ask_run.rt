@@ -218,7 +218,7 @@ fn print_opened<O: Operator + Send + Sync, G: TurnGate, R: Threads + Wait + Sync
 {
     // A law of the layer below, which does nothing when it runs: what isn't refused may open.
     no_refusal_is_leave_to_open();
-    match opener.finish(alloc, keeps) {
+    match opener.finish_in_threads(rt, alloc, keeps) {
         Ok(version) => {
             let readers = plan.workers + plan.compactors + feeders_of(&behind);
             let Ok(opening) = Opening::of(alloc, version, *options, readers, plan.compactors) else {
@@ -242,6 +242,7 @@ fn print_opened<O: Operator + Send + Sync, G: TurnGate, R: Threads + Wait + Sync
 /// A store that is being opened from the log behind a head of `size` bytes, without its last writes, and how far that was read;
 /// these writes; and the bytes of the head. The log is let go of.
 fn recover_behind(
+    rt: &(impl Threads + Sync),
     alloc: Global,
     mut input: Vec<u8>,
     size: usize,
@@ -257,7 +258,7 @@ fn recover_behind(
         found.1.items ≡ drop (length all - later) all) }
     ensures head { IfOk result (λ found. found.2.items ≡ take size input.items) }
 {
-    let (recovered, behind) = recover_part(alloc, &input[size..], options, later)?;
+    let (recovered, behind) = recover_part(rt, alloc, &input[size..], options, later)?;
     input.truncate(size);
     input.shrink_to_fit();
     Ok((recovered, behind, input))
@@ -284,8 +285,9 @@ fn answer_log<O: Operator + Send + Sync, G: TurnGate, R: Threads + Wait + Sync, 
     ensures opening { OnOk result.0
         (TellsOpening (opened_cause options.now head.keeps later (log_writes (drop head.size input.items))) result.1.reason) }
 {
-    let Ok((recovered, behind, lines)) = recover_behind(alloc, input, head.size, *options, later)
-    else {
+    let Ok((recovered, behind, lines)) = recover_behind(
+        rt, alloc, input, head.size, *options, later,
+    ) else {
         return (Err(RunError::Memory), Told::nothing());
     };
     let Recovered { opener, ended } = recovered;

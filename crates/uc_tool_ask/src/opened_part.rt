@@ -6,13 +6,16 @@ ghost use Rattle.uc_version_open.specs.Progress.{progress_of};
 ghost use Rattle.uc_tool_ask.specs.Ask.{without_last};
 
 use std::alloc::{AllocError, Global};
+use std::marker::Sync;
+use std::thread::Threads;
 use uc_batch::Write;
-use uc_version_open::{Recovered, count_writes, recover, recover_first};
+use uc_version_open::{Recovered, count_writes, recover_first, recover_in_threads};
 use uc_version_state::Options;
 
 /// A store that is being opened from a log without its last writes, how far the log was read, and these writes. It goes once
 /// over the log if nothing comes later, and else twice.
 pub(crate) fn recover_part(
+    rt: &(impl Threads + Sync),
     alloc: Global,
     log: &[u8],
     options: Options,
@@ -26,7 +29,7 @@ pub(crate) fn recover_part(
         found.1.items ≡ drop (length all - later) all) }
 {
     if later == 0 {
-        let recovered = recover(alloc, log, options)?;
+        let recovered = recover_in_threads(rt, alloc, log, options)?;
         return Ok((recovered, Vec::new(alloc)));
     }
     let counted = count_writes(alloc, log)?;

@@ -13,12 +13,14 @@ ghost use Rattle.uc_version_open.specs.declared.open_error.OpenError.TheVariants
 ghost use Rattle.uc_tool_opening.specs.Opening.{batch_texts, FitsLog};
 
 use std::alloc::{AllocError, Global};
+use std::marker::Sync;
 use std::slice;
+use std::thread::Threads;
 use uc_batch::{Mode, ReadError, Writes, read_writes, write_batch, written_batch_is_read};
 use uc_bytes::Op;
 use uc_logrec::{LogWriter, written_log_is_read};
 use uc_script::{Keeps, Ops};
-use uc_version_open::{OpenError, Opener, Recovered, recover};
+use uc_version_open::{OpenError, Opener, Recovered, recover_in_threads};
 use uc_version_state::{Options, Version};
 
 /// Writes the operations as a log, a batch for each, numbered from `first` on.
@@ -44,18 +46,29 @@ fn log_of(alloc: Global, first: u64, ops: Ops) -> Result<Vec<u8>, AllocError>
     write_log(alloc, first, ops.as_slice())
 }
 
-/// A store that is being opened from a log, which is let go of, and how far that was read.
-pub fn recover_log(alloc: Global, log: Vec<u8>, options: Options) -> Result<Recovered, AllocError>
+/// A store that is being opened from a log, which is let go of, and how far that was read. Full memtables are flushed in
+/// threads.
+pub fn recover_log(
+    rt: &(impl Threads + Sync),
+    alloc: Global,
+    log: Vec<u8>,
+    options: Options,
+) -> Result<Recovered, AllocError>
     ensures opener { IfOk result (λ recovered. recovered.opener ≡ progress_of options (log_writes log.items).list) }
     ensures ended { IfOk result (λ recovered. recovered.ended ≡ (log_writes log.items).ended) }
     ensures rising { IfOk result (λ _. IsRising 0 (log_writes log.items).list) }
 {
-    recover(alloc, &log, options)
+    recover_in_threads(rt, alloc, &log, options)
 }
 
 /// A store that is being opened from operations, which are numbered from 1, by way of a log of them. What it is made from
 /// is let go of one after the other.
-fn opener_of(alloc: Global, ops: Ops, options: Options) -> Result<Opener, AllocError>
+fn opener_of(
+    rt: &(impl Threads + Sync),
+    alloc: Global,
+    ops: Ops,
+    options: Options,
+) -> Result<Opener, AllocError>
     requires { FitsLog 1 ops }
     ensures opener { IfOk result (λ opener. opener ≡ progress_of options (numbered 1 ops)) }
     ensures rising { IfOk result (λ _. IsRising 0 (numbered 1 ops)) }
@@ -64,12 +77,14 @@ fn opener_of(alloc: Global, ops: Ops, options: Options) -> Result<Opener, AllocE
     written_log_is_read();
     written_batch_is_read();
     let log = log_of(alloc, 1, ops)?;
-    let Recovered { opener, .. } = recover_log(alloc, log, options)?;
+    let Recovered { opener, .. } = recover_log(rt, alloc, log, options)?;
     Ok(opener)
 }
 
-/// The version that a store opens with from operations, which are numbered from 1, by way of a log of them.
+/// The version that a store opens with from operations, which are numbered from 1, by way of a log of them. Its memtables are
+/// flushed in threads.
 pub fn open_ops(
+    rt: &(impl Threads + Sync),
     alloc: Global,
     ops: Ops,
     keeps: Keeps,
@@ -81,7 +96,7 @@ pub fn open_ops(
     ensures err { let opening : Opening = record { writes = numbered 1 ops; keeps = keeps; options = options } in
         IfErr result (λ error. error ≢ Memory → opening_refusal opening ≡ Some error) }
 {
-    opener_of(alloc, ops, options)?.finish(alloc, keeps.as_slice())
+    opener_of(rt, alloc, ops, options)?.finish_in_threads(rt, alloc, keeps.as_slice())
 }
 
 /// Operations as writes, numbered from `first` on, by way of a log of them. What they are made from is let go of.

@@ -83,7 +83,7 @@ fn print_opened<O: Operator + Sync, W: Write>(
         let opening : Opening = record { writes = writes; keeps = []; options = options.now } in
         OnOk result.0 (TellsOpening (opening_cause opening) result.1) }
 {
-    match opener.finish(alloc, &[]) {
+    match opener.finish_in_threads(rt, alloc, &[]) {
         Ok(version) => {
             let outcome = print_reports::<O, W>(rt, alloc, version, options, writer);
             (outcome, None)
@@ -110,7 +110,7 @@ fn run<O: Operator + Sync, W: Write>(
     ensures told { IsReason (cause_of options.now input.items) result.1 }
     ensures opening { OnOk result.0 (TellsOpening (cause_of options.now input.items) result.1) }
 {
-    let Ok(Recovered { opener, ended }) = recover_log(alloc, input, *options) else {
+    let Ok(Recovered { opener, ended }) = recover_log(rt, alloc, input, *options) else {
         return (Err(RunError::Memory), None);
     };
     match ended {

@@ -106,7 +106,7 @@ fn print_script<O: Operator + Sync, W: Write>(
         (TellsOpening (opening_cause (opening_of options.now (script_with preamble lines.now))) result.1) }
 {
     let Preamble { ops, keeps, .. } = preamble;
-    match open_ops(alloc, ops, keeps, *options) {
+    match open_ops(rt, alloc, ops, keeps, *options) {
         Ok(version) => {
             let outcome = print_opened::<O, W>(rt, alloc, version, options, lines, writer);
             (outcome, None)

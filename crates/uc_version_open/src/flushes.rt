@@ -6,6 +6,7 @@ ghost use Rattle.uc_run.specs.Flush.{flushed};
 ghost use Rattle.uc_version_state.specs.Flushes.{memtables as memtables_of};
 ghost use Rattle.uc_version_state.specs.Feeds.{MayFeed, fed, memtables_in};
 
+use crate::flusher::Alone;
 use crate::memtables::Memtables;
 use std::alloc::{AllocError, Global};
 use uc_bytes::{Write, WriteRef};
@@ -31,9 +32,9 @@ pub fn flush_writes(alloc: Global, limit: u64, writes: &[Write]) -> Result<Vec<R
 {
     let mut memtables = Memtables::new(alloc);
     for write in writes {
-        memtables.insert(alloc, limit, &WriteRef::of(write))?;
+        memtables.insert(&Alone, alloc, limit, &WriteRef::of(write))?;
     }
-    memtables.into_runs(alloc)
+    memtables.into_runs(&Alone, alloc)
 }
 
 /// The version after writes were fed to it whose memtables these are, flushed, the oldest first: a new one that shares the

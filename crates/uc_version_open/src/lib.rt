@@ -12,11 +12,16 @@
 //! [`recover_first`] does so for the first writes alone, and hands those behind them out; [`count_writes`] tells how many
 //! there are. Read `recovery.rt`.
 //!
+//! [`recover_in_threads`] lets full memtables wait, and flushes four at a time side by side; [`Opener::finish_in_threads`]
+//! flushes those that are left. A store that opens so is the same, whichever flush ends first. Read `flusher.rt`.
+//!
 //! An `Err(AllocError)`, or a variant `Memory`, comes only if an allocation fails.
 #![tactic(auto)]
 
 mod first_version;
+mod flusher;
 mod flushes;
+mod full_memtable;
 mod keeps;
 mod laws;
 mod memtables;
@@ -29,4 +34,4 @@ pub use flushes::{fed_version, flush_writes, version_with_flushed};
 pub use laws::no_refusal_is_leave_to_open;
 pub use open_error::OpenError;
 pub use opener::Opener;
-pub use recovery::{Counted, Recovered, count_writes, recover, recover_first};
+pub use recovery::{Counted, Recovered, count_writes, recover, recover_first, recover_in_threads};

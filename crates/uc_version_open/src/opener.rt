@@ -10,19 +10,22 @@ ghost use Rattle.uc_version_open.specs.Refusal.{opening_refusal};
 ghost use Rattle.uc_version_open.specs.Steps as steps;
 ghost use Rattle.uc_version_open.specs.declared.open_error.OpenError.TheVariants.{Memory};
 
+use crate::flusher::{Alone, Flusher, InThreads};
 use crate::keeps::{first_ahead, kept};
 use crate::laws::no_refusal_is_leave_to_open;
 use crate::memtables::{Memtables, hold_write};
 use crate::open_error::OpenError;
 use std::alloc::{AllocError, Global};
-use std::marker::Model;
+use std::marker::{Model, Sync};
+use std::thread::Threads;
 use uc_bytes::WriteRef;
 use uc_version_state::{Options, Version, opening_gives_a_version, placed_onto};
 
 /// A store that is being opened, by the writes of a log one after the other.
 ///
 /// It refuses nothing before [`finish`](Opener::finish), since a fault of the log comes before a refused opening. It
-/// holds the runs so far and one memtable, or neither once the store can't open any more.
+/// holds the runs so far, one memtable and, if it is filled by [`recover_in_threads`](crate::recover_in_threads), up to three
+/// more that wait to be flushed; or nothing once the store can't open any more.
 #[derive(Debug, Drop)]
 pub struct Opener {
     options: Options,
@@ -42,18 +45,20 @@ impl Model for Opener {
 }
 
 /// The version of memtables.
-fn version_of(
+fn version_of<F: Flusher>(
+    flusher: &F,
     alloc: Global,
     options: &Options,
     last: u64,
     memtables: Memtables,
     keeps: &[u64],
 ) -> Result<Version, AllocError>
-    requires { IsVersion (steps.version_of options.now last memtables keeps.now) }
+    requires can { F.can_flush }
+    requires version { IsVersion (steps.version_of options.now last memtables keeps.now) }
     ensures { IfOk result (λ version. version ≡ steps.version_of options.now last memtables keeps.now) }
 {
     let first_id = options.first_id;
-    let runs = memtables.into_runs(alloc)?;
+    let runs = memtables.into_runs(flusher, alloc)?;
     let next_id = first_id + runs.len() as u64;
     let runs = placed_onto(alloc, first_id, Vec::new(alloc), runs)?;
     let keeps = kept(alloc, keeps, last)?;
@@ -83,6 +88,32 @@ impl Opener {
         self.last
     }
 
+    /// As [`insert`](Opener::insert), with full memtables flushed by `flusher`.
+    pub(crate) fn insert_by<F: Flusher>(
+        &mut self,
+        flusher: &F,
+        alloc: Global,
+        write: &WriteRef<'_>,
+    ) -> Result<(), AllocError>
+        requires can { F.can_flush }
+        requires above { self.old.last < write.now.seq }
+        requires below { write.now.seq < 2 ^ 56 }
+        ensures ok { (options : OptionsOf) (writes : List WriteOf) → self.old ≡ progress_of options writes →
+            OnOk result (self.new ≡ progress_of options (writes ++ write.now ∷ [])) }
+        ensures last { OnOk result (self.new.last ≡ write.now.seq) }
+        ensures err { OnErr result (self.new ≡ self.old) }
+    {
+        hold_write(
+            flusher,
+            alloc,
+            self.options.memtable,
+            &mut self.memtables,
+            write,
+        )?;
+        self.last = write.seq();
+        Ok(())
+    }
+
     /// Takes the next write of the log. Its sequence is above all before it and at most
     /// [`MAX_SEQUENCE`](uc_bytes::MAX_SEQUENCE). It costs a copy of the texts, amortized, and the flush of a memtable
     /// if that is full. An `Err` takes nothing.
@@ -94,15 +125,17 @@ impl Opener {
         ensures last { OnOk result (self.new.last ≡ write.now.seq) }
         ensures err { OnErr result (self.new ≡ self.old) }
     {
-        hold_write(alloc, self.options.memtable, &mut self.memtables, write)?;
-        self.last = write.seq();
-        Ok(())
+        self.insert_by(&Alone, alloc, write)
     }
 
-    /// The version of the writes that came, which keeps these sequences and the last one. An `Err` names the first of
-    /// these: an option out of its range, a sequence above the last one, more memtables than slots. For k sequences it
-    /// takes k log k steps.
-    pub fn finish(self, alloc: Global, keeps: &[u64]) -> Result<Version, OpenError>
+    /// As [`finish`](Opener::finish), with full memtables flushed by `flusher`.
+    fn finish_by<F: Flusher>(
+        self,
+        flusher: &F,
+        alloc: Global,
+        keeps: &[u64],
+    ) -> Result<Version, OpenError>
+        requires { F.can_flush }
         ensures ok { (options : OptionsOf) (writes : List WriteOf) → IsRising 0 writes → self ≡ progress_of options writes →
             let opening : OpeningOf = record { writes = writes; keeps = keeps.now; options = options } in
             IfOk result (λ version. (version ≡ opened opening) × (opening_refusal opening ≡ None)) }
@@ -130,6 +163,45 @@ impl Opener {
         let Some(memtables) = memtables else {
             return Err(OpenError::TooManyRuns);
         };
-        Ok(version_of(alloc, &options, last, memtables, keeps)?)
+        Ok(version_of(flusher, alloc, &options, last, memtables, keeps)?)
+    }
+
+    /// The version of the writes that came, which keeps these sequences and the last one. An `Err` names the first of
+    /// these: an option out of its range, a sequence above the last one, more memtables than slots. For k sequences it
+    /// takes k log k steps.
+    pub fn finish(self, alloc: Global, keeps: &[u64]) -> Result<Version, OpenError>
+        ensures ok { (options : OptionsOf) (writes : List WriteOf) → IsRising 0 writes → self ≡ progress_of options writes →
+            let opening : OpeningOf = record { writes = writes; keeps = keeps.now; options = options } in
+            IfOk result (λ version. (version ≡ opened opening) × (opening_refusal opening ≡ None)) }
+        ensures err { (options : OptionsOf) (writes : List WriteOf) → IsRising 0 writes → self ≡ progress_of options writes →
+            let opening : OpeningOf = record { writes = writes; keeps = keeps.now; options = options } in
+            IfErr result (λ error. error ≢ Memory → opening_refusal opening ≡ Some error) }
+        ensures memory { (options : OptionsOf) (writes : List WriteOf) → IsRising 0 writes →
+            self ≡ progress_of options writes →
+            let opening : OpeningOf = record { writes = writes; keeps = keeps.now; options = options } in
+            IfErr result (λ error. error ≡ Memory → opening_refusal opening ≡ None) }
+    {
+        self.finish_by(&Alone, alloc, keeps)
+    }
+
+    /// As [`finish`](Opener::finish), with the memtables that are left flushed side by side, in threads.
+    pub fn finish_in_threads(
+        self,
+        rt: &(impl Threads + Sync),
+        alloc: Global,
+        keeps: &[u64],
+    ) -> Result<Version, OpenError>
+        ensures ok { (options : OptionsOf) (writes : List WriteOf) → IsRising 0 writes → self ≡ progress_of options writes →
+            let opening : OpeningOf = record { writes = writes; keeps = keeps.now; options = options } in
+            IfOk result (λ version. (version ≡ opened opening) × (opening_refusal opening ≡ None)) }
+        ensures err { (options : OptionsOf) (writes : List WriteOf) → IsRising 0 writes → self ≡ progress_of options writes →
+            let opening : OpeningOf = record { writes = writes; keeps = keeps.now; options = options } in
+            IfErr result (λ error. error ≢ Memory → opening_refusal opening ≡ Some error) }
+        ensures memory { (options : OptionsOf) (writes : List WriteOf) → IsRising 0 writes →
+            self ≡ progress_of options writes →
+            let opening : OpeningOf = record { writes = writes; keeps = keeps.now; options = options } in
+            IfErr result (λ error. error ≡ Memory → opening_refusal opening ≡ None) }
+    {
+        self.finish_by(&InThreads::new(rt), alloc, keeps)
     }
 }

@@ -7,8 +7,11 @@ ghost use Rattle.uc_version_state.specs.declared.options.Options.{Options as Opt
 ghost use Rattle.uc_version_open.specs.Parting.{ComeNext, IsParted};
 ghost use Rattle.uc_version_open.specs.Progress.{progress_of};
 
+use crate::flusher::{Alone, Flusher, InThreads};
 use crate::opener::Opener;
 use std::alloc::{AllocError, Global};
+use std::marker::Sync;
+use std::thread::Threads;
 use uc_batch::{Advance, BatchReader, BatchWrites, Ended};
 use uc_bytes::{Write, WriteRef};
 use uc_version_state::Options;
@@ -23,19 +26,43 @@ pub struct Recovered {
 }
 
 /// Takes the writes of a batch into a store that is being opened.
-fn insert_batch(
+fn insert_batch<F: Flusher>(
+    flusher: &F,
     alloc: Global,
     opener: &mut Opener,
     writes: BatchWrites<'_>,
 ) -> Result<(), AllocError>
-    requires { IsRising opener.old.last writes }
+    requires can { F.can_flush }
+    requires rising { IsRising opener.old.last writes }
     ensures { (options : OptionsOf) (before : List WriteOf) → opener.old ≡ progress_of options before →
         OnOk result (opener.new ≡ progress_of options (before ++ writes.entry)) }
 {
     for write in writes {
-        opener.insert(alloc, &write)?;
+        opener.insert_by(flusher, alloc, &write)?;
     }
     Ok(())
+}
+
+/// As [`recover`], with full memtables flushed by `flusher`.
+fn recover_by<F: Flusher>(
+    flusher: &F,
+    alloc: Global,
+    log: &[u8],
+    options: Options,
+) -> Result<Recovered, AllocError>
+    requires { F.can_flush }
+    ensures opener { IfOk result (λ recovered. recovered.opener ≡ progress_of options (log_writes log.now).list) }
+    ensures ended { IfOk result (λ recovered. recovered.ended ≡ (log_writes log.now).ended) }
+    ensures rising { IfOk result (λ recovered. IsRising 0 (log_writes log.now).list) }
+{
+    let mut opener = Opener::new(alloc, options);
+    let mut batches = BatchReader::new(alloc, log);
+    loop {
+        match batches.advance()? {
+            Advance::Batch => insert_batch(flusher, alloc, &mut opener, batches.writes())?,
+            Advance::Ended(ended) => return Ok(Recovered { opener, ended }),
+        }
+    }
 }
 
 /// Takes the writes of a log, up to its first fault, into a store that is being opened under these options. It goes
@@ -45,14 +72,22 @@ pub fn recover(alloc: Global, log: &[u8], options: Options) -> Result<Recovered,
     ensures ended { IfOk result (λ recovered. recovered.ended ≡ (log_writes log.now).ended) }
     ensures rising { IfOk result (λ recovered. IsRising 0 (log_writes log.now).list) }
 {
-    let mut opener = Opener::new(alloc, options);
-    let mut batches = BatchReader::new(alloc, log);
-    loop {
-        match batches.advance()? {
-            Advance::Batch => insert_batch(alloc, &mut opener, batches.writes())?,
-            Advance::Ended(ended) => return Ok(Recovered { opener, ended }),
-        }
-    }
+    recover_by(&Alone, alloc, log, options)
+}
+
+/// As [`recover`], with full memtables flushed side by side, in threads. So up to three of them wait beside what `recover`
+/// holds.
+pub fn recover_in_threads(
+    rt: &(impl Threads + Sync),
+    alloc: Global,
+    log: &[u8],
+    options: Options,
+) -> Result<Recovered, AllocError>
+    ensures opener { IfOk result (λ recovered. recovered.opener ≡ progress_of options (log_writes log.now).list) }
+    ensures ended { IfOk result (λ recovered. recovered.ended ≡ (log_writes log.now).ended) }
+    ensures rising { IfOk result (λ recovered. IsRising 0 (log_writes log.now).list) }
+{
+    recover_by(&InThreads::new(rt), alloc, log, options)
 }
 
 /// How many writes a log has up to its first fault, and how far it was read.

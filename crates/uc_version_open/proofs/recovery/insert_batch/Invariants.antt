@@ -6,7 +6,7 @@ use Rattle.uc_version_open.specs.Progress.{progress_of}
 use Rattle.uc_version_open.proofs.recovery.insert_batch.Given as goal
 
 abbrev pub invariant-loop-write : goal.invariant-loop-write
-invariant-loop-write l = record {
+invariant-loop-write g l = record {
   rising : IsRising l.opener.last l.write-iterator;
   progress : (options : Options) (before : List Write) → l.fn.opener ≡ progress_of options before → l.opener ≡ progress_of options (before ++ l.yielded);
 }

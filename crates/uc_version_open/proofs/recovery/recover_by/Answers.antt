@@ -2,11 +2,11 @@ use Rattle.std.proofs.Common.{◌++◌, ap, ◌∙◌}
 use Rattle.uc_batch.specs.Log.{log_writes}
 use Rattle.uc_batch.proofs.Joined.{joins}
 use Rattle.uc_version_open.specs.Progress.{progress_of}
-use Rattle.uc_version_open.proofs.recovery.recover.Goals as goal
+use Rattle.uc_version_open.proofs.recovery.recover_by.Goals as goal
 
 -- src/recovery.rt:49:5
 pub loop-batches-preserved : goal.loop-batches-preserved
-loop-batches-preserved c =
+loop-batches-preserved g c =
     let l = c.loop-batches in
     let comes = rw c.in-Batch.is at c.in_ok-advance.ensures.ok in
     let writes = l.invariant.0 in

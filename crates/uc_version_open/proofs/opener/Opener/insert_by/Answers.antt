@@ -7,10 +7,10 @@ use Rattle.uc_version_open.specs.HeldProgress.{progress}
 use Rattle.uc_version_open.specs.Steps.{held_with}
 use Rattle.uc_version_open.proofs.Grown.{state_grown}
 use Rattle.uc_version_open.proofs.Newest.{held_below}
-use Rattle.uc_version_open.proofs.opener.Opener.insert.Goals as goal
+use Rattle.uc_version_open.proofs.opener.Opener.insert_by.Goals as goal
 
 pub hold_write-requires-clause-above : goal.hold_write-requires-clause-above
-hold_write-requires-clause-above c =
+hold_write-requires-clause-above g c =
     let came = c.self.invariant in
     let n = c.args.write.now.seq in
     let held : c.self.inside.memtables ≡ (progress_of c.self.inside.options came.writes).held = ap (λ (p : Progress). p.held) came.is in
@@ -19,7 +19,7 @@ hold_write-requires-clause-above c =
     subst (λ (h : Option Flushing). IfSome h (λ f. last_of 0 f.newest < n)) (sym held) (held_below c.self.inside.options came.writes n (subst (λ m. m < n) last above))
 
 pub invariant_of-self-2 : goal.invariant_of-self-2
-invariant_of-self-2 c =
+invariant_of-self-2 g c =
     let came = c.self.invariant in
     let options = c.self.inside.options in
     let w = c.args.write.now in
@@ -34,7 +34,7 @@ invariant_of-self-2 c =
     }
 
 pub returns-clause-ok : goal.returns-clause-ok
-returns-clause-ok c = λ options writes e.
+returns-clause-ok g c = λ options writes e.
     let before = c.self.inside in
     let w = c.args.write.now in
     let after : Progress = record { options = before.options; last = c.seq-self-inside.result; held = c.hold_write.new.held } in

@@ -7,10 +7,10 @@ use Rattle.uc_version_open.specs.Progress.{progress_of}
 use Rattle.uc_version_open.specs.HeldProgress.{progress}
 use Rattle.uc_version_open.proofs.Ended.{ends_opened}
 use Rattle.uc_version_open.proofs.Refused.{none_refused}
-use Rattle.uc_version_open.proofs.opener.Opener.finish.Goals as goal
+use Rattle.uc_version_open.proofs.opener.Opener.finish_by.Goals as goal
 
-pub version_of-requires : goal.version_of-requires
-version_of-requires c =
+pub version_of-requires-clause-version : goal.version_of-requires-clause-version
+version_of-requires-clause-version g c =
     let came = c.self.invariant in
     let inside = c.self.inside in
     let keeps = c.args.keeps.now in
@@ -23,7 +23,7 @@ version_of-requires c =
     (c.opening_gives_a_version.ensures o ((c.no_refusal_is_leave_to_open.ensures o came.rising).0 (none_refused o (progress inside) came.is memtables good none held)))
 
 pub returns-clause-ok : goal.returns-clause-ok
-returns-clause-ok c = λ options writes rises e.
+returns-clause-ok g c = λ options writes rises e.
     let inside = c.self.inside in
     let keeps = c.args.keeps.now in
     let memtables = c.in-Some-memtables.memtables in

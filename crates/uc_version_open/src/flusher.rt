@@ -1,0 +1,101 @@
+//! [`Flusher`]: how full memtables are flushed, by one thread or by several.
+ghost use Rattle.std.specs.Prelude.{◌≡◌, ⊤, IfOk, map};
+ghost use Rattle.std.specs.Thread.{IsSync};
+ghost use Rattle.uc_run.specs.Flush.{flushed};
+
+use crate::full_memtable::FullMemtable;
+use std::alloc::{AllocError, Global};
+use std::marker::Sync;
+use std::thread::{Threads, join};
+use uc_run::Run;
+
+/// How full memtables are flushed. What comes of them is the same whoever flushes them.
+pub(crate) trait Flusher {
+    /// What is asked of what a flusher is made of. One that starts threads shares it among them.
+    ghost can_flush: { Type 0 };
+
+    /// How many full memtables are flushed together. As soon as so many wait, none waits longer.
+    const TOGETHER: usize;
+
+    /// The runs of these memtables, in their order.
+    fn flush(&self, alloc: Global, full: &[FullMemtable]) -> Result<Vec<Run>, AllocError>
+        requires { can_flush }
+        ensures { IfOk result (λ runs. runs.items ≡ map flushed full.now) };
+}
+
+/// The runs of some memtables, flushed one after the other.
+fn flush_in_turn(alloc: Global, full: &[FullMemtable]) -> Result<Vec<Run>, AllocError>
+    ensures { IfOk result (λ runs. runs.items ≡ map flushed full.now) }
+{
+    let mut runs = Vec::with_capacity(alloc, full.len())?;
+    for memtable in full {
+        runs.push(memtable.to_run(alloc)?)?;
+    }
+    Ok(runs)
+}
+
+/// The runs of some memtables, each flushed by a thread of its own. Where no thread can be had, the one that would wait for it
+/// does its work.
+#[cycle(side_by_side)]
+fn flush_side_by_side<R: Threads + Sync>(
+    rt: &R,
+    alloc: Global,
+    full: &[FullMemtable],
+) -> Result<Vec<Run>, AllocError>
+    ensures { IfOk result (λ runs. runs.items ≡ map flushed full.now) }
+{
+    if full.len() <= 1 {
+        return flush_in_turn(alloc, full);
+    }
+    let (older, newer) = full.split_at(full.len() / 2);
+    let (older, newer) = join(
+        rt,
+        || -> Result<Vec<Run>, AllocError>
+            requires { IsSync R.row }
+            ensures { IfOk result (λ runs. runs.items ≡ map flushed older.entry.now) }
+        { flush_side_by_side(rt, alloc, older) },
+        || -> Result<Vec<Run>, AllocError>
+            requires { IsSync R.row }
+            ensures { IfOk result (λ runs. runs.items ≡ map flushed newer.entry.now) }
+        { flush_side_by_side(rt, alloc, newer) },
+    );
+    let mut runs = older?;
+    runs.append(&mut newer?)?;
+    Ok(runs)
+}
+
+/// Flushes alone: a memtable as soon as it is full, so none waits for others.
+pub(crate) struct Alone;
+
+impl Flusher for Alone {
+    ghost can_flush = { ⊤ };
+
+    const TOGETHER: usize = 1;
+
+    fn flush(&self, alloc: Global, full: &[FullMemtable]) -> Result<Vec<Run>, AllocError> {
+        flush_in_turn(alloc, full)
+    }
+}
+
+/// Flushes up to four memtables side by side, in threads that it starts and waits for.
+#[derive(Drop)]
+pub(crate) struct InThreads<'a, R: Threads + Sync> {
+    rt: &'a R,
+}
+
+impl<'a, R: Threads + Sync> InThreads<'a, R> {
+    /// Threads of this runtime.
+    pub(crate) fn new(rt: &'a R) -> InThreads<'a, R> {
+        InThreads { rt }
+    }
+}
+
+impl<'a, R: Threads + Sync> Flusher for InThreads<'a, R> {
+    ghost can_flush = { IsSync R.row };
+
+    const TOGETHER: usize = 4;
+
+    fn flush(&self, alloc: Global, full: &[FullMemtable]) -> Result<Vec<Run>, AllocError> {
+        flush_side_by_side(self.rt, alloc, full)
+    }
+}
