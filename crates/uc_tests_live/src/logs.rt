@@ -1,10 +1,12 @@
 //! Batches that are written to a log before they are fed.
 use crate::batches::{Texts, merges, opened};
 use std::alloc::Global;
+use std::marker::Sync;
 use std::test::Fail;
+use std::thread::Threads;
 use uc_batch::{fits_batch, write_batch};
 use uc_logrec::LogWriter;
-use uc_store::{Op, Options, Owned, feed_batch, get, open_log};
+use uc_store::{Op, Options, Owned, feed_batch, get, open_log, open_log_in_threads};
 
 /// Every sequence of the five batches, and the one before them.
 const KEEPS: [u64; 6] = [0, 1, 2, 3, 4, 5];
@@ -52,6 +54,22 @@ fn recovered(alloc: Global, log: &[u8]) -> Result<Owned<Texts>, Fail> {
     }
 }
 
+/// The store that a log opens in threads, with a memtable for each write and a snapshot at every sequence.
+fn recovered_in_threads(
+    rt: &(impl Threads + Sync),
+    alloc: Global,
+    log: &[u8],
+) -> Result<Owned<Texts>, Fail> {
+    let options = Options {
+        memtable: 1,
+        ..Options::usual()
+    };
+    match open_log_in_threads(rt, alloc, log, &KEEPS, options) {
+        Ok(opened) => Ok(opened.store),
+        Err(_) => Err("the store doesn't open")?,
+    }
+}
+
 /// Whether two stores answer alike at every sequence.
 fn answer_alike(alloc: Global, one: &Owned<Texts>, other: &Owned<Texts>) -> Result<bool, Fail> {
     for at in KEEPS {
@@ -71,5 +89,16 @@ fn log_recovers_what_was_fed(rt: HostRuntime) -> Result<(), Fail> {
     let log = written(alloc, &mut store)?;
     let alike = answer_alike(alloc, &store, &recovered(alloc, &log)?)?;
     assert!(rt; alike && store.version().runs().len() == 5);
+    Ok(())
+}
+
+#[test]
+fn threads_recover_what_was_fed(rt: HostRuntime) -> Result<(), Fail> {
+    let alloc = rt.alloc();
+    let mut store = opened(alloc, &[])?;
+    let log = written(alloc, &mut store)?;
+    let found = recovered_in_threads(&rt, alloc, &log)?;
+    let alike = answer_alike(alloc, &store, &found)?;
+    assert!(rt; alike && found.version().runs().len() == 5);
     Ok(())
 }

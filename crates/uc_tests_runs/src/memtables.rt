@@ -10,7 +10,12 @@ use uc_oper::Counter;
 use uc_run::{Memtable, Run, flush_keeps_every_effect, flushed_writes_are_a_run};
 
 /// Inserts a change with a sequence above the last.
-fn insert(rt: &impl Abort, memtable: &mut Memtable, seq: u64, op: OpRef<'_>) -> Result<(), Fail> {
+pub(crate) fn insert(
+    rt: &impl Abort,
+    memtable: &mut Memtable,
+    seq: u64,
+    op: OpRef<'_>,
+) -> Result<(), Fail> {
     assert!(rt; memtable.last() < seq);
     assert!(rt; seq <= MAX_SEQUENCE);
     Ok(memtable.insert_ref(&WriteRef::new(seq, op))?)

@@ -57,11 +57,16 @@ fn two_runs(
     Ok(runs)
 }
 
-/// A few sequences that rise.
-fn drawn_keeps(alloc: Global, dice: &mut Dice) -> Result<Vec<u64>, AllocError> {
+/// Sequences below a bound that rise: one in so many.
+pub(crate) fn drawn_keeps(
+    alloc: Global,
+    dice: &mut Dice,
+    bound: u64,
+    sides: u64,
+) -> Result<Vec<u64>, AllocError> {
     let mut keeps = Vec::new(alloc);
-    for at in 0..120 {
-        if dice.roll(20) == 0 {
+    for at in 0..bound {
+        if dice.roll(sides) == 0 {
             keeps.push(at)?;
         }
     }
@@ -143,7 +148,7 @@ fn are_compacted(
 ) -> Result<bool, Fail> {
     let mut writes = Vec::new(alloc);
     let runs = two_runs(rt, alloc, dice, &mut writes)?;
-    let keeps = drawn_keeps(alloc, dice)?;
+    let keeps = drawn_keeps(alloc, dice, 120, 20)?;
     Ok(
         is_compacted(rt, alloc, &runs, &keeps, false, &writes)?
             && is_compacted(rt, alloc, &runs, &keeps, true, &writes)?,

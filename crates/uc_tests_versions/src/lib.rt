@@ -1,6 +1,7 @@
 //! How a store begins, what is compacted next and with what outcome, worked by hand.
 //!
-//! `versions.rt` has versions of a few runs, `openings.rt` has openings from plain writes, `recoveries.rt` openings from short logs, `picks.rt` picks by hand,
+//! `versions.rt` has versions of a few runs, `openings.rt` has openings from plain writes, `recoveries.rt` openings from
+//! short logs, `recoveries_in_threads.rt` from logs whose memtables threads flush, `picks.rt` picks by hand,
 //! `drawn_picks.rt` random ones compared with a plain slow program, and `reports.rt` reports on what a store holds.
 //! `stores.rt` opens stores of a few runs, `at_once.rt` compacts stretches of them at once, `installs.rt` installs
 //! compactions that the store didn't make, and `feeds.rt` feeds writes to them, with snapshots that come and go.
@@ -30,6 +31,8 @@ mod openings;
 mod picks;
 #[cfg(test)]
 mod recoveries;
+#[cfg(test)]
+mod recoveries_in_threads;
 #[cfg(test)]
 mod reports;
 #[cfg(test)]

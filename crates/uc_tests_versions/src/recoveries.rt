@@ -8,9 +8,9 @@ use uc_logrec::LogWriter;
 use uc_version_open::{Recovered, recover};
 use uc_version_state::{Options, Version};
 
-/// The batch of the delete of a key at a sequence.
-fn batch_of(alloc: Global, seq: u64, key: &[u8]) -> Result<Vec<u8>, Fail> {
-    let op = OpRef::delete(key).to_op(alloc)?;
+/// The batch of one change at a sequence.
+pub(crate) fn batch_of(alloc: Global, seq: u64, change: &OpRef<'_>) -> Result<Vec<u8>, Fail> {
+    let op = change.to_op(alloc)?;
     let ops = slice::from_ref(&op);
     if !fits_batch(seq, ops) {
         return Err("the batch is too long")?;
@@ -24,7 +24,7 @@ fn log_of(alloc: Global, keys: &[&[u8]]) -> Result<Vec<u8>, Fail> {
     let mut seq = 0_u64;
     for key in keys {
         seq = seq.wrapping_add(1);
-        log.add(&batch_of(alloc, seq, key)?)?;
+        log.add(&batch_of(alloc, seq, &OpRef::delete(key))?)?;
     }
     Ok(log.finish())
 }

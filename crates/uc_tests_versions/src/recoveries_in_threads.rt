@@ -1,0 +1,310 @@
+//! Logs whose memtables are flushed in threads: they open as if nobody had started one.
+use crate::recoveries::batch_of;
+use std::alloc::{AllocError, Global};
+use std::marker::Sync;
+use std::test::Fail;
+use std::thread::Threads;
+use uc_batch::Ended;
+use uc_bytes::OpRef;
+use uc_logrec::LogWriter;
+use uc_version_open::{OpenError, Opener, Recovered, recover, recover_in_threads};
+use uc_version_state::{Options, Placed, Version};
+
+/// A log of changes of every kind, some bytes of which are cut off its end, and what it opens.
+struct Row {
+    /// How many changes it has. Each takes ten bytes of a memtable.
+    changes: u64,
+    /// How many bytes are cut off.
+    cut: usize,
+    memtable: u64,
+    /// How many runs there are, or why the store isn't opened.
+    wanted: Result<usize, OpenError>,
+    ended: Ended,
+}
+
+/// A row with a memtable for each of sixty changes.
+const SIXTY: Row = Row {
+    changes: 60,
+    cut: 0,
+    memtable: 1,
+    wanted: Ok(60),
+    ended: Ended::Clean,
+};
+
+/// Worked by hand. Four memtables that wait are flushed together.
+static ROWS: [Row; 15] = [
+    Row {
+        memtable: 600,
+        wanted: Ok(1),
+        ..SIXTY
+    },
+    Row {
+        memtable: 300,
+        wanted: Ok(2),
+        ..SIXTY
+    },
+    Row {
+        memtable: 200,
+        wanted: Ok(3),
+        ..SIXTY
+    },
+    Row {
+        memtable: 150,
+        wanted: Ok(4),
+        ..SIXTY
+    },
+    Row {
+        memtable: 120,
+        wanted: Ok(5),
+        ..SIXTY
+    },
+    Row {
+        memtable: 80,
+        wanted: Ok(8),
+        ..SIXTY
+    },
+    Row {
+        memtable: 70,
+        wanted: Ok(9),
+        ..SIXTY
+    },
+    SIXTY,
+    // There are 256 slots.
+    Row {
+        changes: 256,
+        wanted: Ok(256),
+        ..SIXTY
+    },
+    Row {
+        changes: 257,
+        wanted: Err(OpenError::TooManyRuns),
+        ..SIXTY
+    },
+    // Torn in the middle of the fourth memtable, while three wait, and of the fifth, when four were flushed.
+    Row {
+        changes: 24,
+        cut: 1,
+        memtable: 70,
+        wanted: Ok(4),
+        ended: Ended::Torn(546),
+    },
+    Row {
+        changes: 33,
+        cut: 1,
+        memtable: 70,
+        wanted: Ok(5),
+        ended: Ended::Torn(760),
+    },
+    // No write is left of what is kept.
+    Row {
+        changes: 2,
+        cut: 1,
+        wanted: Err(OpenError::SnapshotAhead(2)),
+        ended: Ended::Torn(24),
+        ..SIXTY
+    },
+    Row {
+        changes: 0,
+        wanted: Err(OpenError::SnapshotAhead(2)),
+        ..SIXTY
+    },
+    Row {
+        memtable: 0,
+        wanted: Err(OpenError::BadOption),
+        ..SIXTY
+    },
+];
+
+/// These rows.
+fn rows() -> &'static [Row] {
+    &ROWS
+}
+
+/// The change at a sequence. Each takes ten bytes of a memtable.
+fn change_at(seq: u64) -> OpRef<'static> {
+    match seq % 4 {
+        1 => OpRef::put(b"k", b"v"),
+        2 => OpRef::merge(b"k", b"w"),
+        3 => OpRef::delete(b"kk"),
+        _ => OpRef::delete_range(b"k", b"l"),
+    }
+}
+
+/// This many changes, a batch for each, from sequence 1 on.
+fn mixed_log(alloc: Global, changes: u64) -> Result<Vec<u8>, Fail> {
+    let mut log = LogWriter::new(alloc);
+    for seq in 1..=changes {
+        log.add(&batch_of(alloc, seq, &change_at(seq))?)?;
+    }
+    Ok(log.finish())
+}
+
+/// Who flushes memtables.
+#[derive(Clone, Copy)]
+enum By {
+    One,
+    Threads,
+}
+
+/// Who flushes memtables while a log is read, and who those that are left at its end.
+type Way = (By, By);
+
+/// All ways but the one in which no thread is started.
+static WAYS: [Way; 3] = [
+    (By::Threads, By::Threads),
+    (By::Threads, By::One),
+    (By::One, By::Threads),
+];
+
+/// These ways.
+fn ways() -> &'static [Way] {
+    &WAYS
+}
+
+/// What a log opens, and how far it was read.
+#[derive(Drop)]
+struct Outcome {
+    version: Result<Version, OpenError>,
+    ended: Ended,
+}
+
+/// The store of a log, with memtables flushed by one or by threads.
+fn recovered_by(
+    rt: &(impl Threads + Sync),
+    alloc: Global,
+    log: &[u8],
+    options: Options,
+    by: By,
+) -> Result<Recovered, AllocError> {
+    match by {
+        By::One => recover(alloc, log, options),
+        By::Threads => recover_in_threads(rt, alloc, log, options),
+    }
+}
+
+/// What a store opens with, which keeps 1 and 2, with memtables flushed by one or by threads.
+fn finished_by(
+    rt: &(impl Threads + Sync),
+    alloc: Global,
+    opener: Opener,
+    by: By,
+) -> Result<Version, OpenError> {
+    match by {
+        By::One => opener.finish(alloc, &[2, 1]),
+        By::Threads => opener.finish_in_threads(rt, alloc, &[2, 1]),
+    }
+}
+
+/// What a log opens in a way.
+fn outcome_of(
+    rt: &(impl Threads + Sync),
+    alloc: Global,
+    log: &[u8],
+    memtable: u64,
+    (reading, ending): Way,
+) -> Result<Outcome, AllocError> {
+    let options = Options {
+        memtable,
+        ..Options::usual()
+    };
+    let Recovered { opener, ended } = recovered_by(rt, alloc, log, options, reading)?;
+    let version = finished_by(rt, alloc, opener, ending);
+    Ok(Outcome { version, ended })
+}
+
+/// Whether runs are the same, with the same ids and slots.
+fn same_runs(runs: &[Placed], others: &[Placed]) -> bool {
+    for (placed, other) in runs.iter().zip(others) {
+        if placed.id() != other.id() || placed.slot() != other.slot() {
+            return false;
+        }
+        if !placed.run().same(other.run()) {
+            return false;
+        }
+    }
+    runs.len() == others.len()
+}
+
+/// Whether versions are the same.
+fn same_versions(version: &Version, other: &Version) -> bool {
+    let numbers = [version.last(), version.next_id(), version.limit()];
+    numbers == [other.last(), other.next_id(), other.limit()]
+        && version.keeps() == other.keeps()
+        && same_runs(version.runs(), other.runs())
+}
+
+/// Whether the same was opened, or refused for the same.
+fn same_outcomes(outcome: &Result<Version, OpenError>, other: &Result<Version, OpenError>) -> bool {
+    match (outcome, other) {
+        (Ok(version), Ok(other)) => same_versions(version, other),
+        (Err(error), Err(other)) => error == other,
+        _ => false,
+    }
+}
+
+/// Whether a row's number of runs was opened, or the opening was refused as the row says.
+fn is_wanted(outcome: &Result<Version, OpenError>, wanted: &Result<usize, OpenError>) -> bool {
+    match (outcome, wanted) {
+        (Ok(version), Ok(runs)) => version.runs().len() == *runs,
+        (Err(error), Err(wanted)) => error == wanted,
+        _ => false,
+    }
+}
+
+/// Whether a log opens the same in all other ways.
+fn all_open_it(
+    rt: &(impl Threads + Sync),
+    alloc: Global,
+    log: &[u8],
+    memtable: u64,
+    alone: &Outcome,
+) -> Result<bool, AllocError> {
+    for &way in ways() {
+        let other = outcome_of(rt, alloc, log, memtable, way)?;
+        if other.ended != alone.ended || !same_outcomes(&other.version, &alone.version) {
+            return Ok(false);
+        }
+    }
+    Ok(true)
+}
+
+/// Whether a row's log opens as it says, in all ways.
+fn opens_as_wanted(
+    rt: &(impl Threads + Sync),
+    alloc: Global,
+    log: &[u8],
+    row: &Row,
+) -> Result<bool, AllocError> {
+    let alone = outcome_of(rt, alloc, log, row.memtable, (By::One, By::One))?;
+    if alone.ended != row.ended || !is_wanted(&alone.version, &row.wanted) {
+        return Ok(false);
+    }
+    all_open_it(rt, alloc, log, row.memtable, &alone)
+}
+
+/// Whether the log of a row opens as the row says, in all ways.
+fn is_taken_in_by_threads(
+    rt: &(impl Threads + Sync),
+    alloc: Global,
+    row: &Row,
+) -> Result<bool, Fail> {
+    let log = mixed_log(alloc, row.changes)?;
+    let log = log
+        .get(..log.len().saturating_sub(row.cut))
+        .ok_or("no log")?;
+    Ok(opens_as_wanted(rt, alloc, log, row)?)
+}
+
+#[test]
+fn threads_open_the_same(rt: HostRuntime) -> Result<(), Fail> {
+    let alloc = rt.alloc();
+    for row in rows() {
+        assert!(&rt;
+            is_taken_in_by_threads(&rt, alloc, row)?,
+            "{} {}",
+            row.changes,
+            row.memtable
+        );
+    }
+    Ok(())
+}
