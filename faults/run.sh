@@ -73,6 +73,12 @@ memory() {
     done
 }
 
+# A log that fills nine memtables of 100,000 bytes, with enough points for a compaction to cut the key space.
+counters_log() {
+    build make_log "$top/bench/make_log.rs"
+    "$work/make_log" counters 1 > "$work/counters"
+}
+
 # A script's snapshots and queries in front of a log of its changes.
 asked_of() { # SCRIPT
     grep '^keep ' "$1"
@@ -142,7 +148,7 @@ asks() {
 threads() {
     local workers compactors
     build_drive
-    build make_log "$top/bench/make_log.rs"
+    counters_log
     asked_of "$here/queries.script" > "$work/queries"
     printf '%-34s %9s %9s %9s %7s\n' 'refused threads' requests refused wanting wrong
     for workers in 1 4 64; do
@@ -155,6 +161,8 @@ threads() {
             refuse_threads "ask, $workers beside $compactors, 3 later" "$workers" "$compactors" --later 3
         done
     done
+    "$work/drive" threads "$work/refuse.so" "report" "$work/counters" "$ours" report --operator counter --memtable 100000 \
+        || wrong=$((wrong + 1))
 }
 
 # Refuses `ask` each thread.

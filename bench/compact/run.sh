@@ -1,6 +1,6 @@
 #!/bin/sh
-# Compactions of several runs into one, beside plain Rust with the same layout, in one thread but for the folds of
-# more than a thousand points of a key.
+# Compactions of several runs into one, beside plain Rust with the same layout in one thread. Ours merges four parts of
+# the key space side by side from 16,384 points on, and folds more than a thousand points of a key in two threads.
 # Needs rustc, GNU time, and crates/bench_parts/out/bench_parts, which `rt run` in crates/bench_parts builds.
 # counter: keys of 16 bytes and values of 8, half puts and half merges, eight points to a key over all runs. append: one
 # key, operands of 10 bytes. ranges: five keys with a point each, and a range deletion over three of them.
@@ -91,5 +91,5 @@ measure append '' append 4 50000 1 newer
 measure append_twice append append 4 100000 1 newer
 measure ranges '' ranges 2 60000 1 newer
 measure ranges_twice ranges ranges 2 120000 1 newer
-goal compaction 'counter 10 130000 *' 'plain Rust' ms 'at most' 1.4
+goal compaction 'counter 10 130000 *' 'plain Rust' ms 'at most' 0.35
 write_results compact
