@@ -1,12 +1,14 @@
 -- A key that isn't admitted has no points.
-use Rattle.std.proofs.Common.{◌≡◌, ℕ, ◌+◌, ◌<◌, Bool, true, false, cond, List, [], ◌∷◌, length, get_or, take, filter, refl, sym, ap, ◌∙◌, subst}
-use Rattle.std.specs.Prelude.{nat_le, ◌&&◌}
+use Rattle.std.proofs.Common.{◌≡◌, ℕ, ◌+◌, ◌<◌, Bool, true, false, cond, List, [], ◌∷◌, length, get_or, take, drop, ◌++◌, filter, refl, sym, ap, ◌∙◌, subst}
+use Rattle.std.specs.Prelude.{All, nat_le, ◌&&◌}
 use Rattle.std.specs.Cmp.Lexicographic.{same_text}
-use Rattle.std.proofs.lemmas.List.Elements.{All-head, All-tail, All-weaker, All-more}
+use Rattle.std.proofs.lemmas.List.{take-append-drop}
+use Rattle.std.proofs.lemmas.List.Elements.{All-append, All-head, All-tail, All-weaker, All-more}
 use Rattle.uc_bytes.specs.Bytes.{same_bytes}
 use Rattle.uc_run_entry.specs.declared.entry.Entry.{Entry}
 use Rattle.uc_run_entry.specs.Lookup.{is_visible}
-use Rattle.uc_run.specs.Filters.{Admits, AdmitsAll}
+use Rattle.uc_run.specs.Filters.{HasBits, HasProbes, probes_of, Admits, AdmitsAll}
+use Rattle.uc_run.specs.KeyHash.{key_hash}
 
 module _ (words key : List ℕ) (at : ℕ) (denied : ¬ Admits words key) where
   other : (p : Entry) (seen same : Bool) → same_bytes p.key key ≡ same → Admits words p.key → (seen && same) ≡ false
@@ -24,3 +26,21 @@ module _ (words key : List ℕ) (at : ℕ) (denied : ¬ Admits words key) where
 pub admitted_more : (words more : List ℕ) (points : List Entry) (n : ℕ) (p : Entry) → n < length points → p ≡ get_or points n p → ((key : List ℕ) → Admits words key → Admits more key) → Admits more p.key → AdmitsAll words (take n points) → AdmitsAll more (take (n + 1) points)
 admitted_more words more points n p l is kept new all =
     All-more (λ (q : Entry). Admits more q.key) points n p l (All-weaker (λ (q : Entry). Admits words q.key) (λ (q : Entry). Admits more q.key) (λ q has. kept q.key has) (take n points) all) (subst (λ (q : Entry). Admits more q.key) is new)
+
+-- words that have the bits of others admit what those do
+admitted_by : (words new : List ℕ) → length new ≡ length words → ((place bits : ℕ) → HasBits words place bits → HasBits new place bits) → (key : List ℕ) → Admits words key → Admits new key
+admitted_by words new long kept key has =
+    subst (λ (n : ℕ). HasProbes new (probes_of (key_hash key) n)) (sym long) (record {
+      first = kept _ _ has.first;
+      second = kept _ _ has.second;
+    })
+
+-- the words of two pieces of the points, made one
+pub both_admitted : (words more new : List ℕ) (points front back : List Entry) (n : ℕ) → front ≡ take n points → back ≡ drop n points → length new ≡ length words → length new ≡ length more → ((place bits : ℕ) → HasBits words place bits → HasBits new place bits) → ((place bits : ℕ) → HasBits more place bits → HasBits new place bits) → AdmitsAll words front → AdmitsAll more back → AdmitsAll new points
+both_admitted words more new points front back n is_front is_back long as_long kept added all rest =
+    let P = λ (p : Entry). Admits new p.key in
+    let whole : front ++ back ≡ points = ap (λ (ps : List Entry). ps ++ back) is_front ∙ ap (λ (ps : List Entry). take n points ++ ps) is_back ∙ take-append-drop n points in
+    subst (All P) whole
+    (All-append P front back
+    (All-weaker (λ (p : Entry). Admits words p.key) P (λ p has. admitted_by words new long kept p.key has) front all)
+    (All-weaker (λ (p : Entry). Admits more p.key) P (λ p has. admitted_by more new as_long added p.key has) back rest))

@@ -13,3 +13,9 @@ kept_by_or word more bits has = same_from_bits (bit_and (bit_or word more) bits)
 pub set_by_or : (word bits : ℕ) → bit_and (bit_or word bits) bits ≡ bits
 set_by_or word bits = same_from_bits (bit_and (bit_or word bits) bits) bits (λ i.
     omega (arith, bit_at_and (bit_or word bits) bits i, bit_at_or word bits i))
+
+-- those of the other are in it too
+pub added_by_or : (word more bits : ℕ) → bit_and more bits ≡ bits → bit_and (bit_or word more) bits ≡ bits
+added_by_or word more bits has = same_from_bits (bit_and (bit_or word more) bits) bits (λ i.
+    let had : min (bit_at more i) (bit_at bits i) ≡ bit_at bits i = sym (bit_at_and more bits i) ∙ ap (λ n. bit_at n i) has in
+    omega (arith, bit_at_and (bit_or word more) bits i, bit_at_or word more i, had))

@@ -1,6 +1,6 @@
 -- The least number, and the least key, which is among those with that number.
 use Rattle.std.proofs.Common.{◌≡◌, ℕ, ◌+◌, ◌-◌, ◌^◌, ◌<◌, ◌≤◌, inl, inr, Bool, true, false, cond, eqb, ltb, List, [], ◌∷◌, ◌++◌, length, get_or, map, take, min, Option, Some, None, refl, sym, ap, ◌∙◌, subst, arith}
-use Rattle.std.specs.Prelude.{unwrap_or}
+use Rattle.std.specs.Prelude.{unwrap_or, IfSome}
 use Rattle.std.specs.List.{All, AllByRecursion, Contains}
 use Rattle.std.proofs.lemmas.Bool.Decides.{nat_tests}
 use Rattle.std.proofs.lemmas.List.{get_or-map, length-map, take_all, take_more}
@@ -155,3 +155,10 @@ module _ {X : Type 0} (f : X → Key) (front : List ℕ) (low : ℕ) (xs : List 
       let all : take i xs ≡ xs = take_all i xs (omega (arith, as_long, end)) in
       least_numbered front low (map f xs) least (subst (All (λ n. low ≤ n)) each lower) (λ below. subst (λ (ms : List ℕ). Contains ms low) each (there below)) bytes
       (subst (λ (keys : List Key). IsLeast keys least) (ap (map (λ x. numbered front low (f x))) all ∙ sym (map-map (numbered front low) f xs)) h)
+
+  pub number_of_least : (i : ℕ) (least : Key) → length ns ≤ i → IsLeast (map (λ x. numbered front low (f x)) (take i xs)) least → IfSome least (λ k. number_of front k ≡ low)
+  number_of_least i None end h = tt
+  number_of_least i (Some k) end h =
+      let all : take i xs ≡ xs = take_all i xs (omega (arith, as_long, end)) in
+      number_is front low k (map f xs)
+      (subst (λ (keys : List Key). IsLeast keys (Some k)) (ap (map (λ x. numbered front low (f x))) all ∙ sym (map-map (numbered front low) f xs)) h).1

@@ -19,6 +19,7 @@ pub mod FoundThere
 pub mod Hiding
 pub mod Words
 pub mod BitLaws
+pub mod SetBits
 pub mod Admitting
 pub mod KeyOrder
 pub mod LeastHead

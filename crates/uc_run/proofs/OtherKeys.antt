@@ -20,7 +20,6 @@ use Rattle.uc_run_entry.specs.PlainList.{plain_list}
 use Rattle.uc_run_entry.specs.Seek.{is_passed}
 use Rattle.uc_run_entry.specs.Lookup.{is_visible, above_newest, effect_found}
 use Rattle.uc_run.specs.NextKey.{IsNextKey}
-use Rattle.uc_run.proofs.KeyOrder.{le_itself}
 
 module _ (key : List ℕ) where
   -- a key below it is another

@@ -1,14 +1,19 @@
 //! [`Filter`]: which keys a run may have points of.
-ghost use Rattle.std.specs.Prelude.{◌≡◌, ◌≤◌, ◌<◌, ◌↔◌, IsTrue, IfOk, length};
-ghost use Rattle.uc_run.specs.Filters.{Admits, AdmitsAll};
+ghost use Rattle.std.specs.Prelude.{◌≡◌, ◌≤◌, ◌<◌, ◌↔◌, ℕ, List, IsTrue, IfOk, length};
+ghost use Rattle.std.specs.Thread.{IsSync};
+ghost use Rattle.uc_run.specs.Filters.{HasBits, Admits, AdmitsAll};
 
 use crate::filter_bits::{BLOCK_WORDS, admit, is_admitted};
 use std::alloc::{AllocError, Global};
-use std::marker::Model;
+use std::marker::{Model, Sync};
+use std::thread::{Threads, join};
 use uc_run_entry::Point;
 
 /// How many points share a block: ten bits for each, of which six are set. Of other keys about 1.1 % are admitted.
 const BLOCK_POINTS: usize = 51;
+
+/// Into how many parts points are cut whose filter is made in threads.
+const PARTS: usize = 4;
 
 /// A Bloom filter (Bloom, 1970) in blocks of a cache line (RocksDB wiki, "RocksDB Bloom Filter"): a look at it touches
 /// one line. A contract sees it as its words. One without words admits no key.
@@ -35,6 +40,13 @@ impl Filter {
     }
 }
 
+/// How many words a filter of so many points has.
+fn count_words(points: usize) -> usize
+    ensures { 0 < points → BLOCK_WORDS ≤ result }
+{
+    points.div_ceil(BLOCK_POINTS) * BLOCK_WORDS
+}
+
 /// Makes the words admit the key of each point.
 fn admit_all(words: &mut [u64], points: &[Point])
     requires { 0 < length points.now → BLOCK_WORDS ≤ length words.old }
@@ -45,12 +57,79 @@ fn admit_all(words: &mut [u64], points: &[Point])
     }
 }
 
+/// So many words that admit the keys of the points.
+fn words_of(alloc: Global, count: usize, points: &[Point]) -> Result<Vec<u64>, AllocError>
+    requires { 0 < length points.now → BLOCK_WORDS ≤ count }
+    ensures count { IfOk result (λ words. length words.items ≡ count) }
+    ensures admitted { IfOk result (λ words. AdmitsAll words.items points.now) }
+{
+    let mut words = Vec::from_elem(alloc, 0, count)?;
+    admit_all(&mut words, points);
+    Ok(words)
+}
+
 /// A filter that admits the keys of the points.
 pub(crate) fn filter_of(alloc: Global, points: &[Point]) -> Result<Filter, AllocError>
     ensures { IfOk result (λ filter. AdmitsAll filter points.now) }
 {
-    let blocks = points.len().div_ceil(BLOCK_POINTS);
-    let mut words = Vec::from_elem(alloc, 0, blocks * BLOCK_WORDS)?;
-    admit_all(&mut words, points);
+    let words = words_of(alloc, count_words(points.len()), points)?;
+    Ok(Filter { words })
+}
+
+/// Sets the bits of other words too.
+fn add_bits(words: &mut [u64], other: &[u64])
+    requires { length words.old ≡ length other.now }
+    ensures count { length words.new ≡ length words.old }
+    ensures kept { (place bits : ℕ) → HasBits words.old place bits → HasBits words.new place bits }
+    ensures added { (place bits : ℕ) → HasBits other.now place bits → HasBits words.new place bits }
+{
+    for place in 0..words.len() {
+        words[place] |= other[place];
+    }
+}
+
+/// So many words that admit the keys of the points, which are cut into parts. Those of each part are made by a thread of
+/// its own, or by the one that would wait for it, if none can be had.
+#[cycle(side_by_side)]
+fn words_by_parts<R: Threads + Sync>(
+    rt: &R,
+    alloc: Global,
+    count: usize,
+    points: &[Point],
+    parts: usize,
+) -> Result<Vec<u64>, AllocError>
+    requires { 0 < length points.now → BLOCK_WORDS ≤ count }
+    ensures count { IfOk result (λ words. length words.items ≡ count) }
+    ensures admitted { IfOk result (λ words. AdmitsAll words.items points.now) }
+{
+    if parts <= 1 {
+        return words_of(alloc, count, points);
+    }
+    let (front, back) = points.split_at(points.len() / 2);
+    let (front, back) = join(
+        rt,
+        || -> Result<Vec<u64>, AllocError>
+            requires { IsSync R.row × (0 < length front.now → BLOCK_WORDS ≤ count) }
+            ensures { IfOk result (λ words. (length words.items ≡ count) × AdmitsAll words.items front.entry.now) }
+        { words_by_parts(rt, alloc, count, front, parts / 2) },
+        || -> Result<Vec<u64>, AllocError>
+            requires { IsSync R.row × (0 < length back.now → BLOCK_WORDS ≤ count) }
+            ensures { IfOk result (λ words. (length words.items ≡ count) × AdmitsAll words.items back.entry.now) }
+        { words_by_parts(rt, alloc, count, back, parts / 2) },
+    );
+    let mut words = front?;
+    add_bits(&mut words, &back?);
+    Ok(words)
+}
+
+/// As [`filter_of`], made of four parts of the points side by side, in threads.
+pub(crate) fn filter_in_threads<R: Threads + Sync>(
+    rt: &R,
+    alloc: Global,
+    points: &[Point],
+) -> Result<Filter, AllocError>
+    ensures { IfOk result (λ filter. AdmitsAll filter points.now) }
+{
+    let words = words_by_parts(rt, alloc, count_words(points.len()), points, PARTS)?;
     Ok(Filter { words })
 }

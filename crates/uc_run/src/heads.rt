@@ -1,5 +1,5 @@
-//! [`Heads`]: the next keys of several walks.
-ghost use Rattle.std.specs.Prelude.{◌≡◌, ℕ, ◌-◌, ◌^◌, ◌<◌, ◌≤◌, ◌↔◌, List, [], Some, Contains, IsTrue, IfOk, length, map, option_map, unwrap_or};
+//! [`Heads`]: the next keys of several walks; and [`Head`], one of them.
+ghost use Rattle.std.specs.Prelude.{◌≡◌, ℕ, ◌-◌, ◌^◌, ◌<◌, ◌≤◌, ◌↔◌, List, [], Some, Contains, IsTrue, IfOk, IfSome, length, map, option_map, unwrap_or};
 ghost use Rattle.std.specs.List.{All, slice_get, slice_set};
 ghost use Rattle.uc_run.specs.Heads as heads;
 ghost use Rattle.uc_run.specs.Heads.{AreNumbered, IsLeast};
@@ -11,6 +11,15 @@ use crate::prefixes::prefix_of;
 use std::alloc::{AllocError, Global};
 use std::marker::Model;
 use uc_run_entry::Point;
+
+/// A next key, and the number by which [`Heads::is_at`] finds it.
+#[derive(Clone, Copy, Debug)]
+pub struct Head<'a> {
+    /// The key.
+    pub key: &'a [u8],
+    /// A number that doesn't fall as keys rise.
+    pub number: u64,
+}
 
 /// The next key of each of several walks in order of key, or none where a walk is at its end. A contract sees them as
 /// that, beside a front that most of them begin with.
@@ -136,12 +145,15 @@ fn least_number(numbers: &[u64]) -> u64
     least
 }
 
-/// The least of some keys, of which each has its number behind some front: one of those with the least number.
-fn least_of<'a>(keys: &[Option<&'a [u8]>], numbers: &[u64]) -> Option<&'a [u8]>
-    requires { (front : List ℕ) × AreNumbered front (map (option_map (λ key. key.now)) keys.now) numbers.now }
-    ensures { IsLeast (map (option_map (λ key. key.now)) keys.now) (option_map (λ key. key.now) result) }
+/// The least of some keys: one of those with the least number.
+fn least_of<'a>(keys: &[Option<&'a [u8]>], numbers: &[u64], low: u64) -> Option<&'a [u8]>
+    requires numbered { (front : List ℕ) × AreNumbered front (map (option_map (λ key. key.now)) keys.now) numbers.now }
+    requires lower { All (λ number. low ≤ number) numbers.now }
+    requires there { low < 2 ^ 64 - 1 → Contains numbers.now low }
+    ensures least { IsLeast (map (option_map (λ key. key.now)) keys.now) (option_map (λ key. key.now) result) }
+    ensures number { (front : List ℕ) → AreNumbered front (map (option_map (λ key. key.now)) keys.now) numbers.now →
+        IfSome (option_map (λ key. key.now) result) (λ key. heads.number_of front key ≡ low) }
 {
-    let low = least_number(numbers);
     let mut least = None;
     for (walk, number) in numbers.iter().enumerate() {
         if *number == low {
@@ -184,29 +196,23 @@ impl<'a> Heads<'a> {
 
     /// The least of the keys. It costs one step for each walk, and a comparison of texts for each whose number is the
     /// least one's.
-    pub fn least(&self) -> Option<&'a [u8]>
-        ensures { IsLeast self.now.keys (option_map (λ key. key.now) result) }
+    pub fn least(&self) -> Option<Head<'a>>
+        ensures least { IsLeast self.now.keys (option_map (λ head. head.key.now) result) }
+        ensures number { IfSome result (λ head. head.number ≡ heads.number_of self.now.front head.key.now) }
     {
-        least_of(&self.keys, &self.numbers)
+        let number = least_number(&self.numbers);
+        let key = least_of(&self.keys, &self.numbers, number)?;
+        Some(Head { key, number })
     }
 
-    /// The number by which [`is_at`](Heads::is_at) finds a key.
+    /// Whether a key is the next one of the walk with an index. It mostly costs a comparison of numbers.
     #[inline]
-    pub fn number_of(&self, key: &[u8]) -> u64
-        ensures { result ≡ heads.number_of self.now.front key.now }
-    {
-        number_of(self.front, key)
-    }
-
-    /// Whether a key, whose number this is, is the next one of the walk with an index. It mostly costs a comparison of
-    /// numbers.
-    #[inline]
-    pub fn is_at(&self, walk: usize, key: &[u8], number: u64) -> bool
+    pub fn is_at(&self, walk: usize, head: Head<'_>) -> bool
         requires within { walk < length self.now.keys }
-        requires number { number ≡ heads.number_of self.now.front key.now }
-        ensures { IsTrue result ↔ (slice_get self.now.keys walk ≡ Some (Some key.now)) }
+        requires number { head.number ≡ heads.number_of self.now.front head.key.now }
+        ensures { IsTrue result ↔ (slice_get self.now.keys walk ≡ Some (Some head.entry.key.now)) }
     {
-        self.numbers[walk] == number && is_key(self.keys[walk], key)
+        self.numbers[walk] == head.number && is_key(self.keys[walk], head.key)
     }
 
     /// Puts another next key in place of a walk's.

@@ -1,6 +1,9 @@
 //! [`Run`]: points and range deletions, sorted by key.
 ghost use Rattle.std.specs.Prelude.{◌≡◌, ◌≤◌, ◌↔◌, false, IsTrue, length, IfOk, option_map};
 ghost use Rattle.std.specs.List.{slice_get};
+ghost use Rattle.std.specs.List.Sorted.{IsStrictlySortedBy};
+ghost use Rattle.std.specs.Thread.{IsSync};
+ghost use Rattle.uc_run_entry.specs.Order.{entry_cmp};
 ghost use Rattle.uc_run_entry.specs.Run.{IsRun};
 ghost use Rattle.uc_run_entry.specs.Size as size;
 ghost use Rattle.uc_run_entry.specs.Seek as seek;
@@ -9,17 +12,19 @@ ghost use Rattle.uc_model.specs.Meaning.{effect_on};
 ghost use Rattle.uc_run_entry.specs.Packed as packed;
 ghost use Rattle.uc_run.specs.Blocks.{blocks_of, fence_of};
 ghost use Rattle.uc_run.specs.Fences.{IsFenced};
+ghost use Rattle.uc_run.specs.Filters.{AdmitsAll};
 ghost use Rattle.uc_run.specs.NextKey.{IsNextKey};
 
 use crate::cursor::Cursor;
 use crate::fences::{Fences, fences_of, seek_by_fences};
-use crate::filter::{Filter, filter_of};
+use crate::filter::{Filter, filter_in_threads, filter_of};
 use crate::lookup::effect_found;
 use crate::places::points_on;
 use crate::run_size::size_of;
 use crate::same::same_points;
 use std::alloc::{AllocError, Global};
-use std::marker::Model;
+use std::marker::{Model, Sync};
+use std::thread::{Threads, join};
 use uc_oper::{Effect, Operator};
 use uc_run_entry::{
     Entry, Fragment, Fragments, Point, WhatRef, plain_list_does_what_is_found, points_of,
@@ -48,6 +53,27 @@ impl Model for Run {
     ghost view = { contents };
 
     ghost invariant = { IsHeld };
+}
+
+/// The filter and the fences of points, made side by side.
+fn filter_beside_fences<R: Threads + Sync>(
+    rt: &R,
+    alloc: Global,
+    points: &[Point],
+) -> Result<(Filter, Fences), AllocError>
+    requires { IsStrictlySortedBy entry_cmp points.now }
+    ensures filter { IfOk result (λ made. AdmitsAll made.0 points.now) }
+    ensures fences { IfOk result (λ made. IsFenced points.now made.1) }
+{
+    let (filter, fences) = join(
+        rt,
+        || -> Result<Filter, AllocError>
+            requires { IsSync R.row }
+            ensures { IfOk result (λ filter. AdmitsAll filter points.entry.now) }
+        { filter_in_threads(rt, alloc, points) },
+        || fences_of(alloc, points),
+    );
+    Ok((filter?, fences?))
 }
 
 impl Run {
@@ -89,6 +115,33 @@ impl Run {
         let size = size_of(&points, fragments.as_slice());
         let fences = fences_of(alloc, &points)?;
         let filter = filter_of(alloc, &points)?;
+        Ok(Run {
+            low,
+            high,
+            points,
+            fences,
+            filter,
+            fragments,
+            size,
+        })
+    }
+
+    /// As [`from_points`](Run::from_points), with filter and fences made side by side, in threads. It pays from about
+    /// ten thousand points on.
+    pub fn from_points_in_threads(
+        rt: &(impl Threads + Sync),
+        alloc: Global,
+        low: u64,
+        high: u64,
+        points: Vec<Point>,
+        fragments: Fragments,
+    ) -> Result<Run, AllocError>
+        requires { IsRun low high points.items fragments }
+        ensures { IfOk result (λ run.
+            run ≡ record { low = low; high = high; points = points.items; fragments = fragments }) }
+    {
+        let (filter, fences) = filter_beside_fences(rt, alloc, &points)?;
+        let size = size_of(&points, fragments.as_slice());
         Ok(Run {
             low,
             high,

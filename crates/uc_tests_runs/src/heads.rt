@@ -1,12 +1,13 @@
 //! Heads of walks beside sorted keys: the least of them, who is at it, and a merge.
-ghost use Rattle.std.specs.Prelude.{◌≡◌, length, OnOk};
+ghost use Rattle.std.specs.Prelude.{◌≡◌, ◌<◌, length, IfSome, OnOk};
+ghost use Rattle.uc_run.specs.Heads.{number_of};
 
 use crate::drawn::Dice;
 use crate::given::{built, entry_of};
 use std::alloc::{AllocError, Global};
 use std::process::Abort;
 use std::test::Fail;
-use uc_run::{Cursor, Heads, Run};
+use uc_run::{Cursor, Head, Heads, Run};
 use uc_run_entry::{Point, WhatRef};
 
 /// Keys in order.
@@ -148,16 +149,15 @@ fn begin_with(points: &[Point], key: &[u8]) -> bool {
 /// Whether heads find this key, the least of the first ones, at the runs that begin with it.
 fn find_least(alloc: Global, runs: &[&[Point]], least: Option<&[u8]>) -> Result<bool, AllocError> {
     let heads = Heads::of_runs(alloc, runs)?;
-    let Some(key) = heads.least() else {
+    let Some(head) = heads.least() else {
         return Ok(least.is_none());
     };
-    let number = heads.number_of(key);
     for walk in 0..runs.len() {
-        if heads.is_at(walk, key, number) != begin_with(runs[walk], key) {
+        if heads.is_at(walk, head) != begin_with(runs[walk], head.key) {
             return Ok(false);
         }
     }
-    Ok(least == Some(key))
+    Ok(least == Some(head.key))
 }
 
 /// A walk through each run.
@@ -169,28 +169,41 @@ fn cursors_of<'a>(alloc: Global, runs: &'a [Run]) -> Result<Vec<Cursor<'a>>, All
     Ok(cursors)
 }
 
-/// Moves each walk that is at the key past it, and pushes the key for each.
-fn take_key<'a>(
+/// The first walk that is at a head.
+fn walk_at(heads: &Heads<'_>, walks: usize, head: Head<'_>) -> Option<usize>
+    requires walks { length heads.now.keys ≡ walks }
+    requires number { head.number ≡ number_of heads.now.front head.key.now }
+    ensures { IfSome result (λ walk. walk < walks) }
+{
+    for walk in 0..walks {
+        if heads.is_at(walk, head) {
+            return Some(walk);
+        }
+    }
+    None
+}
+
+/// Moves the first walk that is at the least key past it, and pushes that key. Does nothing at the end.
+fn take_least<'a>(
     cursors: &mut [Cursor<'a>],
     heads: &mut Heads<'a>,
-    key: &'a [u8],
     keys: &mut Vec<&'a [u8]>,
 ) -> Result<(), AllocError>
     requires { length heads.old.keys ≡ length cursors.old }
     ensures { OnOk result (length heads.new.keys ≡ length cursors.new) }
 {
-    for walk in 0..cursors.len() {
-        let number = heads.number_of(key);
-        if heads.is_at(walk, key, number) {
-            cursors[walk].pass(key);
-            heads.set(walk, cursors[walk].key());
-            keys.push(key)?;
-        }
+    let Some(head) = heads.least() else {
+        return Ok(());
+    };
+    if let Some(walk) = walk_at(heads, cursors.len(), head) {
+        cursors[walk].pass(head.key);
+        heads.set(walk, cursors[walk].key());
+        keys.push(head.key)?;
     }
     Ok(())
 }
 
-/// Merges walks, for so many steps at most. The keys of the walks come in the order in which they are taken.
+/// Merges walks, for one step more than these. The keys of the walks come in the order in which they are taken.
 fn merged<'a>(
     alloc: Global,
     cursors: &mut [Cursor<'a>],
@@ -198,11 +211,8 @@ fn merged<'a>(
 ) -> Result<Vec<&'a [u8]>, AllocError> {
     let mut keys = Vec::new(alloc);
     let mut heads = Heads::of_cursors(alloc, cursors)?;
-    for _ in 0..steps {
-        let Some(key) = heads.least() else {
-            return Ok(keys);
-        };
-        take_key(cursors, &mut heads, key, &mut keys)?;
+    for _ in 0..=steps {
+        take_least(cursors, &mut heads, &mut keys)?;
     }
     Ok(keys)
 }
