@@ -3,12 +3,11 @@ pub use Rattle.uc_run.proofs.KeyOrder.{le_itself, lt_of, le_of_not, le_trans, le
 use Rattle.std.proofs.Common.{◌≡◌, ℕ, true, false, List, refl, sym, ap, ◌∙◌}
 use Rattle.std.specs.declared.cmp.Ordering.{Ordering}
 use Rattle.std.specs.declared.cmp.Ordering.TheVariants.{Less, Equal, Greater}
-use Rattle.std.specs.Ordering.{is_lt, is_le, ordering_reverse}
+use Rattle.std.specs.Ordering.{is_le}
 use Rattle.std.specs.Cmp.Lexicographic.{bytes_decides}
 use Rattle.std.proofs.lemmas.Bool.{false≢true}
 use Rattle.std.proofs.lemmas.Cmp.{nat_list_cmp_total, tied_itself}
 use Rattle.std.proofs.lemmas.Map.Lookups.{exact_bytes}
-use Rattle.std.specs.BTreeMap.Comparable.{le_lt_trans}
 use Rattle.uc_bytes.specs.Bytes.{bytes_cmp, same_bytes}
 
 pub no_less_itself : (x : List ℕ) → bytes_cmp x x ≡ Less → ⊥

@@ -50,14 +50,14 @@ fn sample_of<'a>(alloc: Global, inputs: &'a [Arc<Run>]) -> Result<Vec<&'a [u8]>,
     Ok(sample)
 }
 
-/// Pushes a key if it is above the last.
-fn push_above<'a>(cuts: &mut Vec<&'a [u8]>, key: &'a [u8]) -> Result<(), AllocError>
+/// Pushes a key if it is above the last one, or above the least fence if there is none.
+fn push_above<'a>(cuts: &mut Vec<&'a [u8]>, least: &[u8], key: &'a [u8]) -> Result<(), AllocError>
     requires { IsStrictlySortedBy bytes_cmp (map (λ cut. cut.now) cuts.old.items) }
     ensures rise { OnOk result (IsStrictlySortedBy bytes_cmp (map (λ cut. cut.now) cuts.new.items)) }
     ensures count { OnOk result (vec_len cuts.new ≤ vec_len cuts.old + 1) }
 {
     let above = match cuts.last() {
-        None => true,
+        None => least.cmp(&key).is_lt(),
         Some(last) => last.cmp(&key).is_lt(),
     };
     if above {
@@ -67,7 +67,7 @@ fn push_above<'a>(cuts: &mut Vec<&'a [u8]>, key: &'a [u8]) -> Result<(), AllocEr
 }
 
 /// Keys that cut the key space into at most so many parts, with about as many of the runs' points each. They rise. A key
-/// with many points isn't cut, so there may be fewer parts.
+/// with many points isn't cut, so there may be fewer parts, and none below the least fence.
 ///
 /// They are the quantiles of a sample of the runs' fences, which takes about a thousand comparisons of keys.
 pub(crate) fn cut_keys<'a>(
@@ -84,9 +84,12 @@ pub(crate) fn cut_keys<'a>(
         return Ok(cuts);
     }
     let sample = sample_of(alloc, inputs)?;
+    let Some(least) = sample.first() else {
+        return Ok(cuts);
+    };
     for part in 1..parts {
         if let Some(key) = sample.get(sample.len().saturating_mul(part) / parts) {
-            push_above(&mut cuts, key)?;
+            push_above(&mut cuts, least, key)?;
         }
     }
     Ok(cuts)

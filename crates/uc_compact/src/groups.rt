@@ -4,12 +4,13 @@ ghost use Rattle.std.specs.List.{AllByRecursion, flat_map};
 ghost use Rattle.std.specs.List.Sorted.{IsStrictlySortedBy};
 ghost use Rattle.uc_run_entry.specs.Order.{entry_cmp};
 ghost use Rattle.uc_compact.specs.Groups.{groups_of, Comes};
+ghost use Rattle.uc_run.specs.Heads.{number_of};
 ghost use Rattle.uc_compact.specs.Heads.{first_key, first_named};
 
 use crate::cursor::Cursor;
 use std::alloc::{AllocError, Global};
 use std::marker::Model;
-use uc_run::Heads;
+use uc_run::{Head, Heads};
 use uc_run_entry::Point;
 
 /// The place of a merge in several runs. A contract sees it as the groups that are still ahead: for each key its
@@ -49,22 +50,22 @@ fn cursors_over<'a>(alloc: Global, runs: &[&'a [Point]]) -> Result<Vec<Cursor<'a
 fn take_from_each<'a>(
     cursors: &mut [Cursor<'a>],
     heads: &mut Heads<'a>,
-    key: &[u8],
+    head: Head<'_>,
     points: &mut Vec<&'a Point>,
 ) -> Result<(), AllocError>
-    requires { heads.old.keys ≡ map first_key cursors.old }
+    requires keys { heads.old.keys ≡ map first_key cursors.old }
+    requires number { head.number ≡ number_of heads.old.front head.key.now }
     ensures taken { OnOk result
         (map (λ p. p.now) points.new.items ≡
         map (λ p. p.now) points.old.items
-        ++ flat_map (λ ps. take (first_named key.now ps) ps) cursors.old) }
-    ensures left { OnOk result (cursors.new ≡ map (λ ps. drop (first_named key.now ps) ps) cursors.old) }
+        ++ flat_map (λ ps. take (first_named head.entry.key.now ps) ps) cursors.old) }
+    ensures left { OnOk result (cursors.new ≡ map (λ ps. drop (first_named head.entry.key.now ps) ps) cursors.old) }
     ensures heads { OnOk result (heads.new.keys ≡ map first_key cursors.new) }
 {
-    let number = heads.number_of(key);
     for place in 0..cursors.len() {
-        if heads.is_at(place, key, number) {
+        if heads.is_at(place, head) {
             let cursor = &mut cursors[place];
-            cursor.take_named(key, points)?;
+            cursor.take_named(head.key, points)?;
             heads.set(place, cursor.key());
         }
     }
@@ -92,15 +93,15 @@ impl<'a> Groups<'a> {
         ensures none_named { OnErr result (points.new.items ≡ []) }
     {
         points.clear();
-        let Some(key) = self.heads.least() else {
+        let Some(head) = self.heads.least() else {
             return Ok(None);
         };
-        if let Err(error) = take_from_each(&mut self.cursors, &mut self.heads, key, points) {
+        if let Err(error) = take_from_each(&mut self.cursors, &mut self.heads, head, points) {
             self.cursors.clear();
             self.heads.clear();
             points.clear();
             return Err(error);
         }
-        Ok(Some(key))
+        Ok(Some(head.key))
     }
 }

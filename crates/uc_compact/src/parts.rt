@@ -1,4 +1,4 @@
-//! [`points_kept_by_parts`]: the points that a compaction keeps, of parts of the key space side by side.
+//! The points that a compaction keeps: of all keys in turn, or of parts of the key space side by side.
 ghost use Rattle.std.specs.Prelude.{◌≡◌, ◌≤◌, length, map, filter, take, drop, IfOk};
 ghost use Rattle.std.specs.Arc.{arc_value};
 ghost use Rattle.std.specs.List.{AllByRecursion, flat_map};
@@ -18,8 +18,8 @@ use std::alloc::{AllocError, Global};
 use std::marker::Sync;
 use std::sync::Arc;
 use std::thread::{Threads, join};
-use uc_compact_rules::Keeping;
-use uc_oper::Operator;
+use uc_compact_rules::{Alone, By, Keeping, fold_in_threads};
+use uc_oper::{Effect, Operator};
 use uc_run::Run;
 use uc_run_entry::Point;
 
@@ -57,6 +57,29 @@ fn sides_of<'a>(
     Ok((below, from))
 }
 
+/// What is kept of runs' points, key by key. Many points of one key are folded in two threads.
+fn points_kept_in_threads<O: Operator + Sync, R: Threads + Sync>(
+    rt: &R,
+    alloc: Global,
+    runs: &[&[Point]],
+    pieces: &[Piece<'_>],
+    keeping: &Keeping<'_>,
+) -> Result<Vec<Point>, AllocError>
+    requires sorted { AllByRecursion (λ points. IsStrictlySortedBy entry_cmp points.now) runs.now }
+    requires order { AreInOrder pieces.now }
+    requires keeps_rise { IsStrictlySortedBy nat_cmp keeping.now.keeps }
+    requires each { AreOfOneKeyEach pieces.now (flat_map (λ points. points.now) runs.now) }
+    ensures { IfOk result (λ kept.
+        kept.items ≡
+        by_key.points_kept O.meaning keeping.now pieces.now
+        (flat_map (λ points. points.now) runs.now)) }
+{
+    let folder = By(|alloc: Global, before: Effect, points: &[&Point]| {
+        fold_in_threads::<O>(rt, alloc, before, points)
+    });
+    points_kept::<O, _>(&folder, alloc, runs, pieces, keeping)
+}
+
 /// What is kept of runs' points, key by key. The points from the last cut on are merged in a thread of their own, those
 /// between two cuts too, and those below the first in this one. Wherever the cuts are, the result is the same.
 ///
@@ -80,7 +103,7 @@ fn kept_between<O: Operator + Sync, R: Threads + Sync>(
         (flat_map (λ points. points.now) runs.now)) }
 {
     let Some((last, fewer)) = cuts.split_last() else {
-        return points_kept::<O>(rt, alloc, runs, pieces, keeping);
+        return points_kept_in_threads::<O, R>(rt, alloc, runs, pieces, keeping);
     };
     let (below, from) = sides_of(alloc, runs, last)?;
     let below = below.as_slice();
@@ -94,7 +117,7 @@ fn kept_between<O: Operator + Sync, R: Threads + Sync>(
             kept.items ≡
             by_key.points_kept O.meaning keeping.entry.now pieces.entry.now
             (flat_map (λ points. points.now) from.entry.now)) }
-    { points_kept::<O>(rt, alloc, from, pieces, keeping) };
+    { points_kept_in_threads::<O, R>(rt, alloc, from, pieces, keeping) };
     let others = move || -> Result<Vec<Point>, AllocError>
         requires { IsSync R.row × IsSync O.row
             × AllByRecursion (λ points. IsStrictlySortedBy entry_cmp points.now) below.now
@@ -121,6 +144,24 @@ fn points_in<'a>(alloc: Global, inputs: &'a [Arc<Run>]) -> Result<Vec<&'a [Point
         runs.push(run.entries())?;
     }
     Ok(runs)
+}
+
+/// What is kept of the points of runs, key by key, in one thread.
+pub(crate) fn points_kept_alone<O: Operator>(
+    alloc: Global,
+    inputs: &[Arc<Run>],
+    pieces: &[Piece<'_>],
+    keeping: &Keeping<'_>,
+) -> Result<Vec<Point>, AllocError>
+    requires runs { AreRuns (map arc_value inputs.now) }
+    requires order { AreInOrder pieces.now }
+    requires keeps_rise { IsStrictlySortedBy nat_cmp keeping.now.keeps }
+    requires each { AreOfOneKeyEach pieces.now (points_of (map arc_value inputs.now)) }
+    ensures { IfOk result (λ kept.
+        kept.items ≡ by_key.points_kept O.meaning keeping.now pieces.now (points_of (map arc_value inputs.now))) }
+{
+    let runs = points_in(alloc, inputs)?;
+    points_kept::<O, _>(&Alone, alloc, &runs, pieces, keeping)
 }
 
 /// What is kept of the points of runs, key by key. The parts of the key space between the cuts are merged side by side.

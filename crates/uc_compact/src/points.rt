@@ -13,9 +13,7 @@ use crate::groups::Groups;
 use crate::piece::Piece;
 use crate::pieces::covering_piece;
 use std::alloc::{AllocError, Global};
-use std::marker::Sync;
-use std::thread::Threads;
-use uc_compact_rules::{Keeping, Over, push_kept_points};
+use uc_compact_rules::{Folder, Keeping, Over, push_kept_points};
 use uc_oper::Operator;
 use uc_run_entry::Point;
 
@@ -31,14 +29,15 @@ fn seqs_over<'a>(pieces: &'a [Piece<'_>], key: &[u8]) -> Over<'a>
 }
 
 /// Pushes what is kept of the points ahead, key by key.
-fn push_groups<O: Operator + Sync>(
-    rt: &(impl Threads + Sync),
+fn push_groups<O: Operator, F: Folder<O>>(
+    folder: &F,
     alloc: Global,
     kept: &mut Vec<Point>,
     groups: &mut Groups<'_>,
     pieces: &[Piece<'_>],
     keeping: &Keeping<'_>,
 ) -> Result<(), AllocError>
+    requires can { F.can_fold folder.now }
     requires order { AreInOrder pieces.now }
     requires keeps_rise { IsStrictlySortedBy nat_cmp keeping.now.keeps }
     requires each { AllByRecursion (λ g. AreOfOneKey g.points (choice.seqs_over g.key pieces.now)) groups.old }
@@ -53,19 +52,20 @@ fn push_groups<O: Operator + Sync>(
     let mut points = Vec::new(alloc);
     while let Some(key) = groups.next_into(&mut points)? {
         let seqs = seqs_over(pieces, key);
-        push_kept_points::<O>(rt, alloc, kept, key, &points, &seqs, keeping)?;
+        push_kept_points::<O, F>(folder, alloc, kept, key, &points, &seqs, keeping)?;
     }
     Ok(())
 }
 
-/// What is kept of runs' points, key by key, in one thread.
-pub(crate) fn points_kept<O: Operator + Sync>(
-    rt: &(impl Threads + Sync),
+/// What is kept of runs' points, key by key.
+pub(crate) fn points_kept<O: Operator, F: Folder<O>>(
+    folder: &F,
     alloc: Global,
     runs: &[&[Point]],
     pieces: &[Piece<'_>],
     keeping: &Keeping<'_>,
 ) -> Result<Vec<Point>, AllocError>
+    requires can { F.can_fold folder.now }
     requires sorted { AllByRecursion (λ points. IsStrictlySortedBy entry_cmp points.now) runs.now }
     requires order { AreInOrder pieces.now }
     requires keeps_rise { IsStrictlySortedBy nat_cmp keeping.now.keeps }
@@ -77,6 +77,6 @@ pub(crate) fn points_kept<O: Operator + Sync>(
 {
     let mut kept = Vec::new(alloc);
     let mut groups = Groups::over(alloc, runs)?;
-    push_groups::<O>(rt, alloc, &mut kept, &mut groups, pieces, keeping)?;
+    push_groups::<O, F>(folder, alloc, &mut kept, &mut groups, pieces, keeping)?;
     Ok(kept)
 }

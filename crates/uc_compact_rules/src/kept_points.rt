@@ -9,12 +9,11 @@ ghost use Rattle.uc_compact_rules.specs.Choice as choice;
 ghost use Rattle.uc_compact_rules.specs.Choice.{AreOfOneKey, PointsFall, points_for};
 ghost use Rattle.uc_compact_rules.specs.Output as output;
 
+use crate::folder::Folder;
 use crate::folding::effect_above_newest;
 use crate::keeping::Keeping;
 use crate::over::Over;
 use std::alloc::{AllocError, Global};
-use std::marker::Sync;
-use std::thread::Threads;
 use uc_oper::{Effect, Operator};
 use uc_run_entry::{Point, What, WhatRef};
 
@@ -70,14 +69,15 @@ fn is_below(newest: Option<u64>, seq: u64) -> bool
 
 /// The point that replaces a stripe's points of a key, if they need one. `range` is the newest range deletion of the
 /// stripe over the key, if there is one.
-fn point_for<O: Operator + Sync>(
-    rt: &(impl Threads + Sync),
+fn point_for<O: Operator, F: Folder<O>>(
+    folder: &F,
     alloc: Global,
     bottom: bool,
     key: &[u8],
     points: &[&Point],
     range: Option<u64>,
 ) -> Result<Option<Point>, AllocError>
+    requires can { F.can_fold folder.now }
     requires fall { PointsFall (map (λ p. p.now) points.now) }
     requires from_one { AllByRecursion (λ p. 0 < p.seq) (map (λ p. p.now) points.now) }
     ensures { IfOk result (λ point.
@@ -93,7 +93,7 @@ fn point_for<O: Operator + Sync>(
     {
         return Ok(Some(Point::new(alloc, key, seq, WhatRef::Put(value))?));
     }
-    let effect = effect_above_newest::<O>(rt, alloc, points, range)?;
+    let effect = effect_above_newest::<O, F>(folder, alloc, points, range)?;
     let cleared = is_cleared(seq, range);
     match what_kept::<O>(alloc, bottom, effect, cleared)? {
         None => Ok(None),
@@ -113,8 +113,8 @@ fn push_some(kept: &mut Vec<Point>, point: Option<Point>) -> Result<(), AllocErr
 }
 
 /// Pushes the points that replace a key's points, stripe by stripe. An `Err` may leave some of them pushed.
-fn push_each_stripe<O: Operator + Sync>(
-    rt: &(impl Threads + Sync),
+fn push_each_stripe<O: Operator, F: Folder<O>>(
+    folder: &F,
     alloc: Global,
     kept: &mut Vec<Point>,
     key: &[u8],
@@ -122,6 +122,7 @@ fn push_each_stripe<O: Operator + Sync>(
     seqs: &Over<'_>,
     keeping: &Keeping<'_>,
 ) -> Result<(), AllocError>
+    requires can { F.can_fold folder.now }
     requires of_one_key { AreOfOneKey (map (λ p. p.now) points.now) seqs.now }
     requires keeps_rise { IsStrictlySortedBy nat_cmp keeping.now.keeps }
     ensures pushed { OnOk result
@@ -137,7 +138,10 @@ fn push_each_stripe<O: Operator + Sync>(
         let (own, count) = stripe.own_points(rest);
         let range = stripe.newest_of(seqs);
         let bottom = keeping.is_bottom(&stripe);
-        push_some(kept, point_for::<O>(rt, alloc, bottom, key, own, range)?)?;
+        push_some(
+            kept,
+            point_for::<O, F>(folder, alloc, bottom, key, own, range)?,
+        )?;
         rest = &rest[count..];
     }
     Ok(())
@@ -147,9 +151,9 @@ fn push_each_stripe<O: Operator + Sync>(
 /// there. The key's points and the sequences of the range deletions over it come newest first.
 ///
 /// It takes time only for the stripes that have points. In a stripe it reads the points that no newer put, delete or
-/// range deletion hides; many of them are folded by halves in two threads. An `Err` pushes nothing.
-pub fn push_kept_points<O: Operator + Sync>(
-    rt: &(impl Threads + Sync),
+/// range deletion hides. The folder makes one effect of them. An `Err` pushes nothing.
+pub fn push_kept_points<O: Operator, F: Folder<O>>(
+    folder: &F,
     alloc: Global,
     kept: &mut Vec<Point>,
     key: &[u8],
@@ -157,6 +161,7 @@ pub fn push_kept_points<O: Operator + Sync>(
     seqs: &Over<'_>,
     keeping: &Keeping<'_>,
 ) -> Result<(), AllocError>
+    requires can { F.can_fold folder.now }
     requires of_one_key { AreOfOneKey (map (λ p. p.now) points.now) seqs.now }
     requires keeps_rise { IsStrictlySortedBy nat_cmp keeping.now.keeps }
     ensures pushed { OnOk result
@@ -167,7 +172,7 @@ pub fn push_kept_points<O: Operator + Sync>(
     ensures as_it_was { OnErr result (kept.new.items ≡ kept.old.items) }
 {
     let before = kept.len();
-    if let Err(error) = push_each_stripe::<O>(rt, alloc, kept, key, points, seqs, keeping) {
+    if let Err(error) = push_each_stripe::<O, F>(folder, alloc, kept, key, points, seqs, keeping) {
         // Points of only some stripes are no answer for the key.
         kept.truncate(before);
         return Err(error);

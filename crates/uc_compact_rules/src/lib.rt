@@ -8,6 +8,7 @@
 #![tactic(auto)]
 
 mod checking;
+mod folder;
 mod folding;
 mod fragment_seqs;
 mod keeping;
@@ -18,6 +19,7 @@ mod parts;
 mod stripe;
 
 pub use checking::{are_of_one_key, keeps_rise, seqs_are_from_one};
+pub use folder::{Alone, By, Folder, fold_in_threads};
 pub use fragment_seqs::kept_seqs;
 pub use keeping::Keeping;
 pub use kept_points::push_kept_points;

@@ -3,12 +3,12 @@ use std::alloc::{AllocError, Global};
 use std::test::Fail;
 use std::thread::Threads;
 use uc_compact_rules::{
-    Keeping, Over, are_of_one_key, compaction_gives_a_run, compaction_keeps_one_of_each_stripe,
-    compaction_keeps_what_is_read, compaction_of_the_oldest_leaves_values, keeps_rise, kept_seqs,
-    points_are_chosen_key_by_key, push_kept_points, runs_compose, seqs_are_from_one,
-    sequences_have_one_stripe,
+    By, Keeping, Over, are_of_one_key, compaction_gives_a_run, compaction_keeps_one_of_each_stripe,
+    compaction_keeps_what_is_read, compaction_of_the_oldest_leaves_values, fold_in_threads,
+    keeps_rise, kept_seqs, points_are_chosen_key_by_key, push_kept_points, runs_compose,
+    seqs_are_from_one, sequences_have_one_stripe,
 };
-use uc_oper::{Append, Counter};
+use uc_oper::{Append, Counter, Effect};
 use uc_run_entry::{Point, Seqs, WhatRef};
 
 /// A point of a test: its sequence, and what it says.
@@ -175,7 +175,10 @@ fn kept_by(
     }
     let keeping = Keeping::new(case.keeps, case.bottom);
     let mut kept = points_of(alloc, &[(1, WhatRef::Delete)])?;
-    push_kept_points::<Append<0x2C>>(rt, alloc, &mut kept, b"k", points, &over, &keeping)?;
+    let folder = By(|alloc: Global, before: Effect, points: &[&Point]| {
+        fold_in_threads::<Append<0x2C>>(rt, alloc, before, points)
+    });
+    push_kept_points::<Append<0x2C>, _>(&folder, alloc, &mut kept, b"k", points, &over, &keeping)?;
     Ok(kept)
 }
 

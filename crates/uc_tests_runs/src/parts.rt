@@ -1,15 +1,16 @@
-//! Drawn compactions by parts of the key space: any number of parts gives what one part does.
+//! Drawn compactions by parts of the key space: any number of parts gives what the calling thread alone does.
 use crate::compactions::output;
 use crate::drawn::{Dice, flushed};
+use crate::lookups::keeps_at;
 use crate::memtables::insert;
 use crate::overlaps::drawn_keeps;
-use std::alloc::Global;
+use std::alloc::{AllocError, Global};
 use std::process::Abort;
 use std::sync::Arc;
 use std::test::Fail;
 use std::thread::Threads;
 use uc_bytes::OpRef;
-use uc_compact::{compact_by_parts, inputs_stand};
+use uc_compact::{Alone, compact_by, compact_by_parts, inputs_stand};
 use uc_oper::Counter;
 use uc_run::{Memtable, Run};
 
@@ -123,32 +124,61 @@ fn by_parts(
     }
 }
 
-/// Whether two to nine parts give this output.
-fn parts_give(
-    rt: &(impl Threads + Sync),
-    alloc: Global,
-    asked: &Asked<'_>,
-    wanted: &Run,
-) -> Result<bool, Fail> {
-    for parts in 2..10 {
-        if !by_parts(rt, alloc, asked, parts)?.same(wanted) {
+/// Whether lookups find each point of a run: its filter has all keys.
+fn finds_all(alloc: Global, run: &Run) -> Result<bool, AllocError> {
+    for point in run.entries() {
+        if keeps_at::<Counter>(alloc, run, point.key(), u64::MAX)? {
             return Ok(false);
         }
     }
     Ok(true)
 }
 
-/// Whether two to nine parts give what one part does.
-fn parts_give_one(
+/// Whether a run is the wanted one, and finds its points.
+fn is_as_wanted(alloc: Global, run: &Run, wanted: &Run) -> Result<bool, AllocError> {
+    Ok(run.same(wanted) && finds_all(alloc, run)?)
+}
+
+/// The output of a compaction by the calling thread alone.
+fn alone(alloc: Global, asked: &Asked<'_>) -> Result<Arc<Run>, Fail> {
+    let Asked {
+        runs,
+        keeps,
+        oldest,
+    } = *asked;
+    if inputs_stand(runs, keeps) {
+        Ok(compact_by::<Counter, _>(&Alone, alloc, runs, keeps, oldest)?.into_output())
+    } else {
+        Err(Fail::new("the runs don't stand"))
+    }
+}
+
+/// Whether one to nine parts give this output, in which lookups find each point.
+fn parts_give(
+    rt: &(impl Threads + Sync),
+    alloc: Global,
+    asked: &Asked<'_>,
+    wanted: &Run,
+) -> Result<bool, Fail> {
+    for parts in 1..10 {
+        if !is_as_wanted(alloc, &*by_parts(rt, alloc, asked, parts)?, wanted)? {
+            return Ok(false);
+        }
+    }
+    Ok(true)
+}
+
+/// Whether one to nine parts give what the calling thread alone does.
+fn parts_give_alone(
     rt: &(impl Threads + Sync),
     alloc: Global,
     asked: &Asked<'_>,
 ) -> Result<bool, Fail> {
-    parts_give(rt, alloc, asked, &*by_parts(rt, alloc, asked, 1)?)
+    parts_give(rt, alloc, asked, &*alone(alloc, asked)?)
 }
 
 /// Whether they do so for drawn runs of so many keys.
-fn drawn_parts_give_one(
+fn drawn_parts_give_alone(
     rt: &(impl Abort + Threads + Sync),
     alloc: Global,
     dice: &mut Dice,
@@ -157,7 +187,7 @@ fn drawn_parts_give_one(
     let runs = drawn_runs(rt, alloc, dice, keys)?;
     let keeps = drawn_keeps(alloc, dice, 2_400, 400)?;
     let oldest = dice.roll(2) == 0;
-    parts_give_one(
+    parts_give_alone(
         rt,
         alloc,
         &Asked {
@@ -178,10 +208,10 @@ fn keys_of(round: u64) -> u64 {
 }
 
 #[test]
-fn parts_give_what_one_part_does(rt: HostRuntime) -> Result<(), Fail> {
+fn parts_give_what_one_thread_does(rt: HostRuntime) -> Result<(), Fail> {
     let mut dice = Dice(32);
     for round in 0..45 {
-        let same = drawn_parts_give_one(&rt, rt.alloc(), &mut dice, keys_of(round))?;
+        let same = drawn_parts_give_alone(&rt, rt.alloc(), &mut dice, keys_of(round))?;
         assert!(rt; same, "in round {round}");
     }
     Ok(())
@@ -226,16 +256,13 @@ fn gives(
     )
 }
 
-/// Whether runs have so many points that `compact` cuts the key space, and it gives what one part does.
+/// Whether runs have so many points that `compact` cuts the key space, and it gives what the calling thread alone does.
 fn are_cut_alike(
     rt: &(impl Threads + Sync),
     alloc: Global,
     asked: &Asked<'_>,
 ) -> Result<bool, Fail> {
-    Ok(
-        count_points(asked.runs) >= 16_384
-            && gives(rt, alloc, asked, &*by_parts(rt, alloc, asked, 1)?)?,
-    )
+    Ok(count_points(asked.runs) >= 16_384 && gives(rt, alloc, asked, &*alone(alloc, asked)?)?)
 }
 
 #[test]

@@ -7,3 +7,6 @@ loop-part-init c = record { rise = none_rise (λ cut. cut.now) c.new-cuts.result
 
 pub returns-then-parts-eq1-clause-rise : goal.returns-then-parts-eq1-clause-rise
 returns-then-parts-eq1-clause-rise c = none_rise (λ cut. cut.now) c.new-cuts.result.items c.new-cuts.ensures.items
+
+pub returns-in_default-clause-rise : goal.returns-in_default-clause-rise
+returns-in_default-clause-rise c = none_rise (λ cut. cut.now) c.new-cuts.result.items c.new-cuts.ensures.items

@@ -22,6 +22,6 @@ returns-in_ok-push-clause-rise c =
       | in-Some w ↦
           rises_above (λ cut. cut.now) c.args.key seen keys w.in-Some.last.now c.deref.ensures.value
           (subst (λ (r : Option (Bor (Bor (List ℕ)))). MatchOption r (length seen ≤ 0) (λ x. (0 < length seen) × HoldsAt (λ y. x.now ≡ y) seen (length seen - 1))) w.in-Some.is c.last.ensures.item.3)
-          (lt_of w.in-Some.last.now.now c.args.key.now (ap is_lt (sym w.cmp.ensures) ∙ sym w.is_lt-above.ensures ∙ sym w.above-is ∙ c.if-above.true))
+          (lt_of w.in-Some.last.now.now c.args.key.now (ap is_lt (sym w.cmp-in-Some.ensures) ∙ sym w.is_lt-above-in-Some.ensures ∙ sym w.above-is ∙ c.if-above.true))
           c.requires
     ])

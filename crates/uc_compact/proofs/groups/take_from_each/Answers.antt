@@ -11,7 +11,7 @@ use Rattle.uc_compact.proofs.groups.take_from_each.Goals.{then-is_at+in_ok-take_
 
 pub loop-place-preserved : goal.loop-place-preserved
 loop-place-preserved c =
-    let key = c.args.key.now in
+    let key = c.args.head.key.now in
     let old = c.args.cursors.now in
     let now = c.loop-place.cursors in
     let place = c.loop-place.place in

@@ -3,7 +3,7 @@ use Rattle.uc_compact.proofs.Grouping.{each_by, kept_by}
 use Rattle.uc_compact.proofs.points.points_kept.Goals as goal
 
 pub push_groups-requires-clause-each : goal.push_groups-requires-clause-each
-push_groups-requires-clause-each g c = λ κs lives.
+push_groups-requires-clause-each g c =
     each_by g.O.Operator.meaning c.args.keeping.now c.args.pieces.now (flat_map (λ points. points.now) c.args.runs.now) c.in_ok-groups.groups c.in_ok-groups.ensures c.requires.each
 
 pub returns : goal.returns

@@ -7,7 +7,7 @@ pub loop-points-init : goal.loop-points-init
 loop-points-init g c = first g.O.Operator.meaning c.args.keeping.now c.args.pieces.now c.args.kept.now.items c.args.groups.now c.requires.each
 
 pub push_kept_points-requires-clause-of_one_key : goal.push_kept_points-requires-clause-of_one_key
-push_kept_points-requires-clause-of_one_key g c = λ κs lives.
+push_kept_points-requires-clause-of_one_key g c =
     let points = map (λ p. p.now) c.next_into.new.points.items in
     one_key_by c.args.pieces.now c.in-Some.key.now points (map (λ p. p.now) c.deref.result.now) c.seqs_over-seqs.result (ap (map (λ p. p.now)) c.deref.ensures.value) c.seqs_over-seqs.ensures
     (one_key g.O.Operator.meaning c.args.keeping.now c.args.pieces.now c.args.kept.now.items c.args.groups.now c.loop-points.groups c.loop-points.kept.items c.loop-points.invariant _ c.next_into.new.self

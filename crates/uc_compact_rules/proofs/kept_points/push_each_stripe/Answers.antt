@@ -12,10 +12,10 @@ use Rattle.uc_compact_rules.proofs.Onward.{first_seen, point_step, left_is, left
 use Rattle.uc_compact_rules.proofs.kept_points.push_each_stripe.Goals as goal
 
 pub point_for-requires-clause-fall : goal.point_for-requires-clause-fall
-point_for-requires-clause-fall g c κs within = subst PointsFall (sym c.own_points-count.ensures.own) (points_filter (λ p. is_in c.stripe_of-stripe.result p.seq) (map (λ p. p.now) c.loop-newest.rest.now) c.loop-newest.invariant.fall)
+point_for-requires-clause-fall g c = subst PointsFall (sym c.own_points-count.ensures.own) (points_filter (λ p. is_in c.stripe_of-stripe.result p.seq) (map (λ p. p.now) c.loop-newest.rest.now) c.loop-newest.invariant.fall)
 
 pub point_for-requires-clause-from_one : goal.point_for-requires-clause-from_one
-point_for-requires-clause-from_one g c κs within = subst (AllByRecursion (λ (p : Entry). 0 < p.seq)) (sym c.own_points-count.ensures.own) (all-filter (λ (p : Entry). 0 < p.seq) (λ p. is_in c.stripe_of-stripe.result p.seq) (map (λ p. p.now) c.loop-newest.rest.now) c.loop-newest.invariant.from_one)
+point_for-requires-clause-from_one g c = subst (AllByRecursion (λ (p : Entry). 0 < p.seq)) (sym c.own_points-count.ensures.own) (all-filter (λ (p : Entry). 0 < p.seq) (λ p. is_in c.stripe_of-stripe.result p.seq) (map (λ p. p.now) c.loop-newest.rest.now) c.loop-newest.invariant.from_one)
 
 pub offset_bounds-rest-count : goal.offset_bounds-rest-count
 offset_bounds-rest-count g c =

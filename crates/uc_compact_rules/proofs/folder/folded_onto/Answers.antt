@@ -2,7 +2,7 @@ use Rattle.std.proofs.Common.{rules, ◌≡◌}
 use Rattle.uc_oper.specs.Composition.{composed}
 use Rattle.uc_run_entry.specs.Lookup as lookup
 use Rattle.uc_compact_rules.proofs.InTurn.{drop_oldest}
-use Rattle.uc_compact_rules.proofs.folding.folded_onto.Goals as goal
+use Rattle.uc_compact_rules.proofs.folder.folded_onto.Goals as goal
 
 pub loop-place-preserved : goal.loop-place-preserved
 loop-place-preserved g c =

@@ -3,7 +3,7 @@ use Rattle.std.proofs.lemmas.Result.{IfOk-weaker}
 use Rattle.uc_oper.specs.declared.effect.Effect.TheVariants.{Keep}
 use Rattle.uc_run_entry.specs.Lookup as lookup
 use Rattle.uc_compact_rules.proofs.InTurn.{halves_do}
-use Rattle.uc_compact_rules.proofs.folding.folded_by_halves.Goals as goal
+use Rattle.uc_compact_rules.proofs.folder.folded_by_halves.Goals as goal
 
 pub returns : goal.returns
 returns g c =

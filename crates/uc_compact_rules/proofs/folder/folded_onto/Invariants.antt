@@ -1,6 +1,6 @@
 use Rattle.std.proofs.Common.{◌≡◌, map, take}
 use Rattle.uc_run_entry.specs.Lookup as lookup
-use Rattle.uc_compact_rules.proofs.folding.folded_onto.Given as goal
+use Rattle.uc_compact_rules.proofs.folder.folded_onto.Given as goal
 
 -- the points that are left, onto the effect so far
 abbrev pub invariant-loop-place : goal.invariant-loop-place
