@@ -1,11 +1,11 @@
 //! Logs whose memtables are flushed in threads: they open as if nobody had started one.
-use crate::recoveries::batch_of;
 use std::alloc::{AllocError, Global};
+use std::cmp;
 use std::marker::Sync;
 use std::test::Fail;
 use std::thread::Threads;
-use uc_batch::Ended;
-use uc_bytes::OpRef;
+use uc_batch::{Ended, fits_batch, write_batch};
+use uc_bytes::{Op, OpRef, WriteRef};
 use uc_logrec::LogWriter;
 use uc_version_open::{OpenError, Opener, Recovered, recover, recover_in_threads};
 use uc_version_state::{Options, Placed, Version};
@@ -14,6 +14,8 @@ use uc_version_state::{Options, Placed, Version};
 struct Row {
     /// How many changes it has. Each takes ten bytes of a memtable.
     changes: u64,
+    /// How many changes a batch has.
+    batch: u64,
     /// How many bytes are cut off.
     cut: usize,
     memtable: u64,
@@ -25,14 +27,16 @@ struct Row {
 /// A row with a memtable for each of sixty changes.
 const SIXTY: Row = Row {
     changes: 60,
+    batch: 1,
     cut: 0,
     memtable: 1,
     wanted: Ok(60),
     ended: Ended::Clean,
 };
 
-/// Worked by hand. Four memtables that wait are flushed together.
-static ROWS: [Row; 15] = [
+/// Worked by hand. Three memtables that wait are flushed together, while three more are filled; and all that wait, once they
+/// are ten.
+static ROWS: [Row; 22] = [
     Row {
         memtable: 600,
         wanted: Ok(1),
@@ -69,6 +73,24 @@ static ROWS: [Row; 15] = [
         ..SIXTY
     },
     SIXTY,
+    // Batches that fill a memtable and a half, four, seven, eight and thirteen, and one batch that fills all.
+    Row {
+        batch: 3,
+        memtable: 20,
+        wanted: Ok(30),
+        ..SIXTY
+    },
+    Row { batch: 4, ..SIXTY },
+    Row { batch: 7, ..SIXTY },
+    Row { batch: 8, ..SIXTY },
+    Row { batch: 13, ..SIXTY },
+    Row { batch: 60, ..SIXTY },
+    Row {
+        changes: 257,
+        batch: 200,
+        wanted: Err(OpenError::TooManyRuns),
+        ..SIXTY
+    },
     // There are 256 slots.
     Row {
         changes: 256,
@@ -80,9 +102,10 @@ static ROWS: [Row; 15] = [
         wanted: Err(OpenError::TooManyRuns),
         ..SIXTY
     },
-    // Torn in the middle of the fourth memtable, while three wait, and of the fifth, when four were flushed.
+    // Torn in the middle of the fourth memtable, while three are flushed, and of the fifth.
     Row {
         changes: 24,
+        batch: 1,
         cut: 1,
         memtable: 70,
         wanted: Ok(4),
@@ -90,6 +113,7 @@ static ROWS: [Row; 15] = [
     },
     Row {
         changes: 33,
+        batch: 1,
         cut: 1,
         memtable: 70,
         wanted: Ok(5),
@@ -130,11 +154,36 @@ fn change_at(seq: u64) -> OpRef<'static> {
     }
 }
 
-/// This many changes, a batch for each, from sequence 1 on.
-fn mixed_log(alloc: Global, changes: u64) -> Result<Vec<u8>, Fail> {
+/// The changes from a sequence to another.
+fn changes_between(alloc: Global, first: u64, last: u64) -> Result<Vec<Op>, AllocError> {
+    let mut ops = Vec::new(alloc);
+    for seq in first..=last {
+        ops.push(change_at(seq).to_op(alloc)?)?;
+    }
+    Ok(ops)
+}
+
+/// A batch of changes, the first at this sequence.
+fn long_batch_of(alloc: Global, first: u64, ops: &[Op]) -> Result<Vec<u8>, Fail> {
+    if !fits_batch(first, ops) {
+        return Err("the batch is too long")?;
+    }
+    Ok(write_batch(alloc, first, ops)?)
+}
+
+/// This many changes, this many in a batch, from sequence 1 on.
+fn mixed_log(alloc: Global, changes: u64, batch: u64) -> Result<Vec<u8>, Fail> {
     let mut log = LogWriter::new(alloc);
-    for seq in 1..=changes {
-        log.add(&batch_of(alloc, seq, &change_at(seq))?)?;
+    let mut taken = 0_u64;
+    for _ in 0..changes {
+        if taken >= changes {
+            break;
+        }
+        let last = cmp::min(taken.saturating_add(batch), changes);
+        let first = taken.saturating_add(1);
+        let ops = changes_between(alloc, first, last)?;
+        log.add(&long_batch_of(alloc, first, &ops)?)?;
+        taken = last;
     }
     Ok(log.finish())
 }
@@ -288,7 +337,7 @@ fn is_taken_in_by_threads(
     alloc: Global,
     row: &Row,
 ) -> Result<bool, Fail> {
-    let log = mixed_log(alloc, row.changes)?;
+    let log = mixed_log(alloc, row.changes, row.batch)?;
     let log = log
         .get(..log.len().saturating_sub(row.cut))
         .ok_or("no log")?;
@@ -301,10 +350,58 @@ fn threads_open_the_same(rt: HostRuntime) -> Result<(), Fail> {
     for row in rows() {
         assert!(&rt;
             is_taken_in_by_threads(&rt, alloc, row)?,
-            "{} {}",
+            "{} {} {}",
             row.changes,
+            row.batch,
             row.memtable
         );
     }
+    Ok(())
+}
+
+/// What a log of fifteen changes opens, flushed by one or by threads, with a sixteenth behind it.
+fn opened_with_one_more(
+    rt: &(impl Threads + Sync),
+    alloc: Global,
+    log: &[u8],
+    (reading, ending): Way,
+) -> Result<Version, OpenError> {
+    let options = Options {
+        memtable: 10,
+        ..Options::usual()
+    };
+    let mut opener = recovered_by(rt, alloc, log, options, reading)?.opener;
+    insert_sixteenth(alloc, &mut opener)?;
+    finished_by(rt, alloc, opener, ending)
+}
+
+/// Takes a write at sequence 16, if all before it are there.
+fn insert_sixteenth(alloc: Global, opener: &mut Opener) -> Result<(), OpenError> {
+    if opener.last() != 15 {
+        return Err(OpenError::SnapshotAhead(15));
+    }
+    opener.insert(alloc, &WriteRef::new(16, change_at(16)))?;
+    Ok(())
+}
+
+/// Whether all ways open the same sixteen runs.
+fn all_take_one_more(rt: &(impl Threads + Sync), alloc: Global, log: &[u8]) -> bool {
+    let alone = opened_with_one_more(rt, alloc, log, (By::One, By::One));
+    if !is_wanted(&alone, &Ok(16)) {
+        return false;
+    }
+    for &way in ways() {
+        if !same_outcomes(&opened_with_one_more(rt, alloc, log, way), &alone) {
+            return false;
+        }
+    }
+    true
+}
+
+#[test]
+fn a_write_more_is_taken(rt: HostRuntime) -> Result<(), Fail> {
+    let alloc = rt.alloc();
+    let log = mixed_log(alloc, 15, 1)?;
+    assert!(&rt; all_take_one_more(&rt, alloc, &log));
     Ok(())
 }

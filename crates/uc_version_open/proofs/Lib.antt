@@ -6,3 +6,5 @@ pub mod Taken
 pub mod Inserting
 pub mod Feeding
 pub mod Counting
+pub mod Taking
+pub mod Placed

@@ -3,3 +3,5 @@ pub mod Progress
 pub mod Steps
 pub mod HeldProgress
 pub mod Parting
+pub mod Lending
+pub mod Reading

@@ -9,13 +9,16 @@ use std::marker::Sync;
 use std::thread::{Threads, join};
 use uc_run::Run;
 
+/// How many full memtables make a round: others flush them, while the calling thread fills as many more.
+pub(crate) const ROUND: usize = 3;
+
 /// How full memtables are flushed. What comes of them is the same whoever flushes them.
 pub(crate) trait Flusher {
     /// What is asked of what a flusher is made of. One that starts threads shares it among them.
     ghost can_flush: { Type 0 };
 
-    /// How many full memtables are flushed together. As soon as so many wait, none waits longer.
-    const TOGETHER: usize;
+    /// How many full memtables may wait, those among them that others flush. One more, and all are flushed at once.
+    const MOST_WAITING: usize;
 
     /// The runs of these memtables, in their order.
     fn flush(&self, alloc: Global, full: &[FullMemtable]) -> Result<Vec<Run>, AllocError>
@@ -64,20 +67,62 @@ fn flush_side_by_side<R: Threads + Sync>(
     Ok(runs)
 }
 
+/// What the calling thread does while others flush. `join` tells of a closure's result only what doesn't borrow, so the closure
+/// holds a value of a type parameter.
+pub(crate) trait Work {
+    /// What comes of it.
+    type Output;
+
+    /// What is asked before it is done.
+    ghost can_be_done: { Self → Type 0 };
+
+    /// What holds of what comes of it.
+    ghost gives: { Self → Self.Output → Type 0 };
+
+    /// Does the work.
+    fn run(self) -> Self::Output
+        requires { can_be_done self }
+        ensures { gives self result };
+}
+
+/// The runs of some memtables, flushed side by side by other threads, and what comes of the work that this one does meanwhile.
+pub(crate) fn flush_beside<R: Threads + Sync, W: Work<Output = T> + Drop, T>(
+    rt: &R,
+    alloc: Global,
+    full: &[FullMemtable],
+    work: W,
+) -> (Result<Vec<Run>, AllocError>, T)
+    requires { W.can_be_done work }
+    ensures runs { IfOk result.0 (λ runs. runs.items ≡ map flushed full.now) }
+    ensures work { W.gives work result.1 }
+{
+    join(
+        rt,
+        || -> Result<Vec<Run>, AllocError>
+            requires { IsSync R.row }
+            ensures { IfOk result (λ runs. runs.items ≡ map flushed full.entry.now) }
+        { flush_side_by_side(rt, alloc, full) },
+        move || -> T
+            requires { W.can_be_done work }
+            ensures { W.gives work result }
+        { work.run() },
+    )
+}
+
 /// Flushes alone: a memtable as soon as it is full, so none waits for others.
 pub(crate) struct Alone;
 
 impl Flusher for Alone {
     ghost can_flush = { ⊤ };
 
-    const TOGETHER: usize = 1;
+    const MOST_WAITING: usize = 0;
 
     fn flush(&self, alloc: Global, full: &[FullMemtable]) -> Result<Vec<Run>, AllocError> {
         flush_in_turn(alloc, full)
     }
 }
 
-/// Flushes up to four memtables side by side, in threads that it starts and waits for.
+/// Flushes the memtables that wait side by side, in threads that it starts and waits for.
 #[derive(Drop)]
 pub(crate) struct InThreads<'a, R: Threads + Sync> {
     rt: &'a R,
@@ -93,7 +138,8 @@ impl<'a, R: Threads + Sync> InThreads<'a, R> {
 impl<'a, R: Threads + Sync> Flusher for InThreads<'a, R> {
     ghost can_flush = { IsSync R.row };
 
-    const TOGETHER: usize = 4;
+    // A round's memtables, as many that are filled meanwhile, and as many again for batches that fill several at once.
+    const MOST_WAITING: usize = 3 * ROUND;
 
     fn flush(&self, alloc: Global, full: &[FullMemtable]) -> Result<Vec<Run>, AllocError> {
         flush_side_by_side(self.rt, alloc, full)

@@ -12,8 +12,9 @@
 //! [`recover_first`] does so for the first writes alone, and hands those behind them out; [`count_writes`] tells how many
 //! there are. Read `recovery.rt`.
 //!
-//! [`recover_in_threads`] lets full memtables wait, and flushes four at a time side by side; [`Opener::finish_in_threads`]
-//! flushes those that are left. A store that opens so is the same, whichever flush ends first. Read `flusher.rt`.
+//! [`recover_in_threads`] lets full memtables wait, and flushes three at a time side by side while it reads on;
+//! [`Opener::finish_in_threads`] flushes those that are left. A store that opens so is the same, whichever flush ends first.
+//! Read `flusher.rt`, and then `reading.rt`.
 //!
 //! An `Err(AllocError)`, or a variant `Memory`, comes only if an allocation fails.
 #![tactic(auto)]
@@ -24,9 +25,11 @@ mod flushes;
 mod full_memtable;
 mod keeps;
 mod laws;
+mod lent_memtables;
 mod memtables;
 mod open_error;
 mod opener;
+mod reading;
 mod recovery;
 
 pub use first_version::open_version;

@@ -1,12 +1,14 @@
 //! [`Memtables`]: the memtables of writes, of which full ones are flushed.
-ghost use Rattle.std.specs.Prelude.{◌≡◌, ◌≢◌, ◌≤◌, ◌<◌, ◌^◌, ◌++◌, ◌∷◌, [], IfOk, IfSome, OnOk, OnErr, map, vec_len};
+ghost use Rattle.std.specs.Prelude.{◌≡◌, ◌≢◌, ◌≤◌, ◌<◌, ◌^◌, ◌++◌, ◌∷◌, [], IfOk, IfSome, OnOk, OnErr, length, map, vec_len};
 ghost use Rattle.uc_batch.specs.Rising.{last_of};
 ghost use Rattle.uc_run.specs.Flush.{flushed};
+ghost use Rattle.uc_version_open.specs.Lending.{StandsAt};
 ghost use Rattle.uc_version_open.specs.Steps as steps;
 ghost use Rattle.uc_version_open.specs.Steps.{begun, with_write, held_with};
 
 use crate::flusher::Flusher;
 use crate::full_memtable::FullMemtable;
+use crate::lent_memtables::{LentMemtables, Loan};
 use std::alloc::{AllocError, Global};
 use std::marker::Model;
 use std::mem;
@@ -15,13 +17,15 @@ use uc_claims::MOST_SLOTS;
 use uc_run::{Memtable, Run};
 
 /// The memtables of writes that come one after the other. A full one waits from the next write on, until a [`Flusher`] makes
-/// a run of it and of those that wait beside it. A contract sees the runs of all but the newest, and not which of these are
-/// made already.
+/// a run of it, or another thread does, to which it is lent. A contract sees the runs of all but the newest, and not which of
+/// these are made already.
 #[derive(Debug, Drop)]
 pub(crate) struct Memtables {
     /// The runs of those that were flushed, the oldest first.
     runs: Vec<Run>,
-    /// Those that wait to be flushed, the oldest first. All are newer than those that were.
+    /// Those that others flush. All are newer than those that were flushed.
+    lent: LentMemtables,
+    /// Those that wait to be flushed, the oldest first. All are newer than those that are lent.
     full: Vec<FullMemtable>,
     newest: Memtable,
 }
@@ -33,7 +37,10 @@ impl Model for Memtables {
 
     ghost Value = { Flushing };
 
-    ghost view = { λ m. record { runs = m.runs.items ++ map flushed m.full.items; newest = m.newest } };
+    ghost view = { λ m. record {
+      runs = (m.runs.items ++ map flushed m.lent) ++ map flushed m.full.items;
+      newest = m.newest;
+    } };
 }
 
 /// Lets a full memtable wait, and begins one with this write. An `Err` changes nothing.
@@ -68,6 +75,24 @@ fn take_back(full: &mut Vec<FullMemtable>, newest: &mut Memtable)
     }
 }
 
+/// Flushes the memtables that are lent, in place of those who have them. Whoever lent them still sees the same runs, whatever
+/// comes of it.
+fn flush_lent<F: Flusher>(
+    flusher: &F,
+    alloc: Global,
+    runs: &mut Vec<Run>,
+    lent: &mut LentMemtables,
+) -> Result<(), AllocError>
+    requires { F.can_flush }
+    ensures same { runs.new.items ++ map flushed lent.new ≡ runs.old.items ++ map flushed lent.old }
+    ensures none_lent { OnOk result (lent.new ≡ []) }
+{
+    let mut older = flusher.flush(alloc, lent.as_slice())?;
+    runs.append(&mut older)?;
+    *lent = LentMemtables::none();
+    Ok(())
+}
+
 /// Flushes the memtables that wait behind older runs. An `Err` changes nothing.
 fn flush_onto<F: Flusher>(
     flusher: &F,
@@ -87,6 +112,41 @@ fn flush_onto<F: Flusher>(
     Ok(())
 }
 
+/// Flushes the memtables that are lent and those that wait behind older runs. An `Err` changes nothing of those that wait.
+fn flush_all<F: Flusher>(
+    flusher: &F,
+    alloc: Global,
+    runs: &mut Vec<Run>,
+    lent: &mut LentMemtables,
+    full: &mut Vec<FullMemtable>,
+) -> Result<(), AllocError>
+    requires { F.can_flush }
+    ensures runs { OnOk result (runs.new.items ≡ (runs.old.items ++ map flushed lent.old) ++ map flushed full.old.items) }
+    ensures none_lent { OnOk result (lent.new ≡ []) }
+    ensures none_waits { OnOk result (full.new.items ≡ []) }
+    ensures runs_kept { OnErr result
+        (runs.new.items ++ map flushed lent.new ≡ runs.old.items ++ map flushed lent.old) }
+    ensures full_kept { OnErr result (full.new.items ≡ full.old.items) }
+{
+    flush_lent(flusher, alloc, runs, lent)?;
+    flush_onto(flusher, alloc, runs, full)
+}
+
+/// Lends those that wait, unless some are lent already: then these.
+fn lend_full(
+    alloc: Global,
+    lent: LentMemtables,
+    full: Vec<FullMemtable>,
+) -> Result<(LentMemtables, Vec<FullMemtable>), AllocError>
+    ensures { IfOk result (λ parts. parts.0 ++ parts.1.items ≡ lent ++ full.items) }
+{
+    if !lent.as_slice().is_empty() {
+        return Ok((lent, full));
+    }
+    let lent = LentMemtables::of(alloc, full)?;
+    Ok((lent, Vec::new(alloc)))
+}
+
 impl Memtables {
     /// No memtables. It doesn't allocate.
     pub(crate) fn new(alloc: Global) -> Memtables
@@ -94,6 +154,7 @@ impl Memtables {
     {
         Memtables {
             runs: Vec::new(alloc),
+            lent: LentMemtables::none(),
             full: Vec::new(alloc),
             newest: Memtable::new(alloc),
         }
@@ -110,11 +171,25 @@ impl Memtables {
     fn is_spent(&self, limit: u64) -> bool
         ensures { result ≡ steps.is_spent limit self.now }
     {
-        self.is_full(limit) && self.runs.len() + self.full.len() >= MOST_SLOTS - 1
+        self.is_full(limit) && self.count_full() >= MOST_SLOTS - 1
     }
 
-    /// Lets the newest wait, and begins one with this write. Once there are enough that wait, they are flushed. An `Err`
-    /// changes nothing.
+    /// How many are full: those that were flushed, that are lent, and that wait.
+    fn count_full(&self) -> usize
+        ensures { result ≡ length self.now.runs }
+    {
+        let flushed = self.runs.len();
+        let lent = self.lent.as_slice();
+        let full = self.full.as_slice();
+        flushed + lent.len() + full.len()
+    }
+
+    /// How many wait, besides those that are lent. A contract doesn't see it.
+    pub(crate) fn waiting(&self) -> usize {
+        self.full.len()
+    }
+
+    /// Lets the newest wait, and begins one with this write. If too many wait then, all are flushed. An `Err` changes nothing.
     fn begin<F: Flusher>(
         &mut self,
         flusher: &F,
@@ -129,10 +204,16 @@ impl Memtables {
         ensures err { OnErr result (self.new ≡ self.old) }
     {
         begin_next(alloc, &mut self.full, &mut self.newest, write)?;
-        if self.full.len() < F::TOGETHER {
+        if self.full.len() + self.lent.as_slice().len() <= F::MOST_WAITING {
             return Ok(());
         }
-        if let Err(error) = flush_onto(flusher, alloc, &mut self.runs, &mut self.full) {
+        if let Err(error) = flush_all(
+            flusher,
+            alloc,
+            &mut self.runs,
+            &mut self.lent,
+            &mut self.full,
+        ) {
             take_back(&mut self.full, &mut self.newest);
             return Err(error);
         }
@@ -172,14 +253,53 @@ impl Memtables {
     {
         let Memtables {
             mut runs,
+            mut lent,
             mut full,
             newest,
         } = self;
         if !newest.is_empty() {
             full.push(FullMemtable::new(newest))?;
         }
-        flush_onto(flusher, alloc, &mut runs, &mut full)?;
+        flush_all(flusher, alloc, &mut runs, &mut lent, &mut full)?;
         Ok(runs)
+    }
+
+    /// Lends those that wait, so that others can flush them while writes are inserted. [`settle`](Memtables::settle) takes the
+    /// runs. Until then those that are lent can be flushed here too.
+    pub(crate) fn lend(self, alloc: Global) -> Result<(Memtables, Loan), AllocError>
+        ensures kept { IfOk result (λ lent. lent.0 ≡ self) }
+        ensures loan { IfOk result (λ lent. StandsAt lent.1.older (map flushed lent.1.memtables) self.runs) }
+    {
+        let Memtables {
+            runs,
+            lent,
+            full,
+            newest,
+        } = self;
+        let older = runs.len();
+        let (lent, full) = lend_full(alloc, lent, full)?;
+        let memtables = lent.share()?;
+        let kept = Memtables {
+            runs,
+            lent,
+            full,
+            newest,
+        };
+        Ok((kept, Loan { older, memtables }))
+    }
+
+    /// Takes the runs of those that are lent, if these weren't flushed meanwhile; `older` is how many runs were there when they
+    /// were lent. It changes nothing that a contract sees.
+    pub(crate) fn settle(&mut self, older: usize, mut made: Vec<Run>) -> Result<(), AllocError>
+        requires { StandsAt older made.items self.old.runs }
+        ensures { self.new ≡ self.old }
+    {
+        if self.runs.len() != older || self.lent.as_slice().len() != made.len() {
+            return Ok(());
+        }
+        self.runs.append(&mut made)?;
+        self.lent = LentMemtables::none();
+        Ok(())
     }
 }
 

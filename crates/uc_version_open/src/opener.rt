@@ -1,10 +1,13 @@
 //! [`Opener`]: a store that is being opened.
-ghost use Rattle.std.specs.Prelude.{◌≡◌, ◌≢◌, ◌<◌, ◌^◌, ◌∷◌, ◌++◌, [], List, Some, None, IfOk, IfErr, OnOk, OnErr};
+ghost use Rattle.std.specs.Prelude.{◌≡◌, ◌≢◌, ◌<◌, ◌^◌, ◌∷◌, ◌++◌, [], List, Some, None, ℕ, IfOk, IfErr, OnOk, OnErr, map};
 ghost use Rattle.uc_bytes.specs.declared.write.Write.{Write as WriteOf};
 ghost use Rattle.uc_batch.specs.Rising.{IsRising};
 ghost use Rattle.uc_version_state.specs.declared.options.Options.{Options as OptionsOf};
 ghost use Rattle.uc_version_state.specs.Versions.{IsVersion};
 ghost use Rattle.uc_version_state.specs.Openings.{Opening as OpeningOf, opened};
+ghost use Rattle.uc_run.specs.Flush.{flushed};
+ghost use Rattle.uc_run_entry.specs.Run.{Contents};
+ghost use Rattle.uc_version_open.specs.Lending.{StandsIn};
 ghost use Rattle.uc_version_open.specs.Progress.{progress_of};
 ghost use Rattle.uc_version_open.specs.Refusal.{opening_refusal};
 ghost use Rattle.uc_version_open.specs.Steps as steps;
@@ -13,19 +16,21 @@ ghost use Rattle.uc_version_open.specs.declared.open_error.OpenError.TheVariants
 use crate::flusher::{Alone, Flusher, InThreads};
 use crate::keeps::{first_ahead, kept};
 use crate::laws::no_refusal_is_leave_to_open;
+use crate::lent_memtables::{LentMemtables, Loan};
 use crate::memtables::{Memtables, hold_write};
 use crate::open_error::OpenError;
 use std::alloc::{AllocError, Global};
 use std::marker::{Model, Sync};
 use std::thread::Threads;
 use uc_bytes::WriteRef;
+use uc_run::Run;
 use uc_version_state::{Options, Version, opening_gives_a_version, placed_onto};
 
 /// A store that is being opened, by the writes of a log one after the other.
 ///
 /// It refuses nothing before [`finish`](Opener::finish), since a fault of the log comes before a refused opening. It
-/// holds the runs so far, one memtable and, if it is filled by [`recover_in_threads`](crate::recover_in_threads), up to three
-/// more that wait to be flushed; or nothing once the store can't open any more.
+/// holds the runs so far, one memtable and, if it is filled by [`recover_in_threads`](crate::recover_in_threads), a few more
+/// that wait or that other threads flush meanwhile; or nothing once the store can't open any more.
 #[derive(Debug, Drop)]
 pub struct Opener {
     options: Options,
@@ -65,6 +70,25 @@ fn version_of<F: Flusher>(
     Ok(Version::new(runs, keeps, last, next_id, options.memtable))
 }
 
+/// Lends the memtables that wait, if there are memtables.
+fn lend_some(
+    alloc: Global,
+    held: Option<Memtables>,
+) -> Result<(Option<Memtables>, Loan), AllocError>
+    ensures kept { IfOk result (λ lent. lent.0 ≡ held) }
+    ensures loan { IfOk result (λ lent. StandsIn lent.1.older (map flushed lent.1.memtables) held) }
+{
+    let Some(memtables) = held else {
+        let nothing = Loan {
+            older: 0,
+            memtables: LentMemtables::none(),
+        };
+        return Ok((None, nothing));
+    };
+    let (memtables, loan) = memtables.lend(alloc)?;
+    Ok((Some(memtables), loan))
+}
+
 impl Opener {
     /// A store without writes so far. Bad options are refused only at the end. It doesn't allocate.
     pub fn new(alloc: Global, options: Options) -> Opener
@@ -101,6 +125,8 @@ impl Opener {
         ensures ok { (options : OptionsOf) (writes : List WriteOf) → self.old ≡ progress_of options writes →
             OnOk result (self.new ≡ progress_of options (writes ++ write.now ∷ [])) }
         ensures last { OnOk result (self.new.last ≡ write.now.seq) }
+        ensures stay { (place : ℕ) (part : List Contents) → StandsIn place part self.old.held →
+            OnOk result (StandsIn place part self.new.held) }
         ensures err { OnErr result (self.new ≡ self.old) }
     {
         hold_write(
@@ -126,6 +152,45 @@ impl Opener {
         ensures err { OnErr result (self.new ≡ self.old) }
     {
         self.insert_by(&Alone, alloc, write)
+    }
+
+    /// How many full memtables wait, besides those that are lent. A contract doesn't see it.
+    pub(crate) fn waiting(&self) -> usize {
+        match &self.memtables {
+            Some(memtables) => memtables.waiting(),
+            None => 0,
+        }
+    }
+
+    /// Lends the memtables that wait, so that others can flush them while writes are inserted. [`settle`](Opener::settle) takes
+    /// the runs.
+    pub(crate) fn lend(self, alloc: Global) -> Result<(Opener, Loan), AllocError>
+        ensures kept { IfOk result (λ lent. lent.0 ≡ self) }
+        ensures loan { IfOk result (λ lent. StandsIn lent.1.older (map flushed lent.1.memtables) self.held) }
+    {
+        let Opener {
+            options,
+            last,
+            memtables,
+        } = self;
+        let (memtables, loan) = lend_some(alloc, memtables)?;
+        let kept = Opener {
+            options,
+            last,
+            memtables,
+        };
+        Ok((kept, loan))
+    }
+
+    /// Takes the runs of what was lent when there were `older` runs. It changes nothing that a contract sees.
+    pub(crate) fn settle(&mut self, older: usize, made: Vec<Run>) -> Result<(), AllocError>
+        requires { StandsIn older made.items self.old.held }
+        ensures { self.new ≡ self.old }
+    {
+        match &mut self.memtables {
+            Some(memtables) => memtables.settle(older, made),
+            None => Ok(()),
+        }
     }
 
     /// As [`finish`](Opener::finish), with full memtables flushed by `flusher`.

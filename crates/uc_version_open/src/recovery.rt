@@ -7,8 +7,9 @@ ghost use Rattle.uc_version_state.specs.declared.options.Options.{Options as Opt
 ghost use Rattle.uc_version_open.specs.Parting.{ComeNext, IsParted};
 ghost use Rattle.uc_version_open.specs.Progress.{progress_of};
 
-use crate::flusher::{Alone, Flusher, InThreads};
+use crate::flusher::Alone;
 use crate::opener::Opener;
+use crate::reading::{begin_reading, flush_and_read_on, insert_batch};
 use std::alloc::{AllocError, Global};
 use std::marker::Sync;
 use std::thread::Threads;
@@ -25,32 +26,9 @@ pub struct Recovered {
     pub ended: Ended,
 }
 
-/// Takes the writes of a batch into a store that is being opened.
-fn insert_batch<F: Flusher>(
-    flusher: &F,
-    alloc: Global,
-    opener: &mut Opener,
-    writes: BatchWrites<'_>,
-) -> Result<(), AllocError>
-    requires can { F.can_flush }
-    requires rising { IsRising opener.old.last writes }
-    ensures { (options : OptionsOf) (before : List WriteOf) → opener.old ≡ progress_of options before →
-        OnOk result (opener.new ≡ progress_of options (before ++ writes.entry)) }
-{
-    for write in writes {
-        opener.insert_by(flusher, alloc, &write)?;
-    }
-    Ok(())
-}
-
-/// As [`recover`], with full memtables flushed by `flusher`.
-fn recover_by<F: Flusher>(
-    flusher: &F,
-    alloc: Global,
-    log: &[u8],
-    options: Options,
-) -> Result<Recovered, AllocError>
-    requires { F.can_flush }
+/// Takes the writes of a log, up to its first fault, into a store that is being opened under these options. It goes
+/// once over the log. It holds what the opener holds, and one buffer for a batch of several records.
+pub fn recover(alloc: Global, log: &[u8], options: Options) -> Result<Recovered, AllocError>
     ensures opener { IfOk result (λ recovered. recovered.opener ≡ progress_of options (log_writes log.now).list) }
     ensures ended { IfOk result (λ recovered. recovered.ended ≡ (log_writes log.now).ended) }
     ensures rising { IfOk result (λ recovered. IsRising 0 (log_writes log.now).list) }
@@ -59,24 +37,14 @@ fn recover_by<F: Flusher>(
     let mut batches = BatchReader::new(alloc, log);
     loop {
         match batches.advance()? {
-            Advance::Batch => insert_batch(flusher, alloc, &mut opener, batches.writes())?,
+            Advance::Batch => insert_batch(&Alone, alloc, &mut opener, batches.writes())?,
             Advance::Ended(ended) => return Ok(Recovered { opener, ended }),
         }
     }
 }
 
-/// Takes the writes of a log, up to its first fault, into a store that is being opened under these options. It goes
-/// once over the log. It holds what the opener holds, and one buffer for a batch of several records.
-pub fn recover(alloc: Global, log: &[u8], options: Options) -> Result<Recovered, AllocError>
-    ensures opener { IfOk result (λ recovered. recovered.opener ≡ progress_of options (log_writes log.now).list) }
-    ensures ended { IfOk result (λ recovered. recovered.ended ≡ (log_writes log.now).ended) }
-    ensures rising { IfOk result (λ recovered. IsRising 0 (log_writes log.now).list) }
-{
-    recover_by(&Alone, alloc, log, options)
-}
-
-/// As [`recover`], with full memtables flushed side by side, in threads. So up to three of them wait beside what `recover`
-/// holds.
+/// As [`recover`], with full memtables flushed side by side, in threads, while this one reads on. So beside what `recover`
+/// holds there are six of them with the runs that are made of them, and up to nine where a batch fills several.
 pub fn recover_in_threads(
     rt: &(impl Threads + Sync),
     alloc: Global,
@@ -87,7 +55,14 @@ pub fn recover_in_threads(
     ensures ended { IfOk result (λ recovered. recovered.ended ≡ (log_writes log.now).ended) }
     ensures rising { IfOk result (λ recovered. IsRising 0 (log_writes log.now).list) }
 {
-    recover_by(&InThreads::new(rt), alloc, log, options)
+    let mut reading = begin_reading(rt, alloc, log, options)?;
+    loop {
+        if let Some(ended) = reading.ended {
+            let opener = reading.opener;
+            return Ok(Recovered { opener, ended });
+        }
+        reading = flush_and_read_on(rt, alloc, reading)?;
+    }
 }
 
 /// How many writes a log has up to its first fault, and how far it was read.

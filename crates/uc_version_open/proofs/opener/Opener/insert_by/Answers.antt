@@ -4,9 +4,11 @@ use Rattle.uc_batch.specs.Rising.{last_of}
 use Rattle.uc_run.proofs.Inserted.{rising_grown}
 use Rattle.uc_version_open.specs.Progress.{Flushing, Progress, progress_of}
 use Rattle.uc_version_open.specs.HeldProgress.{progress}
+use Rattle.uc_version_open.specs.Lending.{StandsIn}
 use Rattle.uc_version_open.specs.Steps.{held_with}
 use Rattle.uc_version_open.proofs.Grown.{state_grown}
 use Rattle.uc_version_open.proofs.Newest.{held_below}
+use Rattle.uc_version_open.proofs.Placed.{stands_with}
 use Rattle.uc_version_open.proofs.opener.Opener.insert_by.Goals as goal
 
 pub hold_write-requires-clause-above : goal.hold_write-requires-clause-above
@@ -40,3 +42,9 @@ returns-clause-ok g c = λ options writes e.
     let after : Progress = record { options = before.options; last = c.seq-self-inside.result; held = c.hold_write.new.held } in
     let changed : after ≡ record { options = before.options; last = w.seq; held = held_with before.options.memtable before.memtables w } = (λ i. record { options = before.options; last = c.seq-self-inside.ensures i; held = c.in_ok-hold_write.ensures.ok i }) in
     changed ∙ state_grown (progress before) options writes w (c.self.view_is ∙ e)
+
+pub returns-clause-stay : goal.returns-clause-stay
+returns-clause-stay g c = λ place part stands.
+    let before = c.self.inside in
+    let stood : StandsIn place part before.memtables = subst (λ (p : Progress). StandsIn place part p.held) (sym c.self.view_is) stands in
+    subst (StandsIn place part) (sym c.in_ok-hold_write.ensures.ok) (stands_with before.options.memtable place part before.memtables c.args.write.now stood)
