@@ -38,7 +38,7 @@ pub use uc_share::{
     Compactor, Held, MOST_READERS, MOST_SEATS, Name, Opening, Pin, Reader, Seat, Store, Turn,
 };
 pub use uc_version::{
-    ClaimError, CompactError, FeedError, InstallError, Options, Owned, OwnedClaim, Placed,
-    ReleaseError, Stretch, Version,
+    Alone, By, ClaimError, CompactError, FeedError, InstallError, Merger, Options, Owned,
+    OwnedClaim, Placed, ReleaseError, Stretch, Version,
 };
 pub use uc_version_open::OpenError;

@@ -7,7 +7,7 @@ use std::test::Fail;
 use std::thread::Threads;
 use uc_bytes::Bytes;
 use uc_query::{Answer, Query, answer_one};
-use uc_version::{ClaimError, CompactError, MOST_SLOTS, Stretch};
+use uc_version::{Alone, ClaimError, CompactError, MOST_SLOTS, Stretch};
 use uc_version_state::{GREATEST_FIRST_ID, Version};
 
 /// What is claimed before, a stretch that is compacted at once, the outcome, and the runs then, by their ids and slots.
@@ -176,6 +176,22 @@ fn what_was_merged_is_read(rt: HostRuntime) -> Result<(), Fail> {
     compacts(&rt, alloc, &mut store, &NEWEST);
     assert!(rt; newest_is_merged(store.version()));
     assert!(rt; has_value(alloc, store.version(), b"a,b,c")?);
+    Ok(())
+}
+
+/// Compacts the two newest runs by this thread alone, and checks the outcome.
+fn compacts_alone(rt: &impl Abort, alloc: Global, store: &mut Store) {
+    let outcome = store.compact_now_by(&Alone, alloc, NEWEST.stretch);
+    assert_eq!(rt; outcome, NEWEST.outcome);
+    assert!(rt; has_runs(store, NEWEST.runs));
+}
+
+#[test]
+fn one_thread_merges_alone(rt: HostRuntime) -> Result<(), Fail> {
+    let alloc = rt.alloc();
+    let mut store = opened(alloc, &MERGED, &[], 1)?;
+    compacts_alone(&rt, alloc, &mut store);
+    assert!(rt; newest_is_merged(store.version()));
     Ok(())
 }
 

@@ -31,9 +31,11 @@ pub use opened_writes::open_plain;
 pub use owned::Owned;
 pub use owned_claim::OwnedClaim;
 pub use uc_claims::MOST_SLOTS;
+pub use uc_compact::{Alone, By, Merger};
 pub use uc_version_compact::{
-    ClaimError, InstallError, are_inputs, compact_stretch, error_of, install_of, install_refusal,
-    pick, present_refusal, run_ids, runs_of, slots_of, stretch_runs, what_fits_may_be_installed,
+    ClaimError, InstallError, are_inputs, compact_stretch, compact_stretch_by, error_of,
+    install_of, install_refusal, pick, present_refusal, run_ids, runs_of, slots_of, stretch_runs,
+    what_fits_may_be_installed,
 };
 pub use uc_version_open::{OpenError, Opener, open_version};
 pub use uc_version_state::{

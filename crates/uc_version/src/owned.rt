@@ -17,10 +17,10 @@ use std::alloc::{AllocError, Global};
 use std::marker::{Model, PhantomData, Sync};
 use std::thread::Threads;
 use uc_claims::{ClaimTable, HeldSlots, MOST_SLOTS};
-use uc_compact::Compacted;
+use uc_compact::{Compacted, Merger};
 use uc_oper::Operator;
 use uc_version_compact::{
-    ClaimError, InstallError, compact_stretch, install_refusal, pick, runs_of,
+    ClaimError, InstallError, compact_stretch, compact_stretch_by, install_refusal, pick, runs_of,
 };
 use uc_version_state::{Options, Stretch, Version, install_gives_a_version};
 
@@ -150,6 +150,7 @@ impl<O: Operator> Owned<O> {
     }
 
     /// Compacts the runs of a claim under the current keeps, and with the oldest run exactly if it is the last of them.
+    /// Threads do a part of it.
     pub fn compact(
         &self,
         rt: &(impl Threads + Sync),
@@ -166,6 +167,24 @@ impl<O: Operator> Owned<O> {
     {
         let held = held_stretch(&self.claims, claim);
         compact_stretch::<O>(rt, alloc, &self.version, held.place())
+    }
+
+    /// Compacts the runs of a claim as `compact` does, by this merger.
+    pub fn compact_by<M: Merger<O>>(
+        &self,
+        merger: &M,
+        alloc: Global,
+        claim: &OwnedClaim,
+    ) -> Result<Compacted<O>, AllocError>
+        requires can { M.can_merge merger.now }
+        requires held { claiming.is_held self.now claim.now ≡ true }
+        ensures { IfOk result (λ made.
+            made ≡
+            installing.compaction_of self.now.version
+            (installing.stretch_of self.now claim.now)) }
+    {
+        let held = held_stretch(&self.claims, claim);
+        compact_stretch_by::<O, M>(merger, alloc, &self.version, held.place())
     }
 
     /// Why `made` may not replace the claim's runs, if it may not. It goes over the points of these runs.

@@ -21,4 +21,4 @@ pub use install_error::InstallError;
 pub use laws::{own_compactions_stay_installable, what_fits_may_be_installed};
 pub use refusal::{are_inputs, error_of, install_refusal, present_refusal};
 pub use runs::{run_ids, runs_of, slots_of, stretch_runs};
-pub use stretches::{compact_stretch, install_of};
+pub use stretches::{compact_stretch, compact_stretch_by, install_of};

@@ -5,10 +5,10 @@ use Rattle.uc_run_entry.specs.Run.{Contents}
 use Rattle.uc_compact_rules.specs.Inputs.{Stand}
 use Rattle.uc_version_state.specs.Versions.{contents_of}
 use Rattle.uc_version_compact.proofs.Standing.{part_stands}
-use Rattle.uc_version_compact.proofs.stretches.compact_stretch.Goals as goal
+use Rattle.uc_version_compact.proofs.stretches.compact_stretch_by.Goals as goal
 
-pub compact-requires-after_bounds : goal.compact-requires-after_bounds
-compact-requires-after_bounds g c = λ κs a.
+pub compact_by-requires-clause-stand : goal.compact_by-requires-clause-stand
+compact_by-requires-clause-stand g c =
     let v = c.args.version.now in
     let s = c.args.stretch in
     let inputs = ap (map arc_value) c.deref.ensures.value ∙ c.in_ok-inputs.ensures ∙ ap contents_of c.stretch_runs-runs.ensures in

@@ -3,7 +3,7 @@ use Rattle.uc_version.specs.Owners.{Owner}
 use Rattle.uc_version.specs.Installing.{IdLeft}
 use Rattle.uc_version.specs.AtOnce.{IsNotMade, IsNotCompacted}
 use Rattle.uc_version.proofs.CompactedNow.{may, compacted_now, undone, not_compacted}
-use Rattle.uc_version.proofs.owned.Owned.compact_now.Goals as goal
+use Rattle.uc_version.proofs.owned.Owned.compact_now_by.Goals as goal
 
 pub returns-in-Ok-compaction-clause-ok : goal.returns-in-Ok-compaction-clause-ok
 returns-in-Ok-compaction-clause-ok g c =
