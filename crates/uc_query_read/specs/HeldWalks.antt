@@ -5,8 +5,8 @@ use Rattle.uc_query_read.specs.declared.cursors.Cursors.TheInside.{Inside}
 
 -- the keys of the runs' points that are still ahead
 abbrev pub walk : Inside → Walk
-walk k = walk_at k.low.now k.strict k.high.now (runs_of k.walkers)
+walk k = walk_at k.low.now k.strict k.high.now (runs_of k.walkers.cursors)
 
 -- the cursors are before the points of these keys
 abbrev pub AreThere : Inside → Type 0
-AreThere k = AllByRecursion (StandsAt k.low.now k.strict) k.walkers
+AreThere k = AllByRecursion (StandsAt k.low.now k.strict) k.walkers.cursors

@@ -13,6 +13,11 @@ pub record Walk : Type 0 where
   pub runs : List Contents
   pub keys : List (List ℕ)
 
+-- cursors in runs, the newest first, and the front by which their next keys have numbers
+pub record Numbered : Type 0 where
+  pub front : List ℕ
+  pub cursors : List Standing
+
 -- a walk that passed keys without a value at a sequence, or stayed: the same rows are ahead, no more keys are, and the
 -- runs are the same
 pub record Skips (m : Operation) (at : ℕ) (old new : Walk) : Type 0 where

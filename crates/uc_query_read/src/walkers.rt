@@ -3,7 +3,7 @@ ghost use Rattle.std.specs.Prelude.{◌≡◌, ℕ, Bool, List, true, false, map
 ghost use Rattle.std.specs.List.{AllByRecursion};
 ghost use Rattle.uc_model.specs.Meaning.{effect_on, value_of};
 ghost use Rattle.uc_run.specs.Cursors.{has_ranges};
-ghost use Rattle.uc_run.specs.Heads.{next_key};
+ghost use Rattle.uc_run.specs.Heads.{next_key, number_of};
 ghost use Rattle.uc_run.specs.NextKey.{IsNextKey};
 ghost use Rattle.uc_compact_rules.specs.Inputs.{points_of, writes_of};
 ghost use Rattle.uc_version_state.specs.Versions.{contents_of};
@@ -16,10 +16,11 @@ use std::marker::Model;
 use uc_bytes::Bytes;
 use uc_model::{effect_gives_value, effects_of_parts_compose};
 use uc_oper::{Effect, Operator};
-use uc_run::{Cursor, Heads, keys_at_places_are_next, other_keys_are_kept};
+use uc_run::{Cursor, Head, Heads, keys_at_places_are_next, other_keys_are_kept};
 use uc_version_state::Placed;
 
-/// A cursor in each of several runs, the newest first. A contract sees it as the list of them.
+/// A cursor in each of several runs, the newest first. A contract sees it as the list of them, beside the front by which
+/// their next keys have numbers.
 #[derive(Debug, Drop)]
 pub(crate) struct Walkers<'a> {
     cursors: Vec<Cursor<'a>>,
@@ -30,13 +31,12 @@ pub(crate) struct Walkers<'a> {
 }
 
 impl<'a> Model for Walkers<'a> {
-    ghost use Rattle.std.specs.Prelude.{List};
-    ghost use Rattle.uc_run.specs.Cursors.{Standing};
-    ghost use Rattle.uc_query_read.specs.HeldWalkers.{AreKnown};
+    ghost use Rattle.uc_query_read.specs.Walks.{Numbered};
+    ghost use Rattle.uc_query_read.specs.HeldWalkers.{numbered, AreKnown};
 
-    ghost Value = { List Standing };
+    ghost Value = { Numbered };
 
-    ghost view = { λ w. w.cursors.items };
+    ghost view = { numbered };
 
     ghost invariant = { AreKnown };
 }
@@ -75,23 +75,23 @@ fn effect_of_cursors<O: Operator>(
     cursors: &[Cursor<'_>],
     heads: &Heads<'_>,
     with_ranges: &[bool],
-    key: &[u8],
+    head: Head<'_>,
     at: u64,
 ) -> Result<Effect, AllocError>
-    requires stand { AllByRecursion (StandsAt key.now false) cursors.now }
+    requires number { head.number ≡ number_of heads.now.front head.key.now }
+    requires stand { AllByRecursion (StandsAt head.key.now false) cursors.now }
     requires of_runs { AllByRecursion IsOfRun cursors.now }
     requires heads { heads.now.keys ≡ map next_key cursors.now }
     requires ranges { with_ranges.now ≡ map has_ranges cursors.now }
-    ensures { IfOk result (λ effect. effect ≡ effect_on O.meaning (writes_of (runs_of cursors.now)) key.now at) }
+    ensures { IfOk result (λ effect. effect ≡ effect_on O.meaning (writes_of (runs_of cursors.now)) head.entry.key.now at) }
 {
     effects_of_parts_compose::<O>();
     other_keys_are_kept::<O>();
     keys_at_places_are_next();
-    let number = heads.number_of(key);
     let mut newer = Effect::Keep;
     for place in 0..cursors.len() {
-        if heads.is_at(place, key, number) || with_ranges[place] {
-            let older = cursors[place].effect::<O>(alloc, key, at)?;
+        if heads.is_at(place, head) || with_ranges[place] {
+            let older = cursors[place].effect::<O>(alloc, head.key, at)?;
             newer = older.then::<O>(alloc, newer)?;
             if let Effect::Set(_) = newer {
                 return Ok(newer);
@@ -102,19 +102,19 @@ fn effect_of_cursors<O: Operator>(
 }
 
 /// Moves the cursors that are at a key past it. The others are behind it already.
-fn pass_there<'a>(cursors: &mut [Cursor<'a>], heads: &mut Heads<'a>, key: &[u8])
-    requires stand { AllByRecursion (StandsAt key.now false) cursors.old }
+fn pass_there<'a>(cursors: &mut [Cursor<'a>], heads: &mut Heads<'a>, head: Head<'_>)
+    requires number { head.number ≡ number_of heads.old.front head.key.now }
+    requires stand { AllByRecursion (StandsAt head.key.now false) cursors.old }
     requires of_runs { AllByRecursion IsOfRun cursors.old }
     requires heads { heads.old.keys ≡ map next_key cursors.old }
-    ensures cursors { cursors.new ≡ map (passed key.now) cursors.old }
+    ensures cursors { cursors.new ≡ map (passed head.entry.key.now) cursors.old }
     ensures heads { heads.new.keys ≡ map next_key cursors.new }
 {
     keys_at_places_are_next();
-    let number = heads.number_of(key);
     for place in 0..cursors.len() {
-        if heads.is_at(place, key, number) {
+        if heads.is_at(place, head) {
             let cursor = &mut cursors[place];
-            cursor.pass(key);
+            cursor.pass(head.key);
             heads.set(place, cursor.key());
         }
     }
@@ -140,7 +140,7 @@ impl<'a> Walkers<'a> {
         runs: &'a [Placed],
         low: &[u8],
     ) -> Result<Walkers<'a>, AllocError>
-        ensures { IfOk result (λ walkers. walkers ≡ map (standing_at low.now false) (contents_of runs.now)) }
+        ensures { IfOk result (λ walkers. walkers.cursors ≡ map (standing_at low.now false) (contents_of runs.now)) }
     {
         let cursors = cursors_from(alloc, runs, low)?;
         let heads = Heads::of_cursors(alloc, &cursors)?;
@@ -153,9 +153,10 @@ impl<'a> Walkers<'a> {
     }
 
     /// The least of their next keys.
-    pub(crate) fn least(&self) -> Option<&'a [u8]>
-        ensures { (low : List ℕ) (strict : Bool) → AllByRecursion (StandsAt low strict) self.now →
-            IsNextKey (points_of (runs_of self.now)) low strict (option_map (λ k. k.now) result) }
+    pub(crate) fn least(&self) -> Option<Head<'a>>
+        ensures next { (low : List ℕ) (strict : Bool) → AllByRecursion (StandsAt low strict) self.now.cursors →
+            IsNextKey (points_of (runs_of self.now.cursors)) low strict (option_map (λ head. head.key.now) result) }
+        ensures number { IfSome result (λ head. head.number ≡ number_of self.now.front head.key.now) }
     {
         keys_at_places_are_next();
         self.heads.least()
@@ -166,11 +167,13 @@ impl<'a> Walkers<'a> {
     pub(crate) fn value<O: Operator>(
         &self,
         alloc: Global,
-        key: &[u8],
+        head: Head<'_>,
         at: u64,
     ) -> Result<Option<Bytes>, AllocError>
-        requires { AllByRecursion (StandsAt key.now false) self.now }
-        ensures { IfOk result (λ value. value ≡ value_of O.meaning (writes_of (runs_of self.now)) key.now at) }
+        requires number { head.number ≡ number_of self.now.front head.key.now }
+        requires stand { AllByRecursion (StandsAt head.key.now false) self.now.cursors }
+        ensures { IfOk result (λ value.
+            value ≡ value_of O.meaning (writes_of (runs_of self.now.cursors)) head.entry.key.now at) }
     {
         effect_gives_value::<O>();
         let effect = effect_of_cursors::<O>(
@@ -178,31 +181,33 @@ impl<'a> Walkers<'a> {
             &self.cursors,
             &self.heads,
             &self.with_ranges,
-            key,
+            head,
             at,
         )?;
         effect.apply::<O>(alloc, None)
     }
 
     /// Moves past the points at and below a key that are the first ahead.
-    pub(crate) fn pass(&mut self, key: &[u8])
-        requires { AllByRecursion (StandsAt key.now false) self.old }
-        ensures { self.new ≡ map (passed key.now) self.old }
+    pub(crate) fn pass(&mut self, head: Head<'_>)
+        requires number { head.number ≡ number_of self.old.front head.key.now }
+        requires stand { AllByRecursion (StandsAt head.key.now false) self.old.cursors }
+        ensures { self.new.cursors ≡ map (passed head.entry.key.now) self.old.cursors }
     {
-        pass_there(&mut self.cursors, &mut self.heads, key);
+        pass_there(&mut self.cursors, &mut self.heads, head);
     }
 
     /// Moves past the points below a key.
     pub(crate) fn seek(&mut self, low: &[u8])
-        ensures { self.new ≡ map (sought low.now) self.old }
+        ensures { self.new.cursors ≡ map (sought low.now) self.old.cursors }
     {
         seek_each(&mut self.cursors, &mut self.heads, low);
     }
 
     /// If a run hides a passed key, a bound above it; no key between them has a value.
     pub(crate) fn dead_up_to<O: Operator>(&self, key: &[u8], at: u64) -> Option<&'a [u8]>
-        requires { AllByRecursion (StandsAt key.now true) self.now }
-        ensures { IfSome result (λ bound. AreDead O.meaning (writes_of (runs_of self.now)) at key.now bound.now) }
+        requires { AllByRecursion (StandsAt key.now true) self.now.cursors }
+        ensures { IfSome result (λ bound.
+            AreDead O.meaning (writes_of (runs_of self.now.cursors)) at key.now bound.now) }
     {
         dead_up_to::<O>(&self.cursors, &self.with_ranges, key, at)
     }

@@ -10,22 +10,22 @@ pub returns-in-Set : goal.returns-in-Set
 returns-in-Set g c =
     let m = g.O.Operator.meaning in
     let parts = c.effects_of_parts_compose.ensures in
-    let made = one_older (λ s. s.run) m parts c.args.key.now c.args.at c.args.cursors.now c.loop-place.place c.index-cursors-place.result c.index-cursors-place.result.run c.in_ok-older.older c.loop-place.newer c.in_ok-newer.newer c.loop-place-test.true c.index-cursors-place.is refl c.in_ok-older.ensures c.loop-place.invariant c.in_ok-newer.ensures in
-    c.in-Set.is ∙ sym (set_stays (λ s. s.run) m parts c.args.key.now c.args.at c.args.cursors.now (c.loop-place.place + 1) _ (sym made ∙ c.in-Set.is))
+    let made = one_older (λ s. s.run) m parts c.args.head.key.now c.args.at c.args.cursors.now c.loop-place.place c.index-cursors-place.result c.index-cursors-place.result.run c.in_ok-older.older c.loop-place.newer c.in_ok-newer.newer c.loop-place-test.true c.index-cursors-place.is refl c.in_ok-older.ensures c.loop-place.invariant c.in_ok-newer.ensures in
+    c.in-Set.is ∙ sym (set_stays (λ s. s.run) m parts c.args.head.key.now c.args.at c.args.cursors.now (c.loop-place.place + 1) _ (sym made ∙ c.in-Set.is))
 
 pub loop-place-preserved : goal.loop-place-preserved
 loop-place-preserved g c =
     let m = g.O.Operator.meaning in
     let cursors = c.args.cursors.now in
     let place = c.loop-place.place in
-    let older = one_older (λ s. s.run) m c.effects_of_parts_compose.ensures c.args.key.now c.args.at cursors place in
+    let older = one_older (λ s. s.run) m c.effects_of_parts_compose.ensures c.args.head.key.now c.args.at cursors place in
     elim c.if-is_at.branch [
       | then-is_at+in_ok-older+in_ok-newer+in_default w ↦
           w.newer-is ∙ older w.index-cursors-place.result w.index-cursors-place.result.run w.in_ok-older.older c.loop-place.newer w.in_ok-newer.newer c.loop-place-test.true w.index-cursors-place.is refl w.in_ok-older.ensures c.loop-place.invariant w.in_ok-newer.ensures
       | else-is_at+else-with_ranges-place w ↦
           let at = get_or cursors place nowhere in
-          let other = is_other c.args.heads.now.keys cursors c.requires.heads place nowhere c.loop-place-test.true c.args.key.now c.is_at.result c.is_at.ensures.1 w.if-is_at.false in
+          let other = is_other c.args.heads.now.keys cursors c.requires.heads place nowhere c.loop-place-test.true c.args.head.key.now c.is_at.result c.is_at.ensures.1 w.if-is_at.false in
           let none = no_ranges c.args.with_ranges.now cursors place _ c.requires.ranges c.loop-place-test.true w.if-with_ranges-place.false in
-          let kept = silent m c.other_keys_are_kept.ensures c.keys_at_places_are_next.ensures cursors c.args.key.now c.args.at place c.loop-place-test.true c.requires.stand c.requires.of_runs other none in
+          let kept = silent m c.other_keys_are_kept.ensures c.keys_at_places_are_next.ensures cursors c.args.head.key.now c.args.at place c.loop-place-test.true c.requires.stand c.requires.of_runs other none in
           w.newer-is ∙ older at at.run Keep c.loop-place.newer c.loop-place.newer c.loop-place-test.true (get_or_default cursors place nowhere at c.loop-place-test.true) refl kept c.loop-place.invariant (then_kept m c.loop-place.newer)
     ]

@@ -7,4 +7,4 @@ use Rattle.uc_query_read.proofs.walkers.effect_of_cursors.Given as goal
 -- what the runs so far do
 abbrev pub invariant-loop-place : goal.invariant-loop-place
 invariant-loop-place g l =
-    l.newer ≡ effect_on g.O.Operator.meaning (writes_of (runs_of (take l.place l.cursors))) l.key l.at
+    l.newer ≡ effect_on g.O.Operator.meaning (writes_of (runs_of (take l.place l.cursors))) l.head.key.now l.at

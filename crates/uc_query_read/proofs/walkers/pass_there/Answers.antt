@@ -8,7 +8,7 @@ use Rattle.uc_query_read.proofs.walkers.pass_there.Goals.{then-is_at, else-is_at
 
 pub loop-place-preserved : goal.loop-place-preserved
 loop-place-preserved c =
-    let key = c.args.key.now in
+    let key = c.args.head.key.now in
     let old = c.args.cursors.now in
     let now = c.loop-place.cursors in
     let place = c.loop-place.place in

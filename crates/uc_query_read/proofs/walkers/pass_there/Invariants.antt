@@ -6,7 +6,7 @@ use Rattle.uc_query_read.proofs.walkers.pass_there.Given as goal
 -- the cursors so far are behind the key, and their next keys beside them
 abbrev pub invariant-loop-place : goal.invariant-loop-place
 invariant-loop-place l = record {
-  cursors : l.cursors ≡ map (passed l.key) (take l.place l.fn.cursors) ++ drop l.place l.fn.cursors;
+  cursors : l.cursors ≡ map (passed l.head.key.now) (take l.place l.fn.cursors) ++ drop l.place l.fn.cursors;
   heads : l.heads.keys ≡ map next_key l.cursors;
   front : l.heads.front ≡ l.fn.heads.front;
 }

@@ -10,7 +10,7 @@ use Rattle.uc_query_read.proofs.walkers.Walkers.pass.Goals as goal
 pub invariant_of-self : goal.invariant_of-self
 invariant_of-self c =
     let w = c.self.inside in
-    let moves = passed c.args.key.now in
+    let moves = passed c.args.head.key.now in
     let long : length w.cursors.items ≡ w.cursors.len = search rules in
     let back = come_back moves w.cursors.items c.deref_mut.result.now c.pass_there.new.cursors w.cursors.len long c.deref_mut.ensures.value c.pass_there.ensures.cursors in
     record {
