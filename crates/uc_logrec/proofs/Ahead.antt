@@ -28,7 +28,7 @@ found_fits space rest kind len found =
     omega (arith, r.header, r.fits_log)
 
 -- enough places are as good as more of them
-places_enough : (p q : ℕ) (unfinished : Option Fragments) (offset : ℕ) (left : List ℕ) → length left < p → length left < q → reading_from p unfinished offset left ≡ reading_from q unfinished offset left
+pub places_enough : (p q : ℕ) (unfinished : Option Fragments) (offset : ℕ) (left : List ℕ) → length left < p → length left < q → reading_from p unfinished offset left ≡ reading_from q unfinished offset left
 unfolding reading_from
 places_enough zero q unfinished offset left lp lq = absurd (omega arith)
 places_enough (suc p) zero unfinished offset left lp lq = absurd (omega arith)

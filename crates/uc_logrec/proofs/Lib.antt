@@ -8,6 +8,10 @@ pub mod Along
 pub mod Endings
 pub mod OneMeaning
 pub mod Ahead
+pub mod Locality
+pub mod InLog
+pub mod Walking
+pub mod Appending
 pub mod LaidOut
 pub mod BitLists
 pub mod Checksums

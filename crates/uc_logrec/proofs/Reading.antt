@@ -1,6 +1,6 @@
 -- Reading a log record by record, as a loop does.
 use Rattle.std.proofs.Common.{◌≡◌, ℕ, zero, suc, ◌+◌, ◌-◌, ◌≤◌, ◌<◌, List, [], ◌∷◌, ◌++◌, length, take, drop, Option, Some, None, Result, Ok, Err, refl, sym, ap, subst, ◌∙◌, append_assoc, length-drop, arith, rules}
-use Rattle.std.proofs.lemmas.List.{append-nil}
+use Rattle.std.proofs.lemmas.List.{append-nil, drop-drop}
 use Rattle.uc_logrec.specs.declared.ending.Ending.{Ending}
 use Rattle.uc_logrec.specs.declared.ending.Ending.TheVariants.{Fault}
 use Rattle.uc_logrec.specs.declared.kind.Kind.{Kind}
@@ -113,6 +113,16 @@ still_within offset left len whole h e =
     let d = length-drop (header_place offset - offset) left in
     let later : offset ≤ header_place offset = search rules in
     omega (arith, a, b, d)
+
+-- and they are those of the bytes at the first offset
+pub still_behind : (first offset : ℕ) (all left : List ℕ) (len : ℕ) → first ≤ offset → left ≡ drop (offset - first) all → behind offset left len ≡ drop (header_place offset + 7 + len - first) all
+still_behind first offset all left len le e =
+    let skipped = header_place offset - offset in
+    let later : offset ≤ header_place offset = search rules in
+    ap (λ (l : List ℕ). behind offset l len) e
+    ∙ (ap (λ (l : List ℕ). drop len (drop 7 l)) (drop-drop skipped (offset - first) all)
+    ∙ (ap (drop len) (drop-drop 7 (offset - first + skipped) all)
+    ∙ (drop-drop len (offset - first + skipped + 7) all ∙ ap (λ (n : ℕ). drop n all) (omega (arith, later, le)))))
 
 -- a record that was found behind a trailer, and what it does
 pub goes_there : (all : Reading) (front : List (List ℕ)) (unfinished : Option Fragments) (offset : ℕ) (left : List ℕ) (place : ℕ) (rest fragment : List ℕ) (kind : Kind) (len : ℕ) (turn : StepWithData)

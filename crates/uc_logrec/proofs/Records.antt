@@ -22,7 +22,7 @@ kind_of-code_of Middle = refl
 kind_of-code_of Last = refl
 
 -- no type is zero
-code_of_not_zero : (kind : Kind) → eqb (code_of kind) 0 ≡ false
+pub code_of_not_zero : (kind : Kind) → eqb (code_of kind) 0 ≡ false
 code_of_not_zero Full = refl
 code_of_not_zero First = refl
 code_of_not_zero Middle = refl

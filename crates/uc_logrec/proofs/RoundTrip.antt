@@ -8,7 +8,8 @@ use Rattle.uc_logrec.specs.declared.kind.Kind.{Kind}
 use Rattle.uc_logrec.specs.declared.kind.Kind.TheVariants.{Full, First, Middle, Last}
 use Rattle.uc_logrec.specs.Steps.{Fragments}
 use Rattle.uc_logrec.specs.Format.{room, header_place, record_text, record_of}
-use Rattle.uc_logrec.specs.Log.{step_at, Reading, with_payload, after_step, reading_from, reading_of, payloads_of, trailer, blocks_text, rest_text, payload_text, text_from, log_text, IsReadAgain}
+use Rattle.uc_logrec.specs.Log.{step_at, Reading, ended, with_payload, after_step, reading_from, reading_of, payloads_of, trailer, blocks_text, rest_text, payload_text, text_from, log_text, IsReadAgain}
+use Rattle.uc_logrec.specs.Position.{ahead_at}
 use Rattle.uc_logrec.proofs.Reading.{here}
 use Rattle.uc_logrec.proofs.Writing.{blocks_text-last, blocks_text-middle, records_text-full, records_text-pieces}
 use Rattle.uc_logrec.proofs.Records.{record_again, length-record_text, fragment_again, behind_again}
@@ -19,7 +20,7 @@ use Rattle.uc_logrec.proofs.Records.{record_again, length-record_text, fragment_
 pub place_here : (offset : ℕ) → 7 ≤ room offset → header_place offset ≡ offset
 place_here offset le = ap (λ (b : Bool). cond b (offset + room offset) offset) (le-ltb (room offset) 7 le)
 
-place_behind : (offset : ℕ) → room offset < 7 → header_place offset ≡ offset + room offset
+pub place_behind : (offset : ℕ) → room offset < 7 → header_place offset ≡ offset + room offset
 place_behind offset lt = ap (λ (b : Bool). cond b (offset + room offset) offset) (lt-ltb (room offset) 7 lt)
 
 -- a header fits at a header place
@@ -67,10 +68,10 @@ read_record places unfinished offset left kind fragment after e fits =
 -- ---- a payload's records
 
 -- what is read of records that complete a payload: the payload, and what stands behind
-record Completed (payload : List ℕ) (unfinished : Option Fragments) (offset : ℕ) (text after : List ℕ) (places : ℕ) : Type 0 where
-  fewer : ℕ
-  enough : length after < fewer
-  reads : reading_from places unfinished offset (text ++ after) ≡ with_payload payload (reading_from fewer None (offset + length text) after)
+pub record Completed (payload : List ℕ) (unfinished : Option Fragments) (offset : ℕ) (text after : List ℕ) (places : ℕ) : Type 0 where
+  pub fewer : ℕ
+  pub enough : length after < fewer
+  pub reads : reading_from places unfinished offset (text ++ after) ≡ with_payload payload (reading_from fewer None (offset + length text) after)
 
 completed_there : (payload : List ℕ) (unfinished : Option Fragments) (offset there : ℕ) (text after : List ℕ) (places fewer : ℕ) → length after < fewer → {one : Reading} → reading_from places unfinished offset (text ++ after) ≡ one → one ≡ with_payload payload (reading_from fewer None there after)
     → there ≡ offset + length text → Completed payload unfinished offset text after places
@@ -173,7 +174,7 @@ read_pieces (suc places) offset fragment rest after full enough =
     let there : place + 7 + length fragment + length (rest_text rest) ≡ offset + length (trailer offset ++ pieces) = omega arith in
     completed_there (fragment ++ rest) None offset (place + 7 + length fragment + length (rest_text rest)) (trailer offset ++ pieces) after (suc places) behind.fewer behind.enough one behind.reads there
 
-read_payload : (places offset : ℕ) (payload after : List ℕ) → length (payload_text offset payload ++ after) < places → Completed payload None offset (payload_text offset payload) after places
+pub read_payload : (places offset : ℕ) (payload after : List ℕ) → length (payload_text offset payload ++ after) < places → Completed payload None offset (payload_text offset payload) after places
 read_payload places offset payload after enough =
     let place = header_place offset in
     let fits = room place - 7 in
@@ -193,8 +194,8 @@ clean : List (List ℕ) → Reading
 clean payloads = record { payloads = payloads; ending = Clean }
 
 -- nothing is left
-nothing_left : (places offset : ℕ) → reading_from (suc places) None offset [] ≡ clean []
-unfolding reading_from record_of clean
+pub nothing_left : (places offset : ℕ) → reading_from (suc places) None offset [] ≡ ended Clean
+unfolding reading_from record_of
 nothing_left places offset = let none : here offset [] ≡ [] = drop-nil (header_place offset - offset) in rw none refl
 
 read_all : (payloads : List (List ℕ)) (places offset : ℕ) → length (text_from offset payloads) < places → reading_from places None offset (text_from offset payloads) ≡ clean payloads
@@ -205,10 +206,15 @@ read_all (payload ∷ payloads) places offset enough =
     let first = read_payload places offset payload (text_from (offset + length (payload_text offset payload)) payloads) enough in
     first.reads ∙ ap (with_payload payload) (read_all payloads first.fewer (offset + length (payload_text offset payload)) first.enough)
 
--- what is read of the log of payloads
+-- what is read of payloads' text from an offset on
+pub read_from : (payloads : List (List ℕ)) (offset : ℕ) → ahead_at offset (text_from offset payloads) ≡ record { payloads = payloads; ending = Clean }
+unfolding clean
+read_from payloads offset = read_all payloads (suc (length (text_from offset payloads))) offset (omega arith)
+
+-- and of the log of payloads
 pub read_again : (payloads : List (List ℕ)) → reading_of (log_text payloads) ≡ record { payloads = payloads; ending = Clean }
-unfolding reading_of clean
-read_again payloads = read_all payloads (suc (length (log_text payloads))) 0 (omega arith)
+unfolding reading_of
+read_again payloads = read_from payloads 0
 
 pub is_read_again : (payloads : List (List ℕ)) → IsReadAgain payloads
 is_read_again payloads = record { same = ap (λ (r : Reading). r.payloads) (read_again payloads); clean = ap (λ (r : Reading). r.ending) (read_again payloads) }

@@ -77,7 +77,7 @@ kind_code true kind other n code rest here there h = let same : kind ≡ other =
 kind_code false kind other n code rest here there h = there h
 
 -- the type of a kind
-code_again : (code : ℕ) (kind : Kind) → kind_of code ≡ Some kind → code ≡ code_of kind
+pub code_again : (code : ℕ) (kind : Kind) → kind_of code ≡ Some kind → code ≡ code_of kind
 code_again code kind =
     kind_code (eqb code 1) Full kind 1 code _ (eqb-true code 1)
     (kind_code (eqb code 2) First kind 2 code _ (eqb-true code 2)

@@ -3,6 +3,7 @@ pub mod Steps
 pub mod Log
 pub mod Grammar
 pub mod Position
+pub mod Walk
 pub mod Layout
 pub mod Bits
 pub mod Division

@@ -5,6 +5,11 @@
 //! returns the payloads of a log one at a time and how it ends; [`read_log`] returns all of them at once; [`LogWriter`]
 //! writes a log.
 //!
+//! A program that keeps a log in a file walks through it by [`next_payload`], which takes and returns offsets. It cuts
+//! the file at the last offset, and appends the [`payload_bytes`] of each payload more. `specs/Walk.antt` defines such a
+//! walk. By the laws [`walk_begins_log`], [`log_goes_on`] and [`walk_goes_on`] the file is then read as the payloads of
+//! the walk and the new ones.
+//!
 //! Read `kind.rt` and `log_record.rt` first: what a record is. `step.rt` has the payload that is not complete yet;
 //! `log_reader.rt` and `log_writer.rt` have the two directions. `specs/Grammar.antt` defines what a log means by the
 //! grammar of its records. By the law [`log_is_read_by_grammar`] the reader keeps to it; by [`written_log_is_read`] it
@@ -38,8 +43,11 @@ pub use checksum::{crc32c, extend};
 pub use crc_laws::division;
 pub use ending::Ending;
 pub use fault::LogFault;
-pub use laws::{log_is_read_by_grammar, written_log_is_read, written_records_fill_blocks};
+pub use laws::{
+    log_goes_on, log_is_read_by_grammar, walk_begins_log, walk_goes_on, written_log_is_read,
+    written_records_fill_blocks,
+};
 pub use log_read::{LogRead, Payloads, read_log};
-pub use log_reader::{LogReader, Next};
-pub use log_writer::LogWriter;
+pub use log_reader::{LogReader, Next, next_payload};
+pub use log_writer::{LogWriter, payload_bytes};
 pub use masking::{mask, unmask};

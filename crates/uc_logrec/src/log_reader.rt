@@ -1,8 +1,8 @@
 //! A log's payloads, one at a time.
-ghost use Rattle.std.specs.Prelude.{◌≡◌, ℕ, ◌+◌, ◌<◌, ◌^◌, List, length, IfOk, OnErr};
+ghost use Rattle.std.specs.Prelude.{◌≡◌, ℕ, ◌+◌, ◌-◌, ◌<◌, ◌^◌, List, length, drop, IfOk, OnErr};
 ghost use Rattle.uc_logrec.specs.Log as definitions;
 ghost use Rattle.uc_logrec.specs.Log.{reading_of};
-ghost use Rattle.uc_logrec.specs.Position.{Comes, Leads};
+ghost use Rattle.uc_logrec.specs.Position.{Comes, Leads, LeadsIn};
 ghost use Rattle.uc_logrec.specs.Steps.{open_in};
 
 use crate::ending::Ending;
@@ -82,6 +82,28 @@ impl<'a> LogReader<'a> {
     }
 }
 
+/// What comes at an offset of a log, and the offset behind that payload; if the log ends there, the same offset.
+///
+/// The offset is one where a payload may begin: 0, or what an earlier call returned. The buffer is for a payload of
+/// several pieces, as at [`LogReader::next`]. At an offset above the log's length the log ends clean.
+pub fn next_payload<'a>(
+    log: &'a [u8],
+    offset: u64,
+    joined: &mut Vec<u8>,
+) -> Result<(Next<'a>, u64), AllocError>
+    ensures { IfOk result (λ found. LeadsIn found.0 joined.new.items log.now offset found.1) }
+{
+    let place = offset as usize;
+    let Some(left) = log.get(place..) else {
+        return Ok((Next::Ended(Ending::Clean), offset));
+    };
+    let (next, behind, _) = next_at(joined, place, left)?;
+    match next {
+        Next::Ended(_) => Ok((next, offset)),
+        Next::Whole(_) | Next::Joined => Ok((next, behind as u64)),
+    }
+}
+
 /// What comes next at a place; then the place after that payload, and the bytes from there.
 fn next_at<'a>(
     joined: &mut Vec<u8>,
@@ -89,7 +111,8 @@ fn next_at<'a>(
     mut left: &'a [u8],
 ) -> Result<(Next<'a>, usize, &'a [u8]), AllocError>
     requires { place + length left.now < 2 ^ 63 }
-    ensures { IfOk result (λ found. Leads found.0 joined.new.items place left.now found.1 found.2.now) }
+    ensures leads { IfOk result (λ found. Leads found.0 joined.new.items place left.now found.1 found.2.now) }
+    ensures behind { IfOk result (λ found. found.2.now ≡ drop (found.1 - place) left.now) }
 {
     let mut unfinished = None;
     loop {

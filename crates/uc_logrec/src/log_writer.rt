@@ -1,11 +1,13 @@
-//! [`LogWriter`]: from payloads to the bytes of a log.
+//! [`LogWriter`]: from payloads to the bytes of a log. [`payload_bytes`]: those that one payload more takes.
 ghost use Rattle.std.specs.Prelude.{◌≡◌, ℕ, ◌+◌, ◌-◌, ◌<◌, ◌≤◌, ◌^◌, List, [], ◌∷◌, ◌++◌, length, OnOk, OnErr, IfOk, vec_len};
 ghost use Rattle.uc_logrec.specs.Format as format;
 ghost use Rattle.uc_logrec.specs.Format.{record_text};
 ghost use Rattle.uc_logrec.specs.Log.{payload_text, records_text, rest_text, trailer, log_text, Extends};
 
 use crate::kind::Kind;
-use crate::log_record::{HEADER_SIZE, MAX_FRAGMENT, Record, checksum_of, fragment_room, room};
+use crate::log_record::{
+    BLOCK_SIZE, HEADER_SIZE, MAX_FRAGMENT, Record, checksum_of, fragment_room, room,
+};
 use std::alloc::{AllocError, Global};
 use std::marker::Model;
 
@@ -46,7 +48,7 @@ impl LogWriter {
         ensures err { OnErr result (self.new ≡ self.old) }
     {
         let before = self.text.len();
-        if let Err(error) = push_payload(&mut self.text, payload) {
+        if let Err(error) = push_payload(0, &mut self.text, payload) {
             self.text.truncate(before);
             return Err(error);
         }
@@ -60,6 +62,21 @@ impl LogWriter {
         self.text
     }
 }
+
+/// The bytes that a payload takes at the end of a log of `log_length` bytes: zero bytes up to the next place of a
+/// header, if any are needed, and its records.
+///
+/// They are for a log that is kept elsewhere, as in a file, to which the caller appends them.
+pub fn payload_bytes(alloc: Global, log_length: u64, payload: &[u8]) -> Result<Vec<u8>, AllocError>
+    ensures { IfOk result (λ bytes. bytes.items ≡ payload_text log_length payload.now) }
+{
+    let start = (log_length % BLOCK_SIZE as u64) as usize;
+    let mut text = Vec::new(alloc);
+    push_payload(start, &mut text, payload)?;
+    Ok(text)
+}
+
+// Below, `start` is the offset in its block at which the text begins.
 
 /// Writes a record at the end.
 #[tactic(auto, using(std::proofs::lemmas::List::append_assoc), unfolding(crate::specs::Format::record_text))]
@@ -77,11 +94,12 @@ fn push_record(text: &mut Vec<u8>, part: Record<'_>) -> Result<(), AllocError>
 }
 
 /// Writes the trailer before the next header place.
-fn push_trailer(text: &mut Vec<u8>) -> Result<(), AllocError>
-    ensures ok { OnOk result (text.new.items ≡ text.old.items ++ trailer (length text.old.items)) }
+fn push_trailer(start: usize, text: &mut Vec<u8>) -> Result<(), AllocError>
+    requires { start < 32768 }
+    ensures ok { OnOk result (text.new.items ≡ text.old.items ++ trailer (start + length text.old.items)) }
     ensures kept { Extends text.old.items text.new.items }
 {
-    let space = room(text.len());
+    let space = room(start + text.len());
     if space < HEADER_SIZE {
         text.extend_from_slice(&[0; HEADER_SIZE][..space])?;
     }
@@ -105,12 +123,14 @@ fn push_rest(text: &mut Vec<u8>, payload: &[u8]) -> Result<(), AllocError>
 }
 
 /// Writes the records of a payload at a header place.
-fn push_records(text: &mut Vec<u8>, payload: &[u8]) -> Result<(), AllocError>
-    requires { 7 ≤ format.room (length text.old.items) }
-    ensures ok { OnOk result (text.new.items ≡ text.old.items ++ records_text (length text.old.items) payload.now) }
+fn push_records(start: usize, text: &mut Vec<u8>, payload: &[u8]) -> Result<(), AllocError>
+    requires start { start < 32768 }
+    requires fits { 7 ≤ format.room (start + length text.old.items) }
+    ensures ok { OnOk result
+        (text.new.items ≡ text.old.items ++ records_text (start + length text.old.items) payload.now) }
     ensures kept { Extends text.old.items text.new.items }
 {
-    let fits = fragment_room(text.len());
+    let fits = fragment_room(start + text.len());
     if payload.len() <= fits {
         let (kind, fragment) = (Kind::Full, payload);
         return push_record(text, Record { kind, fragment });
@@ -122,10 +142,12 @@ fn push_records(text: &mut Vec<u8>, payload: &[u8]) -> Result<(), AllocError>
 }
 
 /// Writes a payload at the end.
-fn push_payload(text: &mut Vec<u8>, payload: &[u8]) -> Result<(), AllocError>
-    ensures ok { OnOk result (text.new.items ≡ text.old.items ++ payload_text (length text.old.items) payload.now) }
+fn push_payload(start: usize, text: &mut Vec<u8>, payload: &[u8]) -> Result<(), AllocError>
+    requires { start < 32768 }
+    ensures ok { OnOk result
+        (text.new.items ≡ text.old.items ++ payload_text (start + length text.old.items) payload.now) }
     ensures kept { Extends text.old.items text.new.items }
 {
-    push_trailer(text)?;
-    push_records(text, payload)
+    push_trailer(start, text)?;
+    push_records(start, text, payload)
 }

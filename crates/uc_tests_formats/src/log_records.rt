@@ -203,11 +203,16 @@ fn changed_bytes(rt: HostRuntime) -> Result<(), Fail> {
     Ok(())
 }
 
+/// The payload with this number, of this size.
+pub(crate) fn payload_of(alloc: Global, number: usize, size: usize) -> Result<Vec<u8>, AllocError> {
+    vec![in alloc; (number % 256) as u8; size]
+}
+
 /// The log of payloads of these sizes.
-fn log_with(alloc: Global, sizes: &[usize]) -> Result<Vec<u8>, AllocError> {
+pub(crate) fn log_with(alloc: Global, sizes: &[usize]) -> Result<Vec<u8>, AllocError> {
     let mut writer = LogWriter::new(alloc);
     for (number, size) in sizes.iter().enumerate() {
-        let payload = vec![in alloc; (number % 256) as u8; *size]?;
+        let payload = payload_of(alloc, number, *size)?;
         writer.add(&payload)?;
     }
     Ok(writer.finish())
