@@ -6,9 +6,10 @@
 //! [`answer_last`] read at the last sequence. [`Owned`] takes snapshots, and picks what to compact; [`report`] says what a store
 //! holds.
 //!
-//! [`open_shared`] opens a [`Store`] that threads share. [`feed_shared_batch`] writes to it, [`Store::keep`] and [`Store::release`]
-//! take and release snapshots, and [`Store::turn`] compacts for a [`Compactor`]. A [`Reader`] pins versions without waiting, and
-//! [`answer_all`] answers a batch by workers that have a reader each.
+//! [`open_shared`] opens a [`Store`] that threads share, and [`open_shared_in_threads`] does so sooner. [`feed_shared_batch`]
+//! writes to it, [`Store::keep`] and [`Store::release`] take and release snapshots, and [`Store::turn`] compacts for a
+//! [`Compactor`]. A [`Reader`] pins versions without waiting, and [`answer_all`] answers a batch by workers that have a reader
+//! each.
 //!
 //! Begin with `opened_log.rt`, `batches.rt` and `last_reads.rt`, then `opened_shared.rt` and `shared_batches.rt`; all else is given
 //! out from the crates below.
@@ -27,7 +28,7 @@ pub use compactors::next_compactor;
 pub use feed_batch_error::FeedBatchError;
 pub use last_reads::{answer_last, get_last};
 pub use opened_log::{OpenedLog, open_log, open_log_in_threads};
-pub use opened_shared::{OpenedShared, open_shared};
+pub use opened_shared::{OpenedShared, open_shared, open_shared_in_threads};
 pub use shared_batches::feed_shared_batch;
 pub use uc_batch::{Ended, Op, Writes};
 pub use uc_bytes::{Bytes, Write};

@@ -65,8 +65,8 @@ pub fn open_log<O: Operator>(
     Ok(store_of(alloc, version, ended, options)?)
 }
 
-/// As [`open_log`], with full memtables flushed up to four side by side, in threads. What it gives is the same, and so is
-/// what it refuses. It holds up to three more memtables meanwhile.
+/// As [`open_log`], with full memtables flushed in threads. What it gives is the same, and so is what it refuses. It holds up to
+/// nine more memtables meanwhile.
 pub fn open_log_in_threads<O: Operator>(
     rt: &(impl Threads + Sync),
     alloc: Global,

@@ -1,4 +1,4 @@
-//! [`open_shared`]: a store that threads share, opened from a write-ahead log.
+//! [`open_shared`] and [`open_shared_in_threads`]: a store that threads share, opened from a write-ahead log.
 ghost use Rattle.std.specs.Prelude.{◌≡◌, ◌≢◌, None, Some, IfOk, IfErr};
 ghost use Rattle.uc_batch.specs.Log.{log_writes};
 ghost use Rattle.uc_version_state.specs.Openings.{Opening as OpeningOf};
@@ -7,11 +7,15 @@ ghost use Rattle.uc_version_open.specs.declared.open_error.OpenError.TheVariants
 ghost use Rattle.uc_share.specs.Stores.{IsOpenedSo, beginning, shared_refusal};
 
 use std::alloc::Global;
+use std::marker::Sync;
+use std::thread::Threads;
 use uc_batch::Ended;
 use uc_oper::Operator;
 use uc_share::{Opening, are_counts};
 use uc_version::Options;
-use uc_version_open::{OpenError, Recovered, no_refusal_is_leave_to_open, recover};
+use uc_version_open::{
+    OpenError, Recovered, no_refusal_is_leave_to_open, recover, recover_in_threads,
+};
 
 /// A store for threads that was opened from a log and has no name yet, and how far the log could be read.
 #[derive(Drop)]
@@ -52,6 +56,41 @@ pub fn open_shared<O: Operator>(
     }
     let Recovered { opener, ended } = recover(alloc, log, options)?;
     let version = opener.finish(alloc, keeps)?;
+    match Opening::of(alloc, version, options, readers, seats) {
+        Err((_version, error)) => Err(error),
+        Ok(opening) => Ok(OpenedShared { opening, ended }),
+    }
+}
+
+/// As [`open_shared`], with full memtables flushed in threads. What it gives is the same, and so is what it refuses. It holds up
+/// to nine more memtables meanwhile.
+pub fn open_shared_in_threads<O: Operator>(
+    rt: &(impl Threads + Sync),
+    alloc: Global,
+    log: &[u8],
+    keeps: &[u64],
+    options: Options,
+    readers: usize,
+    seats: usize,
+) -> Result<OpenedShared<O>, OpenError>
+    ensures opening { let o : OpeningOf =
+        record { writes = (log_writes log.now).list; keeps = keeps.now; options = options } in
+        IfOk result (λ opened. (shared_refusal o readers seats ≡ None) × IsOpenedSo opened.opening o readers seats) }
+    ensures legal { let o : OpeningOf =
+        record { writes = (log_writes log.now).list; keeps = keeps.now; options = options } in
+        IfOk result (λ opened.
+        IsLegal O.meaning (beginning o) × (version_after (beginning o) ≡ opened.opening.version)) }
+    ensures ended { IfOk result (λ opened. opened.ended ≡ (log_writes log.now).ended) }
+    ensures err { let o : OpeningOf =
+        record { writes = (log_writes log.now).list; keeps = keeps.now; options = options } in
+        IfErr result (λ error. error ≢ Memory → shared_refusal o readers seats ≡ Some error) }
+{
+    no_refusal_is_leave_to_open();
+    if !are_counts(readers, seats) {
+        return Err(OpenError::BadCount);
+    }
+    let Recovered { opener, ended } = recover_in_threads(rt, alloc, log, options)?;
+    let version = opener.finish_in_threads(rt, alloc, keeps)?;
     match Opening::of(alloc, version, options, readers, seats) {
         Err((_version, error)) => Err(error),
         Ok(opening) => Ok(OpenedShared { opening, ended }),

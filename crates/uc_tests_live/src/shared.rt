@@ -10,12 +10,24 @@ use std::thread::Threads;
 use uc_bytes::MAX_SEQUENCE;
 use uc_store::{
     Compactor, FeedBatchError, Name, OpenError, Opening, Options, Reader, Store, Turn,
-    feed_shared_batch, get, next_compactor, open_shared,
+    feed_shared_batch, get, next_compactor, open_shared, open_shared_in_threads,
 };
 
 /// A store that opens from a log, for two readers and one seat.
 fn opened(alloc: Global, log: &[u8]) -> Result<Opening<Texts>, Fail> {
     match open_shared(alloc, log, &[], Options::usual(), 2, 1) {
+        Ok(opened) => Ok(opened.opening),
+        Err(_) => Err("the store doesn't open")?,
+    }
+}
+
+/// As `opened`, with memtables flushed in threads.
+fn opened_in_threads(
+    rt: &(impl Threads + Sync),
+    alloc: Global,
+    log: &[u8],
+) -> Result<Opening<Texts>, Fail> {
+    match open_shared_in_threads(rt, alloc, log, &[], Options::usual(), 2, 1) {
         Ok(opened) => Ok(opened.opening),
         Err(_) => Err("the store doesn't open")?,
     }
@@ -128,7 +140,7 @@ fn opened_store_is_full<N: Name, W: Wait + Drop>(
 #[test]
 fn shared_batches_end_at_the_greatest_sequence(rt: HostRuntime) -> Result<(), Fail> {
     let alloc = rt.alloc();
-    let opening = opened(alloc, &full_log(alloc)?)?;
+    let opening = opened_in_threads(&rt, alloc, &full_log(alloc)?)?;
     let is_full = opened_store_is_full::<Brand, _>(&rt, &rt, alloc, opening)?;
     assert!(rt; is_full);
     Ok(())
@@ -139,10 +151,21 @@ fn refusal(alloc: Global, keeps: &[u64], readers: usize) -> Option<OpenError> {
     open_shared::<Texts>(alloc, &[], keeps, Options::usual(), readers, 1).err()
 }
 
+/// Why a store of no writes isn't opened in threads.
+fn refusal_in_threads(
+    rt: &(impl Threads + Sync),
+    alloc: Global,
+    keeps: &[u64],
+) -> Option<OpenError> {
+    open_shared_in_threads::<Texts>(rt, alloc, &[], keeps, Options::usual(), 1, 1).err()
+}
+
 #[test]
 fn shared_openings_are_refused(rt: HostRuntime) {
     let alloc = rt.alloc();
     assert!(rt; refusal(alloc, &[7], 0) == Some(OpenError::BadCount));
     assert!(rt; refusal(alloc, &[7], 1) == Some(OpenError::SnapshotAhead(7)));
     assert!(rt; refusal(alloc, &[0], 1) == None);
+    assert!(rt; refusal_in_threads(&rt, alloc, &[7]) == Some(OpenError::SnapshotAhead(7)));
+    assert!(rt; refusal_in_threads(&rt, alloc, &[0]) == None);
 }

@@ -127,6 +127,33 @@ fn feeds_are_accepted_or_refused(rt: HostRuntime) -> Result<(), Fail> {
     Ok(())
 }
 
+/// Feeds a row's writes in threads, and says whether all came as without.
+fn feeds_row_in_threads(
+    rt: &(impl Threads + Sync),
+    alloc: Global,
+    store: &mut Store,
+    row: &Row,
+) -> Result<bool, Fail> {
+    let (_, first_id, first, count, wanted, after) = *row;
+    let writes = numbered(alloc, first, &merges(alloc, count)?)?;
+    let outcome = store.feed_in_threads(rt, alloc, &writes);
+    let next_id = first_id.wrapping_add(after as u64);
+    Ok(outcome == wanted && is_at(store, after, last_of(row), next_id))
+}
+
+#[test]
+fn feeds_in_threads_are_those_without(rt: HostRuntime) -> Result<(), Fail> {
+    let alloc = rt.alloc();
+    for row in rows() {
+        let (before, first_id, ..) = *row;
+        let changes = merges(alloc, before)?;
+        let mut store = opened(alloc, &changes, &[], first_id)?;
+        let alike = feeds_row_in_threads(&rt, alloc, &mut store, row)?;
+        assert!(rt; alike);
+    }
+    Ok(())
+}
+
 /// Feeds of puts that are made to one store, one after the other: the sequences, what comes of it, and how many runs, which
 /// last sequence and which next id there are then.
 type Course = &'static [(&'static [u64], Result<u64, FeedError>, usize, u64, u64)];

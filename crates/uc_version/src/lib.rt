@@ -2,8 +2,9 @@
 //!
 //! An [`Owned`] has a version, and the claims of those who compact stretches of its runs. Read `specs/Owners.antt`
 //! first, then `specs/Claiming.antt`, `specs/Installing.antt` and `owned.rt`; and `specs/AtOnce.antt` with
-//! `at_once.rt`, and `specs/Feeding.antt` with `live.rt`. Compactions of any version's runs, and their installs, are in `uc_version_compact`, whoever claims
-//! them; versions are in `uc_version_state`. This crate re-exports the public items of both.
+//! `at_once.rt`, and `specs/Feeding.antt` with `live.rt`. Compactions of any version's runs, and their installs, are in
+//! `uc_version_compact`, whoever claims them; versions are in `uc_version_state`. This crate re-exports the public items
+//! of both.
 //!
 //! An `Err(AllocError)`, or a variant `Memory`, comes only if an allocation fails.
 #![tactic(auto)]

@@ -1,6 +1,7 @@
 //! Writes that are fed to an owner's store, and snapshots that come and go.
 ghost use Rattle.std.specs.Prelude.{◌≡◌, ◌⊎◌, ◌+◌, ◌≤◌, None, Some, Contains, IfOk, IfErr, OnOk, OnErr, length, map};
-ghost use Rattle.uc_version_state.specs.Feeds.{memtables_in, feed_refusal};
+ghost use Rattle.uc_batch.specs.Rising.{IsRising};
+ghost use Rattle.uc_version_state.specs.Feeds.{fed, memtables_in, feed_refusal};
 ghost use Rattle.uc_version_state.specs.declared.feed_error.FeedError.TheVariants.{Memory};
 ghost use Rattle.uc_version.specs.Feeding as feeding;
 ghost use Rattle.uc_version_state.specs.declared.release_error.ReleaseError.TheVariants.{NotKept};
@@ -8,14 +9,33 @@ ghost use Rattle.uc_version_state.specs.declared.release_error.ReleaseError.TheV
 use crate::claims::move_down;
 use crate::owned::Owned;
 use std::alloc::{AllocError, Global};
+use std::marker::Sync;
+use std::thread::Threads;
 use uc_batch::Writes;
+use uc_bytes::Write;
 use uc_oper::Operator;
-use uc_version_open::fed_version;
+use uc_version_open::{fed_version, fed_version_in_threads};
 use uc_version_state::{
-    FeedError, ReleaseError, feeds_and_keeps_give_versions, no_refusal_is_leave_to_feed,
+    FeedError, ReleaseError, Version, feeds_and_keeps_give_versions, no_refusal_is_leave_to_feed,
 };
 
 impl<O: Operator> Owned<O> {
+    /// Shows the version after writes were fed. Returns how many runs there are more.
+    fn show_fed(&mut self, writes: &[Write], next: Version) -> u64
+        requires rising { IsRising 0 writes.now }
+        requires none { feed_refusal self.old.version writes.now ≡ None }
+        requires next { next ≡ fed writes.now self.old.version }
+        ensures count { result ≡ length (memtables_in self.old.version writes.now) }
+        ensures after { self.new ≡ feeding.after_feed writes.now self.old }
+    {
+        no_refusal_is_leave_to_feed();
+        feeds_and_keeps_give_versions();
+        let count = next.runs().len() - self.version.runs().len();
+        self.version = next;
+        move_down(&mut self.claims, count);
+        count as u64
+    }
+
     /// Feeds writes: they fill memtables, and each becomes a run before all others. Returns how many runs there are more.
     /// The last sequence becomes theirs; keeps stay, and so do claims, which go on to hold their runs. What was compacted
     /// for a claim before a feed, a keep or a release can be installed after it, if an id is left. No writes change
@@ -35,15 +55,38 @@ impl<O: Operator> Owned<O> {
             ⊎ ((feed_refusal self.old.version writes.now.list ≡ None) × (error ≡ Memory)))) }
     {
         no_refusal_is_leave_to_feed();
-        feeds_and_keeps_give_versions();
-        if let Some(error) = self.version.feed_refusal(writes.list()) {
+        let list = writes.list();
+        if let Some(error) = self.version.feed_refusal(list) {
             return Err(error);
         }
-        let next = fed_version(alloc, &self.version, writes.list())?;
-        let count = next.runs().len() - self.version.runs().len();
-        self.version = next;
-        move_down(&mut self.claims, count);
-        Ok(count as u64)
+        let next = fed_version(alloc, &self.version, list)?;
+        Ok(self.show_fed(list, next))
+    }
+
+    /// As [`feed`](Owned::feed), with full memtables flushed side by side, in threads. What it gives is the same, and so is what it
+    /// refuses. It pays if the writes fill several memtables, of which it holds up to nine more meanwhile.
+    pub fn feed_in_threads(
+        &mut self,
+        rt: &(impl Threads + Sync),
+        alloc: Global,
+        writes: &Writes,
+    ) -> Result<u64, FeedError>
+        ensures ok { IfOk result (λ count.
+            (feed_refusal self.old.version writes.now.list ≡ None)
+            × (count ≡ length (memtables_in self.old.version writes.now.list))
+            × (self.new ≡ feeding.after_feed writes.now.list self.old)) }
+        ensures err { IfErr result (λ error.
+            (self.new ≡ self.old)
+            × ((feed_refusal self.old.version writes.now.list ≡ Some error)
+            ⊎ ((feed_refusal self.old.version writes.now.list ≡ None) × (error ≡ Memory)))) }
+    {
+        no_refusal_is_leave_to_feed();
+        let list = writes.list();
+        if let Some(error) = self.version.feed_refusal(list) {
+            return Err(error);
+        }
+        let next = fed_version_in_threads(rt, alloc, &self.version, list)?;
+        Ok(self.show_fed(list, next))
     }
 
     /// Takes a snapshot: the last sequence becomes a keep, if it isn't one. Returns it. Keeps aren't counted: one release

@@ -1,4 +1,4 @@
-//! [`fed_version`]: the version after writes that are fed, whose memtables are flushed.
+//! [`fed_version`] and [`fed_version_in_threads`]: the version after writes that are fed, whose memtables are flushed.
 ghost use Rattle.std.specs.Prelude.{◌≡◌, ◌≤◌, IfOk, map};
 ghost use Rattle.uc_batch.specs.Rising as rising;
 ghost use Rattle.uc_batch.specs.Rising.{IsRising};
@@ -6,9 +6,11 @@ ghost use Rattle.uc_run.specs.Flush.{flushed};
 ghost use Rattle.uc_version_state.specs.Flushes.{memtables as memtables_of};
 ghost use Rattle.uc_version_state.specs.Feeds.{MayFeed, fed, memtables_in};
 
-use crate::flusher::Alone;
+use crate::flusher::{Alone, Flusher, InThreads};
 use crate::memtables::Memtables;
 use std::alloc::{AllocError, Global};
+use std::marker::Sync;
+use std::thread::Threads;
 use uc_bytes::{Write, WriteRef};
 use uc_run::Run;
 use uc_version_state::{Version, feeds_and_keeps_give_versions};
@@ -23,6 +25,25 @@ fn last_of(last: u64, writes: &[Write]) -> u64
     }
 }
 
+/// The runs of the memtables that writes fill, the oldest first, if this flusher flushes them.
+fn flush_writes_by<F: Flusher>(
+    flusher: &F,
+    alloc: Global,
+    limit: u64,
+    writes: &[Write],
+) -> Result<Vec<Run>, AllocError>
+    requires can { F.can_flush }
+    requires limit { 1 ≤ limit }
+    requires rising { IsRising 0 writes.now }
+    ensures { IfOk result (λ runs. runs.items ≡ map flushed (memtables_of limit writes.now)) }
+{
+    let mut memtables = Memtables::new(alloc);
+    for write in writes {
+        memtables.insert(flusher, alloc, limit, &WriteRef::of(write))?;
+    }
+    memtables.into_runs(flusher, alloc)
+}
+
 /// The runs of the memtables that writes fill, the oldest first. A memtable is flushed from `limit` bytes on, and what is
 /// left at the end too. It costs a copy of each text, and a sort of each memtable.
 pub fn flush_writes(alloc: Global, limit: u64, writes: &[Write]) -> Result<Vec<Run>, AllocError>
@@ -30,11 +51,7 @@ pub fn flush_writes(alloc: Global, limit: u64, writes: &[Write]) -> Result<Vec<R
     requires rising { IsRising 0 writes.now }
     ensures { IfOk result (λ runs. runs.items ≡ map flushed (memtables_of limit writes.now)) }
 {
-    let mut memtables = Memtables::new(alloc);
-    for write in writes {
-        memtables.insert(&Alone, alloc, limit, &WriteRef::of(write))?;
-    }
-    memtables.into_runs(&Alone, alloc)
+    flush_writes_by(&Alone, alloc, limit, writes)
 }
 
 /// The version after writes were fed to it whose memtables these are, flushed, the oldest first: a new one that shares the
@@ -66,5 +83,20 @@ pub fn fed_version(
 {
     version.recall();
     let runs = flush_writes(alloc, version.limit(), writes)?;
+    version_with_flushed(alloc, version, writes, runs)
+}
+
+/// As [`fed_version`], with full memtables flushed side by side, in threads. It holds up to nine more memtables meanwhile.
+pub fn fed_version_in_threads(
+    rt: &(impl Threads + Sync),
+    alloc: Global,
+    version: &Version,
+    writes: &[Write],
+) -> Result<Version, AllocError>
+    requires { MayFeed version.now writes.now }
+    ensures { IfOk result (λ next. next ≡ fed writes.now version.now) }
+{
+    version.recall();
+    let runs = flush_writes_by(&InThreads::new(rt), alloc, version.limit(), writes)?;
     version_with_flushed(alloc, version, writes, runs)
 }

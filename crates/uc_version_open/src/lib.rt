@@ -5,8 +5,8 @@
 //! refused opening. Read `specs/Refusal.antt` first, which says when a store isn't opened, then `specs/Progress.antt`
 //! and `opener.rt`. A store opens with `opened` of `uc_version_state`.
 //!
-//! Writes that are fed to a store later fill the same memtables: [`fed_version`], or in two steps [`flush_writes`] and
-//! [`version_with_flushed`].
+//! Writes that are fed to a store later fill the same memtables: [`fed_version`], [`fed_version_in_threads`], or in two steps
+//! [`flush_writes`] and [`version_with_flushed`].
 //!
 //! [`recover`] goes once through a write-ahead log and hands each write, borrowed from the log's bytes, to an opener.
 //! [`recover_first`] does so for the first writes alone, and hands those behind them out; [`count_writes`] tells how many
@@ -33,7 +33,7 @@ mod reading;
 mod recovery;
 
 pub use first_version::open_version;
-pub use flushes::{fed_version, flush_writes, version_with_flushed};
+pub use flushes::{fed_version, fed_version_in_threads, flush_writes, version_with_flushed};
 pub use laws::no_refusal_is_leave_to_open;
 pub use open_error::OpenError;
 pub use opener::Opener;
