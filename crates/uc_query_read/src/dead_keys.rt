@@ -3,33 +3,14 @@ ghost use Rattle.std.specs.Prelude.{◌≡◌, ℕ, Bool, List, true, map, optio
 ghost use Rattle.std.specs.List.{AllByRecursion};
 ghost use Rattle.uc_run.specs.Cursors.{has_ranges};
 ghost use Rattle.uc_run.specs.NextKey.{IsNextKey};
-ghost use Rattle.uc_run.specs.Heads as heads;
 ghost use Rattle.uc_compact_rules.specs.Inputs.{points_of, writes_of};
 ghost use Rattle.uc_query_read.specs.Walks.{runs_of, StandsAt, IsOfRun};
 ghost use Rattle.uc_query_read.specs.Dead.{IsHidden, AreDead};
 
 use uc_model::{effect_gives_value, effects_of_parts_compose};
 use uc_oper::Operator;
-use uc_run::Cursor;
+use uc_run::{Cursor, lesser};
 use uc_run_entry::plain_list_does_what_is_found;
-
-/// The lesser of two keys, if there are two; else the one there is.
-fn lesser<'a>(key: Option<&'a [u8]>, other: Option<&'a [u8]>) -> Option<&'a [u8]>
-    ensures { option_map (λ k. k.now) result ≡
-        heads.lesser_of (option_map (λ k. k.now) key.entry) (option_map (λ k. k.now) other.entry) }
-{
-    match (key, other) {
-        (Some(key), Some(other)) => {
-            if other.cmp(&key).is_lt() {
-                Some(other)
-            } else {
-                Some(key)
-            }
-        }
-        (Some(key), None) => Some(key),
-        (None, other) => other,
-    }
-}
 
 /// The least of the cursors' next keys.
 fn least_key<'a>(cursors: &[Cursor<'a>]) -> Option<&'a [u8]>

@@ -105,7 +105,8 @@ fn numbers_of(alloc: Global, front: &[u8], keys: &[Option<&[u8]>]) -> Result<Vec
 }
 
 /// The lesser of two keys, if there are two; else the one there is.
-fn lesser<'a>(key: Option<&'a [u8]>, other: Option<&'a [u8]>) -> Option<&'a [u8]>
+#[inline]
+pub fn lesser<'a>(key: Option<&'a [u8]>, other: Option<&'a [u8]>) -> Option<&'a [u8]>
     ensures { option_map (λ k. k.now) result ≡
         heads.lesser_of (option_map (λ k. k.now) key.entry) (option_map (λ k. k.now) other.entry) }
 {

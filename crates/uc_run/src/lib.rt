@@ -37,7 +37,7 @@ mod size;
 mod slot;
 
 pub use cursor::Cursor;
-pub use heads::{Head, Heads};
+pub use heads::{Head, Heads, lesser};
 pub use laws::{
     flush_keeps_every_effect, flushed_writes_are_a_run, keys_at_places_are_next,
     other_keys_are_kept,

@@ -126,8 +126,7 @@ impl Run {
         })
     }
 
-    /// As [`from_points`](Run::from_points), with filter and fences made side by side, in threads. It pays from about
-    /// ten thousand points on.
+    /// As [`from_points`](Run::from_points), with filter and fences made side by side, in threads.
     pub fn from_points_in_threads(
         rt: &(impl Threads + Sync),
         alloc: Global,
