@@ -1,0 +1,3 @@
+mod FedBatches
+mod Recorded
+mod Released

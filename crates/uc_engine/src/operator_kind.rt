@@ -1,0 +1,45 @@
+//! [`OperatorKind`]: which operator merges.
+ghost use Rattle.std.specs.Prelude.{◌≡◌};
+ghost use Rattle.uc_engine.specs.Engines.{kind_numbered};
+
+use uc_oper::{Append, Tail};
+
+/// The delimiter of [`OperatorKind::Append`].
+pub(crate) const COMMA: u8 = b',';
+
+/// How many bytes [`OperatorKind::Tail`] keeps.
+pub(crate) const KEPT: usize = 4;
+
+/// The operator of [`OperatorKind::Append`].
+pub(crate) type Texts = Append<COMMA>;
+
+/// The operator of [`OperatorKind::Tail`].
+pub(crate) type LastBytes = Tail<KEPT>;
+
+/// Which operator merges (RocksDB wiki, "Merge Operator").
+#[derive(Clone, Copy, Debug, PartialEq, Eq)]
+pub enum OperatorKind {
+    /// Texts joined by commas, as RocksDB's `StringAppendOperator` does.
+    Append,
+    /// Sums of 64-bit numbers.
+    Counter,
+    /// The greater text.
+    Maximum,
+    /// The last four bytes of all texts.
+    Tail,
+}
+
+impl OperatorKind {
+    /// The operator with a number: 0 for `Append`, 1 for `Counter`, 2 for `Maximum` and 3 for `Tail`.
+    pub fn of(number: u32) -> Option<OperatorKind>
+        ensures { result ≡ kind_numbered number }
+    {
+        match number {
+            0 => Some(OperatorKind::Append),
+            1 => Some(OperatorKind::Counter),
+            2 => Some(OperatorKind::Maximum),
+            3 => Some(OperatorKind::Tail),
+            _ => None,
+        }
+    }
+}

@@ -1,0 +1,75 @@
+//! [`EngineReport`]: what an engine holds, in numbers.
+ghost use Rattle.std.specs.Prelude.{◌≡◌};
+ghost use Rattle.uc_fold.specs.Adding.{added as added_totals};
+ghost use Rattle.uc_engine.specs.EngineReports as reports;
+
+use crate::engine::Engine;
+use uc_fold::Totals;
+use uc_version_state::Placed;
+
+/// What an engine holds, in numbers.
+#[derive(Clone, Copy, Debug, PartialEq, Eq)]
+pub struct EngineReport {
+    /// How many runs there are.
+    pub runs: u64,
+    /// How many snapshots there are.
+    pub keeps: u64,
+    /// The sums of all runs: points, fragments of range deletions, and bytes, with 8 for each sequence. Each is held at
+    /// 2^64 - 1.
+    pub total: Totals,
+    /// The last sequence.
+    pub last: u64,
+}
+
+/// What a run adds to the totals.
+fn totals_of(placed: &Placed) -> Totals
+    ensures { result ≡ reports.totals_of placed.now }
+{
+    let run = placed.run();
+    Totals {
+        points: run.points(),
+        fragments: run.fragments().len() as u64,
+        size: run.size(),
+    }
+}
+
+/// The sums of two totals, each held at 2^64 - 1.
+fn added(total: &Totals, more: &Totals) -> Totals
+    ensures { result ≡ added_totals total.now more.now }
+{
+    Totals {
+        points: total.points.saturating_add(more.points),
+        fragments: total.fragments.saturating_add(more.fragments),
+        size: total.size.saturating_add(more.size),
+    }
+}
+
+/// The sums of all runs.
+fn total(runs: &[Placed]) -> Totals
+    ensures { result ≡ reports.total runs.now }
+{
+    let mut total = Totals {
+        points: 0,
+        fragments: 0,
+        size: 0,
+    };
+    for placed in runs {
+        total = added(&total, &totals_of(placed));
+    }
+    total
+}
+
+impl Engine {
+    /// What it holds, in numbers. It looks at each run once, and at no point.
+    pub fn report(&self) -> EngineReport
+        ensures { result ≡ reports.report_of self.now.owner.version }
+    {
+        let version = self.version();
+        EngineReport {
+            runs: version.runs().len() as u64,
+            keeps: version.keeps().len() as u64,
+            total: total(version.runs()),
+            last: version.last(),
+        }
+    }
+}

@@ -1,0 +1,29 @@
+//! Engines, whose operator is a value, by hand and drawn.
+//!
+//! `worked.rt` has the values that are worked out by hand for each operator, and `given.rt` the engines and bytes that
+//! tests begin with. `feeds.rt`, `writes.rt`, `reads.rt`, `snapshots.rt`, `compactions.rt` and `openings.rt` try each call on
+//! its happy path and each refusal. `drawn.rt` plays drawn calls beside the plain program of `plain.rt`.
+#![tactic(auto)]
+
+#[cfg(test)]
+mod compactions;
+#[cfg(test)]
+mod drawn;
+#[cfg(test)]
+mod feeds;
+#[cfg(test)]
+mod given;
+#[cfg(test)]
+mod log_records;
+#[cfg(test)]
+mod openings;
+#[cfg(test)]
+mod plain;
+#[cfg(test)]
+mod reads;
+#[cfg(test)]
+mod snapshots;
+#[cfg(test)]
+mod worked;
+#[cfg(test)]
+mod writes;

@@ -1,0 +1,118 @@
+//! Engines that open, and those that don't.
+use crate::given::{batch, has, small};
+use crate::worked::{MERGED, Merged};
+use std::alloc::Global;
+use std::test::Fail;
+use uc_bytes::MAX_SEQUENCE;
+use uc_engine::{Ended, Engine, OpenError, OpenedEngine, OperatorKind, Options};
+use uc_logrec::LogWriter;
+
+/// A log of one batch.
+fn log_of(alloc: Global, sequence: u64, count: u32, records: &[u8]) -> Result<Vec<u8>, Fail> {
+    let mut log = LogWriter::new(alloc);
+    log.add(&batch(alloc, sequence, count, records)?)?;
+    Ok(log.finish())
+}
+
+/// What opens from a log.
+fn opened(alloc: Global, kind: OperatorKind, log: &[u8]) -> Result<OpenedEngine, Fail> {
+    match Engine::open(alloc, kind, log, Options::usual()) {
+        Ok(opened) => Ok(opened),
+        Err(_) => Err("the engine doesn't open")?,
+    }
+}
+
+/// An engine whose last sequence is the greatest one.
+pub(crate) fn full(alloc: Global) -> Result<Engine, Fail> {
+    let log = log_of(alloc, MAX_SEQUENCE, 1, b"\x02\x01k\x01a")?;
+    Ok(opened(alloc, OperatorKind::Append, &log)?.engine)
+}
+
+/// Whether what opened has both merges of a log, whose batch begins at the sequence 7.
+fn has_merged(alloc: Global, opened: &mut OpenedEngine, merged: &Merged) -> Result<bool, Fail> {
+    let is_whole = opened.ended == Ended::Clean && opened.engine.kind() == merged.kind;
+    let is_last = opened.engine.last() == 8 && opened.engine.keeps() == [8].as_slice();
+    Ok(is_whole && is_last && has(alloc, &mut opened.engine, b"k", merged.value)?)
+}
+
+/// Whether a log opens under each operator.
+fn each_opens(alloc: Global) -> Result<bool, Fail> {
+    for merged in &MERGED {
+        let log = log_of(alloc, 7, 2, merged.records)?;
+        let mut opened = opened(alloc, merged.kind, &log)?;
+        if !has_merged(alloc, &mut opened, merged)? {
+            return Ok(false);
+        }
+    }
+    Ok(true)
+}
+
+#[test]
+fn logs_open_under_each_operator(rt: HostRuntime) -> Result<(), Fail> {
+    let alloc = rt.alloc();
+    assert!(rt; each_opens(alloc)?);
+    Ok(())
+}
+
+#[test]
+fn a_torn_log_opens_up_to_its_end(rt: HostRuntime) -> Result<(), Fail> {
+    let alloc = rt.alloc();
+    let opened = opened(alloc, OperatorKind::Tail, b"\x01\x02\x03")?;
+    assert!(rt; opened.ended == Ended::Torn(0));
+    assert!(rt; opened.engine.last() == 0);
+    Ok(())
+}
+
+/// Whether an engine opens neither from a log nor empty, for a bad option.
+fn refuses_options(alloc: Global, options: Options) -> bool {
+    let from_log = Engine::open(alloc, OperatorKind::Append, b"", options);
+    let empty = Engine::create(alloc, OperatorKind::Append, options);
+    let is_refused = match from_log {
+        Err(error) => error == OpenError::BadOption,
+        Ok(_) => false,
+    };
+    match empty {
+        Err(error) => is_refused && error == OpenError::BadOption,
+        Ok(_) => false,
+    }
+}
+
+#[test]
+fn bad_options_are_refused(rt: HostRuntime) -> Result<(), Fail> {
+    let options = Options {
+        trigger: 0,
+        ..small()
+    };
+    assert!(rt; refuses_options(rt.alloc(), options));
+    Ok(())
+}
+
+/// The records of so many deletes of the key without bytes.
+fn deletes(alloc: Global, count: usize) -> Result<Vec<u8>, Fail> {
+    let mut records = Vec::new(alloc);
+    for _ in 0..count {
+        records.extend_from_slice(b"\0\0")?;
+    }
+    Ok(records)
+}
+
+#[test]
+fn more_runs_than_slots_are_refused(rt: HostRuntime) -> Result<(), Fail> {
+    let alloc = rt.alloc();
+    let log = log_of(alloc, 1, 257, &deletes(alloc, 257)?)?;
+    let is_refused = match Engine::open(alloc, OperatorKind::Append, &log, small()) {
+        Err(error) => error == OpenError::TooManyRuns,
+        Ok(_) => false,
+    };
+    assert!(rt; is_refused);
+    Ok(())
+}
+
+#[test]
+fn operators_have_numbers(rt: HostRuntime) -> Result<(), Fail> {
+    for (number, merged) in MERGED.iter().enumerate() {
+        assert!(rt; OperatorKind::of(number as u32) == Some(merged.kind));
+    }
+    assert!(rt; OperatorKind::of(4) == None);
+    Ok(())
+}
