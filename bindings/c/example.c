@@ -1,0 +1,136 @@
+/* Counts words, and goes on where it was stopped:
+ *
+ *     example LOG < TEXT
+ *
+ * Each line is a batch of merges. The log's file has it before the store does. */
+#define _POSIX_C_SOURCE 200112L
+
+#include <stdio.h>
+#include <stdlib.h>
+#include <string.h>
+#include <ucstore.h>
+#include <unistd.h>
+
+/* A line is shorter, so that a word's length is one byte of a batch. */
+enum { LINE = 128, MOST_LOG = 1 << 26, ROOM = 1 << 16 };
+
+static struct ucstore store;
+static FILE *file;
+static uint64_t length;
+
+static void expect(bool done, const char *what) {
+    if (!done) {
+        fprintf(stderr, "example: %s\n", what);
+        exit(1);
+    }
+}
+
+static uint64_t number(const uint8_t *text) {
+    uint64_t value = 0;
+    for (int place = 7; place >= 0; place--) {
+        value = value << 8 | text[place];
+    }
+    return value;
+}
+
+/* Where the log goes on: behind its last whole batch. */
+static uint64_t end_of(const uint8_t *log, size_t log_length) {
+    static uint8_t room[ROOM];
+    struct ucstore_log_place place = {0, 0, 0};
+    struct ucstore_ended ended;
+    int32_t status = UCSTORE_OK;
+    while (status == UCSTORE_OK) {
+        size_t size = 0;
+        uint64_t writes = 0;
+        status = ucstore_log_next(log, log_length, &place, room, ROOM, &size, &writes, &ended);
+    }
+    expect(status == UCSTORE_LOG_ENDS, "can't read the log");
+    return place.offset;
+}
+
+/* Opens the store from the log, and cuts off what was being written when it was stopped. */
+static void open_store(const char *name) {
+    struct ucstore_options options;
+    struct ucstore_ended ended;
+    size_t log_length;
+    uint8_t *log = (uint8_t *)malloc(MOST_LOG);
+    file = fopen(name, "a+b");
+    expect(file != NULL && log != NULL, "can't open the log");
+    rewind(file);
+    log_length = fread(log, 1, MOST_LOG, file);
+    ucstore_options(&options);
+    expect(ucstore_open(&store, UCSTORE_COUNTER, &options, log, log_length, &ended) == UCSTORE_OK, "can't open the store");
+    expect(ended.kind == UCSTORE_CLEAN || ended.kind == UCSTORE_TORN, "the log is damaged");
+    length = end_of(log, log_length);
+    expect(ftruncate(fileno(file), (off_t)length) == 0, "can't cut the log");
+    free(log);
+}
+
+/* Writes a batch to the log's file, waits for its device, and feeds the store. */
+static void write_batch(const uint8_t *batch, size_t batch_length) {
+    static uint8_t record[ROOM];
+    size_t size = 0;
+    bool compacted = true;
+    expect(ucstore_log_record(&store, length, batch, batch_length, record, sizeof record, &size) == UCSTORE_OK,
+           "there is no record");
+    expect(fwrite(record, 1, size, file) == size && fflush(file) == 0 && fsync(fileno(file)) == 0, "can't write the log");
+    length += size;
+    expect(ucstore_feed(&store, batch, batch_length) == UCSTORE_OK, "can't feed the store");
+    while (compacted) {
+        expect(ucstore_compact(&store, &compacted) == UCSTORE_OK, "can't compact the store");
+    }
+}
+
+/* Counts the words of a line. A batch has 8 bytes for a sequence, where 0 stands for the next one, 4 for the count, low
+ * byte first, and a record for each word: the tag 2 of a merge, the word and the operand, each behind its length. */
+static void count_words(char *line) {
+    static const uint8_t one[9] = {8, 1};
+    uint8_t batch[12 + LINE * 12] = {0};
+    size_t size = 12;
+    for (char *word = strtok(line, " \t\n"); word != NULL; word = strtok(NULL, " \t\n")) {
+        size_t word_length = strlen(word);
+        batch[8]++;
+        batch[size++] = 2;
+        batch[size++] = (uint8_t)word_length;
+        memcpy(batch + size, word, word_length);
+        size += word_length;
+        memcpy(batch + size, one, sizeof one);
+        size += sizeof one;
+    }
+    write_batch(batch, size);
+}
+
+/* Prints the words with their counts, a page of rows at a time. */
+static void print_counts(void) {
+    static uint8_t room[ROOM];
+    uint8_t low[LINE + 1] = {0};
+    size_t low_length = 0, size = 0;
+    uint64_t at = 0, rows = 1;
+    expect(ucstore_keep(&store, &at) == UCSTORE_OK, "there is no memory");
+    while (rows > 0) {
+        const uint8_t *row = room;
+        expect(ucstore_scan(&store, low, low_length, low, 0, false, at, 100, room, ROOM, &size, &rows) == UCSTORE_OK,
+               "can't scan the store");
+        for (uint64_t place = 0; place < rows; place++) {
+            size_t word_length = (size_t)number(row);
+            printf("%.*s %llu\n", (int)word_length, (const char *)row + 8, (unsigned long long)number(row + 16 + word_length));
+            /* No key is between a word and the word with a zero byte behind it. */
+            memcpy(low, row + 8, word_length);
+            low[word_length] = 0;
+            low_length = word_length + 1;
+            row += 24 + word_length;
+        }
+    }
+}
+
+int main(int argc, char **argv) {
+    char line[LINE];
+    expect(argc == 2, "usage: example LOG < TEXT");
+    open_store(argv[1]);
+    while (fgets(line, sizeof line, stdin) != NULL) {
+        count_words(line);
+    }
+    print_counts();
+    expect(ucstore_close(&store) == UCSTORE_OK && fclose(file) == 0, "can't close");
+    return 0;
+}

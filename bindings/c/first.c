@@ -1,0 +1,23 @@
+/* Counts visits, and reads how many there were before. */
+#include <stdio.h>
+#include <ucstore.h>
+
+int main(void) {
+    struct ucstore store = {0};
+    struct ucstore_options options;
+    const uint8_t key[] = {'v'}, two[8] = {2}, three[8] = {3};
+    uint8_t now[8] = {0}, then[8] = {0};
+    uint64_t before = 0;
+    size_t size;
+
+    ucstore_options(&options);
+    ucstore_create(&store, UCSTORE_COUNTER, &options);
+    ucstore_merge(&store, key, sizeof key, two, sizeof two);
+    ucstore_keep(&store, &before);
+    ucstore_merge(&store, key, sizeof key, three, sizeof three);
+    ucstore_get_last(&store, key, sizeof key, now, sizeof now, &size);
+    ucstore_get(&store, key, sizeof key, before, then, sizeof then, &size);
+    printf("%d visits, %d before\n", now[0], then[0]);
+    /* A handle without a store says so to each call, and to this one too. */
+    return ucstore_close(&store) == UCSTORE_OK ? 0 : 1;
+}

@@ -1,0 +1,314 @@
+/* Refuses each allocation of each call in turn: once alone, and once with all behind it. A call that is refused answers
+ * so, and changes nothing. In the end all memory is given back. The words are how many calls there are, and the seed.
+ *
+ * It is linked with `-Wl,--wrap=malloc,--wrap=realloc,--wrap=free`. */
+#include <stdio.h>
+#include <stdlib.h>
+#include <string.h>
+#include <ucstore.h>
+
+#define CHECK(test)                                                  \
+    do {                                                             \
+        if (!(test)) {                                               \
+            printf("%s:%d: %s\n", __FILE__, __LINE__, #test);        \
+            exit(1);                                                 \
+        }                                                            \
+    } while (0)
+
+#ifdef __cplusplus
+extern "C" {
+#endif
+void *__real_malloc(size_t size);
+void *__real_realloc(void *block, size_t size);
+void __real_free(void *block);
+void *__wrap_malloc(size_t size);
+void *__wrap_realloc(void *block, size_t size);
+void __wrap_free(void *block);
+#ifdef __cplusplus
+}
+#endif
+
+enum { TEXT = 40, ROOM = 1 << 18, MOST_KEEPS = 4, BATCH = 12 + 20 * (3 + 2 * TEXT), MOST_LOG = 1 << 20 };
+
+/* How many allocations are granted before one is refused, if any is, and whether those behind it are too. */
+static bool refuses, lasts, refused;
+static size_t granted;
+
+/* How many blocks are in use, and how many allocations were refused. */
+static long live;
+static size_t refusals;
+
+static bool is_refused(void) {
+    if (!refuses || granted-- > 0) {
+        return false;
+    }
+    granted = 0;
+    refuses = lasts;
+    refused = true;
+    refusals++;
+    return true;
+}
+
+void *__wrap_malloc(size_t size) {
+    void *block = is_refused() ? NULL : __real_malloc(size);
+    live += block != NULL;
+    return block;
+}
+
+void *__wrap_realloc(void *block, size_t size) {
+    void *moved = is_refused() ? NULL : __real_realloc(block, size);
+    live += block == NULL && moved != NULL;
+    return moved;
+}
+
+void __wrap_free(void *block) {
+    live -= block != NULL;
+    __real_free(block);
+}
+
+static uint64_t state;
+
+/* A number below a limit (Knuth's constants). */
+static uint64_t draw(uint64_t limit) {
+    state = state * UINT64_C(6364136223846793005) + UINT64_C(1442695040888963407);
+    return (state >> 33) % limit;
+}
+
+static struct ucstore store;
+static uint8_t history[MOST_LOG];
+static size_t history_length;
+
+/* What a store holds: its numbers, and the rows at each snapshot. */
+struct held {
+    struct ucstore_report report;
+    uint64_t keeps[MOST_KEEPS];
+    size_t keep_count, size;
+    uint8_t rows[ROOM];
+};
+
+static void look(struct held *held) {
+    static const uint8_t none[1] = {0};
+    uint64_t count;
+    size_t size;
+    CHECK(ucstore_report(&store, &held->report) == UCSTORE_OK);
+    CHECK(ucstore_keeps(&store, held->keeps, MOST_KEEPS, &held->keep_count) == UCSTORE_OK && held->keep_count <= MOST_KEEPS);
+    held->size = 0;
+    for (size_t place = 0; place < held->keep_count; place++) {
+        CHECK(ucstore_scan(&store, none, 0, none, 0, false, held->keeps[place], UINT64_MAX, held->rows + held->size,
+                           ROOM - held->size, &size, &count) == UCSTORE_OK);
+        held->size += size;
+        CHECK(held->size <= ROOM);
+    }
+}
+
+static bool is_same(const struct held *one, const struct held *other) {
+    return memcmp(&one->report, &other->report, sizeof one->report) == 0 && one->keep_count == other->keep_count
+        && memcmp(one->keeps, other->keeps, one->keep_count * sizeof one->keeps[0]) == 0 && one->size == other->size
+        && memcmp(one->rows, other->rows, one->size) == 0;
+}
+
+/* A call with what was drawn for it, so that it can be tried again. */
+struct call {
+    int kind;
+    uint8_t key[TEXT], value[TEXT], batch[BATCH];
+    size_t key_length, value_length, batch_length;
+    uint64_t at;
+};
+
+enum { PUT, DELETE, MERGE, DELETE_RANGE, FEED, KEEP, RELEASE, GET, GET_LAST, SCAN, COMPACT, RECORD, OPEN, NEXT, KINDS };
+
+static size_t draw_text(uint8_t *text, size_t most) {
+    size_t length = 1 + (size_t)draw(most);
+    for (size_t place = 0; place < length; place++) {
+        text[place] = (uint8_t)('a' + draw(4));
+    }
+    return length;
+}
+
+/* One of 84 keys. */
+static size_t draw_key(uint8_t *text) {
+    return draw_text(text, 3);
+}
+
+static size_t draw_value(uint8_t *text) {
+    return draw_text(text, TEXT - 1);
+}
+
+static void push_text(struct call *call, const uint8_t *text, size_t length) {
+    call->batch[call->batch_length++] = (uint8_t)length;
+    memcpy(call->batch + call->batch_length, text, length);
+    call->batch_length += length;
+}
+
+/* A batch whose sequence, which is 0, stands for the next one. */
+static void draw_batch(struct call *call) {
+    static const uint8_t TAGS[] = {1, 1, 0, 2, 2, 15};
+    uint64_t count = draw(20);
+    uint8_t text[TEXT];
+    call->batch[8] = (uint8_t)count;
+    call->batch_length = 12;
+    while (count-- > 0) {
+        uint8_t tag = TAGS[draw(sizeof TAGS)];
+        call->batch[call->batch_length++] = tag;
+        push_text(call, text, draw_key(text));
+        if (tag != 0) {
+            push_text(call, text, tag == 15 ? draw_key(text) : draw_value(text));
+        }
+    }
+}
+
+static struct call draw_call(const struct held *held) {
+    struct call call;
+    memset(&call, 0, sizeof call);
+    call.kind = (int)draw(KINDS);
+    if (call.kind == KEEP && held->keep_count == MOST_KEEPS) {
+        call.kind = RELEASE;
+    }
+    call.key_length = draw_key(call.key);
+    call.value_length = call.kind == DELETE_RANGE || call.kind == SCAN ? draw_key(call.value) : draw_value(call.value);
+    draw_batch(&call);
+    call.at = held->keep_count > 0 ? held->keeps[draw(held->keep_count)] : 0;
+    return call;
+}
+
+/* Opens the log behind another handle, and closes it. */
+static int32_t open_log(void) {
+    struct ucstore opened = {0};
+    struct ucstore_options options;
+    struct ucstore_ended ended;
+    int32_t status;
+    CHECK(ucstore_options(&options) == UCSTORE_OK);
+    options.memtable = 1000;
+    status = ucstore_open(&opened, UCSTORE_APPEND, &options, history, history_length, &ended);
+    CHECK((status == UCSTORE_OK) == (opened.at != NULL));
+    CHECK(status != UCSTORE_OK || (ended.kind == UCSTORE_CLEAN && ucstore_close(&opened) == UCSTORE_OK));
+    return status;
+}
+
+static int32_t try_call(const struct call *call) {
+    static uint8_t room[ROOM];
+    struct ucstore_log_place place = {0, 0, 0};
+    struct ucstore_ended ended;
+    size_t size = 0;
+    uint64_t number = 0;
+    bool compacted = false;
+    switch (call->kind) {
+    case PUT:
+        return ucstore_put(&store, call->key, call->key_length, call->value, call->value_length);
+    case DELETE:
+        return ucstore_delete(&store, call->key, call->key_length);
+    case MERGE:
+        return ucstore_merge(&store, call->key, call->key_length, call->value, call->value_length);
+    case DELETE_RANGE:
+        return ucstore_delete_range(&store, call->key, call->key_length, call->value, call->value_length);
+    case FEED:
+        return ucstore_feed(&store, call->batch, call->batch_length);
+    case KEEP:
+        return ucstore_keep(&store, &number);
+    case RELEASE:
+        return ucstore_release(&store, call->at);
+    case GET:
+        return ucstore_get(&store, call->key, call->key_length, call->at, room, ROOM, &size);
+    case GET_LAST:
+        return ucstore_get_last(&store, call->key, call->key_length, room, ROOM, &size);
+    case SCAN:
+        return ucstore_scan(&store, call->key, call->key_length, call->value, call->value_length, false, call->at,
+                            UINT64_MAX, room, ROOM, &size, &number);
+    case COMPACT:
+        return ucstore_compact(&store, &compacted);
+    case RECORD:
+        return ucstore_log_record(&store, history_length, call->batch, call->batch_length, room, ROOM, &size);
+    case OPEN:
+        return open_log();
+    default:
+        return ucstore_log_next(history, history_length, &place, room, ROOM, &size, &number, &ended);
+    }
+}
+
+/* Tries a call with a refusal behind so many allocations. Whether there was one. */
+static bool try_refused(const struct call *call, size_t before, int32_t *status) {
+    granted = before;
+    refused = false;
+    refuses = true;
+    *status = try_call(call);
+    refuses = false;
+    return refused;
+}
+
+/* Tries a call with each of its allocations refused, and then, if it wasn't done yet, with none. */
+static int32_t with_refusals(const struct call *call, struct held *held) {
+    static struct held found;
+    int32_t status = UCSTORE_OUT_OF_MEMORY;
+    size_t before = 0;
+    long blocks = live;
+    while (try_refused(call, before++, &status) && status == UCSTORE_OUT_OF_MEMORY) {
+        /* Room for the snapshot that a look-up at the last sequence takes and releases may stay. */
+        CHECK(live == blocks || (call->kind == GET_LAST && live == blocks + 1));
+        blocks = live;
+        look(&found);
+        CHECK(is_same(&found, held));
+    }
+    CHECK(status != UCSTORE_OUT_OF_MEMORY);
+    return status;
+}
+
+/* Lays the record of a call's batch out behind the log, and returns its size. */
+static size_t log_batch(const struct call *call) {
+    size_t size = 0, room = MOST_LOG - history_length;
+    CHECK(ucstore_log_record(&store, history_length, call->batch, call->batch_length, history + history_length, room, &size) ==
+          UCSTORE_OK);
+    CHECK(size <= room);
+    return size;
+}
+
+static void step(struct held *held) {
+    struct call call = draw_call(held);
+    size_t record = log_batch(&call);
+    int32_t status = with_refusals(&call, held);
+    if (status == UCSTORE_TOO_MANY_RUNS) {
+        call.kind = COMPACT;
+        status = with_refusals(&call, held);
+    }
+    if (call.kind == FEED && status == UCSTORE_OK) {
+        history_length += record;
+    }
+    CHECK(status == UCSTORE_OK || status == UCSTORE_NOT_FOUND || status == UCSTORE_NOT_PROTECTED || status == UCSTORE_LOG_ENDS);
+    look(held);
+}
+
+/* Creates a store, with each allocation refused before. */
+static void create(void) {
+    struct ucstore_options options;
+    int32_t status = UCSTORE_OUT_OF_MEMORY;
+    CHECK(ucstore_options(&options) == UCSTORE_OK);
+    for (size_t before = 0; status == UCSTORE_OUT_OF_MEMORY; before++) {
+        CHECK(store.at == NULL && live == 0);
+        granted = before;
+        refuses = true;
+        status = ucstore_create(&store, UCSTORE_APPEND, &options);
+        refuses = false;
+    }
+    CHECK(status == UCSTORE_OK);
+}
+
+/* A store that is written, read and compacted meanwhile, and closed. */
+static void soak(size_t calls) {
+    static struct held held;
+    create();
+    history_length = 0;
+    look(&held);
+    while (calls-- > 0) {
+        step(&held);
+    }
+    CHECK(ucstore_close(&store) == UCSTORE_OK && live == 0);
+}
+
+int main(int argc, char **argv) {
+    size_t calls = argc > 1 ? (size_t)strtoull(argv[1], NULL, 10) : 1000;
+    state = argc > 2 ? strtoull(argv[2], NULL, 10) : 1;
+    soak(calls);
+    lasts = true;
+    soak(calls);
+    printf("%zu calls, %zu refused allocations\n", 2 * calls, refusals);
+    return 0;
+}

@@ -1,0 +1,659 @@
+/* 50,000 drawn operations for each operator, beside a plain dictionary whose copies are the snapshots: writes, batches,
+ * snapshots, reads, scans and compactions. Then the log of all batches is opened and walked, whole and torn. The words are
+ * how many operations there are, and the seed. */
+#include <stdio.h>
+#include <stdlib.h>
+#include <string.h>
+#include <ucstore.h>
+
+#define CHECK(test)                                                  \
+    do {                                                             \
+        if (!(test)) {                                               \
+            printf("%s:%d: %s\n", __FILE__, __LINE__, #test);        \
+            exit(1);                                                 \
+        }                                                            \
+    } while (0)
+
+enum { TEXT = 12, VALUE = 1 << 12, KEYS = 100, MOST_KEEPS = 12, BATCH = 12 + 9 * (3 + 2 * TEXT), MOST_LOG = 1 << 24 };
+
+/* The kinds of writes are the tags of RocksDB's batches (`dbformat.h`). */
+enum kind { DELETE = 0, PUT = 1, MERGE = 2, DELETE_RANGE = 15 };
+
+/* A write: `value` is a put's value, a merge's operand or the end of a range. */
+struct write {
+    enum kind kind;
+    uint8_t key[TEXT], value[TEXT];
+    size_t key_length, value_length;
+};
+
+struct value {
+    bool held;
+    size_t size;
+    uint8_t bytes[VALUE];
+};
+
+/* A value for each key: the number of key `k7` is 7. */
+struct dictionary {
+    struct value at[KEYS];
+};
+
+/* A snapshot, and what was held there. */
+struct snapshot {
+    uint64_t at;
+    struct dictionary held;
+};
+
+static uint32_t merge_operator;
+static struct ucstore store;
+static struct dictionary now;
+static struct snapshot snapshots[MOST_KEEPS];
+static size_t snapshot_count;
+
+/* All writes, in order, and a log with a batch for each call. */
+static struct write *writes;
+static size_t count, most_writes;
+static uint8_t *history;
+static size_t history_length;
+
+/* The numbers of the keys in the order of their texts. */
+static int in_order[KEYS];
+
+static uint64_t state;
+
+/* A number below a limit (Knuth's constants). */
+static uint64_t draw(uint64_t limit) {
+    state = state * UINT64_C(6364136223846793005) + UINT64_C(1442695040888963407);
+    return (state >> 33) % limit;
+}
+
+static int compare(const uint8_t *left, size_t left_length, const uint8_t *right, size_t right_length) {
+    int order = memcmp(left, right, left_length < right_length ? left_length : right_length);
+    return order != 0 ? order : (left_length > right_length) - (left_length < right_length);
+}
+
+static size_t key_text(int key, uint8_t *text) {
+    return (size_t)snprintf((char *)text, TEXT, "k%d", key);
+}
+
+static int by_text(const void *left, const void *right) {
+    uint8_t one[TEXT], other[TEXT];
+    size_t one_length = key_text(*(const int *)left, one), other_length = key_text(*(const int *)right, other);
+    return compare(one, one_length, other, other_length);
+}
+
+static uint64_t number(const uint8_t *text) {
+    uint64_t sum = 0;
+    for (int place = 7; place >= 0; place--) {
+        sum = sum << 8 | text[place];
+    }
+    return sum;
+}
+
+static void push_number(uint8_t *bytes, size_t *size, uint64_t value) {
+    for (int place = 0; place < 8; place++) {
+        bytes[(*size)++] = (uint8_t)(value >> (8 * place));
+    }
+}
+
+static void push_text(uint8_t *bytes, size_t *size, const uint8_t *text, size_t length) {
+    push_number(bytes, size, length);
+    memcpy(bytes + *size, text, length);
+    *size += length;
+}
+
+/* What the dictionary should hold. */
+
+static void set(struct value *value, const uint8_t *text, size_t length) {
+    memcpy(value->bytes, text, length);
+    value->size = length;
+}
+
+static void add(struct value *value, const uint8_t *text, size_t length) {
+    CHECK(value->size + length <= VALUE);
+    memcpy(value->bytes + value->size, text, length);
+    value->size += length;
+}
+
+static uint64_t number_in(const uint8_t *text, size_t length) {
+    return length == 8 ? number(text) : 0;
+}
+
+static void merge(struct value *value, const struct write *w) {
+    uint64_t sum;
+    size_t size = 0;
+    if (!value->held) {
+        value->size = 0;
+    }
+    switch (merge_operator) {
+    case UCSTORE_APPEND:
+        if (value->held) {
+            add(value, (const uint8_t *)",", 1);
+        }
+        add(value, w->value, w->value_length);
+        break;
+    case UCSTORE_COUNTER:
+        sum = number_in(value->bytes, value->size) + number_in(w->value, w->value_length);
+        push_number(value->bytes, &size, sum);
+        value->size = size;
+        break;
+    case UCSTORE_MAXIMUM:
+        if (compare(value->bytes, value->size, w->value, w->value_length) < 0) {
+            set(value, w->value, w->value_length);
+        }
+        break;
+    default:
+        add(value, w->value, w->value_length);
+        if (value->size > 4) {
+            memmove(value->bytes, value->bytes + value->size - 4, 4);
+            value->size = 4;
+        }
+    }
+    value->held = true;
+}
+
+static bool covers(const struct write *w, int key) {
+    uint8_t text[TEXT];
+    size_t length = key_text(key, text);
+    return compare(w->key, w->key_length, text, length) <= 0 && compare(text, length, w->value, w->value_length) < 0;
+}
+
+static void apply(struct dictionary *held, const struct write *w) {
+    struct value *value = &held->at[atoi((const char *)w->key + 1)];
+    switch (w->kind) {
+    case PUT:
+        set(value, w->value, w->value_length);
+        value->held = true;
+        break;
+    case DELETE:
+        value->held = false;
+        break;
+    case MERGE:
+        merge(value, w);
+        break;
+    case DELETE_RANGE:
+        for (int key = 0; key < KEYS; key++) {
+            held->at[key].held = held->at[key].held && !covers(w, key);
+        }
+    }
+}
+
+static void copy(struct dictionary *to, const struct dictionary *from) {
+    for (int key = 0; key < KEYS; key++) {
+        to->at[key].held = from->at[key].held;
+        set(&to->at[key], from->at[key].bytes, from->at[key].size);
+    }
+}
+
+/* Writes. */
+
+static size_t draw_key(uint8_t *text) {
+    return key_text((int)draw(KEYS), text);
+}
+
+static struct write draw_write(void) {
+    struct write w;
+    uint64_t kind = draw(20);
+    memset(&w, 0, sizeof w);
+    w.kind = kind < 9 ? PUT : kind < 16 ? MERGE : kind < 19 ? DELETE : DELETE_RANGE;
+    w.key_length = draw_key(w.key);
+    if (w.kind == DELETE_RANGE) {
+        w.value_length = draw_key(w.value);
+    } else if (w.kind != DELETE) {
+        w.value_length = draw(3) == 0 ? 8 : (size_t)draw(TEXT + 1);
+        for (size_t place = 0; place < w.value_length; place++) {
+            w.value[place] = (uint8_t)draw(256);
+        }
+    }
+    return w;
+}
+
+/* Compacts until nothing is picked. */
+static void compact(void) {
+    bool compacted = true;
+    while (compacted) {
+        CHECK(ucstore_compact(&store, &compacted) == UCSTORE_OK);
+    }
+}
+
+static int32_t write_alone(const struct write *w) {
+    switch (w->kind) {
+    case PUT:
+        return ucstore_put(&store, w->key, w->key_length, w->value, w->value_length);
+    case DELETE:
+        return ucstore_delete(&store, w->key, w->key_length);
+    case MERGE:
+        return ucstore_merge(&store, w->key, w->key_length, w->value, w->value_length);
+    default:
+        return ucstore_delete_range(&store, w->key, w->key_length, w->value, w->value_length);
+    }
+}
+
+/* Adds a record to a batch (RocksDB, `write_batch.cc`): its tag, and each text behind its length. */
+static void push_record(uint8_t *batch, size_t *size, const struct write *w) {
+    batch[(*size)++] = (uint8_t)w->kind;
+    batch[(*size)++] = (uint8_t)w->key_length;
+    memcpy(batch + *size, w->key, w->key_length);
+    *size += w->key_length;
+    if (w->kind != DELETE) {
+        batch[(*size)++] = (uint8_t)w->value_length;
+        memcpy(batch + *size, w->value, w->value_length);
+        *size += w->value_length;
+    }
+    batch[8]++;
+}
+
+/* Gives the next batch the sequence 0, which stands for the next one, or that one. One that isn't behind the last is refused. */
+static void number_batch(uint8_t *batch, size_t size) {
+    size_t place = 0, record = 99;
+    uint64_t back = draw(count + 1);
+    push_number(batch, &place, back);
+    if (back > 0 && batch[8] > 0) {
+        CHECK(ucstore_feed(&store, batch, size) == UCSTORE_SEQUENCE_BACK);
+        CHECK(ucstore_log_record(&store, history_length, batch, size, history, 0, &record) == UCSTORE_SEQUENCE_BACK && record == 99);
+    }
+    place = 0;
+    push_number(batch, &place, draw(2) == 0 ? 0 : count + 1);
+}
+
+/* Adds the next batch to the log. */
+static void log_batch(const uint8_t *batch, size_t size) {
+    size_t record = 0, room = MOST_LOG - history_length;
+    CHECK(ucstore_log_record(&store, history_length, batch, size, history + history_length, room, &record) == UCSTORE_OK);
+    CHECK(record <= room);
+    history_length += record;
+}
+
+static void wrote(const struct write *w) {
+    CHECK(count < most_writes);
+    apply(&now, w);
+    writes[count++] = *w;
+}
+
+static void write_one(void) {
+    uint8_t batch[BATCH] = {0};
+    size_t size = 12;
+    struct write w = draw_write();
+    int32_t status;
+    push_record(batch, &size, &w);
+    log_batch(batch, size);
+    status = write_alone(&w);
+    if (status == UCSTORE_TOO_MANY_RUNS) {
+        compact();
+        status = write_alone(&w);
+    }
+    CHECK(status == UCSTORE_OK);
+    wrote(&w);
+}
+
+static void feed(void) {
+    struct write drawn[8];
+    uint8_t batch[BATCH] = {0};
+    size_t size = 12, length = (size_t)draw(9);
+    int32_t status;
+    for (size_t place = 0; place < length; place++) {
+        drawn[place] = draw_write();
+        push_record(batch, &size, &drawn[place]);
+    }
+    number_batch(batch, size);
+    log_batch(batch, size);
+    status = ucstore_feed(&store, batch, size);
+    if (status == UCSTORE_TOO_MANY_RUNS) {
+        compact();
+        status = ucstore_feed(&store, batch, size);
+    }
+    CHECK(status == UCSTORE_OK);
+    for (size_t place = 0; place < length; place++) {
+        wrote(&drawn[place]);
+    }
+    memset(batch, 0, 8);
+    batch[8]++;
+    CHECK(ucstore_feed(&store, batch, size) == UCSTORE_NOT_A_BATCH);
+}
+
+/* Snapshots. */
+
+static struct snapshot *snapshot_at(uint64_t at) {
+    for (size_t place = 0; place < snapshot_count; place++) {
+        if (snapshots[place].at == at) {
+            return &snapshots[place];
+        }
+    }
+    return NULL;
+}
+
+/* A sequence: mostly that of a snapshot. */
+static uint64_t draw_sequence(void) {
+    return snapshot_count > 0 && draw(8) != 0 ? snapshots[draw(snapshot_count)].at : draw(count + 2);
+}
+
+static void keep(void) {
+    uint64_t at = UINT64_MAX;
+    if (snapshot_count < MOST_KEEPS) {
+        CHECK(ucstore_keep(&store, &at) == UCSTORE_OK && at == count);
+        if (snapshot_at(at) == NULL) {
+            snapshots[snapshot_count].at = at;
+            copy(&snapshots[snapshot_count].held, &now);
+            snapshot_count++;
+        }
+    }
+}
+
+static void release(void) {
+    uint64_t at = draw_sequence();
+    struct snapshot *snapshot = snapshot_at(at);
+    CHECK(ucstore_release(&store, at) == (snapshot != NULL ? UCSTORE_OK : UCSTORE_NOT_PROTECTED));
+    if (snapshot != NULL) {
+        struct snapshot *last = &snapshots[--snapshot_count];
+        snapshot->at = last->at;
+        copy(&snapshot->held, &last->held);
+    }
+}
+
+static void check_keeps(void) {
+    uint64_t room[MOST_KEEPS + 1];
+    size_t found = 99, fits = (size_t)draw(MOST_KEEPS + 1);
+    room[fits] = 77;
+    CHECK(ucstore_keeps(&store, room, fits, &found) == UCSTORE_OK && found == snapshot_count && room[fits] == 77);
+    for (size_t place = 0; place < found && place < fits; place++) {
+        CHECK(snapshot_at(room[place]) != NULL && (place == 0 || room[place - 1] < room[place]));
+    }
+}
+
+static void check_report(void) {
+    struct ucstore_report report;
+    CHECK(ucstore_report(&store, &report) == UCSTORE_OK);
+    CHECK(report.snapshots == snapshot_count && report.last == count && report.runs <= 256);
+}
+
+/* Reads. */
+
+/* Whether a room has the first bytes of a text, and is as it was behind them. */
+static bool has(const uint8_t *room, size_t room_length, size_t whole, const uint8_t *text, size_t length) {
+    size_t fits = length < room_length ? length : room_length;
+    for (size_t place = fits; place < whole; place++) {
+        if (room[place] != 0xAA) {
+            return false;
+        }
+    }
+    return memcmp(room, text, fits) == 0;
+}
+
+static void check_value(int32_t status, const struct value *value, const uint8_t *room, size_t room_length, size_t size) {
+    if (value->held) {
+        CHECK(status == UCSTORE_OK && size == value->size && has(room, room_length, VALUE, value->bytes, value->size));
+    } else {
+        CHECK(status == UCSTORE_NOT_FOUND && size == 99 && has(room, 0, VALUE, room, 0));
+    }
+}
+
+static void get(void) {
+    static uint8_t room[VALUE];
+    uint8_t text[TEXT];
+    int key = (int)draw(KEYS);
+    size_t length = key_text(key, text), size = 99, room_length = draw(4) == 0 ? (size_t)draw(16) : (size_t)VALUE;
+    uint64_t at = draw_sequence();
+    struct snapshot *snapshot = snapshot_at(at);
+    int32_t status;
+    memset(room, 0xAA, VALUE);
+    status = ucstore_get(&store, text, length, at, room, room_length, &size);
+    if (snapshot == NULL) {
+        CHECK(status == UCSTORE_NOT_PROTECTED && size == 99 && has(room, 0, VALUE, room, 0));
+    } else {
+        check_value(status, &snapshot->held.at[key], room, room_length, size);
+    }
+    size = 99;
+    memset(room, 0xAA, VALUE);
+    status = ucstore_get_last(&store, text, length, room, room_length, &size);
+    check_value(status, &now.at[key], room, room_length, size);
+}
+
+/* The rows of a scan, one behind the other, as many as fit a room. */
+struct rows {
+    uint8_t bytes[KEYS * VALUE];
+    size_t size, fits;
+    uint64_t count;
+};
+
+static bool is_within(int key, const struct write *range, bool bounded) {
+    uint8_t text[TEXT];
+    size_t length = key_text(key, text);
+    return bounded ? covers(range, key) : compare(range->key, range->key_length, text, length) <= 0;
+}
+
+static void push_rows(const struct dictionary *held, const struct write *range, bool bounded, uint64_t limit, size_t room,
+                      struct rows *rows) {
+    uint8_t text[TEXT];
+    uint64_t found = 0;
+    rows->size = rows->fits = 0;
+    rows->count = 0;
+    for (int place = 0; place < KEYS && found < limit; place++) {
+        int key = in_order[place];
+        const struct value *value = &held->at[key];
+        if (value->held && is_within(key, range, bounded)) {
+            push_text(rows->bytes, &rows->size, text, key_text(key, text));
+            push_text(rows->bytes, &rows->size, value->bytes, value->size);
+            found++;
+            if (rows->size <= room) {
+                rows->count = found;
+                rows->fits = rows->size;
+            }
+        }
+    }
+}
+
+static void scan(void) {
+    static struct rows wanted;
+    static uint8_t room[KEYS * VALUE];
+    struct write range;
+    size_t size = 99, room_length = draw(2) == 0 ? (size_t)draw(400) : sizeof room;
+    uint64_t at = draw_sequence(), limit = draw(2) == 0 ? draw(6) : UINT64_MAX, shown = 99;
+    bool bounded = draw(2) == 0;
+    struct snapshot *snapshot = snapshot_at(at);
+    int32_t status;
+    range.key_length = draw_key(range.key);
+    range.value_length = draw_key(range.value);
+    status = ucstore_scan(&store, range.key, range.key_length, range.value, range.value_length, bounded, at, limit, room,
+                          room_length, &size, &shown);
+    if (snapshot == NULL) {
+        CHECK(status == UCSTORE_NOT_PROTECTED && size == 99 && shown == 99);
+    } else {
+        push_rows(&snapshot->held, &range, bounded, limit, room_length, &wanted);
+        CHECK(status == UCSTORE_OK && shown == wanted.count && size == wanted.size);
+        CHECK(memcmp(room, wanted.bytes, wanted.fits) == 0);
+    }
+}
+
+/* Logs. */
+
+/* The layout of a write in what ucstore_log_next tells. */
+static void push_write(uint8_t *bytes, size_t *size, uint64_t sequence, const struct write *w) {
+    push_number(bytes, size, sequence);
+    bytes[(*size)++] = (uint8_t)w->kind;
+    push_text(bytes, size, w->key, w->key_length);
+    push_text(bytes, size, w->value, w->kind == DELETE ? 0 : w->value_length);
+}
+
+/* Walks a part of the log, and returns where it ends. `place` has how far it came. */
+static struct ucstore_ended walk(size_t length, struct ucstore_log_place *place) {
+    static uint8_t room[8 * (33 + 2 * TEXT)], wanted[sizeof room];
+    struct ucstore_ended ended = {7, 7, 7};
+    int32_t status = UCSTORE_OK;
+    memset(place, 0, sizeof *place);
+    while (status == UCSTORE_OK) {
+        size_t size = 99, wanted_size = 0, room_length = draw(3) == 0 ? (size_t)draw(100) : sizeof room;
+        struct ucstore_log_place before = *place;
+        uint64_t found = 99;
+        status = ucstore_log_next(history, length, place, room, room_length, &size, &found, &ended);
+        if (status == UCSTORE_ROOM) {
+            CHECK(size > room_length && memcmp(&before, place, sizeof before) == 0 && found == 99);
+            status = ucstore_log_next(history, length, place, room, sizeof room, &size, &found, &ended);
+        }
+        if (status == UCSTORE_OK) {
+            for (uint64_t sequence = before.last + 1; sequence <= place->last; sequence++) {
+                push_write(wanted, &wanted_size, sequence, &writes[sequence - 1]);
+            }
+            CHECK(found == place->last - before.last && size == wanted_size && memcmp(room, wanted, size) == 0);
+            CHECK(place->offset > before.offset && place->offset <= length);
+        }
+    }
+    CHECK(status == UCSTORE_LOG_ENDS);
+    return ended;
+}
+
+/* Whether a store has the first writes, and no others. */
+static void check_store(struct ucstore *opened, uint64_t last) {
+    static struct rows wanted;
+    static struct dictionary held;
+    static uint8_t room[KEYS * VALUE];
+    struct write all;
+    size_t size = 0;
+    uint64_t at = 0, found = 0;
+    memset(&held, 0, sizeof held);
+    memset(&all, 0, sizeof all);
+    for (uint64_t sequence = 1; sequence <= last; sequence++) {
+        apply(&held, &writes[sequence - 1]);
+    }
+    push_rows(&held, &all, false, UINT64_MAX, sizeof room, &wanted);
+    CHECK(ucstore_last(opened, &at) == UCSTORE_OK && at == last);
+    CHECK(ucstore_scan(opened, all.key, 0, all.key, 0, false, at, UINT64_MAX, room, sizeof room, &size, &found) == UCSTORE_OK);
+    CHECK(size == wanted.size && found == wanted.count && memcmp(room, wanted.bytes, size) == 0);
+}
+
+/* Opens the first bytes of the log, which end as a walk says. */
+static struct ucstore_ended reopen(size_t length) {
+    struct ucstore opened = {0};
+    struct ucstore_options options;
+    struct ucstore_log_place place;
+    struct ucstore_ended walked = walk(length, &place), ended = {7, 7, 7};
+    CHECK(ucstore_options(&options) == UCSTORE_OK);
+    CHECK(ucstore_open(&opened, merge_operator, &options, history, length, &ended) == UCSTORE_OK);
+    CHECK(ended.kind == walked.kind && ended.fault == walked.fault && ended.place == walked.place);
+    check_store(&opened, place.last);
+    CHECK(ucstore_close(&opened) == UCSTORE_OK);
+    return ended;
+}
+
+/* Opens the log whole, torn, before zeros as a crash may leave them, and with a bit of its last byte changed. */
+static void check_log(void) {
+    uint8_t bit = (uint8_t)(1 << draw(8));
+    CHECK(reopen(history_length).kind == UCSTORE_CLEAN);
+    CHECK(history_length + 100 <= MOST_LOG);
+    memset(history + history_length, 0, 100);
+    CHECK(reopen(history_length + 100).kind == UCSTORE_CLEAN);
+    for (int turn = 0; turn < 4; turn++) {
+        reopen((size_t)draw(history_length));
+    }
+    history[history_length - 1] ^= bit;
+    CHECK(reopen(history_length).kind == UCSTORE_LOG_FAULT);
+    history[history_length - 1] ^= bit;
+}
+
+static void step(void) {
+    uint64_t choice = draw(100);
+    if (choice < 40) {
+        write_one();
+    } else if (choice < 48) {
+        feed();
+    } else if (choice < 55) {
+        keep();
+    } else if (choice < 62) {
+        release();
+        check_keeps();
+        check_report();
+    } else if (choice < 64) {
+        compact();
+    } else if (choice < 96) {
+        get();
+    } else {
+        scan();
+    }
+}
+
+static void soak(uint32_t drawn_operator, size_t operations) {
+    struct ucstore_options options;
+    uint64_t last = 0;
+    merge_operator = drawn_operator;
+    count = history_length = 0;
+    memset(&now, 0, sizeof now);
+    snapshots[0].at = 0;
+    copy(&snapshots[0].held, &now);
+    snapshot_count = 1;
+    CHECK(ucstore_options(&options) == UCSTORE_OK);
+    options.memtable = 64;
+    CHECK(ucstore_create(&store, merge_operator, &options) == UCSTORE_OK && store.at != NULL);
+    for (size_t done = 0; done < operations; done++) {
+        step();
+        CHECK(ucstore_last(&store, &last) == UCSTORE_OK && last == count);
+    }
+    check_log();
+    CHECK(ucstore_close(&store) == UCSTORE_OK && store.at == NULL);
+    printf("operator %u: %zu operations, %zu writes\n", (unsigned)merge_operator, operations, count);
+}
+
+/* What is refused, and what a handle without a store answers. */
+static void refusals(void) {
+    struct ucstore_options options;
+    struct ucstore_ended ended = {7, 7, 7};
+    struct ucstore_report report;
+    struct ucstore_log_place place = {0, 0, 1};
+    const uint8_t text[] = {'a'};
+    uint8_t room[4];
+    size_t size = 0, found = 7;
+    uint64_t seq = 7;
+    bool compacted = true;
+    CHECK(ucstore_version() == UCSTORE_ABI);
+    CHECK(ucstore_put(&store, text, 1, text, 1) == UCSTORE_NO_STORE);
+    CHECK(ucstore_delete(&store, text, 1) == UCSTORE_NO_STORE);
+    CHECK(ucstore_merge(&store, text, 1, text, 1) == UCSTORE_NO_STORE);
+    CHECK(ucstore_delete_range(&store, text, 1, text, 1) == UCSTORE_NO_STORE);
+    CHECK(ucstore_feed(&store, text, 1) == UCSTORE_NO_STORE);
+    CHECK(ucstore_keep(&store, &seq) == UCSTORE_NO_STORE && seq == 7);
+    CHECK(ucstore_release(&store, 0) == UCSTORE_NO_STORE);
+    CHECK(ucstore_last(&store, &seq) == UCSTORE_NO_STORE && seq == 7);
+    CHECK(ucstore_get(&store, text, 1, 0, room, sizeof room, &size) == UCSTORE_NO_STORE);
+    CHECK(ucstore_get_last(&store, text, 1, room, sizeof room, &size) == UCSTORE_NO_STORE);
+    CHECK(ucstore_scan(&store, text, 1, text, 1, false, 0, 9, room, sizeof room, &size, &seq) == UCSTORE_NO_STORE && seq == 7);
+    CHECK(ucstore_keeps(&store, &seq, 1, &found) == UCSTORE_NO_STORE && seq == 7 && found == 7);
+    CHECK(ucstore_report(&store, &report) == UCSTORE_NO_STORE);
+    CHECK(ucstore_log_record(&store, 0, text, 1, room, sizeof room, &size) == UCSTORE_NO_STORE);
+    CHECK(ucstore_compact(&store, &compacted) == UCSTORE_NO_STORE && compacted);
+    CHECK(ucstore_close(&store) == UCSTORE_NO_STORE);
+    CHECK(ucstore_log_next(text, 1, &place, room, sizeof room, &size, &seq, &ended) == UCSTORE_BAD_PLACE && place.batches == 1);
+    CHECK(ucstore_options(&options) == UCSTORE_OK && options.memtable == 4194304 && options.first_id == 1);
+    CHECK(ucstore_create(&store, 4, &options) == UCSTORE_UNKNOWN_OPERATOR && store.at == NULL);
+    options.least = 1;
+    CHECK(ucstore_create(&store, UCSTORE_TAIL, &options) == UCSTORE_BAD_OPTION && store.at == NULL);
+    options.least = 2;
+    CHECK(ucstore_open(&store, UCSTORE_TAIL, &options, text, 1, &ended) == UCSTORE_OK);
+    CHECK(ended.kind == UCSTORE_TORN && ended.fault == 0 && ended.place == 0);
+    CHECK(ucstore_create(&store, UCSTORE_TAIL, &options) == UCSTORE_HAS_STORE);
+    CHECK(ucstore_put(&store, text, 1, text, 0) == UCSTORE_OK);
+    CHECK(ucstore_keep(&store, &seq) == UCSTORE_OK && seq == 1);
+    CHECK(ucstore_get(&store, text, 1, 1, room, 0, &size) == UCSTORE_OK && size == 0);
+    CHECK(ucstore_release(&store, 9) == UCSTORE_NOT_PROTECTED);
+    CHECK(ucstore_feed(&store, text, 1) == UCSTORE_NOT_A_BATCH);
+    CHECK(ucstore_log_record(&store, 0, text, 1, room, sizeof room, &size) == UCSTORE_NOT_A_BATCH);
+    CHECK(ucstore_close(&store) == UCSTORE_OK && store.at == NULL);
+    CHECK(ucstore_close(&store) == UCSTORE_NO_STORE);
+}
+
+int main(int argc, char **argv) {
+    size_t operations = argc > 1 ? (size_t)strtoull(argv[1], NULL, 10) : 50000;
+    state = argc > 2 ? strtoull(argv[2], NULL, 10) : 1;
+    for (int key = 0; key < KEYS; key++) {
+        in_order[key] = key;
+    }
+    qsort(in_order, KEYS, sizeof in_order[0], by_text);
+    most_writes = 8 * operations;
+    writes = (struct write *)calloc(most_writes, sizeof *writes);
+    history = (uint8_t *)malloc(MOST_LOG);
+    CHECK(writes != NULL && history != NULL);
+    refusals();
+    for (uint32_t one = UCSTORE_APPEND; one <= UCSTORE_TAIL; one++) {
+        soak(one, operations);
+    }
+    free(writes);
+    free(history);
+    printf("ok\n");
+    return 0;
+}

@@ -1,0 +1,4 @@
+pub mod Taken
+pub mod Laying
+pub mod Beginning
+pub mod Sayable

@@ -1,0 +1,14 @@
+pub mod Statuses
+pub mod Replies
+pub mod FaultCodes
+pub mod Numbers
+pub mod Opening
+pub mod Writing
+pub mod Room
+pub mod Recording
+pub mod Reading
+pub mod Rows
+pub mod Compacting
+pub mod LogWrites
+pub mod LogWalk
+pub mod LogSteps

@@ -1,0 +1,39 @@
+-- The rows that a scan writes into the room that C gives.
+use Rattle.std.specs.Prelude.{◌≡◌, ◌⊎◌, ℕ, ◌+◌, ◌<◌, ◌≤◌, ℤ, List, ◌++◌, length, take}
+use Rattle.std.specs.List.{flat_map}
+use Rattle.uc_query_read.specs.declared.answer.Answer.{Answer}
+use Rattle.uc_query_read.specs.declared.answer.Answer.TheVariants.{Value, Rows, NotProtected}
+use Rattle.uc_c.specs.declared.status.TheConstants.{OK, NOT_PROTECTED}
+use Rattle.uc_c.specs.Room.{filled, text_bytes}
+
+-- a row: its key, and its value
+abbrev pub row_bytes : List ℕ × List ℕ → List ℕ
+row_bytes row = text_bytes row.0 ++ text_bytes row.1
+
+-- rows, one behind the other
+abbrev pub rows_bytes : List (List ℕ × List ℕ) → List ℕ
+rows_bytes rows = flat_map row_bytes rows
+
+-- The first `count` rows fit the room, and no more do.
+pub record AreFitting (rows : List (List ℕ × List ℕ)) (room count : ℕ) : Type 0 where
+  pub there : count ≤ length rows
+  pub fit : length (rows_bytes (take count rows)) ≤ room
+  pub most : (count ≡ length rows) ⊎ (room < length (rows_bytes (take (count + 1) rows)))
+
+-- The rows that fit the room are in it, and their number and the size of all rows are told.
+pub record AreShown (rows : List (List ℕ × List ℕ)) (room room' : List ℕ) (size count : ℕ) : Type 0 where
+  pub fitting : AreFitting rows (length room) count
+  pub written : room' ≡ filled (rows_bytes (take count rows)) room
+  pub whole : size ≡ length (rows_bytes rows)
+
+-- A value answers no scan.
+abbrev pub IsScanned : Answer → Type 0
+IsScanned (Rows rows) = Unit {0}
+IsScanned (NotProtected at) = Unit {0}
+IsScanned (Value value) = ⊥
+
+-- the answer to a scan
+abbrev pub Scanned : ℤ → Answer → List ℕ → List ℕ → ℕ → ℕ → Type 0
+Scanned status (Rows rows) room room' size count = (status ≡ OK) × AreShown rows room room' size count
+Scanned status (NotProtected at) room room' size count = status ≡ NOT_PROTECTED
+Scanned status (Value value) room room' size count = ⊥

@@ -1,0 +1,29 @@
+//! Compactions of the store behind a handle.
+ghost use Rattle.std.specs.Prelude.{◌≡◌, ◌⊎◌};
+ghost use Rattle.uc_c.specs.declared.status.TheConstants.{OK};
+ghost use Rattle.uc_c.specs.Compacting.{Compacts};
+
+use crate::status::{NO_STORE, OK, compact_status};
+use std::alloc::Global;
+use uc_handle::Handle;
+
+/// Compacts the runs that are picked next, if there are any, and says whether there were. The calling thread does all
+/// of it. It is refused if no id is left for the new run, and for want of memory.
+#[unsafe(no_mangle)]
+pub extern "C" fn ucstore_compact(alloc: Global, handle: &mut Handle, compacted: &mut bool) -> i32
+    ensures compacts { Compacts result handle.old.held handle.new.held compacted.new }
+    ensures untold { (result ≡ OK) ⊎ (compacted.new ≡ compacted.old) }
+{
+    let Some(mut engine) = handle.take(alloc) else {
+        return NO_STORE;
+    };
+    let done = engine.compact_once(alloc);
+    handle.put(engine);
+    match done {
+        Ok(found) => {
+            *compacted = found;
+            OK
+        }
+        Err(error) => compact_status(error),
+    }
+}

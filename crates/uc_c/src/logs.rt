@@ -1,0 +1,111 @@
+//! Logs that C keeps in its files: what a batch adds to one, and a walk over one.
+ghost use Rattle.std.specs.Prelude.{◌≡◌, ◌⊎◌, ◌<◌, ◌≤◌, length};
+ghost use Rattle.uc_batch.specs.Log.{log_writes};
+ghost use Rattle.uc_c.specs.declared.status.TheConstants.{OK, ROOM, LOG_ENDS};
+ghost use Rattle.uc_c.specs.LogWalk.{ahead_of, start, Walks};
+ghost use Rattle.uc_c.specs.Recording.{Records};
+ghost use Rattle.uc_c.specs.Replies.{Answers};
+ghost use Rattle.uc_c.specs.Room.{filled};
+
+use crate::c_ended::CEnded;
+use crate::c_log_place::CLogPlace;
+use crate::log_step::{LaidWrites, LogStep, step_from};
+use crate::room::fill;
+use crate::status::{BAD_PLACE, LOG_ENDS, NO_STORE, OK, OUT_OF_MEMORY, ROOM, write_status};
+use std::alloc::Global;
+use uc_handle::Handle;
+
+/// Copies the bytes that a write batch adds to a log of so many bytes, as much of them as there is room for, and says
+/// how many they are. The batch is the one that is fed next. It is refused if `ucstore_feed` would find no batch in its bytes,
+/// would find its sequence not above the last one, or too few sequences left, and for want of memory.
+#[unsafe(no_mangle)]
+pub extern "C" fn ucstore_log_record(
+    alloc: Global,
+    handle: &mut Handle,
+    log_length: u64,
+    batch: &[u8],
+    room: &mut [u8],
+    size: &mut usize,
+) -> i32
+    ensures records { Answers result handle.old.held handle.new.held (λ e.
+        Records result e log_length batch.now room.old room.new size.new) }
+    ensures untold { (result ≡ OK) ⊎ ((room.new ≡ room.old) × (size.new ≡ size.old)) }
+{
+    let Some(engine) = handle.take(alloc) else {
+        return NO_STORE;
+    };
+    let record = engine.log_record(alloc, log_length, batch);
+    handle.put(engine);
+    match record {
+        Ok(bytes) => {
+            fill(room, bytes.as_slice());
+            *size = bytes.len();
+            OK
+        }
+        Err(error) => write_status(error),
+    }
+}
+
+/// Goes from a place in a log to behind the next batch, and lays its writes out in the room one behind the other: each as
+/// 8 bytes for the sequence, low byte first, 1 for the tag of the operation, 8 for the length of the first text, the text,
+/// 8 for the length of the second text, and that text. It says how many these are, and how many bytes.
+///
+/// If they don't fit the room, the place stays, and only the size is told. Where the log ends, or the batch may not follow,
+/// the place stays too, and it is told how far the log was read. It is refused if the place has more batches than bytes
+/// before it, and for want of memory.
+#[unsafe(no_mangle)]
+pub extern "C" fn ucstore_log_next(
+    alloc: Global,
+    log: &[u8],
+    place: &mut CLogPlace,
+    room: &mut [u8],
+    size: &mut usize,
+    count: &mut u64,
+    ended: &mut CEnded,
+) -> i32
+    ensures walks { Walks result log.now place.old place.new room.old room.new size.new count.new ended.new }
+    // A walk goes over the writes that a store opened from the log has.
+    ensures begins { place.old ≡ start → ahead_of log.now place.old ≡ log_writes log.now }
+    ensures untold { (result ≡ OK)
+        ⊎ ((place.new ≡ place.old) × (room.new ≡ room.old) × (count.new ≡ count.old)) }
+    ensures size_untold { (result ≡ OK) ⊎ ((result ≡ ROOM) ⊎ (size.new ≡ size.old)) }
+    ensures ended_untold { (result ≡ LOG_ENDS) ⊎ (ended.new ≡ ended.old) }
+{
+    if place.batches > place.offset {
+        return BAD_PLACE;
+    }
+    match step_from(alloc, log, *place) {
+        Ok(LogStep::Batch(laid, behind)) => show(&laid, behind, place, room, size, count),
+        Ok(LogStep::Ended(found)) => {
+            *ended = CEnded::of(found);
+            LOG_ENDS
+        }
+        Err(_) => OUT_OF_MEMORY,
+    }
+}
+
+/// Puts writes into the room, and moves the place behind them, if they fit.
+fn show(
+    laid: &LaidWrites,
+    behind: CLogPlace,
+    place: &mut CLogPlace,
+    room: &mut [u8],
+    size: &mut usize,
+    count: &mut u64,
+) -> i32
+    ensures size { size.new ≡ length laid.now.bytes.items }
+    ensures fits { length laid.now.bytes.items ≤ length room.old →
+        (result ≡ OK) × (place.new ≡ behind)
+        × (room.new ≡ filled laid.now.bytes.items room.old) × (count.new ≡ laid.now.count) }
+    ensures lacks { length room.old < length laid.now.bytes.items →
+        (result ≡ ROOM) × (place.new ≡ place.old) × (room.new ≡ room.old) × (count.new ≡ count.old) }
+{
+    *size = laid.bytes.len();
+    if laid.bytes.len() > room.len() {
+        return ROOM;
+    }
+    fill(room, laid.bytes.as_slice());
+    *count = laid.count;
+    *place = behind;
+    OK
+}

@@ -1,0 +1,159 @@
+//! Scans of the store behind a handle.
+ghost use Rattle.std.specs.Prelude.{◌≡◌, ◌⊎◌, ◌≤◌, ◌++◌, length, take, Some, None, IfOk, OnOk, if◌then◌else◌};
+ghost use Rattle.uc_query_read.specs.declared.query.Query.TheVariants as queries;
+ghost use Rattle.uc_engine.specs.Engines.{answer_in};
+ghost use Rattle.uc_c.specs.declared.status.TheConstants.{OK, OUT_OF_MEMORY};
+ghost use Rattle.uc_c.specs.Replies.{Answers};
+ghost use Rattle.uc_c.specs.Rows as layout;
+ghost use Rattle.uc_c.specs.Rows.{row_bytes, AreFitting, IsScanned, Scanned};
+
+use crate::room::{fill, push_text};
+use crate::status::{NO_STORE, NOT_PROTECTED, OK, OUT_OF_MEMORY};
+use std::alloc::{AllocError, Global};
+use uc_engine::{Answer, Bytes, Engine};
+use uc_handle::Handle;
+
+/// The rows that fit a room, and the size of all.
+#[derive(Drop)]
+struct Laid {
+    /// The rows that fit, one behind the other.
+    bytes: Vec<u8>,
+    /// How many these are.
+    count: usize,
+    /// The size of all rows.
+    whole: usize,
+}
+
+/// Scans the first rows, at most `limit`, of the keys from `low` to below `high`, or to the last one if they aren't
+/// bounded, at a sequence. It writes the rows that fit the room one behind the other, each as 8 bytes for the key's
+/// length, low byte first, the key, 8 bytes for the value's length, and the value. It tells how many these are, and the
+/// size of all rows. It is refused if no snapshot is at the sequence, and for want of memory.
+#[unsafe(no_mangle)]
+pub extern "C" fn ucstore_scan(
+    alloc: Global,
+    handle: &mut Handle,
+    low: &[u8],
+    high: &[u8],
+    bounded: bool,
+    at: u64,
+    limit: u64,
+    room: &mut [u8],
+    size: &mut usize,
+    count: &mut u64,
+) -> i32
+    ensures scanned { Answers result handle.old.held handle.new.held (λ e.
+        (result ≡ OUT_OF_MEMORY)
+        ⊎ Scanned result
+        (answer_in e (queries.Scan low.now (if bounded then Some high.now else None) at limit))
+        room.old room.new size.new count.new) }
+    ensures untold { (result ≡ OK)
+        ⊎ ((room.new ≡ room.old) × (size.new ≡ size.old) × (count.new ≡ count.old)) }
+{
+    let Some(engine) = handle.take(alloc) else {
+        return NO_STORE;
+    };
+    let answer = scan(alloc, &engine, low, high, bounded, at, limit);
+    handle.put(engine);
+    match answer {
+        Ok(answer) => show(alloc, &answer, room, size, count),
+        Err(_) => OUT_OF_MEMORY,
+    }
+}
+
+/// Scans the keys below `high` only if they are bounded.
+fn scan(
+    alloc: Global,
+    engine: &Engine,
+    low: &[u8],
+    high: &[u8],
+    bounded: bool,
+    at: u64,
+    limit: u64,
+) -> Result<Answer, AllocError>
+    ensures { IfOk result (λ answer.
+        answer ≡ answer_in engine.now (queries.Scan low.now (if bounded then Some high.now else None) at limit)) }
+{
+    if bounded {
+        engine.scan(alloc, low, Some(high), at, limit)
+    } else {
+        engine.scan(alloc, low, None, at, limit)
+    }
+}
+
+/// Writes the rows of an answer that fit the room.
+fn show(alloc: Global, answer: &Answer, room: &mut [u8], size: &mut usize, count: &mut u64) -> i32
+    requires { IsScanned answer.now }
+    ensures scanned { (result ≡ OUT_OF_MEMORY)
+        ⊎ Scanned result answer.now room.old room.new size.new count.new }
+    ensures untold { (result ≡ OK)
+        ⊎ ((room.new ≡ room.old) × (size.new ≡ size.old) × (count.new ≡ count.old)) }
+{
+    match answer {
+        Answer::Rows(rows) => match laid_rows(alloc, rows.as_slice(), room.len()) {
+            Ok(laid) => {
+                fill(room, laid.bytes.as_slice());
+                *size = laid.whole;
+                *count = laid.count as u64;
+                OK
+            }
+            Err(_) => OUT_OF_MEMORY,
+        },
+        Answer::NotProtected(_) => NOT_PROTECTED,
+        Answer::Value(_) => unreachable!(),
+    }
+}
+
+/// The rows that fit a room of so many bytes, and the size of all.
+fn laid_rows(alloc: Global, rows: &[(Bytes, Bytes)], room: usize) -> Result<Laid, AllocError>
+    ensures bytes { IfOk result (λ laid. laid.bytes.items ≡ layout.rows_bytes (take laid.count rows.now)) }
+    ensures fitting { IfOk result (λ laid. AreFitting rows.now room laid.count) }
+    ensures whole { IfOk result (λ laid. laid.whole ≡ length (layout.rows_bytes rows.now)) }
+{
+    let (bytes, count) = fitting_bytes(alloc, rows, room)?;
+    let whole = rows_bytes(alloc, rows)?;
+    Ok(Laid {
+        bytes,
+        count,
+        whole: whole.len(),
+    })
+}
+
+/// The bytes of the rows that fit a room of so many bytes, and how many rows these are.
+fn fitting_bytes(
+    alloc: Global,
+    rows: &[(Bytes, Bytes)],
+    room: usize,
+) -> Result<(Vec<u8>, usize), AllocError>
+    ensures bytes { IfOk result (λ found. found.0.items ≡ layout.rows_bytes (take found.1 rows.now)) }
+    ensures fitting { IfOk result (λ found. AreFitting rows.now room found.1) }
+{
+    let mut bytes = Vec::new(alloc);
+    for (count, row) in rows.iter().enumerate() {
+        let used = bytes.len();
+        push_row(&mut bytes, row)?;
+        if bytes.len() > room {
+            bytes.truncate(used);
+            return Ok((bytes, count));
+        }
+    }
+    Ok((bytes, rows.len()))
+}
+
+/// The bytes of all rows.
+fn rows_bytes(alloc: Global, rows: &[(Bytes, Bytes)]) -> Result<Vec<u8>, AllocError>
+    ensures { IfOk result (λ bytes. bytes.items ≡ layout.rows_bytes rows.now) }
+{
+    let mut bytes = Vec::new(alloc);
+    for row in rows {
+        push_row(&mut bytes, row)?;
+    }
+    Ok(bytes)
+}
+
+/// Writes a row at the end.
+fn push_row(bytes: &mut Vec<u8>, row: &(Bytes, Bytes)) -> Result<(), AllocError>
+    ensures { OnOk result (bytes.new.items ≡ bytes.old.items ++ row_bytes row.now) }
+{
+    push_text(bytes, row.0.as_slice())?;
+    push_text(bytes, row.1.as_slice())
+}

@@ -1,0 +1,102 @@
+//! Snapshots of the store behind a handle.
+ghost use Rattle.std.specs.Prelude.{◌≡◌, ◌⊎◌, Contains, Some, length};
+ghost use Rattle.uc_version.specs.Feeding.{after_keep, after_release};
+ghost use Rattle.uc_engine.specs.Engines.{with_owner};
+ghost use Rattle.uc_c.specs.declared.status.TheConstants.{OK, NOT_PROTECTED};
+ghost use Rattle.uc_c.specs.Replies.{Answers, IfHeld, Refused};
+ghost use Rattle.uc_c.specs.Room.{filled};
+
+use crate::room::fill_numbers;
+use crate::status::{NO_STORE, NOT_PROTECTED, OK, OUT_OF_MEMORY};
+use std::alloc::Global;
+use uc_handle::Handle;
+
+/// Takes a snapshot: the last sequence becomes one, if it isn't, and is told. It is refused for want of memory.
+#[unsafe(no_mangle)]
+pub extern "C" fn ucstore_keep(alloc: Global, handle: &mut Handle, seq: &mut u64) -> i32
+    ensures keeps { IfHeld result handle.old.held handle.new.held (λ e.
+        ((result ≡ OK) × (seq.new ≡ e.owner.version.last)
+        × (handle.new.held ≡ Some (with_owner (after_keep e.owner) e)))
+        ⊎ Refused result handle.old.held handle.new.held) }
+    ensures untold { (result ≡ OK) ⊎ (seq.new ≡ seq.old) }
+{
+    let Some(mut engine) = handle.take(alloc) else {
+        return NO_STORE;
+    };
+    let done = engine.keep();
+    handle.put(engine);
+    match done {
+        Ok(last) => {
+            *seq = last;
+            OK
+        }
+        Err(_) => OUT_OF_MEMORY,
+    }
+}
+
+/// Releases a snapshot. It is refused if no snapshot is at the sequence.
+#[unsafe(no_mangle)]
+pub extern "C" fn ucstore_release(alloc: Global, handle: &mut Handle, seq: u64) -> i32
+    ensures { IfHeld result handle.old.held handle.new.held (λ e.
+        ((result ≡ OK) × Contains e.owner.version.keeps seq
+        × (handle.new.held ≡ Some (with_owner (after_release seq e.owner) e)))
+        ⊎ ((result ≡ NOT_PROTECTED) × ¬ Contains e.owner.version.keeps seq × (handle.new.held ≡ handle.old.held))) }
+{
+    let Some(mut engine) = handle.take(alloc) else {
+        return NO_STORE;
+    };
+    let done = engine.release(seq);
+    handle.put(engine);
+    match done {
+        Ok(()) => OK,
+        Err(_) => NOT_PROTECTED,
+    }
+}
+
+/// Copies the sequences of the snapshots, which rise, as many as there is room for, and says how many there are.
+#[unsafe(no_mangle)]
+pub extern "C" fn ucstore_keeps(
+    alloc: Global,
+    handle: &mut Handle,
+    room: &mut [u64],
+    count: &mut usize,
+) -> i32
+    ensures keeps { Answers result handle.old.held handle.new.held (λ e.
+        (result ≡ OK)
+        × (room.new ≡ filled e.owner.version.keeps room.old)
+        × (count.new ≡ length e.owner.version.keeps)) }
+    ensures untold { (result ≡ OK) ⊎ ((room.new ≡ room.old) × (count.new ≡ count.old)) }
+{
+    let Some(engine) = handle.take(alloc) else {
+        return NO_STORE;
+    };
+    let there = show_keeps(engine.keeps(), room);
+    handle.put(engine);
+    *count = there;
+    OK
+}
+
+/// Copies the sequences, as many as there is room for. Returns how many there are.
+fn show_keeps(keeps: &[u64], room: &mut [u64]) -> usize
+    ensures room { room.new ≡ filled keeps.now room.old }
+    ensures count { result ≡ length keeps.now }
+{
+    fill_numbers(room, keeps);
+    keeps.len()
+}
+
+/// The last sequence; 0 if nothing was written.
+#[unsafe(no_mangle)]
+pub extern "C" fn ucstore_last(alloc: Global, handle: &mut Handle, seq: &mut u64) -> i32
+    ensures last { Answers result handle.old.held handle.new.held (λ e.
+        (result ≡ OK) × (seq.new ≡ e.owner.version.last)) }
+    ensures untold { (result ≡ OK) ⊎ (seq.new ≡ seq.old) }
+{
+    let Some(engine) = handle.take(alloc) else {
+        return NO_STORE;
+    };
+    let last = engine.last();
+    handle.put(engine);
+    *seq = last;
+    OK
+}

@@ -1,0 +1,118 @@
+//! What a function of this library answers.
+ghost use Rattle.uc_c.specs.Replies.{IsSayable};
+ghost use Rattle.uc_c.specs.Statuses.{OpenSays, BatchSays, FeedSays, WriteSays, CompactSays};
+
+use uc_engine::{BatchError, CompactError, FeedError, OpenError, WriteError};
+
+/// It did what it was asked.
+pub const OK: i32 = 0;
+
+/// Memory was refused. Nothing has changed.
+pub const OUT_OF_MEMORY: i32 = 1;
+
+/// The handle has no store.
+pub const NO_STORE: i32 = 2;
+
+/// The handle has a store already.
+pub const HAS_STORE: i32 = 3;
+
+/// There is no value under the key.
+pub const NOT_FOUND: i32 = 4;
+
+/// No snapshot is at the sequence.
+pub const NOT_PROTECTED: i32 = 5;
+
+/// No operator has the number.
+pub const UNKNOWN_OPERATOR: i32 = 6;
+
+/// An option isn't in its range.
+pub const BAD_OPTION: i32 = 7;
+
+/// The runs would be more than there are slots.
+pub const TOO_MANY_RUNS: i32 = 8;
+
+/// No id is left for a run.
+pub const IDS_SPENT: i32 = 9;
+
+/// Too few sequences are left.
+pub const SEQUENCES_SPENT: i32 = 10;
+
+/// A text has 2^32 bytes or more.
+pub const TOO_LONG: i32 = 11;
+
+/// The bytes aren't a write batch.
+pub const NOT_A_BATCH: i32 = 12;
+
+/// No walk over a log leads to the place.
+pub const BAD_PLACE: i32 = 13;
+
+/// The room is too small.
+pub const ROOM: i32 = 14;
+
+/// No batch comes next in the log.
+pub const LOG_ENDS: i32 = 15;
+
+/// The sequence of the batch is neither 0 nor above the last one.
+pub const SEQUENCE_BACK: i32 = 16;
+
+/// The status for an opening that is refused.
+pub fn open_status(error: OpenError) -> i32
+    requires { IsSayable OpenSays error }
+    ensures { OpenSays error result }
+{
+    match error {
+        OpenError::BadOption => BAD_OPTION,
+        OpenError::TooManyRuns => TOO_MANY_RUNS,
+        OpenError::Memory => OUT_OF_MEMORY,
+        OpenError::BadCount => unreachable!(),
+        OpenError::SnapshotAhead(_) => unreachable!(),
+    }
+}
+
+/// The status for writes that the store doesn't take.
+fn feed_status(error: FeedError) -> i32
+    requires { IsSayable FeedSays error }
+    ensures { FeedSays error result }
+{
+    match error {
+        FeedError::TooManyRuns => TOO_MANY_RUNS,
+        FeedError::IdsSpent => IDS_SPENT,
+        FeedError::Memory => OUT_OF_MEMORY,
+        FeedError::Back(_) => unreachable!(),
+    }
+}
+
+/// The status for bytes that aren't a batch which may come next.
+fn batch_status(fault: BatchError) -> i32
+    ensures { BatchSays fault result }
+{
+    match fault {
+        BatchError::SequenceBack(_) => SEQUENCE_BACK,
+        _ => NOT_A_BATCH,
+    }
+}
+
+/// The status for a write that is refused.
+pub fn write_status(error: WriteError) -> i32
+    requires { IsSayable WriteSays error }
+    ensures { WriteSays error result }
+{
+    match error {
+        WriteError::Faulty(fault) => batch_status(fault),
+        WriteError::SequencesSpent => SEQUENCES_SPENT,
+        WriteError::TooLong => TOO_LONG,
+        WriteError::NotFed(error) => feed_status(error),
+    }
+}
+
+/// The status for a compaction that is refused.
+pub fn compact_status(error: CompactError) -> i32
+    requires { IsSayable CompactSays error }
+    ensures { CompactSays error result }
+{
+    match error {
+        CompactError::IdsSpent => IDS_SPENT,
+        CompactError::Memory => OUT_OF_MEMORY,
+        CompactError::NotClaimed(_) => unreachable!(),
+    }
+}

@@ -1,0 +1,408 @@
+//! Each export once where it does what it is asked, and once where it is refused.
+
+use crate::c_ended::{CEnded, CLEAN, TORN};
+use crate::c_log_place::CLogPlace;
+use crate::c_options::{COptions, ucstore_options};
+use crate::c_report::{CReport, ucstore_report};
+use crate::compacting::ucstore_compact;
+use crate::logs::{ucstore_log_next, ucstore_log_record};
+use crate::opening::{ucstore_close, ucstore_create, ucstore_open};
+use crate::reading::{ucstore_get, ucstore_get_last};
+use crate::scanning::ucstore_scan;
+use crate::snapshots::{ucstore_keep, ucstore_keeps, ucstore_last, ucstore_release};
+use crate::status::{
+    BAD_OPTION, BAD_PLACE, HAS_STORE, LOG_ENDS, NO_STORE, NOT_A_BATCH, NOT_FOUND, NOT_PROTECTED,
+    OK, ROOM, SEQUENCE_BACK, UNKNOWN_OPERATOR,
+};
+use crate::writing::{
+    ucstore_delete, ucstore_delete_range, ucstore_feed, ucstore_merge, ucstore_put,
+};
+use std::alloc::Global;
+use std::process::Abort;
+use uc_handle::Handle;
+
+/// The operator that joins texts by commas.
+const APPEND: u32 = 0;
+
+/// The operator that keeps the greater text.
+const MAXIMUM: u32 = 2;
+
+/// A batch with the sequence 1: a put of 1 under a, and a deletion of b.
+static BATCH: [u8; 20] = [
+    1, 0, 0, 0, 0, 0, 0, 0, 2, 0, 0, 0, 1, 1, b'a', 1, b'1', 0, 1, b'b',
+];
+
+/// A batch without a sequence: a deletion of b.
+static UNNUMBERED: [u8; 15] = [0, 0, 0, 0, 0, 0, 0, 0, 1, 0, 0, 0, 0, 1, b'b'];
+
+/// The log of the first batch: a masked CRC-32C, the length, FULL, and the batch.
+static LOG: [u8; 27] = [
+    98, 33, 102, 255, 20, 0, 1, 1, 0, 0, 0, 0, 0, 0, 0, 2, 0, 0, 0, 1, 1, b'a', 1, b'1', 0, 1, b'b',
+];
+
+/// Its writes as a walk lays them out.
+static WRITES: [u8; 53] = [
+    1, 0, 0, 0, 0, 0, 0, 0, 1, 1, 0, 0, 0, 0, 0, 0, 0, b'a', 1, 0, 0, 0, 0, 0, 0, 0, b'1', 2, 0, 0,
+    0, 0, 0, 0, 0, 0, 1, 0, 0, 0, 0, 0, 0, 0, b'b', 0, 0, 0, 0, 0, 0, 0, 0,
+];
+
+/// A row: 1,2 under a.
+static ROW: [u8; 20] = [
+    1, 0, 0, 0, 0, 0, 0, 0, b'a', 3, 0, 0, 0, 0, 0, 0, 0, b'1', b',', b'2',
+];
+
+/// The default options.
+fn usual() -> COptions {
+    let mut options = COptions {
+        memtable: 0,
+        trigger: 0,
+        ratio: 0,
+        percent: 0,
+        least: 0,
+        greatest: 0,
+        first_id: 0,
+    };
+    ucstore_options(&mut options);
+    options
+}
+
+/// An end that was told by nobody.
+fn untold() -> CEnded {
+    CEnded {
+        kind: 7,
+        fault: 7,
+        place: 7,
+    }
+}
+
+/// Writes single operations: a has 1,2 then, and b to d nothing.
+fn write(rt: &impl Abort, alloc: Global, store: &mut Handle) {
+    assert_eq!(rt; ucstore_put(alloc, store, b"a", b"1"), OK);
+    assert_eq!(rt; ucstore_merge(alloc, store, b"a", b"2"), OK);
+    assert_eq!(rt; ucstore_put(alloc, store, b"b", b"3"), OK);
+    assert_eq!(rt; ucstore_delete(alloc, store, b"b"), OK);
+    assert_eq!(rt; ucstore_put(alloc, store, b"c", b"4"), OK);
+    assert_eq!(rt; ucstore_delete_range(alloc, store, b"c", b"d"), OK);
+}
+
+/// Takes a snapshot at 6, beside the one at 0, and releases that.
+fn keep(rt: &impl Abort, alloc: Global, store: &mut Handle) {
+    let (mut seq, mut keeps, mut count) = (7, [7; 3], 7);
+    assert_eq!(rt; ucstore_last(alloc, store, &mut seq), OK);
+    assert_eq!(rt; seq, 6);
+    assert_eq!(rt; ucstore_keep(alloc, store, &mut seq), OK);
+    assert_eq!(rt; seq, 6);
+    assert_eq!(rt; ucstore_keeps(alloc, store, &mut keeps, &mut count), OK);
+    assert!(rt; keeps == [0, 6, 7] && count == 2);
+    assert_eq!(rt; ucstore_keeps(alloc, store, &mut [], &mut count), OK);
+    assert_eq!(rt; count, 2);
+    assert_eq!(rt; ucstore_release(alloc, store, 0), OK);
+    assert_eq!(rt; ucstore_release(alloc, store, 0), NOT_PROTECTED);
+}
+
+/// Looks keys up, with room for all of a value, and for a byte of it.
+fn look_up(rt: &impl Abort, alloc: Global, store: &mut Handle) {
+    let (mut room, mut size) = ([b'.'; 4], 7);
+    assert_eq!(rt;
+        ucstore_get(alloc, store, b"a", 6, &mut room, &mut size),
+        OK
+    );
+    assert!(rt; room == *b"1,2." && size == 3);
+    assert_eq!(rt;
+        ucstore_get(alloc, store, b"c", 6, &mut room, &mut size),
+        NOT_FOUND
+    );
+    assert_eq!(rt;
+        ucstore_get(alloc, store, b"a", 5, &mut room, &mut size),
+        NOT_PROTECTED
+    );
+    let mut cell = [b'.'];
+    assert_eq!(rt;
+        ucstore_get_last(alloc, store, b"a", &mut cell, &mut size),
+        OK
+    );
+    assert!(rt; cell == *b"1" && size == 3);
+    assert_eq!(rt;
+        ucstore_get_last(alloc, store, b"b", &mut cell, &mut size),
+        NOT_FOUND
+    );
+}
+
+/// Scans all keys, with room for the row, and with too little.
+fn scan(rt: &impl Abort, alloc: Global, store: &mut Handle) {
+    let (mut room, mut size, mut rows) = ([0; 20], 7, 7);
+    assert_eq!(rt;
+        ucstore_scan(
+            alloc, store, b"", b"", false, 6, 9, &mut room, &mut size, &mut rows
+        ),
+        OK
+    );
+    assert!(rt; room == ROW && size == 20 && rows == 1);
+    let mut cells = [0; 19];
+    assert_eq!(rt;
+        ucstore_scan(
+            alloc, store, b"", b"b", true, 6, 9, &mut cells, &mut size, &mut rows
+        ),
+        OK
+    );
+    assert!(rt; cells == [0; 19] && size == 20 && rows == 0);
+    assert_eq!(rt;
+        ucstore_scan(
+            alloc, store, b"", b"", false, 5, 9, &mut room, &mut size, &mut rows
+        ),
+        NOT_PROTECTED
+    );
+}
+
+/// Compacts the six runs to one, and tells what the store holds.
+fn compact(rt: &impl Abort, alloc: Global, store: &mut Handle) {
+    let mut compacted = false;
+    assert_eq!(rt; ucstore_compact(alloc, store, &mut compacted), OK);
+    assert!(rt; compacted);
+    assert_eq!(rt; ucstore_compact(alloc, store, &mut compacted), OK);
+    assert!(rt; !compacted);
+    let mut report = CReport {
+        runs: 7,
+        snapshots: 7,
+        points: 7,
+        fragments: 7,
+        bytes: 7,
+        last: 7,
+    };
+    assert_eq!(rt; ucstore_report(alloc, store, &mut report), OK);
+    assert!(rt; report.runs == 1 && report.snapshots == 1 && report.last == 6);
+    assert!(rt; report.points == 1 && report.fragments == 0 && report.bytes == 12);
+}
+
+/// A store from its creation to its close.
+#[test]
+fn a_store(rt: HostRuntime) {
+    let alloc = rt.alloc();
+    let mut store = Handle::empty(alloc);
+    assert_eq!(rt; ucstore_create(alloc, &mut store, APPEND, &usual()), OK);
+    assert_eq!(rt;
+        ucstore_create(alloc, &mut store, APPEND, &usual()),
+        HAS_STORE
+    );
+    write(&rt, alloc, &mut store);
+    keep(&rt, alloc, &mut store);
+    look_up(&rt, alloc, &mut store);
+    scan(&rt, alloc, &mut store);
+    compact(&rt, alloc, &mut store);
+    look_up(&rt, alloc, &mut store);
+    assert_eq!(rt; ucstore_close(alloc, &mut store), OK);
+    assert_eq!(rt; ucstore_close(alloc, &mut store), NO_STORE);
+    drop(store.into_box());
+}
+
+/// Feeds a batch without a sequence behind the sequence 2, then a part of one.
+fn feed(rt: &impl Abort, alloc: Global, store: &mut Handle) {
+    let mut seq = 7;
+    assert_eq!(rt; ucstore_feed(alloc, store, &UNNUMBERED), OK);
+    assert_eq!(rt; ucstore_last(alloc, store, &mut seq), OK);
+    assert_eq!(rt; seq, 3);
+    assert_eq!(rt; ucstore_feed(alloc, store, &UNNUMBERED[..13]), NOT_A_BATCH);
+}
+
+/// A store that is opened from a log, and fed.
+#[test]
+fn a_log_is_opened(rt: HostRuntime) {
+    let alloc = rt.alloc();
+    let mut store = Handle::empty(alloc);
+    let mut ended = untold();
+    let (mut cell, mut size) = ([b'.'], 7);
+    assert_eq!(rt;
+        ucstore_open(alloc, &mut store, MAXIMUM, &usual(), &LOG[..26], &mut ended),
+        OK
+    );
+    assert!(rt; ended.kind == TORN && ended.place == 0);
+    assert_eq!(rt; ucstore_close(alloc, &mut store), OK);
+    assert_eq!(rt;
+        ucstore_open(alloc, &mut store, MAXIMUM, &usual(), &LOG, &mut ended),
+        OK
+    );
+    assert!(rt; ended.kind == CLEAN && ended.fault == 0 && ended.place == 0);
+    assert_eq!(rt;
+        ucstore_get(alloc, &mut store, b"a", 2, &mut cell, &mut size),
+        OK
+    );
+    assert!(rt; cell == *b"1" && size == 1);
+    feed(&rt, alloc, &mut store);
+    assert_eq!(rt; ucstore_close(alloc, &mut store), OK);
+    drop(store.into_box());
+}
+
+/// Writes without a store.
+fn refuse_writes(rt: &impl Abort, alloc: Global, store: &mut Handle) {
+    assert_eq!(rt; ucstore_feed(alloc, store, &BATCH), NO_STORE);
+    assert_eq!(rt; ucstore_put(alloc, store, b"a", b"1"), NO_STORE);
+    assert_eq!(rt; ucstore_delete(alloc, store, b"a"), NO_STORE);
+    assert_eq!(rt; ucstore_merge(alloc, store, b"a", b"1"), NO_STORE);
+    assert_eq!(rt; ucstore_delete_range(alloc, store, b"a", b"b"), NO_STORE);
+    assert_eq!(rt; ucstore_compact(alloc, store, &mut false), NO_STORE);
+}
+
+/// Reads without a store.
+fn refuse_reads(rt: &impl Abort, alloc: Global, store: &mut Handle) {
+    let (mut seq, mut size) = (7, 7);
+    assert_eq!(rt; ucstore_keep(alloc, store, &mut seq), NO_STORE);
+    assert_eq!(rt; ucstore_release(alloc, store, 0), NO_STORE);
+    assert_eq!(rt; ucstore_last(alloc, store, &mut seq), NO_STORE);
+    assert_eq!(rt; ucstore_keeps(alloc, store, &mut [], &mut size), NO_STORE);
+    assert_eq!(rt;
+        ucstore_get(alloc, store, b"a", 0, &mut [], &mut size),
+        NO_STORE
+    );
+    assert_eq!(rt;
+        ucstore_get_last(alloc, store, b"a", &mut [], &mut size),
+        NO_STORE
+    );
+    assert_eq!(rt;
+        ucstore_scan(
+            alloc,
+            store,
+            b"",
+            b"",
+            false,
+            0,
+            9,
+            &mut [],
+            &mut size,
+            &mut seq
+        ),
+        NO_STORE
+    );
+    assert!(rt; seq == 7 && size == 7);
+}
+
+/// What a handle without a store answers, and openings that are refused.
+#[test]
+fn no_store(rt: HostRuntime) {
+    let alloc = rt.alloc();
+    let mut store = Handle::empty(alloc);
+    refuse_writes(&rt, alloc, &mut store);
+    refuse_reads(&rt, alloc, &mut store);
+    assert_eq!(rt;
+        ucstore_create(alloc, &mut store, 4, &usual()),
+        UNKNOWN_OPERATOR
+    );
+    let options = COptions {
+        least: 1,
+        ..usual()
+    };
+    assert_eq!(rt;
+        ucstore_create(alloc, &mut store, APPEND, &options),
+        BAD_OPTION
+    );
+    assert_eq!(rt; ucstore_close(alloc, &mut store), NO_STORE);
+    drop(store.into_box());
+}
+
+/// What a batch adds to logs.
+fn record_one(rt: &impl Abort, alloc: Global, store: &mut Handle) {
+    let (mut room, mut size) = ([0; 27], 7);
+    assert_eq!(rt;
+        ucstore_log_record(alloc, store, 0, &BATCH, &mut room, &mut size),
+        OK
+    );
+    assert!(rt; room == LOG && size == 27);
+    // There is no room for a header in the last six bytes of a block.
+    assert_eq!(rt;
+        ucstore_log_record(alloc, store, 32762, &BATCH, &mut [], &mut size),
+        OK
+    );
+    assert_eq!(rt; size, 33);
+    assert_eq!(rt;
+        ucstore_log_record(alloc, store, 0, &[1], &mut room, &mut size),
+        NOT_A_BATCH
+    );
+    assert!(rt; room == LOG && size == 33);
+}
+
+/// A batch that isn't above the last sequence.
+fn refuse_back(rt: &impl Abort, alloc: Global, store: &mut Handle) {
+    assert_eq!(rt; ucstore_feed(alloc, store, &BATCH), OK);
+    assert_eq!(rt; ucstore_feed(alloc, store, &BATCH), SEQUENCE_BACK);
+    let mut size = 7;
+    assert_eq!(rt;
+        ucstore_log_record(alloc, store, 0, &BATCH, &mut [], &mut size),
+        SEQUENCE_BACK
+    );
+    assert_eq!(rt; size, 7);
+}
+
+/// Records of batches, and none of one that goes back.
+#[test]
+fn records(rt: HostRuntime) {
+    let alloc = rt.alloc();
+    let mut store = Handle::empty(alloc);
+    assert_eq!(rt; ucstore_create(alloc, &mut store, APPEND, &usual()), OK);
+    record_one(&rt, alloc, &mut store);
+    refuse_back(&rt, alloc, &mut store);
+    assert_eq!(rt; ucstore_close(alloc, &mut store), OK);
+    drop(store.into_box());
+}
+
+/// A walk over the log of a batch: too little room, then enough, then the end.
+#[test]
+fn a_walk(rt: HostRuntime) {
+    let alloc = rt.alloc();
+    let mut place = CLogPlace {
+        offset: 0,
+        last: 0,
+        batches: 0,
+    };
+    let (mut room, mut size, mut count, mut ended) = ([0; 53], 7, 7, untold());
+    assert_eq!(rt;
+        ucstore_log_next(
+            alloc,
+            &LOG,
+            &mut place,
+            &mut room[..52],
+            &mut size,
+            &mut count,
+            &mut ended
+        ),
+        ROOM
+    );
+    assert!(rt; place.offset == 0 && size == 53 && count == 7);
+    assert_eq!(rt;
+        ucstore_log_next(
+            alloc, &LOG, &mut place, &mut room, &mut size, &mut count, &mut ended
+        ),
+        OK
+    );
+    assert!(rt; place.offset == 27 && place.last == 2 && place.batches == 1);
+    assert!(rt; room == WRITES && size == 53 && count == 2 && ended == untold());
+    assert_eq!(rt;
+        ucstore_log_next(
+            alloc, &LOG, &mut place, &mut room, &mut size, &mut count, &mut ended
+        ),
+        LOG_ENDS
+    );
+    assert!(rt; place.offset == 27 && ended.kind == CLEAN);
+}
+
+/// A place that no walk leads to.
+#[test]
+fn no_walk(rt: HostRuntime) {
+    let mut place = CLogPlace {
+        offset: 0,
+        last: 0,
+        batches: 1,
+    };
+    let (mut size, mut count, mut ended) = (7, 7, untold());
+    assert_eq!(rt;
+        ucstore_log_next(
+            rt.alloc(),
+            &LOG,
+            &mut place,
+            &mut [],
+            &mut size,
+            &mut count,
+            &mut ended
+        ),
+        BAD_PLACE
+    );
+    assert!(rt; size == 7 && count == 7 && ended == untold());
+}
