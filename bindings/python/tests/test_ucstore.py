@@ -1,0 +1,339 @@
+"""What each call answers and refuses, and drawn operations beside a plain dictionary."""
+
+import doctest
+import random
+import struct
+import threading
+import unittest
+
+import ucstore
+from ucstore import (
+    BadOption, BatchFault, Delete, DeleteRange, End, Ended, LogFault, Merge, NoStore, NotABatch, NotProtected, Operator,
+    Options, Put, SequenceBack, SequencesSpent, Store, TooManyRuns, UnknownOperator, batch_bytes, log_writes,
+)
+
+
+def compact(store):
+    while store.compact():
+        pass
+
+
+class Calls(unittest.TestCase):
+    def setUp(self):
+        self.store = Store(Operator.APPEND)
+        self.addCleanup(self.store.close)
+
+    def test_a_store_reads_what_was_written(self):
+        store = self.store
+        store.put(b"a", b"1")
+        store.merge(b"a", b"2")
+        store.put(b"b", b"3")
+        store.delete(b"b")
+        store.put(b"", b"")
+        self.assertEqual([store.get_last(key) for key in (b"a", b"b", b"")], [b"1,2", None, b""])
+        store.delete_range(b"a", b"b")
+        self.assertIsNone(store.get_last(b"a"))
+        self.assertEqual(store.last, 6)
+
+    def test_a_long_value_comes_whole(self):
+        for length in (511, 512, 513, 100000):
+            value = bytes(place % 256 for place in range(length))
+            self.store.put(b"k", value)
+            self.assertEqual(self.store.get_last(b"k"), value)
+
+    def test_a_batch_has_the_bytes_that_rocksdb_writes(self):
+        batch = batch_bytes([Put(b"k", b"v"), Delete(b"d"), Merge(b"m", b"\7" * 128), DeleteRange(b"", b"z")], 5)
+        records = b"\1\1k\1v" + b"\0\1d" + b"\2\1m\x80\1" + b"\7" * 128 + b"\x0f\0\1z"
+        self.assertEqual(batch, struct.pack("<QI", 5, 4) + records)
+
+    def test_a_snapshot_stays_until_the_last_one_ends(self):
+        store = self.store
+        store.put(b"k", b"old")
+        with store.snapshot() as first:
+            with store.snapshot() as second:
+                store.put(b"k", b"new")
+                compact(store)
+                self.assertEqual(second.get(b"k"), b"old")
+            self.assertEqual(store.keeps, [first.sequence])
+            self.assertEqual(first.get(b"k"), b"old")
+        self.assertEqual(store.keeps, [])
+        self.assertRaises(NotProtected, store.get, b"k", first.sequence)
+
+    def test_keeps_are_counted(self):
+        store = self.store
+        self.assertRaises(NotProtected, store.release, 0)
+        sequence = store.keep()
+        self.assertEqual(store.keep(), sequence)
+        store.release(sequence)
+        self.assertIsNone(store.get(b"k", sequence))
+        store.release(sequence)
+        self.assertRaises(NotProtected, store.release, sequence)
+        self.assertRaises(NotProtected, store.get, b"k", 1 << 64)
+
+    def test_a_scan_goes_over_many_pages(self):
+        sizes = {b"%04d" % place: 40000 if place % 100 == 7 else place % 50 for place in range(1000)}
+        self.store.feed(Put(key, b"x" * size) for key, size in sizes.items())
+        with self.store.snapshot() as snapshot:
+            self.store.delete_range(b"", b"9")
+            rows = {key: len(value) for key, value in snapshot.scan(b"0005", b"0995")}
+            self.assertEqual(rows, {key: size for key, size in sizes.items() if b"0005" <= key < b"0995"})
+            self.assertEqual(list(snapshot.scan(b"", b"")), [])
+
+    def test_a_report_counts(self):
+        self.store.put(b"k", b"v")
+        with self.store.snapshot():
+            report = self.store.report()
+        self.assertEqual((report.runs, report.snapshots, report.points, report.last), (1, 1, 1, 1))
+
+    def test_too_many_runs_are_refused_and_compacted(self):
+        for number in range(256):
+            self.store.put(b"%d" % number, b"v")
+        self.assertRaises(TooManyRuns, self.store.put, b"k", b"v")
+        compact(self.store)
+        self.store.put(b"k", b"v")
+        self.assertEqual(self.store.last, 257)
+
+    def test_refusals(self):
+        for options in (Options(least=1), Options(trigger=1 << 32), Options(memtable=-1)):
+            self.assertRaises(BadOption, Store, Operator.TAIL, options)
+        self.assertRaises(UnknownOperator, Store, 4)
+        self.assertRaises(TypeError, self.store.put, b"k", "v")
+        self.assertRaises(TypeError, self.store.put, b"k", None)
+        self.assertRaises(KeyError, self.store.feed, [("k", "v")])
+        self.assertRaises(NotProtected, next, self.store.scan(b"", None, 7))
+
+    def test_sequences_may_be_given(self):
+        operations = [Put(b"a", b"1"), Put(b"b", b"2")]
+        self.store.feed(operations, 10)
+        self.assertEqual(self.store.last, 11)
+        for sequence in (-1, 1, 11):
+            self.assertRaises(SequenceBack, self.store.feed, operations, sequence)
+            self.assertRaises(SequenceBack, self.store.log_record, 0, operations, sequence)
+        for sequence in ((1 << 56) - 1, 1 << 56, 1 << 64):
+            self.assertRaises(SequencesSpent, self.store.feed, operations, sequence)
+            self.assertRaises(SequencesSpent, self.store.log_record, 0, operations, sequence)
+        self.store.feed(operations)
+        self.assertEqual(self.store.last, 13)
+
+    def test_a_closed_store_says_so(self):
+        with self.store as store, store.snapshot() as snapshot:
+            scan = snapshot.scan()
+            store.close()
+            self.assertRaises(NoStore, store.put, b"k", b"v")
+            self.assertRaises(NoStore, snapshot.get, b"k")
+            self.assertRaises(NoStore, next, scan)
+
+    def test_each_operator_merges(self):
+        def number(value):
+            return value.to_bytes(8, "little")
+
+        for operator, operands, wanted in (
+            (Operator.APPEND, (b"one", b"two"), b"one,two"),
+            (Operator.COUNTER, (number(7), number(8)), number(15)),
+            (Operator.MAXIMUM, (b"one", b"two"), b"two"),
+            (Operator.TAIL, (b"one", b"two"), b"etwo"),
+        ):
+            with Store(operator) as store:
+                store.feed(Merge(b"k", operand) for operand in operands)
+                self.assertEqual(store.get_last(b"k"), wanted)
+
+    def test_threads_share_a_store(self):
+        def write(thread):
+            for number in range(200):
+                try:
+                    self.store.merge(b"k%d" % thread, b"%d" % number)
+                except TooManyRuns:
+                    compact(self.store)
+                    self.store.merge(b"k%d" % thread, b"%d" % number)
+                with self.store.snapshot() as snapshot:
+                    self.assertEqual(snapshot.get(b"k%d" % thread).count(b","), number)
+
+        threads = [threading.Thread(target=write, args=(thread,)) for thread in range(4)]
+        for thread in threads:
+            thread.start()
+        for thread in threads:
+            thread.join()
+        self.assertEqual((self.store.last, self.store.keeps), (800, []))
+
+    def test_the_examples_of_the_module(self):
+        self.assertEqual(doctest.testmod(ucstore).failed, 0)
+
+
+class Logs(unittest.TestCase):
+    def feed(self, store, log, *operations):
+        record = store.log_record(len(log), operations)
+        store.feed(operations)
+        return log + record
+
+    def test_a_log_opens_with_what_was_fed(self):
+        log = b""
+        with Store(Operator.APPEND) as store:
+            for length in (0, 1, 32700, 40000, 100000, 5):
+                log = self.feed(store, log, Put(b"k", b"x" * length))
+                with Store.open(Operator.APPEND, log) as again:
+                    self.assertEqual((str(again.ended), again.last), ("clean", store.last))
+                    self.assertEqual(len(again.get_last(b"k")), length)
+
+    def test_each_write_comes_back(self):
+        operations = [Put(b"a", b"1"), Delete(b"b"), Merge(b"c", b"2"), DeleteRange(b"d", b"e")]
+        with Store(Operator.APPEND) as store:
+            log = self.feed(store, b"", *operations[:2])
+            log = self.feed(store, log)
+            log = self.feed(store, log, *operations[2:])
+        writes = log_writes(log)
+        self.assertEqual([tuple(write) for write in writes], list(enumerate(operations, 1)))
+        self.assertEqual((writes.ended, writes.offset), (Ended(End.CLEAN, None, 0), len(log)))
+        self.assertEqual(list(writes), [])
+
+    def test_a_log_has_the_sequences_that_were_given(self):
+        with Store(Operator.APPEND) as store:
+            log = store.log_record(0, [Put(b"a", b"1")], 7)
+            store.feed([Put(b"a", b"1")], 7)
+            log = self.feed(store, log, Put(b"b", b"2"))
+        self.assertEqual([write.sequence for write in log_writes(log)], [7, 8])
+        with Store.open(Operator.APPEND, log) as store:
+            self.assertEqual(store.last, 8)
+
+    def test_a_torn_log_goes_on_where_it_is_cut(self):
+        with Store(Operator.APPEND) as store:
+            first = self.feed(store, b"", Put(b"a", b"1"))
+            whole = self.feed(store, first, Put(b"b", b"x" * 50000))
+        for length in (len(first) + 1, len(first) + 7, 32768, len(whole) - 1):
+            offset, ended = log_writes(whole[:length]).end()
+            self.assertEqual((ended.end, offset), (End.TORN, len(first)))
+            with Store.open(Operator.APPEND, whole[:length]) as store:
+                self.assertEqual(store.ended, ended)
+                log = self.feed(store, whole[:offset], Put(b"c", b"2"))
+            with Store.open(Operator.APPEND, log) as store:
+                self.assertEqual((store.get_last(b"b"), store.get_last(b"c")), (None, b"2"))
+
+    def test_a_log_goes_on_before_zeros(self):
+        with Store(Operator.APPEND) as store:
+            first = self.feed(store, b"", Put(b"a", b"1"))
+            offset, ended = log_writes(first + bytes(100000)).end()
+            self.assertEqual((offset, ended.end), (len(first), End.CLEAN))
+            log = self.feed(store, first[:offset], Put(b"b", b"2"))
+        with Store.open(Operator.APPEND, log) as store:
+            self.assertEqual((store.last, store.ended.end), (2, End.CLEAN))
+
+    def test_faults_are_named(self):
+        with Store(Operator.APPEND) as store:
+            first = self.feed(store, b"", Put(b"a", b"1"))
+            log = bytearray(self.feed(store, first, Put(b"b", b"2")))
+        log[len(first) + 20] ^= 1
+        with Store.open(Operator.APPEND, bytes(log)) as store:
+            self.assertEqual(store.ended, Ended(End.LOG_FAULT, LogFault.BAD_CHECKSUM, len(first)))
+            self.assertEqual(str(store.ended), f"a fault at {len(first)}: BAD_CHECKSUM")
+        with Store.open(Operator.APPEND, first + first) as store:
+            self.assertEqual(store.ended, Ended(End.BATCH_FAULT, BatchFault.SEQUENCE_BACK, 2))
+            self.assertFalse(store.ended.is_sound)
+        self.assertEqual(NotABatch.status, 12)
+
+
+def merged(operator, old, operand):
+    """The value of a key with an older value, or None, and an operand."""
+    def number(text):
+        return int.from_bytes(text, "little") if text is not None and len(text) == 8 else 0
+
+    if operator == Operator.APPEND:
+        return operand if old is None else old + b"," + operand
+    if operator == Operator.COUNTER:
+        return ((number(old) + number(operand)) % (1 << 64)).to_bytes(8, "little")
+    if operator == Operator.MAXIMUM:
+        return max(old or b"", operand)
+    return ((old or b"") + operand)[-4:]
+
+
+class Soak:
+    """A store beside the dictionaries that it should hold, now and at each keep, and the log of it."""
+
+    def __init__(self, operator, seed):
+        self.operator = operator
+        self.random = random.Random(seed)
+        self.store = Store(operator, Options(memtable=64))
+        self.held, self.keeps, self.written, self.log = {}, [], [], bytearray()
+
+    def key(self):
+        return b"k%d" % self.random.randrange(40)
+
+    def operation(self):
+        kind = self.random.choices((Put, Merge, Delete, DeleteRange), (9, 7, 3, 1))[0]
+        if kind is Delete:
+            return Delete(self.key())
+        if kind is DeleteRange:
+            return DeleteRange(self.key(), self.key())
+        length = self.random.choice((8, self.random.randrange(12)))
+        return kind(self.key(), bytes(self.random.randrange(256) for _ in range(length)))
+
+    def apply(self, operation):
+        if isinstance(operation, Put):
+            self.held[operation.key] = operation.value
+        elif isinstance(operation, Merge):
+            self.held[operation.key] = merged(self.operator, self.held.get(operation.key), operation.operand)
+        elif isinstance(operation, Delete):
+            self.held.pop(operation.key, None)
+        else:
+            self.held = {key: value for key, value in self.held.items() if not operation.begin <= key < operation.end}
+
+    def feed(self):
+        operations = [self.operation() for _ in range(self.random.randrange(9))]
+        self.log += self.store.log_record(len(self.log), operations)
+        try:
+            self.store.feed(operations)
+        except TooManyRuns:
+            compact(self.store)
+            self.store.feed(operations)
+        for operation in operations:
+            self.apply(operation)
+        self.written += operations
+        assert self.store.last == len(self.written)
+
+    def keep(self):
+        if len(self.keeps) < 12:
+            self.keeps.append((self.store.keep(), dict(self.held)))
+
+    def release(self):
+        if self.keeps:
+            self.store.release(self.keeps.pop(self.random.randrange(len(self.keeps)))[0])
+        assert self.store.keeps == sorted({sequence for sequence, _ in self.keeps})
+
+    def get(self):
+        key = self.key()
+        assert self.store.get_last(key) == self.held.get(key)
+        for sequence, held in self.keeps:
+            assert self.store.get(key, sequence) == held.get(key)
+
+    def scan(self):
+        low, high = self.key(), self.key()
+        for sequence, held in self.keeps:
+            wanted = sorted(row for row in held.items() if low <= row[0] < high)
+            assert list(self.store.scan(low, high, sequence)) == wanted
+            assert list(self.store.scan(b"", None, sequence)) == sorted(held.items())
+
+    def step(self):
+        steps = (self.feed, self.keep, self.release, self.get, self.scan, lambda: compact(self.store))
+        self.random.choices(steps, (40, 8, 8, 35, 6, 3))[0]()
+
+    def reopen(self):
+        """Opens the log, whole, and reads a torn one."""
+        with Store.open(self.operator, bytes(self.log)) as store, store.snapshot() as snapshot:
+            assert (store.ended.end, store.last) == (End.CLEAN, len(self.written))
+            assert dict(snapshot.scan()) == self.held
+        torn = log_writes(bytes(self.log[:self.random.randrange(len(self.log))]))
+        for place, write in enumerate(torn):
+            assert tuple(write) == (place + 1, self.written[place])
+
+
+class Model(unittest.TestCase):
+    def test_drawn_operations(self):
+        for operator in Operator:
+            with self.subTest(operator=operator):
+                soak = Soak(operator, int(operator))
+                for _ in range(4000):
+                    soak.step()
+                soak.reopen()
+                soak.store.close()
+
+
+if __name__ == "__main__":
+    unittest.main()

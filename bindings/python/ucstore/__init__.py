@@ -1,0 +1,760 @@
+"""An embedded log-structured merge store in memory, proved against its contracts.
+
+    >>> with Store(Operator.APPEND) as store:
+    ...     store.feed([Put(b"colour", b"blue"), Merge(b"tags", b"new")])
+    ...     with store.snapshot() as before:
+    ...         store.delete(b"colour")
+    ...         before.get(b"colour"), store.get_last(b"colour")
+    (b'blue', None)
+
+The store itself is in memory. Its owner keeps a log in a file: `Store.log_record` returns what to append before
+operations are fed, and `Store.open` reads it again.
+
+    >>> with Store(Operator.APPEND) as store:
+    ...     log = store.log_record(0, [Put(b"colour", b"blue")])
+    ...     store.feed([Put(b"colour", b"blue")])
+    >>> with Store.open(Operator.APPEND, log) as store:
+    ...     store.get_last(b"colour"), str(store.ended)
+    (b'blue', 'clean')
+"""
+
+import ctypes
+import enum
+import os
+import struct
+import threading
+from pathlib import Path
+from typing import Dict, Iterable, Iterator, List, NamedTuple, Optional, Tuple, Union
+
+__all__ = [
+    "BadOption", "BatchFault", "Delete", "DeleteRange", "End", "Ended", "IdsSpent", "LogFault", "LogWrites", "Merge",
+    "NoStore", "NotABatch", "NotProtected", "Operation", "Operator", "Options", "OutOfMemory", "Put", "Report",
+    "SequenceBack", "SequencesSpent", "Snapshot", "Store", "TooLong", "TooManyRuns", "UcstoreError", "UnknownOperator", "Write",
+    "batch_bytes", "log_writes",
+]
+
+
+class UcstoreError(Exception):
+    """A call that was refused. The store is as it was before it."""
+
+    status = -1
+    text = "unexpected status"
+
+    def __init__(self, text: Optional[str] = None):
+        super().__init__(text or self.text)
+
+
+class OutOfMemory(UcstoreError, MemoryError):
+    """Memory was refused."""
+
+    status, text = 1, "out of memory"
+
+
+class NoStore(UcstoreError, ValueError):
+    """The store is closed."""
+
+    status, text = 2, "the store is closed"
+
+
+class NotProtected(UcstoreError, LookupError):
+    """No snapshot is at the sequence."""
+
+    status, text = 5, "no snapshot is at the sequence"
+
+
+class UnknownOperator(UcstoreError, ValueError):
+    """No operator has the number."""
+
+    status, text = 6, "no operator has the number"
+
+
+class BadOption(UcstoreError, ValueError):
+    """An option isn't in its range."""
+
+    status, text = 7, "an option isn't in its range"
+
+
+class TooManyRuns(UcstoreError):
+    """There would be more than 256 runs: compact, and try again."""
+
+    status, text = 8, "there would be more than 256 runs"
+
+
+class IdsSpent(UcstoreError):
+    """No number is left for a run: the greatest is 2^64 - 2."""
+
+    status, text = 9, "no number is left for a run"
+
+
+class SequencesSpent(UcstoreError):
+    """Too few sequences are left: the greatest is 2^56 - 1."""
+
+    status, text = 10, "too few sequences are left"
+
+
+class TooLong(UcstoreError, ValueError):
+    """A text has 2^32 bytes or more."""
+
+    status, text = 11, "a text has 2^32 bytes or more"
+
+
+class NotABatch(UcstoreError, ValueError):
+    """The bytes aren't a write batch."""
+
+    status, text = 12, "the bytes aren't a write batch"
+
+
+class SequenceBack(NotABatch):
+    """The sequence of the operations is neither 0 nor above the last one."""
+
+    status, text = 16, "the sequence isn't above the last one"
+
+
+_OK, _NOT_FOUND, _ROOM, _LOG_ENDS = 0, 4, 14, 15
+
+_ERRORS = {
+    error.status: error
+    for error in (
+        OutOfMemory, NoStore, NotProtected, UnknownOperator, BadOption, TooManyRuns, IdsSpent, SequencesSpent, TooLong,
+        NotABatch, SequenceBack,
+    )
+}
+
+
+def _check(status: int) -> None:
+    """Raises what a status says."""
+    if status != _OK:
+        raise _ERRORS[status]() if status in _ERRORS else UcstoreError(f"unexpected status {status}")
+
+
+class Operator(enum.IntEnum):
+    """Which operator merges a key's operands into its value."""
+
+    APPEND = 0
+    """Texts joined by commas."""
+    COUNTER = 1
+    """Sums of 64-bit numbers, 8 bytes each, little-endian. Any other text is 0."""
+    MAXIMUM = 2
+    """The greater text."""
+    TAIL = 3
+    """The last four bytes of all texts."""
+
+
+class Options(NamedTuple):
+    """How a store is opened and compacted, with the meaning of RocksDB's options (its wiki, "Universal Compaction")."""
+
+    memtable: int = 4194304
+    """From how many bytes on a memtable is flushed, at least 1."""
+    trigger: int = 4
+    """From how many runs on something is compacted, at least 1."""
+    ratio: int = 1
+    """By how many percent a run may be larger than those above it to be compacted with them."""
+    percent: int = 200
+    """Above how many percent of the oldest run's size the newer ones are compacted with it."""
+    least: int = 2
+    """The least number of runs for a compaction by size ratio, at least 2."""
+    greatest: int = 4294967295
+    """The greatest number of runs for a compaction, at least `least`."""
+    first_id: int = 1
+    """The number of the first run, at least 1."""
+
+
+class Put(NamedTuple):
+    """Sets a key to a value."""
+
+    key: bytes
+    value: bytes
+
+
+class Delete(NamedTuple):
+    """Removes a key."""
+
+    key: bytes
+
+
+class Merge(NamedTuple):
+    """Combines a key with an operand."""
+
+    key: bytes
+    operand: bytes
+
+
+class DeleteRange(NamedTuple):
+    """Removes each key from `begin` to below `end`."""
+
+    begin: bytes
+    end: bytes
+
+
+Operation = Union[Put, Delete, Merge, DeleteRange]
+
+# The tags of RocksDB's write batches.
+_TAGS = {Delete: 0, Put: 1, Merge: 2, DeleteRange: 15}
+_KINDS = {tag: kind for kind, tag in _TAGS.items()}
+
+
+class Write(NamedTuple):
+    """A write of a log."""
+
+    sequence: int
+    operation: Operation
+
+
+class Report(NamedTuple):
+    """What a store holds, in numbers. `bytes` has 8 for each sequence."""
+
+    runs: int
+    snapshots: int
+    points: int
+    fragments: int
+    bytes: int
+    last: int
+
+
+class End(enum.IntEnum):
+    """How far a log can be read: to its end, to what was being written, or to a fault of a record or a batch."""
+
+    CLEAN = 0
+    TORN = 1
+    LOG_FAULT = 2
+    BATCH_FAULT = 3
+
+
+class LogFault(enum.IntEnum):
+    """What is wrong with a record of a log."""
+
+    BAD_LENGTH = 1
+    BAD_CHECKSUM = 2
+    UNSUPPORTED_TYPE = 3
+    MIDDLE_ALONE = 4
+    LAST_ALONE = 5
+    FULL_INSIDE = 6
+    FIRST_INSIDE = 7
+
+
+class BatchFault(enum.IntEnum):
+    """What is wrong with a batch of a log."""
+
+    TOO_SHORT = 1
+    SEQUENCE_BACK = 2
+    SEQUENCE_TOO_LARGE = 3
+    BAD_TAG = 4
+    CUT = 5
+    BAD_NUMBER = 6
+    OTHER_FAMILY = 7
+    WRONG_COUNT = 8
+    OUT_OF_MEMORY = 9
+
+
+class Ended(NamedTuple):
+    """How a log ends.
+
+    `place` is an offset in the log; with `End.BATCH_FAULT` it is the number of a payload, from 1.
+    """
+
+    end: End
+    fault: Union[None, LogFault, BatchFault]
+    place: int
+
+    @property
+    def is_sound(self) -> bool:
+        """Whether nothing was lost but what a crash left unfinished."""
+        return self.end in (End.CLEAN, End.TORN)
+
+    def __str__(self) -> str:
+        if self.end == End.CLEAN:
+            return "clean"
+        if self.end == End.TORN:
+            return f"torn at {self.place}"
+        where = "in batch" if self.end == End.BATCH_FAULT else "at"
+        return f"a fault {where} {self.place}: {self.fault.name}"
+
+
+class _Handle(ctypes.Structure):
+    _fields_ = [("at", ctypes.c_void_p)]
+
+
+class _Options(ctypes.Structure):
+    _fields_ = [
+        ("memtable", ctypes.c_uint64), ("trigger", ctypes.c_uint32), ("ratio", ctypes.c_uint32),
+        ("percent", ctypes.c_uint32), ("least", ctypes.c_uint32), ("greatest", ctypes.c_uint32),
+        ("first_id", ctypes.c_uint64),
+    ]
+
+    @classmethod
+    def of(cls, options: Options) -> "_Options":
+        """The options as C sees them. A number that a field has no room for would be cut silently."""
+        found = cls(*options)
+        if any(getattr(found, name) != value for name, value in zip(Options._fields, options)):
+            raise BadOption()
+        return found
+
+
+class _Ended(ctypes.Structure):
+    _fields_ = [("kind", ctypes.c_uint32), ("fault", ctypes.c_uint32), ("place", ctypes.c_uint64)]
+
+    def told(self) -> Ended:
+        faults = {End.LOG_FAULT: LogFault, End.BATCH_FAULT: BatchFault}.get(self.kind)
+        return Ended(End(self.kind), faults(self.fault) if faults else None, self.place)
+
+
+class _Report(ctypes.Structure):
+    _fields_ = [(name, ctypes.c_uint64) for name in Report._fields]
+
+
+class _LogPlace(ctypes.Structure):
+    _fields_ = [("offset", ctypes.c_uint64), ("last", ctypes.c_uint64), ("batches", ctypes.c_uint64)]
+
+
+# The version of the library's functions.
+_ABI = 1
+
+
+def _load() -> ctypes.CDLL:
+    """The shared object: the one that is named, the one beside the module, or the system's."""
+    name = f"libucstore.so.{_ABI}"
+    beside = Path(__file__).with_name(name)
+    return ctypes.CDLL(os.environ.get("UCSTORE_LIBRARY") or (str(beside) if beside.exists() else name))
+
+
+# The types of the arguments: a text is its address and its length.
+_POINTER, _SIZE, _U64, _U32 = ctypes.c_void_p, ctypes.c_size_t, ctypes.c_uint64, ctypes.c_uint32
+_TEXT = (ctypes.c_char_p, _SIZE)
+_PLACE = (_POINTER, _SIZE)
+
+_SIGNATURES = {
+    "create": (_POINTER, _U32, _POINTER),
+    "open": (_POINTER, _U32, _POINTER, *_TEXT, _POINTER),
+    "close": (_POINTER,),
+    "feed": (_POINTER, *_TEXT),
+    "put": (_POINTER, *_TEXT, *_TEXT),
+    "delete": (_POINTER, *_TEXT),
+    "merge": (_POINTER, *_TEXT, *_TEXT),
+    "delete_range": (_POINTER, *_TEXT, *_TEXT),
+    "keep": (_POINTER, _POINTER),
+    "release": (_POINTER, _U64),
+    "keeps": (_POINTER, *_PLACE, _POINTER),
+    "last": (_POINTER, _POINTER),
+    "get": (_POINTER, *_TEXT, _U64, *_PLACE, _POINTER),
+    "get_last": (_POINTER, *_TEXT, *_PLACE, _POINTER),
+    "scan": (_POINTER, *_TEXT, *_TEXT, ctypes.c_bool, _U64, _U64, *_PLACE, _POINTER, _POINTER),
+    "compact": (_POINTER, _POINTER),
+    "report": (_POINTER, _POINTER),
+    "log_record": (_POINTER, _U64, *_TEXT, *_PLACE, _POINTER),
+    "log_next": (*_TEXT, _POINTER, *_PLACE, _POINTER, _POINTER, _POINTER),
+}
+
+
+class _Library:
+    """The functions of `ucstore.h`, without their prefix. It says what each does and what its caller owes."""
+
+    def __init__(self) -> None:
+        library = _load()
+        if library.ucstore_version() != _ABI:
+            raise ImportError(f"the functions of {library._name} aren't of version {_ABI}")
+        for name, types in _SIGNATURES.items():
+            function = getattr(library, f"ucstore_{name}")
+            function.argtypes, function.restype = types, ctypes.c_int32
+            setattr(self, name, function)
+
+
+_library = _Library()
+
+# The bytes of a value for which a lookup doesn't ask twice, and those of a page of a scan.
+_USUAL_VALUE, _PAGE_BYTES = 512, 16 * 1024
+
+# The bytes of a record's header in a log, and the most that a record has behind it.
+_HEADER = 7
+_MOST_FRAGMENT = 32768 - _HEADER
+
+# How many rows a page has at most.
+_PAGE_ROWS = 128
+
+_Row = Tuple[bytes, bytes]
+
+
+def _bytes_of(text: bytes) -> bytes:
+    """The text, if it is one: ctypes takes None for bytes too."""
+    if not isinstance(text, bytes):
+        raise TypeError(f"a text is bytes, not {type(text).__name__}")
+    return text
+
+
+def _texts(*texts: bytes) -> Iterator[Union[bytes, int]]:
+    """The arguments for texts: each one's address and its length."""
+    for text in texts:
+        yield _bytes_of(text)
+        yield len(text)
+
+
+def _sequence(at: int) -> int:
+    """The sequence, if it has 64 bits: ctypes would cut it silently."""
+    if not 0 <= at < 1 << 64:
+        raise NotProtected()
+    return at
+
+
+def _push_text(batch: bytearray, text: bytes) -> None:
+    """Adds a text behind its length: seven bits to a byte, the low ones first."""
+    length = len(_bytes_of(text))
+    while length >= 0x80:
+        batch.append(length & 0x7F | 0x80)
+        length >>= 7
+    batch.append(length)
+    batch += text
+
+
+def batch_bytes(operations: Iterable[Operation], sequence: int = 0) -> bytes:
+    """The bytes of operations as a write batch of RocksDB. The first one has the sequence."""
+    if sequence < 0:
+        raise SequenceBack()
+    batch, count = bytearray(12), 0
+    for operation in operations:
+        batch.append(_TAGS[type(operation)])
+        for text in operation:
+            _push_text(batch, text)
+        count += 1
+    struct.pack_into("<QI", batch, 0, min(sequence, (1 << 64) - 1), count)
+    return bytes(batch)
+
+
+def _text_at(room: memoryview, place: int) -> Tuple[bytes, int]:
+    """The text at a place, behind its length of 8 bytes, and the place behind it."""
+    (length,) = struct.unpack_from("<Q", room, place)
+    end = place + 8 + length
+    return bytes(room[place + 8:end]), end
+
+
+class Store:
+    """A log-structured merge store in memory.
+
+    Its calls wait for one another, so that threads may share it. It opens without snapshots. Each `keep` at a sequence
+    is counted, and needs a `release` of its own.
+
+    `with` closes it at the end. A closed store raises `NoStore`.
+    """
+
+    ended = Ended(End.CLEAN, None, 0)
+    """How the log ended that the store was opened from."""
+
+    def __init__(self, operator: Operator, options: Options = Options()) -> None:
+        """An empty store. Raises `BadOption` and `OutOfMemory`."""
+        self._begin()
+        _check(_library.create(self._handle, operator, ctypes.byref(_Options.of(options))))
+        self._drop_snapshots()
+
+    @classmethod
+    def open(cls, operator: Operator, log: bytes, options: Options = Options()) -> "Store":
+        """A store with the writes of a write-ahead log before its first fault. Its `ended` says how the log ends.
+
+        Raises `BadOption`, `TooManyRuns` and `OutOfMemory`.
+        """
+        store, ended = cls.__new__(cls), _Ended()
+        store._begin()
+        length = (_bytes_of(log), len(log))
+        _check(_library.open(store._handle, operator, ctypes.byref(_Options.of(options)), *length, ctypes.byref(ended)))
+        store.ended = ended.told()
+        store._drop_snapshots()
+        return store
+
+    def _begin(self) -> None:
+        self._at = _Handle()
+        self._handle = ctypes.byref(self._at)
+        self._lock = threading.RLock()
+        self._kept: Dict[int, int] = {}
+
+    def _drop_snapshots(self) -> None:
+        """Releases the snapshot that a store opens with, since no keep counts it."""
+        self._call(_library.release, self.last)
+
+    def _call(self, function, *arguments) -> None:
+        with self._lock:
+            _check(function(self._handle, *arguments))
+
+    def close(self) -> None:
+        """Frees the store. A second call does nothing."""
+        with self._lock:
+            self._kept.clear()
+            _library.close(self._handle)
+
+    def __enter__(self) -> "Store":
+        return self
+
+    def __exit__(self, *_) -> None:
+        self.close()
+
+    def __del__(self) -> None:
+        # An object whose making failed has no handle; an interpreter that ends may have no library.
+        if _library is not None and "_lock" in self.__dict__:
+            self.close()
+
+    def feed(self, operations: Iterable[Operation], sequence: int = 0) -> None:
+        """Writes operations at once. They get sequences one by one, from `sequence` on, or from the one behind the last.
+
+        `sequence` is 0 or above the last one: there may be gaps. Raises `TooManyRuns`, `SequenceBack`, `NotABatch` for a
+        text of 2^32 bytes or more, `SequencesSpent`, `IdsSpent` and `OutOfMemory`.
+        """
+        self._feed(batch_bytes(operations, sequence))
+
+    def _feed(self, batch: bytes) -> None:
+        self._call(_library.feed, *_texts(batch))
+
+    def put(self, key: bytes, value: bytes) -> None:
+        """Sets a key to a value, as a run of its own: `feed` writes many at once.
+
+        Raises what `feed` does, but `TooLong` for a text of 2^32 bytes or more.
+        """
+        self._call(_library.put, *_texts(key, value))
+
+    def delete(self, key: bytes) -> None:
+        """Removes a key. Raises what `put` does."""
+        self._call(_library.delete, *_texts(key))
+
+    def merge(self, key: bytes, operand: bytes) -> None:
+        """Combines a key with an operand. Raises what `put` does."""
+        self._call(_library.merge, *_texts(key, operand))
+
+    def delete_range(self, begin: bytes, end: bytes) -> None:
+        """Removes each key from `begin` to below `end`. Raises what `put` does."""
+        self._call(_library.delete_range, *_texts(begin, end))
+
+    @property
+    def last(self) -> int:
+        """The last sequence: 0 if nothing was written."""
+        sequence = _U64()
+        self._call(_library.last, ctypes.byref(sequence))
+        return sequence.value
+
+    def keep(self) -> int:
+        """The last sequence, at which a snapshot is until `release` is called as often as this.
+
+        Raises `OutOfMemory`.
+        """
+        sequence = _U64()
+        with self._lock:
+            self._call(_library.keep, ctypes.byref(sequence))
+            self._kept[sequence.value] = self._kept.get(sequence.value, 0) + 1
+        return sequence.value
+
+    def release(self, sequence: int) -> None:
+        """Undoes a `keep`. The last release at a sequence ends its snapshot. Raises `NotProtected`."""
+        with self._lock:
+            if sequence not in self._kept:
+                raise NotProtected()
+            self._kept[sequence] -= 1
+            if self._kept[sequence] == 0:
+                del self._kept[sequence]
+                self._call(_library.release, sequence)
+
+    def snapshot(self) -> "Snapshot":
+        """A snapshot at the last sequence, which `with` releases at its end. Raises `OutOfMemory`."""
+        return Snapshot(self)
+
+    @property
+    def keeps(self) -> List[int]:
+        """The sequences at which snapshots are, which rise."""
+        count = _SIZE()
+        with self._lock:
+            self._call(_library.keeps, (_U64 * 1)(), 0, ctypes.byref(count))
+            room = (_U64 * count.value)()
+            self._call(_library.keeps, room, count.value, ctypes.byref(count))
+        return list(room)
+
+    def get(self, key: bytes, at: int) -> Optional[bytes]:
+        """The value under a key at a snapshot, or None. Raises `NotProtected` and `OutOfMemory`."""
+        return self._value(_library.get, *_texts(key), _sequence(at))
+
+    def get_last(self, key: bytes) -> Optional[bytes]:
+        """The value under a key at the last sequence, or None. It needs no snapshot. Raises `OutOfMemory`."""
+        return self._value(_library.get_last, *_texts(key))
+
+    def _value(self, function, *arguments) -> Optional[bytes]:
+        """The value that a lookup copies into a room, if there is one."""
+        size, length = _SIZE(), _USUAL_VALUE
+        with self._lock:
+            while True:
+                room = ctypes.create_string_buffer(length)
+                status = function(self._handle, *arguments, room, length, ctypes.byref(size))
+                if status == _NOT_FOUND:
+                    return None
+                _check(status)
+                if size.value <= length:
+                    return ctypes.string_at(room, size.value)
+                length = size.value
+
+    def scan(self, low: bytes, high: Optional[bytes], at: int) -> Iterator[_Row]:
+        """The keys from `low` to below `high`, or to the last one, with their values at a snapshot.
+
+        They come in the order of the keys' bytes, and are fetched in pages. Raises `NotProtected` and `OutOfMemory`.
+        """
+        room, limit = bytearray(_PAGE_BYTES), _PAGE_ROWS
+        while True:
+            rows, size = self._page(low, high, at, limit, room)
+            yield from rows
+            if size <= len(room):
+                if len(rows) < limit:
+                    return
+                limit = min(2 * limit, _PAGE_ROWS)
+            elif rows:
+                limit = len(rows)
+            elif limit == 1:
+                room = bytearray(size)
+            else:
+                # The next page tells how large its one row is.
+                limit = 1
+            if rows:
+                # No key is between the last one and this.
+                low = rows[-1][0] + b"\0"
+
+    def _page(self, low: bytes, high: Optional[bytes], at: int, limit: int, room: bytearray) -> Tuple[List[_Row], int]:
+        """The first rows of a scan, at most `limit`, as many as fit the room, and the size of all."""
+        size, count = _SIZE(), _U64()
+        ends = (*_texts(low, b"" if high is None else high), high is not None)
+        place = (ctypes.c_char * len(room)).from_buffer(room)
+        self._call(_library.scan, *ends, _sequence(at), limit, place, len(room), ctypes.byref(size), ctypes.byref(count))
+        rows, view, end = [], memoryview(room), 0
+        for _ in range(count.value):
+            key, end = _text_at(view, end)
+            value, end = _text_at(view, end)
+            rows.append((key, value))
+        return rows, size.value
+
+    def compact(self) -> bool:
+        """Compacts the runs that are picked next, if there are any, and tells whether there were.
+
+        Raises `IdsSpent` and `OutOfMemory`.
+        """
+        compacted = ctypes.c_bool()
+        self._call(_library.compact, ctypes.byref(compacted))
+        return compacted.value
+
+    def report(self) -> Report:
+        """What the store holds, in numbers."""
+        report = _Report()
+        self._call(_library.report, ctypes.byref(report))
+        return Report(*(getattr(report, name) for name in Report._fields))
+
+    def log_record(self, length: int, operations: Iterable[Operation], sequence: int = 0) -> bytes:
+        """The bytes that operations add to a log of `length` bytes, which are fed next. `sequence` is that of `feed`.
+
+        Append them to the log's file, wait until they are on its device, and `feed` the operations: then `open` has them
+        again after a crash. A file that was read is cut first, as `LogWrites.end` says.
+
+        Raises `SequenceBack`, `NotABatch` for a text of 2^32 bytes or more, `SequencesSpent` and `OutOfMemory`.
+        """
+        return self._log_record(length, batch_bytes(operations, sequence))
+
+    def _log_record(self, length: int, batch: bytes) -> bytes:
+        # Room for a header in each block, and for the end of the block before.
+        size, room_length = _SIZE(), len(batch) + _HEADER * (len(batch) // _MOST_FRAGMENT + 3)
+        while True:
+            room = ctypes.create_string_buffer(room_length)
+            self._call(_library.log_record, length, *_texts(batch), room, room_length, ctypes.byref(size))
+            if size.value <= room_length:
+                return ctypes.string_at(room, size.value)
+            room_length = size.value
+
+
+class Snapshot:
+    """A snapshot of a store: it reads what was written before it was taken. `with` releases it at its end."""
+
+    def __init__(self, store: Store) -> None:
+        self._store = store
+        self._is_held = False
+        self.sequence = store.keep()
+        """The sequence that it is at."""
+        self._is_held = True
+
+    def release(self) -> None:
+        """Releases the snapshot. A second call does nothing, and neither does one behind the store's end."""
+        if self._is_held:
+            self._is_held = False
+            if self._store._at.at is not None:
+                self._store.release(self.sequence)
+
+    def __enter__(self) -> "Snapshot":
+        return self
+
+    def __exit__(self, *_) -> None:
+        self.release()
+
+    def get(self, key: bytes) -> Optional[bytes]:
+        """The value under a key, or None. Raises `OutOfMemory`."""
+        return self._store.get(key, self.sequence)
+
+    def scan(self, low: bytes = b"", high: Optional[bytes] = None) -> Iterator[_Row]:
+        """The keys from `low` to below `high`, or to the last one, with their values. Raises `OutOfMemory`."""
+        return self._store.scan(low, high, self.sequence)
+
+
+class LogWrites:
+    """The writes of a log up to its first fault, fetched batch by batch.
+
+    `ended` says how the log ends, once all writes were returned.
+    """
+
+    def __init__(self, log: bytes) -> None:
+        self._log = _bytes_of(log)
+        self._place = _LogPlace()
+        self._room = bytearray(_PAGE_BYTES)
+        self._batch: Iterator[Write] = iter(())
+        self.ended: Optional[Ended] = None
+
+    @property
+    def offset(self) -> int:
+        """Where the log goes on behind the batches that were read."""
+        return self._place.offset
+
+    def end(self) -> Tuple[int, Ended]:
+        """Passes over what is left, and returns where the log goes on, and how it ends.
+
+        A log's file is cut to this length before more is appended to it: what is behind may be a torn record, or zeros
+        that a crash left. Raises `OutOfMemory`.
+        """
+        self._batch = iter(())
+        while self.ended is None:
+            self._fetch()
+        return self.offset, self.ended
+
+    def __iter__(self) -> "LogWrites":
+        return self
+
+    def __next__(self) -> Write:
+        """The next write. Raises `OutOfMemory`."""
+        for write in self._batch:
+            return write
+        while self.ended is None:
+            self._batch = self._writes(self._fetch())
+            for write in self._batch:
+                return write
+        raise StopIteration
+
+    def _fetch(self) -> int:
+        """Fetches a batch, and returns how many writes it has: none where the log ends, or if the room must grow."""
+        size, writes, ended = _SIZE(), _U64(), _Ended()
+        length = len(self._room)
+        room = (ctypes.c_char * length).from_buffer(self._room)
+        told = (ctypes.byref(size), ctypes.byref(writes), ctypes.byref(ended))
+        status = _library.log_next(self._log, len(self._log), ctypes.byref(self._place), room, length, *told)
+        if status == _ROOM:
+            self._room = bytearray(size.value)
+        elif status == _LOG_ENDS:
+            self.ended = ended.told()
+        else:
+            _check(status)
+        return writes.value
+
+    def _writes(self, count: int) -> Iterator[Write]:
+        """The writes of the room: each its sequence, its tag, and two texts, the second empty for a deletion."""
+        view, place = memoryview(self._room), 0
+        for _ in range(count):
+            sequence, tag = struct.unpack_from("<QB", view, place)
+            first, place = _text_at(view, place + 9)
+            second, place = _text_at(view, place)
+            kind = _KINDS[tag]
+            yield Write(sequence, kind(first) if kind is Delete else kind(first, second))
+
+
+def log_writes(log: bytes) -> LogWrites:
+    """The writes of a log, given as its bytes."""
+    return LogWrites(log)

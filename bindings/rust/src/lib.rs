@@ -1,0 +1,61 @@
+//! An embedded log-structured merge store in memory, proved against its contracts, with merge operands, range deletions
+//! and snapshots.
+//!
+//! ```
+//! use ucstore::{Batch, Operator, Options, Store};
+//!
+//! # fn main() -> Result<(), ucstore::Error> {
+//! let store = Store::create(Operator::Counter, &Options::default())?;
+//! let mut batch = Batch::new();
+//! batch.merge("visits", 2u64.to_le_bytes()).merge("visits", 3u64.to_le_bytes());
+//! store.feed(&batch)?;
+//! assert_eq!(store.get_last("visits")?, Some(5u64.to_le_bytes().to_vec()));
+//! # Ok(())
+//! # }
+//! ```
+//!
+//! # A store that outlives its process
+//!
+//! The store itself is in memory. Its owner keeps a log in a file: [`Store::log_record`] returns what to append before
+//! a batch is fed, and [`Store::open`] reads it again. [`LogWrites::end`] says where the file goes on.
+//!
+//! ```
+//! # use ucstore::{Batch, Ended, Operator, Options, Store};
+//! # fn main() -> Result<(), ucstore::Error> {
+//! let mut log = Vec::new();
+//! # let store = Store::create(Operator::Append, &Options::default())?;
+//! let mut batch = Batch::new();
+//! log.extend(store.log_record(log.len() as u64, batch.put("colour", "blue"))?);
+//! store.feed(&batch)?;
+//!
+//! let (again, ended) = Store::open(Operator::Append, &Options::default(), &log)?;
+//! assert_eq!(ended, Ended::Clean);
+//! assert_eq!(again.get_last("colour")?, Some(b"blue".to_vec()));
+//! # Ok(())
+//! # }
+//! ```
+//!
+//! # Building
+//!
+//! The build links `libucstore.a` from the folder that `UCSTORE_LIB_DIR` names, or from the one that pkg-config says.
+//! `./install` at the top of the repository puts it there.
+#![warn(missing_docs)]
+
+mod batch;
+mod ended;
+mod error;
+mod log;
+mod options;
+mod scan;
+mod snapshot;
+mod store;
+mod sys;
+
+pub use batch::Batch;
+pub use ended::{BatchFault, Ended, LogFault};
+pub use error::Error;
+pub use log::{log_writes, LogWrites, Operation, Write};
+pub use options::{Operator, Options};
+pub use scan::Scan;
+pub use snapshot::Snapshot;
+pub use store::{Report, Store};

@@ -1,0 +1,217 @@
+//! What each method answers, and what it refuses.
+
+use std::error::Error as StdError;
+use ucstore::{Batch, Ended, Error, Operator, Options, Store};
+
+fn empty() -> Store {
+    Store::create(Operator::Append, &Options::default()).unwrap()
+}
+
+fn text(bytes: &str) -> Option<Vec<u8>> {
+    Some(bytes.as_bytes().to_vec())
+}
+
+#[test]
+fn a_store_reads_what_was_written() {
+    let store = empty();
+    store.put("a", "1").unwrap();
+    store.merge("a", "2").unwrap();
+    store.put("b", "3").unwrap();
+    store.delete("b").unwrap();
+    store.put("c", "").unwrap();
+    assert_eq!(store.get_last("a").unwrap(), text("1,2"));
+    assert_eq!(store.get_last("b").unwrap(), None);
+    assert_eq!(store.get_last("c").unwrap(), text(""));
+    store.delete_range("a", "b").unwrap();
+    assert_eq!(store.get_last("a").unwrap(), None);
+    assert_eq!(store.last(), 6);
+}
+
+#[test]
+fn a_long_value_comes_whole() {
+    let store = empty();
+    for length in [511, 512, 513, 100_000] {
+        let value: Vec<u8> = (0..length).map(|place| place as u8).collect();
+        store.put("k", &value).unwrap();
+        assert_eq!(store.get_last("k").unwrap(), Some(value));
+    }
+}
+
+#[test]
+fn texts_of_zero_bytes_are_texts() {
+    let store = empty();
+    store.put("", "").unwrap();
+    assert_eq!(store.get_last("").unwrap(), text(""));
+    let snapshot = store.snapshot().unwrap();
+    let rows: Vec<_> = snapshot.scan("", None).map(Result::unwrap).collect();
+    assert_eq!(rows, [(vec![], vec![])]);
+    assert_eq!(snapshot.scan("", Some(b"")).count(), 0);
+}
+
+#[test]
+fn a_snapshot_stays_until_its_last_guard_is_dropped() {
+    let store = empty();
+    store.put("k", "old").unwrap();
+    let first = store.snapshot().unwrap();
+    let second = store.snapshot().unwrap();
+    store.put("k", "new").unwrap();
+    while store.compact().unwrap() {}
+    let sequence = first.sequence();
+    drop(first);
+    assert_eq!(store.keeps(), [sequence]);
+    assert_eq!(second.get("k").unwrap(), text("old"));
+    drop(second);
+    assert_eq!(store.keeps(), []);
+    assert_eq!(store.get("k", sequence), Err(Error::NotProtected));
+}
+
+#[test]
+fn keeps_are_counted() {
+    let store = empty();
+    assert_eq!(store.release(0), Err(Error::NotProtected));
+    let sequence = store.keep().unwrap();
+    assert_eq!(store.keep(), Ok(sequence));
+    store.release(sequence).unwrap();
+    assert_eq!(store.get("k", sequence), Ok(None));
+    store.release(sequence).unwrap();
+    assert_eq!(store.release(sequence), Err(Error::NotProtected));
+}
+
+#[test]
+fn a_scan_goes_over_many_pages() {
+    let store = empty();
+    let mut batch = Batch::new();
+    let keys: Vec<String> = (0..1000).map(|number| format!("{number:04}")).collect();
+    for (place, key) in keys.iter().enumerate() {
+        batch.put(
+            key,
+            "x".repeat(if place % 100 == 7 { 40_000 } else { place % 50 }),
+        );
+    }
+    store.feed(&batch).unwrap();
+    let snapshot = store.snapshot().unwrap();
+    store.delete_range("", "9").unwrap();
+    let rows: Vec<_> = snapshot
+        .scan("0005", Some(b"0995"))
+        .map(Result::unwrap)
+        .collect();
+    assert_eq!(rows.len(), 990);
+    for ((key, value), (place, wanted)) in rows.iter().zip(keys.iter().enumerate().skip(5)) {
+        assert_eq!(key, wanted.as_bytes());
+        assert_eq!(
+            value.len(),
+            if place % 100 == 7 { 40_000 } else { place % 50 }
+        );
+    }
+}
+
+#[test]
+fn a_scan_ends_behind_an_error() {
+    let store = empty();
+    store.put("k", "v").unwrap();
+    let mut scan = store.scan("", None, 0);
+    assert_eq!(scan.next(), Some(Err(Error::NotProtected)));
+    assert_eq!(scan.next(), None);
+}
+
+#[test]
+fn a_report_counts() {
+    let store = empty();
+    store.put("k", "v").unwrap();
+    let _snapshot = store.snapshot().unwrap();
+    let report = store.report();
+    assert_eq!(
+        (report.runs, report.snapshots, report.points, report.last),
+        (1, 1, 1, 1)
+    );
+    assert!(format!("{store:?}").contains("runs: 1"));
+}
+
+#[test]
+fn too_many_runs_are_refused_and_compacted() {
+    let store = empty();
+    for number in 0..256u32 {
+        store.put(number.to_be_bytes(), "v").unwrap();
+    }
+    assert_eq!(store.put("k", "v"), Err(Error::TooManyRuns));
+    assert_eq!(store.last(), 256);
+    while store.compact().unwrap() {}
+    store.put("k", "v").unwrap();
+    assert_eq!(store.last(), 257);
+}
+
+#[test]
+fn a_batch_may_have_its_own_sequence() {
+    let store = empty();
+    let mut batch = Batch::new();
+    batch.put("a", "1").put("b", "2").set_sequence(10);
+    store.feed(&batch).unwrap();
+    assert_eq!(store.last(), 11);
+    batch.set_sequence(11);
+    assert_eq!(store.feed(&batch), Err(Error::SequenceBack));
+    assert_eq!(store.log_record(0, &batch), Err(Error::SequenceBack));
+    batch.set_sequence((1 << 56) - 1);
+    assert_eq!(store.feed(&batch), Err(Error::SequencesSpent));
+    batch.set_sequence(0);
+    store.feed(&batch).unwrap();
+    assert_eq!(store.last(), 13);
+}
+
+#[test]
+fn options_out_of_their_ranges_are_refused() {
+    let options = Options {
+        least: 1,
+        ..Default::default()
+    };
+    let error = Store::create(Operator::Tail, &options).unwrap_err();
+    assert_eq!(error, Error::BadOption);
+    let shown: Box<dyn StdError> = Box::new(error);
+    assert_eq!(shown.to_string(), "an option isn't in its range");
+}
+
+#[test]
+fn each_operator_merges() {
+    let number = |value: u64| value.to_le_bytes().to_vec();
+    for (operator, operands, wanted) in [
+        (
+            Operator::Append,
+            [b"one".to_vec(), b"two".to_vec()],
+            b"one,two".to_vec(),
+        ),
+        (Operator::Counter, [number(7), number(8)], number(15)),
+        (
+            Operator::Maximum,
+            [b"one".to_vec(), b"two".to_vec()],
+            b"two".to_vec(),
+        ),
+        (
+            Operator::Tail,
+            [b"one".to_vec(), b"two".to_vec()],
+            b"etwo".to_vec(),
+        ),
+    ] {
+        let store = Store::create(operator, &Options::default()).unwrap();
+        let mut batch = Batch::new();
+        batch.merge("k", &operands[0]).merge("k", &operands[1]);
+        store.feed(&batch).unwrap();
+        assert_eq!(store.get_last("k").unwrap(), Some(wanted));
+    }
+}
+
+#[test]
+fn a_store_goes_to_another_thread() {
+    let store = empty();
+    store.put("k", "v").unwrap();
+    let store = std::thread::spawn(move || {
+        store.put("l", "w").unwrap();
+        store
+    });
+    assert_eq!(store.join().unwrap().get_last("l").unwrap(), text("w"));
+}
+
+#[test]
+fn no_bytes_are_a_clean_log() {
+    let (store, ended) = Store::open(Operator::Append, &Options::default(), &[]).unwrap();
+    assert_eq!((store.last(), ended), (0, Ended::Clean));
+    assert_eq!(store.keeps(), []);
+}

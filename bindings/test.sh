@@ -1,0 +1,179 @@
+#!/bin/bash
+# Installs the library into a temporary folder, as a packager would, and tries it from C, C++, Rust and Python:
+#
+#     bindings/test.sh [PART..]
+#
+# The parts are pages, c, sanitizers, valgrind, refused, rust and python, or all where none is named. They need cc and c++,
+# valgrind, cargo, and a python3 with pip, setuptools and wheel; no network. CC, CXX and PYTHON name others.
+#
+# Each language runs its examples, and drawn calls beside a plain dictionary: OPERATIONS (50000) for each of the four operators
+# in C. `refused` refuses each allocation of CALLS (1000) drawn calls. SEED (1) is the seed of what C draws.
+set -euo pipefail
+here=$(cd "$(dirname "${BASH_SOURCE[0]}")" && pwd)
+work=$(mktemp -d)
+trap 'rm -rf "$work"' EXIT
+operations=${OPERATIONS:-50000}
+calls=${CALLS:-1000}
+seed=${SEED:-1}
+read -ra cc <<< "${CC:-cc}"
+read -ra cxx <<< "${CXX:-c++}"
+strict=(-Wall -Wextra -Werror -pedantic)
+sanitizers=(-O1 -g -fsanitize=address,undefined -fno-sanitize-recover=all)
+wrapped=-Wl,--wrap=malloc,--wrap=realloc,--wrap=free
+
+fail() {
+    echo "bindings: $*" >&2
+    exit 1
+}
+
+install_all() {
+    PREFIX=/usr DESTDIR="$work/root" "$here/../install" > "$work/staged"
+    PREFIX="$work/usr" "$here/../install" > "$work/installed"
+    [ "$(wc -l < "$work/staged")" -eq "$(wc -l < "$work/installed")" ] || fail "DESTDIR changes what is installed"
+    export PKG_CONFIG_PATH=$work/usr/lib/pkgconfig LD_LIBRARY_PATH=$work/usr/lib
+    read -ra flags <<< "$(pkg-config --cflags --libs ucstore)"
+    read -ra static <<< "$(pkg-config --cflags ucstore) $work/usr/lib/libucstore.a"
+    grep -oE '\<ucstore_[a-z_]+\(' "$work/usr/include/ucstore.h" | tr -d '(' | sort -u > "$work/declared"
+    check_versions
+    check_names -D "$work/usr/lib/libucstore.so"
+    check_names -g "$work/usr/lib/libucstore.a"
+}
+
+# All packages have the version of the header.
+check_versions() {
+    local version
+    version=$(pkg-config --modversion ucstore)
+    grep -qxF "#define UCSTORE_VERSION \"$version\"" "$work/usr/include/ucstore.h" || fail "the header hasn't version $version"
+    grep -qxF "version = \"$version\"" "$here/rust/Cargo.toml" || fail "the crate hasn't version $version"
+    grep -qxF "version = \"$version\"" "$here/python/pyproject.toml" || fail "the Python package hasn't version $version"
+}
+
+# A library has the functions of the header and no other names, which would clash with those of programs.
+check_names() { # OPTION LIBRARY
+    nm "$1" --defined-only "$2" | awk 'NF == 3 { print $3 }' | sort | diff "$work/declared" - >&2 ||
+        fail "$2 has other names than the header"
+}
+
+# Compiles a file of bindings/c as C99, and links the shared object.
+compile_c() { # NAME
+    "${cc[@]}" -std=c99 -O2 "${strict[@]}" "$here/c/$1.c" "${flags[@]}" -o "$work/$1"
+}
+
+# Compiles it as C++, and links the archive.
+compile_cpp() { # NAME
+    "${cxx[@]}" -O2 "${strict[@]}" -x c++ "$here/c/$1.c" -x none "${static[@]}" "${@:2}" -o "$work/$1_cpp"
+}
+
+expect() { # NAME WANTED FOUND
+    [ "$2" = "$3" ] || fail "$1 says '$3' instead of '$2'"
+}
+
+first='5 visits, 2 before'
+
+# The example counts words, is cut off in the middle of a record, and goes on. So it does behind zeros.
+run_example() {
+    local log=$work/words.log
+    expect example $'a 3\nb 1\nc 1' "$(printf 'a b a\nc a\n' | "$work/example" "$log")"
+    truncate -s -1 "$log"
+    expect 'example, torn' $'a 2\nb 3' "$(echo 'b b' | "$work/example" "$log")"
+    truncate -s +100 "$log"
+    expect 'example, behind zeros' $'a 3\nb 3' "$(echo a | "$work/example" "$log")"
+    expect 'example, again' $'a 3\nb 3' "$("$work/example" "$log" < /dev/null)"
+}
+
+# Formats the manual, where there is groff, without a word of fault.
+try_manual() {
+    if ! command -v groff > /dev/null; then return; fi
+    groff -man -ww -Tutf8 "$work/usr/share/man/man1/ucstore.1" > "$work/page" 2> "$work/said" || fail "the manual has faults"
+    [ ! -s "$work/said" ] || fail "the manual has faults: $(head -3 "$work/said")"
+}
+
+# The code of README.md's section stands in the first programs, which the other parts run. What the shell runs comes before.
+try_pages() {
+    local line count=0
+    while IFS= read -r line; do
+        grep -qF -- "$line" "$here/c/first.c" "$here/rust/examples/first.rs" "$here/python/first.py" ||
+            fail "README.md has a line that no first program has: $line"
+        count=$((count + 1))
+    done < <(awk '/^## / { inside = 0 } /^## From C, Rust, Python/ { found = 1 } found && /^In C/ { inside = 1 }
+        inside && sub(/^    +/, "")' "$here/../README.md")
+    [ "$count" -gt 0 ] || fail "README.md has no code from C, Rust and Python"
+}
+
+try_c() {
+    local name
+    for name in first example test; do
+        compile_c "$name"
+        compile_cpp "$name"
+    done
+    expect first.c "$first" "$("$work/first")"
+    expect 'first.c, as C++' "$first" "$("$work/first_cpp")"
+    run_example
+    "$work/test" "$operations" "$seed"
+    "$work/test_cpp" $((operations / 10)) $((seed + 1))
+    try_manual
+}
+
+try_sanitizers() {
+    "${cc[@]}" -std=c99 "${strict[@]}" "${sanitizers[@]}" "$here/c/test.c" "${static[@]}" -o "$work/test_san"
+    "$work/test_san" "$operations" $((seed + 2))
+}
+
+try_valgrind() {
+    compile_c test
+    valgrind --quiet --leak-check=full --errors-for-leak-kinds=all --error-exitcode=9 "$work/test" $((operations / 50)) "$seed"
+}
+
+try_refused() {
+    compile_cpp refused "$wrapped"
+    "$work/refused_cpp" "$calls" "$seed"
+    "${cc[@]}" -std=c99 "${strict[@]}" "${sanitizers[@]}" "$here/c/refused.c" "${static[@]}" "$wrapped" -o "$work/refused_san"
+    "$work/refused_san" $((calls / 4)) $((seed + 1))
+}
+
+try_rust() {
+    cp -r "$here/rust" "$work/rust"
+    rm -rf "$work/rust/target"
+    (cd "$work/rust" && cargo test --offline --quiet -j 1)
+    expect first.rs "$first" "$(cd "$work/rust" && cargo run --offline --quiet -j 1 --example first)"
+    expect 'first.rs, with UCSTORE_LIB_DIR' "$first" "$(cd "$work/rust" &&
+        PKG_CONFIG=false UCSTORE_LIB_DIR="$work/usr/lib" cargo run --offline --quiet -j 1 --example first)"
+}
+
+# A Python that can build what pip installs without a network.
+find_python() {
+    local python
+    for python in ${PYTHON:-python3 /usr/bin/python3}; do
+        if "$python" -c 'import setuptools, wheel, pip' 2> /dev/null; then
+            echo "$python"
+            return
+        fi
+    done
+    fail "no python3 has pip, setuptools and wheel: PYTHON may name one"
+}
+
+try_python() {
+    local python library
+    python=$(find_python)
+    cp -r "$here/python" "$work/python"
+    (cd "$work/python" && "$python" -m pip --quiet --disable-pip-version-check install --no-index --no-build-isolation \
+        --no-warn-script-location --root-user-action ignore --target "$work/site" .)
+    export PYTHONPATH=$work/site PYTHONDONTWRITEBYTECODE=1
+    # Beside the module's source it would be what is imported.
+    cp "$here/python/first.py" "$work/first.py"
+    expect first.py "$first" "$("$python" "$work/first.py")"
+    library=$work/usr/lib/libucstore.so.1
+    expect 'first.py, with UCSTORE_LIBRARY' "$first" \
+        "$(env -u LD_LIBRARY_PATH UCSTORE_LIBRARY="$library" "$python" "$work/first.py")"
+    cp "$library" "$(dirname "$("$python" -c 'import ucstore; print(ucstore.__file__)')")"
+    expect 'first.py, beside its library' "$first" "$(env -u LD_LIBRARY_PATH "$python" "$work/first.py")"
+    (cd "$work" && "$python" "$here/python/tests/test_ucstore.py" --quiet)
+}
+
+if [ $# -eq 0 ]; then set -- pages c sanitizers valgrind refused rust python; fi
+install_all
+for part; do
+    declare -F "try_$part" > /dev/null || fail "there is no part $part"
+    "try_$part"
+    echo "bindings: $part passed"
+done
