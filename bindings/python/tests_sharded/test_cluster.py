@@ -1,0 +1,315 @@
+"""A sharded store beside one store, while its workers, its writer and its scheduler are killed.
+
+SEED is the seed of what is drawn, WRITES how many writes each of two stores gets, and KILLS how many workers are killed.
+"""
+
+import os
+import random
+import resource
+import shutil
+import signal
+import subprocess
+import sys
+import tempfile
+import threading
+import unittest
+from itertools import takewhile
+from pathlib import Path
+
+import drawn
+import writer
+from cluster import Cluster
+from ucstore import Merge, NoStore, NotProtected, Operator, Put
+from ucstore.sharded import AnotherWriter, BadManifest, LogDamaged, NoWorkers, Scan, ShardedError, ShardedStore
+
+SEED = int(os.environ.get("SEED", "1"))
+WRITES = int(os.environ.get("WRITES", "50000"))
+KILLS = int(os.environ.get("KILLS", "30"))
+
+
+def setUpModule():
+    global cluster, work
+    work = Path(tempfile.mkdtemp())
+    unittest.addModuleCleanup(shutil.rmtree, work)
+    cluster = Cluster(work, 4, SEED)
+    unittest.addModuleCleanup(cluster.close)
+    cluster.start()
+    signal.signal(signal.SIGTERM, end)
+
+
+def end(*_):
+    """Ends the processes, if this one is ended from outside."""
+    cluster.close()
+    os._exit(1)
+
+
+def limit_files(size):
+    """Sets how many bytes a file of this process may have at most, and returns what was set."""
+    limits = resource.getrlimit(resource.RLIMIT_FSIZE)
+    resource.setrlimit(resource.RLIMIT_FSIZE, (size, limits[1]))
+    return limits
+
+
+class OnCluster(unittest.TestCase):
+    """Tests with all workers at first."""
+
+    direct = True
+
+    def setUp(self):
+        self.client = self.connect()
+        cluster.fill()
+        cluster.wait(self.client)
+        self.folder = work / self.id().rpartition(".")[2]
+        self.draws = random.Random(f"{SEED} {self.id()}")
+
+    def connect(self):
+        client = cluster.client(self.direct)
+        self.addCleanup(client.close)
+        return client
+
+    def create(self, client=None, splits=None, patience=30.0):
+        store = ShardedStore.create(
+            client or self.client, self.folder, 4, Operator.APPEND, drawn.OPTIONS, splits, patience=patience)
+        self.addCleanup(store.close)
+        return store
+
+    def open(self, client=None, patience=30.0):
+        store = ShardedStore.open(client or self.client, self.folder, patience=patience)
+        self.addCleanup(store.close)
+        return store
+
+    def rows(self, store):
+        with store.snapshot() as snapshot:
+            return dict(snapshot.scan())
+
+
+class Drawn(OnCluster):
+    def test_by_hash(self):
+        self.soak(None)
+
+    def soak(self, splits):
+        """Kills workers between batches and within them."""
+        beside = drawn.Beside(self.create(splits=splits), self.draws)
+        kills = sorted(self.draws.randrange(WRITES) for _ in range(KILLS // 2))
+        done = 0
+        while done < WRITES:
+            within = None
+            while kills and kills[0] <= done:
+                kills.pop(0)
+                within = threading.Timer(self.draws.choice((0, 0.005, 0.02)), cluster.kill_worker, [self.client])
+                within.start()
+                if self.draws.random() < 0.5:
+                    within.join()
+            done += beside.write()
+            beside.step()
+            if within:
+                within.join()
+        beside.compare_all()
+        self.assertEqual(sum(report.snapshots > 0 for report in beside.sharded.report()), 4)
+        while beside.snapshots:
+            beside.release()
+        self.assertEqual([report.snapshots for report in beside.sharded.report()], [0] * 4)
+        beside.sharded.close()
+        self.assertEqual(self.rows(self.open()), dict(beside.single.scan(b"", None, beside.single.keep())))
+
+
+class DrawnThroughTheScheduler(Drawn):
+    direct = False
+    test_by_hash = None
+
+    def test_by_split_points(self):
+        self.soak(drawn.SPLITS)
+
+
+class Calls(OnCluster):
+    def test_calls_of_a_closed_store_and_snapshot_are_refused(self):
+        store = self.create()
+        self.assertEqual(store.write([]), 0)
+        for wrong in ([Put(b"a", "text")], [(b"a", b"b")], [Merge("a", b"b")]):
+            with self.assertRaises(TypeError):
+                store.write(wrong)
+        self.assertEqual(store.write([Put(b"a", b"1")]), 1)
+        snapshot = store.snapshot()
+        with store.snapshot() as other:
+            snapshot.release()
+            snapshot.release()
+            self.assertEqual(other.answers([b"a", b"b", Scan(b"b", b"a"), Scan()]), [b"1", None, [], [(b"a", b"1")]])
+            with self.assertRaises(NotProtected):
+                snapshot.get(b"a")
+            with self.assertRaises(NotProtected):
+                snapshot.scan()
+            store.close()
+            with self.assertRaises(NoStore):
+                other.get(b"a")
+        with self.assertRaises(NoStore):
+            store.write([Put(b"a", b"2")])
+        with self.assertRaises(NoStore):
+            store.snapshot()
+        self.assertEqual(self.rows(self.open()), {b"a": b"1"})
+
+    def test_a_scan_has_many_pages(self):
+        store = self.create()
+        rows = {b"%06d" % number: b"v" * (number % 50) for number in range(9000)}
+        rows[b"large"] = b"v" * 3_000_000
+        store.write([Put(key, value) for key, value in rows.items()])
+        with store.snapshot() as snapshot:
+            self.assertEqual(dict(snapshot.scan()), rows)
+            self.assertEqual(list(snapshot.scan(b"004000", None, 3000)), sorted(rows.items())[4000:7000])
+
+    def test_a_store_isnt_made_over_another(self):
+        self.create().close()
+        with self.assertRaises(BadManifest):
+            self.create()
+        with self.assertRaisesRegex(BadManifest, "4 shards have 3"):
+            ShardedStore.create(self.client, work / "other", 4, Operator.APPEND, splits=[b"a"])
+        self.assertFalse((work / "other").exists())
+
+
+class Refused(OnCluster):
+    def test_damage_names_its_shard_and_file(self):
+        with self.create() as store:
+            store.write([Put(b"%d" % number, b"v") for number in range(100)])
+        path = self.folder / "shard-2.log"
+        log = path.read_bytes()
+        for damaged in (log[:-1], log[:20] + bytes([log[20] ^ 1]) + log[21:], b""):
+            path.write_bytes(damaged)
+            with self.assertRaisesRegex(LogDamaged, f"shard 2: {path} can be read up to byte 0 of the {len(log)} "):
+                self.open()
+        path.write_bytes(log + b"torn")
+        self.assertEqual(len(self.rows(self.open())), 100)
+        self.assertEqual(path.read_bytes(), log)
+
+    def test_a_manifest_of_another_shape(self):
+        self.create().close()
+        path = self.folder / "manifest.json"
+        text = path.read_text()
+        for old, new, wrong in (
+            ('"shards": 4', '"shards": 5', "shard-4.log isn't there"),
+            ('"shards": 4', '"shards": 3', None),
+            ('"format": 1', '"format": 2', "its format is 2"),
+            ("crc32", "sha1", "neither by crc32 nor by split points"),
+        ):
+            path.write_text(text.replace(old, new))
+            refused = (BadManifest, wrong) if wrong else (LogDamaged, "sequencer.log is damaged at byte 0")
+            with self.subTest(new=new), self.assertRaisesRegex(*refused):
+                self.open()
+
+
+class Killed(OnCluster):
+    def test_a_batch_that_fails_is_on_no_shard(self):
+        store = self.create(patience=1.0)
+        batches = [drawn.batch(self.draws) for _ in range(6)]
+        for operations in batches[:3]:
+            store.write(operations)
+        before = store.snapshot()
+        killer = threading.Timer(self.draws.random() * 0.01, cluster.kill_workers)
+        killer.start()
+        with self.assertRaisesRegex(NoWorkers, "no worker is left"):
+            while True:
+                store.write(batches[3])
+                batches.insert(3, batches[3])
+        killer.join()
+        with self.assertRaises(NoWorkers):
+            before.get(b"k000")
+        cluster.fill()
+        cluster.wait(self.client, 1)
+        self.assertEqual(self.rows(store), drawn.fed(batches[:-3]))
+        self.assertEqual(dict(before.scan()), drawn.fed(batches[:3]))
+        for operations in batches[-3:]:
+            store.write(operations)
+        self.assertEqual(self.rows(store), drawn.fed(batches))
+
+    def test_a_batch_that_a_shard_refuses_is_on_no_shard(self):
+        store = self.create()
+        first = [Put(b"%d" % number, b"1" * 100) for number in range(1000)]
+        store.write(first)
+        with store.snapshot() as before:
+            worker = next(iter(self.client.scheduler_info()["workers"]))
+            limits = self.client.run(limit_files, 20000, workers=[worker])[worker]
+            with self.assertRaisesRegex(ShardedError, "shard [0-3]: .*shard-[0-3].log: File too large"):
+                store.write([Put(b"%d" % number, b"2" * 100) for number in range(1000)])
+            self.client.run(limit_files, limits[0], workers=[worker])
+            self.assertEqual(dict(before.scan()), dict(first))
+        self.assertEqual((store.last, self.rows(store)), (1000, dict(first)))
+        store.write([Put(b"0", b"3")])
+        store.close()
+        self.assertEqual(self.rows(self.open()), {**dict(first), b"0": b"3"})
+
+    def test_a_writer_is_killed(self):
+        self.create().close()
+        seed, there = self.draws.randrange(1000), 0
+        for _ in range(6):
+            acknowledged = self.run_writer(seed, there)
+            with self.open() as store:
+                self.assertGreaterEqual(store.last, acknowledged)
+                written = list(takewhile(lambda found: found[1] <= store.last, writer.batches(seed)))
+                # At most the batch that was under way is there too.
+                self.assertLessEqual(len([last for _, last in written if last > acknowledged]), 1)
+                self.assertEqual(written[-1][1] if written else 0, store.last)
+                self.assertEqual(self.rows(store), drawn.fed(operations for operations, _ in written))
+                there = store.last
+
+    def run_writer(self, seed, there):
+        """Kills a writer some time after its first batch. Returns the last sequence that it said was acknowledged."""
+        command = [sys.executable, writer.__file__, cluster.address, str(self.folder), str(seed)]
+        with subprocess.Popen(command, stdout=subprocess.PIPE) as process:
+            said = [process.stdout.readline()]
+            killer = threading.Timer(self.draws.random(), process.kill)
+            killer.start()
+            said += process.stdout.readlines()
+            killer.join()
+        return max([there, *(int(line) for line in said if line.endswith(b"\n"))])
+
+    def test_the_scheduler_is_started_again(self):
+        store = self.create()
+        batches = [drawn.batch(self.draws) for _ in range(6)]
+        for operations in batches[:3]:
+            store.write(operations)
+        before = store.snapshot()
+        store.write(batches[3])
+        cluster.kill_scheduler()
+        cluster.kill_workers()
+        threading.Timer(self.draws.random(), cluster.start).start()
+        store.write(batches[4])
+        self.assertEqual(dict(before.scan()), drawn.fed(batches[:3]))
+        self.assertEqual(self.rows(store), drawn.fed(batches[:5]))
+        with self.assertRaises(AnotherWriter):
+            self.open(self.connect(), patience=1.0)
+        store.write(batches[5])
+        self.assertEqual(self.rows(store), drawn.fed(batches))
+
+
+class Writers(OnCluster):
+    def test_a_second_writer_is_refused(self):
+        store = self.create()
+        for client in (self.client, self.connect()):
+            with self.assertRaisesRegex(AnotherWriter, "another writer has .* open"):
+                self.open(client, patience=1.0)
+        store.write([Put(b"a", b"1")])
+        store.close()
+        self.assertEqual(self.rows(self.open(client)), {b"a": b"1"})
+
+    def test_a_writer_that_was_thought_dead_writes_no_more(self):
+        old = self.create(patience=1.0)
+        old.write([Put(b"a", b"1")])
+        snapshot = old.snapshot()
+        # A scheduler that is started again knows nothing of the first writer, nor do its workers.
+        cluster.kill_scheduler()
+        cluster.kill_workers()
+        cluster.start()
+        other = self.connect()
+        new = self.open(other)
+        new.write([Put(b"a", b"2"), Put(b"b", b"3")])
+        with self.assertRaises(AnotherWriter):
+            old.write([Put(b"a", b"4")])
+        with self.assertRaises(AnotherWriter):
+            snapshot.get(b"a")
+        old.close()
+        self.assertEqual(self.rows(new), {b"a": b"2", b"b": b"3"})
+        new.write([Put(b"c", b"5")])
+        new.close()
+        self.assertEqual(self.rows(self.open(other)), {b"a": b"2", b"b": b"3", b"c": b"5"})
+
+
+if __name__ == "__main__":
+    unittest.main()
