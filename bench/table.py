@@ -58,6 +58,11 @@ def deleted(work, how, label, kind, baseline):
     return Line("answers", label, work, (f"{kind}, 20,000 rows",), baseline, ratio_cases=ratio_cases, name=name)
 
 
+def from_c(label, work, part, baseline, name):
+    """A line of a store that is called from C, and compacted behind 64 batches."""
+    return Line("c", label, work, (f"{part}, compacted behind 64",), baseline, name=name)
+
+
 def pins(label, work, readers, name, **options):
     cases = tuple(f"{one} readers" for one in readers)
     return Line("share", label, work, cases, "RwLock", RATE, shown="", name=name, **options)
@@ -140,6 +145,9 @@ LINES = (
     Line("live", "lookups meanwhile, p50 to p99.9", "lookups beside feeds", ("median", "99", "99.9"), "RocksDB", NS,
          shown="µs", style="range", name="lookups beside feeds"),
     Line("live", "a keep meanwhile", "a publication", baseline=OURS, units=("µs",)),
+    from_c("writes from C, 1.3 million counters", "writes from C", "counters", "RocksDB", "writes from C"),
+    from_c("a million lookups", "lookups from C", "counters", "RocksDB", "lookups from C"),
+    from_c("10,000 scans", "scans from C", "counters", "RocksDB", "scans from C"),
     Line("shared", "batch, 2 workers, 1 compactor", "batches", ("workers 2 beside 1",), "RocksDB",
          name="batch, 2 workers, 1 compactor"),
     Line("shared", "the same", "batches", ("workers 2 beside 1",), "no compactor"),

@@ -1,0 +1,191 @@
+#!/bin/bash
+# Measures a store that is called from C, against RocksDB and LevelDB by their C interfaces.
+#
+#     bench/c/run.sh [PART..]
+#
+# The parts are counters and puts, or both where none is named.
+#
+# It measures crates/uc_c/out/libuc_c.a (or OURS), which `rt lib` in crates/uc_c builds; `none` leaves it out. All programs are
+# workload.c and one of ucstore.c, rocksdb.c and leveldb.c, built by `cc -std=c99 -O2` in a temporary folder. RocksDB is that
+# without assertions (../rocksdb/build.sh makes it) and Debian's (librocksdb-dev), whose assertions are on; LevelDB is Debian's
+# (libleveldb-dev). What isn't there is left out.
+#
+# WRITES writes (1300000) of 300,000 keys of 16 bytes are written in batches of 1,000. In `puts` all set numbers of 8 bytes; in
+# `counters` half of them merge some, which LevelDB can't do. Then nothing is left to be compacted, a snapshot is taken, and all
+# rows are read once. GETS keys (1000000) are looked up one by one, and SCANS scans (10000) read 1 to 50 rows each. All programs
+# must read the same.
+#
+# Our store has no threads: each batch is a run at once, and the caller compacts what is picked until nothing is, behind each batch or
+# behind 64. The others write into memtables of 4 MiB, flush them, and compact by one thread beside the caller. So the time of their
+# writes has that of waiting for these threads, and the time of compacting is what is left then. In the end RocksDB waits, and LevelDB,
+# which has no call for that, compacts everything. No store compresses, all have caches for all blocks and filters of 10 bits a key.
+# RocksDB picks by the rules of ours, in its memory environment and without a log. LevelDB always writes one, to files in /dev/shm.
+#
+# Each program runs in a process of its own, in turn, TURNS times (3), and Debian's RocksDB in the first turn alone. Each figure is
+# the median of its turns. RESULTS names a file for the figures as JSON. It takes three minutes.
+set -u -o pipefail
+
+here=$(cd "$(dirname "${BASH_SOURCE[0]}")" && pwd) || exit 1
+top=$here/../..
+ours=${OURS:-$top/crates/uc_c/out/libuc_c.a}
+turns=${TURNS:-3}
+writes=${WRITES:-1300000}
+gets=${GETS:-1000000}
+scans=${SCANS:-10000}
+folder=$(mktemp -d) || exit 1
+memory=$(mktemp -d -p /dev/shm 2> /dev/null || mktemp -d) || exit 1
+trap 'rm -rf "$folder" "$memory"' EXIT
+
+fail() {
+    echo "run.sh: $*" >&2
+    exit 1
+}
+
+. "$here/../rocksdb/libraries.sh"
+
+compile() { # NAME OPTIONS: an object of workload.c and a store
+    local name=$1
+    shift
+    cc -std=c99 -O2 -Wall -Wextra -pedantic -c "$here/$name.c" -o "$folder/$name.part.o" "$@" &&
+        ld -r "$folder/$name.part.o" "$folder/workload.o" -o "$folder/$name.o" || fail "$name.c doesn't build"
+}
+
+build_ours() {
+    local kit
+    ours=$(realpath -e "$ours") || exit 2
+    kit=$(dirname "$(rt doc)") || fail "there is no kit: rt isn't found"
+    compile ucstore -I "$top/bindings/c"
+    # shellcheck disable=SC2086 # LDLIBS may name more libraries.
+    cc "$folder/ucstore.o" "$ours" "$kit/c/liblibc_c.a" ${LDLIBS:-} -o "$folder/ours" || fail "ucstore.c isn't linked"
+}
+
+# Builds what there is.
+build_all() {
+    cc -std=c99 -O2 -Wall -Wextra -pedantic -c "$here/workload.c" -o "$folder/workload.o" || fail "workload.c doesn't build"
+    if [ "$ours" != none ]; then build_ours; fi
+    if has_released; then
+        compile rocksdb -I "$rocksdb_folder/include"
+    elif has_header rocksdb/c.h; then
+        compile rocksdb
+    fi
+    build_rocksdb "$folder/rocksdb.o"
+    has_leveldb=
+    if has_header leveldb/c.h; then
+        compile leveldb
+        g++ "$folder/leveldb.o" -lleveldb -o "$folder/leveldb" || fail "leveldb.c isn't linked"
+        has_leveldb=yes
+    else
+        echo "LevelDB is left out: its headers (libleveldb-dev) or g++ aren't there" >&2
+    fi
+}
+
+# What is measured side by side: a name for each row, the program, and behind how many batches the caller compacts.
+names=()
+declare -A programs everies
+
+plan() { # NAME PROGRAM [EVERY]: adds a row, where the program is there
+    case $2 in
+        ours) if [ "$ours" = none ]; then return; fi ;;
+        rocksdb | debian) if ! has_rocksdb "$2"; then return; fi ;;
+        leveldb) if [ -z "$has_leveldb" ]; then return; fi ;;
+    esac
+    names+=("$1")
+    programs[$1]=$2
+    everies[$1]=${3:-1}
+}
+
+# Runs one row's program, and keeps its line.
+run_once() { # PART NAME
+    rm -rf "$memory/store"
+    "$folder/${programs[$2]}" "$1" "$writes" 1000 "${everies[$2]}" "$gets" "$scans" "$memory/store" >> "$folder/row.$2" ||
+        fail "$2 fails"
+}
+
+# Runs all rows in turn, and makes sure that all read the same.
+measure() { # PART
+    local turn name
+    for turn in $(seq "$turns"); do
+        for name in "${names[@]}"; do
+            if [ "$turn" -gt 1 ] && [ "${programs[$name]}" = debian ]; then continue; fi
+            run_once "$1" "$name"
+        done
+    done
+    [ "$(cut -d ' ' -f 6 "$folder"/row.* | sort -u | wc -l)" -eq 1 ] || fail "the answers differ: $1"
+}
+
+# The median over a row's turns of what awk says of a line.
+median() { # NAME EXPRESSION
+    awk "{ printf \"%.0f\n\", $2 }" "$folder/row.$1" | sort -n |
+        awk '{ at[NR] = $1 } END { printf "%.0f\n", (at[int((NR + 1) / 2)] + at[int(NR / 2) + 1]) / 2 }'
+}
+
+# The time over that of another row, where both are there.
+over() { # NAME OTHER EXPRESSION
+    if [ ! -f "$folder/row.$1" ] || [ ! -f "$folder/row.$2" ]; then
+        echo -
+        return
+    fi
+    awk -v one="$(median "$1" "$3")" -v other="$(median "$2" "$3")" 'BEGIN { printf "%.2f", one / other }'
+}
+
+as_ms() { # NANOSECONDS
+    awk -v time="$1" 'BEGIN { printf "%.0f", time / 1e6 }'
+}
+
+print_row() { # NAME
+    local expression
+    printf '%-18s %5s' "$1" "$(median "$1" '$5')"
+    for expression in '$1' '$2' '$1 + $2' '$3' '$4'; do printf ' %10s' "$(as_ms "$(median "$1" "$expression")")"; done
+    for expression in '$1 + $2' '$3' '$4'; do printf ' %10s' "$(over "$1" RocksDB "$expression")"; done
+    printf '\n'
+}
+
+# Keeps the times of a row. Those of the others stand beside ours for each number of batches.
+keep_row() { # PART NAME
+    local program=${2%%,*} every
+    for every in 1 64; do
+        case $2 in ours,*) if [ "${everies[$2]}" -ne "$every" ]; then continue; fi ;; esac
+        keep_ms 'writes from C' "$1, compacted behind $every" "$program" "$(median "$2" '$1 + $2')"
+        keep_ms 'lookups from C' "$1, compacted behind $every" "$program" "$(median "$2" '$3')"
+        keep_ms 'scans from C' "$1, compacted behind $every" "$program" "$(median "$2" '$4')"
+    done
+}
+
+# Measures a part and prints its rows, in milliseconds. Debian's RocksDB has none.
+run_part() { # PART
+    local name
+    plan 'ours, each' ours 1
+    plan 'ours, every 64th' ours 64
+    plan RocksDB rocksdb
+    plan "Debian's" debian
+    if [ "$1" = puts ]; then plan LevelDB leveldb; fi
+    measure "$1"
+    echo "$1: $writes writes in batches of 1,000, $gets lookups, $scans scans; ms, and shares of RocksDB's"
+    printf '%-18s %5s %10s %10s %10s %10s %10s %10s %10s %10s\n' '' runs writes compacting together lookups scans '/ together' \
+        '/ lookups' '/ scans'
+    for name in "${names[@]}"; do
+        keep_row "$1" "$name"
+        if [ "$name" != "Debian's" ]; then print_row "$name"; fi
+    done
+    echo
+    names=()
+    rm -f "$folder"/row.*
+}
+
+if [ $# -eq 0 ]; then set -- counters puts; fi
+for part; do
+    case $part in
+        counters | puts) ;;
+        *) fail "there is no part $part" ;;
+    esac
+done
+build_all
+say_machine
+rocksdb_options="universal compaction (trigger 4, size ratio 1, amplification 200 percent), memtables of 4 MiB, a merge operator by \
+callbacks, memory environment, no log, no compression, a cache of blocks of 1 GiB, a filter of 10 bits a key, max_background_jobs 2"
+say_rocksdb
+echo
+for work in 'writes from C' 'lookups from C' 'scans from C'; do goal "$work" 'counters, compacted behind 64' RocksDB ms 'at most' 0.5; done
+for part; do run_part "$part"; done
+say_machine
+write_results_beside c

@@ -1,0 +1,141 @@
+/* The store of this repository, by its C library. It has no threads: the caller compacts. */
+#include "store.h"
+
+#include <string.h>
+#include <ucstore.h>
+
+/* A record of a batch: its tag, and the key and the number, each behind its length. */
+enum { HEADER = 12, RECORD = 3 + KEY + NUMBER, PUT = 1, MERGE = 2, PAGE = 64 };
+
+struct batch {
+    uint8_t *bytes;
+    size_t size, room;
+};
+
+static struct ucstore store;
+static struct batch *batches;
+static size_t batch_count, every;
+static uint64_t snapshot;
+
+/* A key whose last byte is above all digits. */
+static const uint8_t BEHIND_ALL[KEY] = {'b'};
+
+static void expect_ok(int32_t status, const char *what) {
+    expect(status == UCSTORE_OK, what);
+}
+
+void open_store(const struct settings *settings, size_t count) {
+    struct ucstore_options options;
+    expect_ok(ucstore_options(&options), "there are no options");
+    expect_ok(ucstore_create(&store, UCSTORE_COUNTER, &options), "the store isn't created");
+    batches = (struct batch *)calloc(count, sizeof *batches);
+    expect(batches != NULL, "there is no memory for batches");
+    batch_count = count;
+    every = settings->every;
+}
+
+/* The header of a batch has 8 bytes for a sequence, where 0 stands for the next one, and 4 for the count. */
+static void count_up(uint8_t *count) {
+    for (int place = 0; ++count[place] == 0; place++) {
+    }
+}
+
+static void make_room(struct batch *batch) {
+    if (batch->size + RECORD > batch->room) {
+        batch->room = 2 * batch->room + HEADER + RECORD;
+        batch->bytes = (uint8_t *)realloc(batch->bytes, batch->room);
+        expect(batch->bytes != NULL, "there is no memory for a batch");
+    }
+    if (batch->size == 0) {
+        memset(batch->bytes, 0, HEADER);
+        batch->size = HEADER;
+    }
+}
+
+void add_write(size_t place, bool merges, const uint8_t *key, const uint8_t *number) {
+    struct batch *batch = &batches[place];
+    uint8_t *record;
+    make_room(batch);
+    record = batch->bytes + batch->size;
+    record[0] = merges ? MERGE : PUT;
+    record[1] = KEY;
+    memcpy(record + 2, key, KEY);
+    record[2 + KEY] = NUMBER;
+    memcpy(record + 3 + KEY, number, NUMBER);
+    batch->size += RECORD;
+    count_up(batch->bytes + 8);
+}
+
+void write_batch(size_t place) {
+    expect_ok(ucstore_feed(&store, batches[place].bytes, batches[place].size), "a batch isn't fed");
+}
+
+void settle(void) {
+    bool compacted = true;
+    while (compacted) {
+        expect_ok(ucstore_compact(&store, &compacted), "the store isn't compacted");
+    }
+}
+
+void compact_behind(size_t batch) {
+    if ((batch + 1) % every == 0) {
+        settle();
+    }
+}
+
+void take_snapshot(void) {
+    expect_ok(ucstore_keep(&store, &snapshot), "there is no snapshot");
+}
+
+uint64_t get(const uint8_t *key, uint64_t sum) {
+    uint8_t number[NUMBER];
+    size_t size = 0;
+    int32_t status = ucstore_get(&store, key, KEY, snapshot, number, sizeof number, &size);
+    if (status == UCSTORE_NOT_FOUND) {
+        return with_nothing(sum);
+    }
+    expect(status == UCSTORE_OK && size == NUMBER, "a key isn't looked up");
+    return with_bytes(sum, number, NUMBER);
+}
+
+/* Adds the rows of a page, each a key and a value behind their lengths, and copies the last key. */
+static uint64_t with_rows(uint64_t sum, const uint8_t *row, uint64_t count, uint8_t *last) {
+    for (; count > 0; count--, row += 16 + KEY + NUMBER) {
+        sum = with_bytes(with_bytes(sum, row + 8, KEY), row + 16 + KEY, NUMBER);
+        memcpy(last, row + 8, KEY);
+    }
+    return sum;
+}
+
+uint64_t scan(const uint8_t *key, size_t limit, uint64_t sum) {
+    static uint8_t page[PAGE * (16 + KEY + NUMBER)];
+    uint8_t low[KEY + 1];
+    size_t low_length = KEY, size = 0;
+    uint64_t rows = PAGE;
+    memcpy(low, key, KEY);
+    /* Only the first scan, which isn't measured, has more than a page. The next page begins behind the last key. */
+    while (limit > 0 && rows == PAGE) {
+        expect_ok(ucstore_scan(&store, low, low_length, BEHIND_ALL, KEY, true, snapshot, limit < PAGE ? limit : PAGE, page,
+                               sizeof page, &size, &rows), "the keys aren't scanned");
+        expect(size <= sizeof page, "a page has no room for its rows");
+        sum = with_rows(sum, page, rows, low);
+        low[KEY] = 0;
+        low_length = KEY + 1;
+        limit -= (size_t)rows;
+    }
+    return sum;
+}
+
+uint64_t count_runs(void) {
+    struct ucstore_report report;
+    expect_ok(ucstore_report(&store, &report), "there is no report");
+    return report.runs;
+}
+
+void close_store(void) {
+    for (size_t place = 0; place < batch_count; place++) {
+        free(batches[place].bytes);
+    }
+    free(batches);
+    expect_ok(ucstore_close(&store), "the store isn't closed");
+}

@@ -1,0 +1,143 @@
+/* What is done with each store, and how long it takes:
+ *
+ *     PROGRAM puts|counters WRITES SIZE EVERY GETS SCANS [FOLDER]
+ *
+ * WRITES writes of 300,000 keys are written in batches of SIZE. All of them put numbers, or half of them merge some. Behind
+ * EVERY batches a store that has no threads of its own compacts until nothing is picked. Then all waits until nothing is
+ * left to be compacted, a snapshot is taken, all rows are read once, and keys are looked up and scanned at it.
+ *
+ * It prints the nanoseconds of the writes, of compacting, of the lookups and of the scans, how many runs there are, and a
+ * checksum of what was read. Writes and keys are made before any clock starts. */
+#define _POSIX_C_SOURCE 200112L
+
+#include "store.h"
+
+#include <inttypes.h>
+#include <string.h>
+#include <time.h>
+
+static const uint64_t KEYS = 300000, MOST_ROWS = 50;
+
+static uint64_t state = 1;
+
+/* A number below a limit, by SplitMix64. */
+static uint64_t draw(uint64_t limit) {
+    uint64_t mixed;
+    state += UINT64_C(0x9e3779b97f4a7c15);
+    mixed = (state ^ state >> 30) * UINT64_C(0xbf58476d1ce4e5b9);
+    mixed = (mixed ^ mixed >> 27) * UINT64_C(0x94d049bb133111eb);
+    return (mixed ^ mixed >> 31) % limit;
+}
+
+static void draw_key(uint8_t *key) {
+    char text[KEY + 1];
+    snprintf(text, sizeof text, "account/%08u", (unsigned)draw(KEYS));
+    memcpy(key, text, KEY);
+}
+
+static int64_t now(void) {
+    struct timespec time;
+    clock_gettime(CLOCK_MONOTONIC, &time);
+    return (int64_t)time.tv_sec * 1000000000 + time.tv_nsec;
+}
+
+static void add_writes(bool merges, size_t writes, size_t size) {
+    for (size_t place = 0; place < writes; place++) {
+        uint8_t key[KEY], number[NUMBER] = {0};
+        uint64_t value = draw(1000000);
+        draw_key(key);
+        for (int byte = 0; byte < 4; byte++) {
+            number[byte] = (uint8_t)(value >> 8 * byte);
+        }
+        add_write(place / size, merges && draw(2) == 0, key, number);
+    }
+}
+
+/* The time of the writes, and of what the caller compacts among them. */
+struct writing {
+    int64_t writing, compacting;
+};
+
+static struct writing write_all(size_t batches) {
+    struct writing spent = {0, 0};
+    for (size_t batch = 0; batch < batches; batch++) {
+        int64_t start = now(), written;
+        write_batch(batch);
+        written = now();
+        compact_behind(batch);
+        spent.writing += written - start;
+        spent.compacting += now() - written;
+    }
+    return spent;
+}
+
+static int64_t time_settling(void) {
+    int64_t start = now();
+    settle();
+    return now() - start;
+}
+
+static uint8_t *draw_keys(size_t count) {
+    uint8_t *keys = (uint8_t *)malloc(count * KEY + 1);
+    expect(keys != NULL, "there is no memory for keys");
+    for (size_t place = 0; place < count; place++) {
+        draw_key(keys + place * KEY);
+    }
+    return keys;
+}
+
+static int64_t time_gets(size_t count, uint64_t *sum) {
+    uint8_t *keys = draw_keys(count);
+    int64_t start = now(), spent;
+    for (size_t place = 0; place < count; place++) {
+        *sum = get(keys + place * KEY, *sum);
+    }
+    spent = now() - start;
+    free(keys);
+    return spent;
+}
+
+static int64_t time_scans(size_t count, uint64_t *sum) {
+    uint8_t *keys = draw_keys(count);
+    int64_t start = now(), spent;
+    for (size_t place = 0; place < count; place++) {
+        *sum = scan(keys + place * KEY, (size_t)(1 + place % MOST_ROWS), *sum);
+    }
+    spent = now() - start;
+    free(keys);
+    return spent;
+}
+
+/* A number of the command line, at least 1. */
+static size_t number(const char *word) {
+    size_t value = (size_t)strtoull(word, NULL, 10);
+    expect(value > 0, "a number isn't above 0");
+    return value;
+}
+
+int main(int count, char **words) {
+    struct settings settings = {false, 0, NULL};
+    size_t writes, size, batches;
+    uint64_t sum = 0;
+    struct writing spent;
+    int64_t settling, gets, scans;
+    expect(count >= 7, "usage: PROGRAM puts|counters WRITES SIZE EVERY GETS SCANS [FOLDER]");
+    settings.merges = strcmp(words[1], "counters") == 0;
+    settings.every = number(words[4]);
+    settings.folder = count > 7 ? words[7] : NULL;
+    writes = number(words[2]);
+    size = number(words[3]);
+    batches = (writes + size - 1) / size;
+    open_store(&settings, batches);
+    add_writes(settings.merges, writes, size);
+    spent = write_all(batches);
+    settling = time_settling();
+    take_snapshot();
+    sum = scan((const uint8_t *)"account/00000000", (size_t)KEYS, sum);
+    gets = time_gets(number(words[5]), &sum);
+    scans = time_scans(number(words[6]), &sum);
+    printf("%" PRId64 " %" PRId64 " %" PRId64 " %" PRId64 " %" PRIu64 " %016" PRIx64 "\n", spent.writing,
+           spent.compacting + settling, gets, scans, count_runs(), sum);
+    close_store();
+    return 0;
+}
