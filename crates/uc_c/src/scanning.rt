@@ -110,11 +110,15 @@ fn laid_rows(alloc: Global, rows: &[(Bytes, Bytes)], room: usize) -> Result<Laid
     ensures whole { IfOk result (λ laid. laid.whole ≡ length (layout.rows_bytes rows.now)) }
 {
     let (bytes, count) = fitting_bytes(alloc, rows, room)?;
-    let whole = rows_bytes(alloc, rows)?;
+    let whole = if count == rows.len() {
+        bytes.len()
+    } else {
+        rows_bytes(alloc, rows)?.len()
+    };
     Ok(Laid {
         bytes,
         count,
-        whole: whole.len(),
+        whole,
     })
 }
 
