@@ -73,9 +73,10 @@ fn next_op<'a>(batch: &mut Cursor<'a>) -> Option<OpRef<'a>>
     None
 }
 
-/// Judges a batch that comes after the sequence `last`, and returns its header.
+/// Judges a batch that comes after the sequence `last`, as [`BatchWrites::read`] does, and returns its header. A reader that
+/// holds the bytes keeps it, and makes the writes by [`BatchWrites::judged`] when they are wanted.
 #[tactic(auto, unfolding(crate::specs::Batch::batch_of))]
-pub(crate) fn judge_batch(bytes: &[u8], last: u64) -> Result<Header, BatchError>
+pub fn judge_batch(bytes: &[u8], last: u64) -> Result<Header, BatchError>
     ensures value { Exactly (λ header. writes_in header.sequence bytes.now) result (batch_of last bytes.now) }
     ensures counted { IfOk result (λ header. AreCounted header.count (length bytes.now) (drop 12 bytes.now)) }
     ensures room { IfOk result (λ header. 0 < header.count → header.sequence + header.count ≤ 2 ^ 56) }
@@ -98,8 +99,8 @@ impl<'a> BatchWrites<'a> {
         Ok(BatchWrites::judged(header, bytes))
     }
 
-    /// The writes of a batch that was judged.
-    pub(crate) fn judged(header: Header, bytes: &'a [u8]) -> BatchWrites<'a>
+    /// The writes of a batch that [`judge_batch`] accepted. It looks at no record.
+    pub fn judged(header: Header, bytes: &'a [u8]) -> BatchWrites<'a>
         requires counted { AreCounted header.count (length bytes.now) (drop 12 bytes.now) }
         requires room { 0 < header.count → header.sequence + header.count ≤ 2 ^ 56 }
         ensures { result ≡ writes_in header.sequence bytes.now }

@@ -12,16 +12,16 @@ pub(crate) const HEADER_SIZE: usize = 12;
 
 /// What comes before a batch's records.
 #[derive(Clone, Copy, Debug)]
-pub(crate) struct Header {
+pub struct Header {
     /// The sequence of the first operation.
-    pub(crate) sequence: u64,
+    pub sequence: u64,
     /// How many operations there are.
-    pub(crate) count: u32,
+    pub count: u32,
 }
 
 impl Header {
     /// The header of a batch without operations.
-    pub(crate) const EMPTY: Header = Header {
+    pub const EMPTY: Header = Header {
         sequence: 0,
         count: 0,
     };
@@ -65,7 +65,7 @@ impl Header {
     }
 
     /// The last sequence used after the batch, if `last` was the last one before it.
-    pub(crate) fn last_used(self, last: u64) -> u64
+    pub fn last_used(self, last: u64) -> u64
         requires { 0 < self.count → self.sequence + self.count ≤ 2 ^ 56 }
         ensures { result ≡ last_numbered last self.sequence self.count }
     {

@@ -25,9 +25,10 @@ mod writes;
 mod writing;
 
 pub use batch_reader::{Advance, BatchReader};
-pub use batch_writes::BatchWrites;
+pub use batch_writes::{BatchWrites, judge_batch};
 pub use ended::Ended;
 pub use error::BatchError;
+pub use header::Header;
 pub use laws::{refusal_stands_in_batch, written_batch_is_read, written_batch_is_spelled};
 pub use log::read_writes;
 pub use mode::Mode;

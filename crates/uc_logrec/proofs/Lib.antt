@@ -9,7 +9,6 @@ pub mod Endings
 pub mod OneMeaning
 pub mod Ahead
 pub mod Locality
-pub mod InLog
 pub mod Walking
 pub mod Appending
 pub mod LaidOut

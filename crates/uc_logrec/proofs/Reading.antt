@@ -1,6 +1,6 @@
 -- Reading a log record by record, as a loop does.
 use Rattle.std.proofs.Common.{◌≡◌, ℕ, zero, suc, ◌+◌, ◌-◌, ◌≤◌, ◌<◌, List, [], ◌∷◌, ◌++◌, length, take, drop, Option, Some, None, Result, Ok, Err, refl, sym, ap, subst, ◌∙◌, append_assoc, length-drop, arith, rules}
-use Rattle.std.proofs.lemmas.List.{append-nil, drop-drop}
+use Rattle.std.proofs.lemmas.List.{append-nil, drop-drop, drop-take, length-take-le}
 use Rattle.uc_logrec.specs.declared.ending.Ending.{Ending}
 use Rattle.uc_logrec.specs.declared.ending.Ending.TheVariants.{Fault}
 use Rattle.uc_logrec.specs.declared.kind.Kind.{Kind}
@@ -123,6 +123,25 @@ still_behind first offset all left len le e =
     ∙ (ap (λ (l : List ℕ). drop len (drop 7 l)) (drop-drop skipped (offset - first) all)
     ∙ (ap (drop len) (drop-drop 7 (offset - first + skipped) all)
     ∙ (drop-drop len (offset - first + skipped + 7) all ∙ ap (λ (n : ℕ). drop n all) (omega (arith, later, le)))))
+
+-- its data are the last of the bytes from the first place to that behind it
+pub last_there : (first offset place after : ℕ) (all left rest fragment : List ℕ) → first ≤ offset → left ≡ drop (offset - first) all → place ≡ header_place offset → rest ≡ here offset left
+    → fragment ≡ take (length fragment) (drop 7 rest) → 7 + length fragment ≤ length rest → after ≡ place + 7 + length fragment
+    → fragment ≡ drop (length (take (after - first) all) - length fragment) (take (after - first) all)
+last_there first offset place after all left rest fragment le e p r f fits a =
+    let len = length fragment in
+    let skipped = header_place offset - offset in
+    let later : offset ≤ header_place offset = search rules in
+    let n = header_place offset - first + 7 in
+    let rest_is : rest ≡ drop (header_place offset - first) all =
+    r ∙ (ap (drop skipped) e ∙ (drop-drop skipped (offset - first) all ∙ ap (λ (k : ℕ). drop k all) (omega (arith, later, le)))) in
+    let long : length rest ≡ length all - (header_place offset - first) = ap (λ (l : List ℕ). length l) rest_is ∙ length-drop (header_place offset - first) all in
+    let ends : after - first ≡ n + len = omega (arith, a, p, later, le) in
+    let whole : length (take (n + len) all) ≡ n + len = length-take-le (n + len) all (omega (arith, long, fits, later, le)) in
+    let there : fragment ≡ take len (drop n all) =
+    f ∙ ap (take len) (ap (drop 7) rest_is ∙ (drop-drop 7 (header_place offset - first) all)) in
+    subst (λ (k : ℕ). fragment ≡ drop (length (take k all) - len) (take k all)) (sym ends)
+    (subst (λ (k : ℕ). fragment ≡ drop k (take (n + len) all)) (omega (arith, whole)) (there ∙ sym (drop-take n len all)))
 
 -- a record that was found behind a trailer, and what it does
 pub goes_there : (all : Reading) (front : List (List ℕ)) (unfinished : Option Fragments) (offset : ℕ) (left : List ℕ) (place : ℕ) (rest fragment : List ℕ) (kind : Kind) (len : ℕ) (turn : StepWithData)

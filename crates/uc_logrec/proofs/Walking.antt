@@ -2,17 +2,18 @@
 use Rattle.std.proofs.Common.{◌≡◌, ℕ, suc, ◌+◌, ◌-◌, ◌≤◌, ◌<◌, List, [], ◌∷◌, ◌++◌, length, take, drop, None, inl, inr, refl, sym, ap, subst, ◌∙◌, append_assoc, length-append, length-drop, arith}
 use Rattle.std.proofs.Math.Seq.{take-add}
 use Rattle.std.proofs.lemmas.Bool.{cases_lt}
-use Rattle.std.proofs.lemmas.List.{take-append-drop, take-append-le, take-take, take_all, drop-append-le, drop-drop, drop-take, drop_at, length-take-le}
+use Rattle.std.proofs.lemmas.List.{take-append-drop, take-append-le, take-take, take_all, drop-append-le, drop-drop, drop-take, drop_at, drop_all, length-take-le}
+use Rattle.uc_logrec.specs.declared.ending.Ending.TheVariants.{Clean}
 use Rattle.uc_logrec.specs.declared.kind.Kind.TheVariants.{Full, First}
 use Rattle.uc_logrec.specs.Format.{room, header_place, record_text}
-use Rattle.uc_logrec.specs.Log.{Reading, with_payload, reading_of, trailer, rest_text, records_text, payload_text, text_from}
+use Rattle.uc_logrec.specs.Log.{Reading, ended, with_payload, reading_of, trailer, rest_text, records_text, payload_text, text_from}
 use Rattle.uc_logrec.specs.Position.{ahead_at, ahead_in, IsTextOf, between, LiesIn}
 use Rattle.uc_logrec.specs.Walk.{Walks, at_start, one_more, BeginsWith, cut_and_added, GoesOn}
 use Rattle.uc_logrec.proofs.Reading.{with_front, stopped}
 use Rattle.uc_logrec.proofs.Records.{length-record_text}
 use Rattle.uc_logrec.proofs.Writing.{records_text-full, records_text-pieces}
 use Rattle.uc_logrec.proofs.Ahead.{places_enough}
-use Rattle.uc_logrec.proofs.RoundTrip.{read_payload, read_from}
+use Rattle.uc_logrec.proofs.RoundTrip.{nothing_left, read_payload, read_from}
 
 -- ---- what was walked
 
@@ -57,6 +58,11 @@ pub goes_on : (log : List ℕ) (payloads : List (List ℕ)) (offset : ℕ) → W
 goes_on log payloads offset walk more =
     let all = (held_all log payloads offset walk).alone (text_from offset more) ∙ ap (with_front payloads) (read_from more offset) in
     record { same = ap (λ (r : Reading). r.payloads) all; clean = ap (λ (r : Reading). r.ending) all }
+
+-- ---- past the end
+
+pub nothing_past : (log : List ℕ) (offset : ℕ) → length log ≤ offset → ahead_in log offset ≡ ended Clean
+nothing_past log offset le = ap (ahead_at offset) (drop_all offset log le) ∙ nothing_left 0 offset
 
 -- ---- a payload that is added to it
 
@@ -120,9 +126,11 @@ written_lies log offset payload within =
     lies_there payload (cut_and_added log offset text) offset behind (omega (arith, some)) (omega (arith, cut_length log offset text within))
     (subst (λ (bs : List ℕ). IsTextOf payload offset bs behind) (sym there) (written_alone offset payload))
 
+pub walks_kept : (log : List ℕ) (payloads : List (List ℕ)) (offset : ℕ) → Walks log payloads offset → (rest : List ℕ) → Walks (cut_and_added log offset rest) payloads offset
+walks_kept log payloads offset walk rest = walks_still log offset rest payloads offset (held_all log payloads offset walk).within walk (omega arith)
+
 pub walks_on : (log : List ℕ) (payloads : List (List ℕ)) (offset : ℕ) → Walks log payloads offset → (payload : List ℕ)
     → Walks (cut_and_added log offset (payload_text offset payload)) (payloads ++ payload ∷ []) (offset + length (payload_text offset payload))
 walks_on log payloads offset walk payload =
     let text = payload_text offset payload in
-    let within = (held_all log payloads offset walk).within in
-    one_more payloads offset payload (offset + length text) (walks_still log offset text payloads offset within walk (omega arith)) (written_lies log offset payload within)
+    one_more payloads offset payload (offset + length text) (walks_kept log payloads offset walk text) (written_lies log offset payload (held_all log payloads offset walk).within)

@@ -38,6 +38,12 @@ Leads (Whole payload) joined place left after behind = StandsBetween payload.now
 Leads Joined joined place left after behind = StandsBetween joined place left after behind
 Leads (Ended ending) joined place left after behind = ahead_at place left ≡ ended ending
 
+-- A payload that the log has in one piece is the last of these bytes.
+abbrev pub IsLastOf : Next → List ℕ → Type 0
+IsLastOf (Whole payload) bytes = payload.now ≡ drop (length bytes - length payload.now) bytes
+IsLastOf Joined bytes = Unit {0}
+IsLastOf (Ended ending) bytes = Unit {0}
+
 -- ---- in a whole log
 
 -- what is read of a log from an offset on, if a payload may begin there

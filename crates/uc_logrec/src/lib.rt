@@ -8,7 +8,7 @@
 //! A program that keeps a log in a file walks through it by [`next_payload`], which takes and returns offsets. It cuts
 //! the file at the last offset, and appends the [`payload_bytes`] of each payload more. `specs/Walk.antt` defines such a
 //! walk. By the laws [`walk_begins_log`], [`log_goes_on`] and [`walk_goes_on`] the file is then read as the payloads of
-//! the walk and the new ones.
+//! the walk and the new ones. By [`walk_is_kept`] an append that is cut off leaves the payloads before it.
 //!
 //! Read `kind.rt` and `log_record.rt` first: what a record is. `step.rt` has the payload that is not complete yet;
 //! `log_reader.rt` and `log_writer.rt` have the two directions. `specs/Grammar.antt` defines what a log means by the
@@ -44,10 +44,10 @@ pub use crc_laws::division;
 pub use ending::Ending;
 pub use fault::LogFault;
 pub use laws::{
-    log_goes_on, log_is_read_by_grammar, walk_begins_log, walk_goes_on, written_log_is_read,
-    written_records_fill_blocks,
+    log_goes_on, log_is_read_by_grammar, walk_begins_log, walk_goes_on, walk_is_kept,
+    written_log_is_read, written_records_fill_blocks,
 };
 pub use log_read::{LogRead, Payloads, read_log};
-pub use log_reader::{LogReader, Next, next_payload};
+pub use log_reader::{LogReader, Next, next_payload, next_payload_at};
 pub use log_writer::{LogWriter, payload_bytes};
 pub use masking::{mask, unmask};

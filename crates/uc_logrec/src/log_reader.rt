@@ -1,8 +1,8 @@
 //! A log's payloads, one at a time.
-ghost use Rattle.std.specs.Prelude.{◌≡◌, ℕ, ◌+◌, ◌-◌, ◌<◌, ◌^◌, List, length, drop, IfOk, OnErr};
+ghost use Rattle.std.specs.Prelude.{◌≡◌, ℕ, ◌+◌, ◌-◌, ◌<◌, ◌^◌, List, length, take, drop, IfOk, OnErr};
 ghost use Rattle.uc_logrec.specs.Log as definitions;
 ghost use Rattle.uc_logrec.specs.Log.{reading_of};
-ghost use Rattle.uc_logrec.specs.Position.{Comes, Leads, LeadsIn};
+ghost use Rattle.uc_logrec.specs.Position.{Comes, IsLastOf, Leads, LeadsIn};
 ghost use Rattle.uc_logrec.specs.Steps.{open_in};
 
 use crate::ending::Ending;
@@ -72,7 +72,7 @@ impl<'a> LogReader<'a> {
         ensures ok { IfOk result (λ next. Comes next joined.new.items self.old self.new) }
         ensures err { OnErr result (self.new ≡ self.old) }
     {
-        let (next, place, left) = next_at(joined, self.place, self.left)?;
+        let (next, place, left) = next_payload_at(joined, self.place, self.left)?;
         if let Next::Whole(_) | Next::Joined = next {
             self.place = place;
             self.left = left;
@@ -84,8 +84,9 @@ impl<'a> LogReader<'a> {
 
 /// What comes at an offset of a log, and the offset behind that payload; if the log ends there, the same offset.
 ///
-/// The offset is one where a payload may begin: 0, or what an earlier call returned. The buffer is for a payload of
-/// several pieces, as at [`LogReader::next`]. At an offset above the log's length the log ends clean.
+/// Offsets are in bytes. A payload may begin at 0 and where an earlier call led. At an offset above its length the log
+/// ends clean. The buffer is for a payload of several pieces, as at [`LogReader::next`]. After an `Err` the call can be
+/// made again.
 pub fn next_payload<'a>(
     log: &'a [u8],
     offset: u64,
@@ -97,21 +98,27 @@ pub fn next_payload<'a>(
     let Some(left) = log.get(place..) else {
         return Ok((Next::Ended(Ending::Clean), offset));
     };
-    let (next, behind, _) = next_at(joined, place, left)?;
+    let (next, behind, _) = next_payload_at(joined, place, left)?;
     match next {
         Next::Ended(_) => Ok((next, offset)),
         Next::Whole(_) | Next::Joined => Ok((next, behind as u64)),
     }
 }
 
-/// What comes next at a place; then the place after that payload, and the bytes from there.
-fn next_at<'a>(
+/// What comes next at a place of a log, if these bytes are there; then the place behind that payload, and the bytes from
+/// there.
+///
+/// Places are offsets in bytes. A payload may begin at 0 and where an earlier call led. The bytes may be cut off: a payload
+/// that is whole in them is the log's, whatever follows, and an ending is the log's if they go to its end. The buffer is for
+/// a payload of several pieces, as at [`LogReader::next`]. After an `Err` the call can be made again.
+pub fn next_payload_at<'a>(
     joined: &mut Vec<u8>,
     mut place: usize,
     mut left: &'a [u8],
 ) -> Result<(Next<'a>, usize, &'a [u8]), AllocError>
     requires { place + length left.now < 2 ^ 63 }
     ensures leads { IfOk result (λ found. Leads found.0 joined.new.items place left.now found.1 found.2.now) }
+    ensures last { IfOk result (λ found. IsLastOf found.0 (take (found.1 - place) left.now)) }
     ensures behind { IfOk result (λ found. found.2.now ≡ drop (found.1 - place) left.now) }
 {
     let mut unfinished = None;

@@ -1,5 +1,5 @@
 use Rattle.std.proofs.Common.{◌<◌, length, inl, inr, arith, refl}
-use Rattle.uc_logrec.proofs.InLog.{nothing_past}
+use Rattle.uc_logrec.proofs.Walking.{nothing_past}
 use Rattle.uc_logrec.proofs.log_reader.next_payload.Goals as goal
 
 pub returns-in_default : goal.returns-in_default

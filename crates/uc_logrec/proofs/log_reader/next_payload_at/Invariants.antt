@@ -3,7 +3,7 @@ use Rattle.uc_logrec.specs.Position.{ahead_at}
 use Rattle.uc_logrec.specs.Steps.{open_in}
 use Rattle.uc_logrec.proofs.Reading.{Completes}
 use Rattle.uc_logrec.proofs.Locality.{CompletesAlone}
-use Rattle.uc_logrec.proofs.log_reader.next_at.Given as goal
+use Rattle.uc_logrec.proofs.log_reader.next_payload_at.Given as goal
 
 abbrev pub invariant-loop-found : goal.invariant-loop-found
 invariant-loop-found l = record {

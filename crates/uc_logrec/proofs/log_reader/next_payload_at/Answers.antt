@@ -4,8 +4,8 @@ use Rattle.uc_logrec.specs.Format.{header_place}
 use Rattle.uc_logrec.specs.Position.{ahead_at}
 use Rattle.uc_logrec.proofs.Ahead.{payload_comes}
 use Rattle.uc_logrec.proofs.Locality.{CompletesAlone-start, follows, opens_alone, comes_alone}
-use Rattle.uc_logrec.proofs.Reading.{Completes-here, here, stops, goes_there, found_there, behind_there, still_within, still_behind}
-use Rattle.uc_logrec.proofs.log_reader.next_at.Goals as goal
+use Rattle.uc_logrec.proofs.Reading.{Completes-here, here, stops, goes_there, found_there, behind_there, still_within, still_behind, last_there}
+use Rattle.uc_logrec.proofs.log_reader.next_payload_at.Goals as goal
 
 pub loop-found-init : goal.loop-found-init
 loop-found-init c =
@@ -112,3 +112,10 @@ returns-in-Joined-clause-behind c =
     let len = length found.0.fragment.now in
     let after = behind_there l.place l.left.now skipped.result.1.now found.1.now len skipped.ensures.rest c.in-Ok.ensures.behind in
     rw (after, skipped.ensures.place) (still_behind c.args.place l.place c.args.left.now l.left.now len l.invariant.later l.invariant.behind)
+
+pub returns-in-Whole-clause-last : goal.returns-in-Whole-clause-last
+returns-in-Whole-clause-last c =
+    let l = c.loop-found in
+    let skipped = c.skip_trailer-offset in
+    let found = c.in-Ok.found in
+    last_there c.args.place l.place skipped.result.0 _ c.args.left.now l.left.now skipped.result.1.now found.0.fragment.now l.invariant.later l.invariant.behind skipped.ensures.place skipped.ensures.rest c.in-Ok.ensures.fragment c.in-Ok.ensures.within refl
