@@ -7,6 +7,7 @@ pub mod LineEnds
 pub mod HeadFaults
 pub mod HeadWhole
 pub mod HeadJudged
+pub mod HeadFollowed
 pub mod HeadRead
 pub mod QueriesAhead
 pub mod CallsAhead

@@ -1,7 +1,7 @@
 //! What the definitions of this crate mean, as laws. Each is a contract; its function is a proof step that does nothing
 //! when it runs.
 
-ghost use Rattle.std.specs.Prelude.{◌≡◌, ℕ, ◌<◌, ◌^◌, List, length, Ok, Some, Result, All};
+ghost use Rattle.std.specs.Prelude.{◌≡◌, ℕ, ◌<◌, ◌^◌, ◌++◌, List, length, Ok, Some, Result, All};
 ghost use Rattle.std.specs.Fmt.{decimal};
 ghost use Rattle.uc_script.specs.Cases.{ComesTo};
 ghost use Rattle.uc_script.specs.Fed.{all_ops};
@@ -29,6 +29,11 @@ pub fn a_script_is_its_lines()
 pub fn a_head_is_its_lines()
     ensures comes { (text : List ℕ) → heads.ComesTo text (head_of text) }
     ensures alone { (text : List ℕ) (outcome : Result Head ℕ) → heads.ComesTo text outcome → outcome ≡ head_of text }
+{}
+
+/// A head that is read in the front of a text is the head of the whole text.
+pub fn what_follows_a_head_changes_nothing()
+    ensures { (text more : List ℕ) (said : Head) → head_of text ≡ Ok said → head_of (text ++ more) ≡ Ok said }
 {}
 
 /// A script names at most as many changes as it has bytes, and each of their texts is no longer than it. So it is of those

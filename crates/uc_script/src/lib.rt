@@ -68,6 +68,7 @@ pub use head::{Head, read_head};
 pub use laws::{
     a_head_is_its_lines, a_script_is_its_lines, a_script_names_no_more_than_it_has,
     names_are_in_range, printed_bytes_are_read, printed_numbers_are_read,
+    what_follows_a_head_changes_nothing,
 };
 pub use lines::{is_skipped, next_field, next_line};
 pub use part::{Part, Source};

@@ -5,8 +5,8 @@ use std::sync::Wait;
 use uc_oper::Operator;
 use uc_share::{Compactor, Name, Reader, Seat, Store};
 
-/// A compactor with the last of the readers and the last of the seats of a store, if one of each is left. If only a seat is, it
-/// is let go of.
+/// A compactor with the last of the readers and the last of the seats of a store, if one of each is left. Else both stay as they
+/// are.
 pub fn next_compactor<O: Operator, N: Name, W: Wait + Drop>(
     store: &Store<O, N, W>,
     readers: &mut Vec<Reader<O, N>>,
@@ -17,9 +17,14 @@ pub fn next_compactor<O: Operator, N: Name, W: Wait + Drop>(
     ensures seat { IfSome result (λ compactor.
         IfSome compactor.seat (λ seat. seats.old.items ≡ seats.new.items ++ seat ∷ [])) }
     ensures none { IfNone result ((readers.old.items ≡ []) ⊎ (seats.old.items ≡ [])) }
+    ensures stay { IfNone result ((readers.new ≡ readers.old) × (seats.new ≡ seats.old)) }
     ensures rest { All (λ seat. seat.table ≡ store.now.table) seats.new.items }
 {
-    let seat = seats.pop()?;
-    let reader = readers.pop()?;
+    if readers.is_empty() || seats.is_empty() {
+        return None;
+    }
+    let (Some(reader), Some(seat)) = (readers.pop(), seats.pop()) else {
+        unreachable!();
+    };
     Some(store.compactor(reader, seat))
 }

@@ -1,7 +1,7 @@
 //! The store for programs: one crate to name.
 //!
 //! [`open_log`] opens a store from the bytes of a write-ahead log, and says how far the log could be read;
-//! [`open_log_in_threads`] gives the same sooner. [`get`] looks a key up at a sequence that a snapshot protects, [`answer_one`]
+//! [`open_log_in_threads`] gives the same sooner, and [`open_pieces_in_threads`] lets go of the log meanwhile. [`get`] looks a key up at a sequence that a snapshot protects, [`answer_one`]
 //! answers any query and [`answer_plain`] a batch of them by many workers. [`feed_batch`] writes, and [`get_last`] and
 //! [`answer_last`] read at the last sequence. [`Owned`] takes snapshots, and picks what to compact; [`report`] says what a store
 //! holds.
@@ -27,11 +27,12 @@ pub use batches::feed_batch;
 pub use compactors::next_compactor;
 pub use feed_batch_error::FeedBatchError;
 pub use last_reads::{answer_last, get_last};
-pub use opened_log::{OpenedLog, open_log, open_log_in_threads};
+pub use opened_log::{OpenedLog, open_log, open_log_in_threads, open_pieces_in_threads};
 pub use opened_shared::{OpenedShared, open_shared, open_shared_in_threads};
 pub use shared_batches::feed_shared_batch;
 pub use uc_batch::{Ended, Op, Writes};
 pub use uc_bytes::{Bytes, Write};
+pub use uc_log_pieces::Pieces;
 pub use uc_oper::{Append, Counter, Maximum, Operator, Tail};
 pub use uc_query::{Answer, AskError, Query, Report, Rows, answer_one, answer_plain, get, report};
 pub use uc_query_shared::{Free, Gate, MOST_WORKERS, answer_all};

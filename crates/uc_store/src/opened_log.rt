@@ -1,4 +1,4 @@
-//! [`open_log`] and [`open_log_in_threads`]: a store opened from a write-ahead log.
+//! [`open_log`] and its forms for threads: a store opened from a write-ahead log.
 ghost use Rattle.std.specs.Prelude.{◌≡◌, ◌≢◌, None, Some, true, IfOk, IfErr};
 ghost use Rattle.uc_batch.specs.Log.{log_writes};
 ghost use Rattle.uc_version_state.specs.Options.{are_good};
@@ -11,9 +11,12 @@ use std::alloc::{AllocError, Global};
 use std::marker::Sync;
 use std::thread::Threads;
 use uc_batch::Ended;
+use uc_log_pieces::Pieces;
 use uc_oper::Operator;
 use uc_version::{Options, Owned, Version};
-use uc_version_open::{OpenError, Recovered, recover, recover_in_threads};
+use uc_version_open::{
+    OpenError, Recovered, recover, recover_in_threads, recover_pieces_in_threads,
+};
 
 /// A store that was opened from a log, and how far the log could be read.
 #[derive(Drop)]
@@ -66,7 +69,7 @@ pub fn open_log<O: Operator>(
 }
 
 /// As [`open_log`], with full memtables flushed in threads. What it gives is the same, and so is what it refuses. It holds up to
-/// nine more memtables meanwhile.
+/// six more memtables meanwhile.
 pub fn open_log_in_threads<O: Operator>(
     rt: &(impl Threads + Sync),
     alloc: Global,
@@ -86,6 +89,31 @@ pub fn open_log_in_threads<O: Operator>(
         IfErr result (λ error. error ≢ Memory → opening_refusal opening ≡ Some error) }
 {
     let Recovered { opener, ended } = recover_in_threads(rt, alloc, log, options)?;
+    let version = opener.finish_in_threads(rt, alloc, keeps)?;
+    Ok(store_of(alloc, version, ended, options)?)
+}
+
+/// As [`open_log_in_threads`], of a log in pieces, as a program reads them from a file or a pipe. Each piece is let go of when its
+/// writes are in the store, so the whole log never stands beside the whole store.
+pub fn open_pieces_in_threads<O: Operator>(
+    rt: &(impl Threads + Sync),
+    alloc: Global,
+    log: Pieces,
+    keeps: &[u64],
+    options: Options,
+) -> Result<OpenedLog<O>, OpenError>
+    ensures store { let opening : Opening =
+        record { writes = (log_writes log).list; keeps = keeps.now; options = options } in
+        IfOk result (λ opened_log. opened_log.store ≡ unclaimed (opened opening) options) }
+    ensures ended { IfOk result (λ opened_log. opened_log.ended ≡ (log_writes log).ended) }
+    ensures may { let opening : Opening =
+        record { writes = (log_writes log).list; keeps = keeps.now; options = options } in
+        IfOk result (λ _. opening_refusal opening ≡ None) }
+    ensures err { let opening : Opening =
+        record { writes = (log_writes log).list; keeps = keeps.now; options = options } in
+        IfErr result (λ error. error ≢ Memory → opening_refusal opening ≡ Some error) }
+{
+    let Recovered { opener, ended } = recover_pieces_in_threads(rt, alloc, log, options)?;
     let version = opener.finish_in_threads(rt, alloc, keeps)?;
     Ok(store_of(alloc, version, ended, options)?)
 }

@@ -63,7 +63,7 @@ pub fn open_shared<O: Operator>(
 }
 
 /// As [`open_shared`], with full memtables flushed in threads. What it gives is the same, and so is what it refuses. It holds up
-/// to nine more memtables meanwhile.
+/// to six more memtables meanwhile.
 pub fn open_shared_in_threads<O: Operator>(
     rt: &(impl Threads + Sync),
     alloc: Global,

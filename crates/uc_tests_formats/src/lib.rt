@@ -9,7 +9,7 @@
 //! compares with the division. `spelled_batches.rt` has batches that are read, refused, written and borrowed.
 //! `known.rt` asserts what a log holds, by its payloads, its writes and its dump. `logs.rt` has small logs, and
 //! `batches.rt` batches, whole and faulty. `damage.rt` has a log that is cut at each byte and changed at each byte,
-//! `blocks.rt` logs of several blocks, and `dumps.rt` texts of dumps.
+//! `blocks.rt` logs of several blocks, and `dumps.rt` texts of dumps. `log_pieces.rt` cuts logs into pieces.
 #![tactic(auto)]
 
 #[cfg(test)]
@@ -26,6 +26,8 @@ mod damage;
 mod dumps;
 #[cfg(test)]
 mod known;
+#[cfg(test)]
+mod log_pieces;
 #[cfg(test)]
 mod log_records;
 #[cfg(test)]

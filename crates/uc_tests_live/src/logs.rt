@@ -6,7 +6,10 @@ use std::test::Fail;
 use std::thread::Threads;
 use uc_batch::{fits_batch, write_batch};
 use uc_logrec::LogWriter;
-use uc_store::{Op, Options, Owned, feed_batch, get, open_log, open_log_in_threads};
+use uc_store::{
+    Op, Options, Owned, Pieces, feed_batch, get, open_log, open_log_in_threads,
+    open_pieces_in_threads,
+};
 
 /// Every sequence of the five batches, and the one before them.
 const KEEPS: [u64; 6] = [0, 1, 2, 3, 4, 5];
@@ -70,6 +73,24 @@ fn recovered_in_threads(
     }
 }
 
+/// The store that a log in pieces opens in threads, with a memtable for each write and a snapshot at every sequence.
+fn recovered_in_pieces(
+    rt: &(impl Threads + Sync),
+    alloc: Global,
+    log: &[u8],
+) -> Result<Owned<Texts>, Fail> {
+    let options = Options {
+        memtable: 1,
+        ..Options::usual()
+    };
+    let mut pieces = Pieces::new(alloc);
+    pieces.push_bytes(alloc, log)?;
+    match open_pieces_in_threads(rt, alloc, pieces, &KEEPS, options) {
+        Ok(opened) => Ok(opened.store),
+        Err(_) => Err("the store doesn't open")?,
+    }
+}
+
 /// Whether two stores answer alike at every sequence.
 fn answer_alike(alloc: Global, one: &Owned<Texts>, other: &Owned<Texts>) -> Result<bool, Fail> {
     for at in KEEPS {
@@ -98,6 +119,17 @@ fn threads_recover_what_was_fed(rt: HostRuntime) -> Result<(), Fail> {
     let mut store = opened(alloc, &[])?;
     let log = written(alloc, &mut store)?;
     let found = recovered_in_threads(&rt, alloc, &log)?;
+    let alike = answer_alike(alloc, &store, &found)?;
+    assert!(rt; alike && found.version().runs().len() == 5);
+    Ok(())
+}
+
+#[test]
+fn pieces_recover_what_was_fed(rt: HostRuntime) -> Result<(), Fail> {
+    let alloc = rt.alloc();
+    let mut store = opened(alloc, &[])?;
+    let log = written(alloc, &mut store)?;
+    let found = recovered_in_pieces(&rt, alloc, &log)?;
     let alike = answer_alike(alloc, &store, &found)?;
     assert!(rt; alike && found.version().runs().len() == 5);
     Ok(())

@@ -140,7 +140,7 @@ fn texts_whose_write_fails(rt: HostRuntime) {
 /// Why an input of three bytes that comes one at a time isn't read, if it isn't.
 fn refusal_of_input(rt: &impl Abort, alloc: Global, good: usize) -> Option<InputError> {
     let mut reader = source_of(b"log", 1, good);
-    let read = read_input(alloc, &mut reader);
+    let read: Result<Vec<u8>, InputError> = read_input(alloc, &mut reader);
     gave_no_more(rt, &reader);
     read.err()
 }

@@ -7,9 +7,10 @@
 //! runs, `live_scripts.rt` scripts that write and keep behind their `open` (drawn in `drawn_live_scripts.rt`), `refused_scripts.rt` scripts and options that are refused, and `drawn_scripts.rt` compares the two ways to an answer on
 //! scripts that are drawn by lot.
 //!
-//! Of `ask`, `asks.rt` has the runs, `logs.rt` the logs behind the heads, and `counts.rt` what threads wait for. `answers.rt` has the
-//! worked answers, `later.rt` those where the last writes come later, `crews.rt` what compactors install beside each other and beside the answers, `refused_asks.rt` the heads, logs and
-//! openings that are refused, and `drawn_heads.rt` drawn heads and logs beside `play` of the same writes and queries.
+//! Of `ask`, `asks.rt` has the runs, `logs.rt` the logs behind the heads, and `counts.rt` what threads wait for. `answers.rt`
+//! has the worked answers, `later.rt` those where the last writes come later, and `crews.rt` what compactors install beside each
+//! other and beside the answers. `refused_asks.rt` has the heads, logs and openings that are refused, and `long_heads.rt` heads
+//! of a MiB and more. `drawn_heads.rt` has drawn heads and logs beside `play` of the same writes and queries.
 #![tactic(auto)]
 
 #[cfg(test)]
@@ -34,6 +35,8 @@ mod later;
 mod live_scripts;
 #[cfg(test)]
 mod logs;
+#[cfg(test)]
+mod long_heads;
 #[cfg(test)]
 mod plays;
 #[cfg(test)]

@@ -8,7 +8,7 @@ use uc_tool_io::Done;
 use uc_version_state::Options;
 
 /// The log of a batch that sets the key `a` to `1`.
-const ONE: &[u8] = b"\xe9\x9f\x78\x19\x11\x00\x01\
+pub(crate) const ONE: &[u8] = b"\xe9\x9f\x78\x19\x11\x00\x01\
     \x01\x00\x00\x00\x00\x00\x00\x00\x01\x00\x00\x00\x01\x01a\x011";
 
 /// The same log, whose last byte is another.

@@ -4,7 +4,8 @@
 //! short logs, `recoveries_in_threads.rt` from logs whose memtables threads flush, `picks.rt` picks by hand,
 //! `drawn_picks.rt` random ones compared with a plain slow program, and `reports.rt` reports on what a store holds.
 //! `stores.rt` opens stores of a few runs, `at_once.rt` compacts stretches of them at once, `installs.rt` installs
-//! compactions that the store didn't make, and `feeds.rt` feeds writes to them, with snapshots that come and go.
+//! compactions that the store didn't make, and `feeds.rt` feeds writes to them, with snapshots that come and go; `feed_rows.rt` has
+//! single feeds, by one thread and by several.
 //!
 //! `machine.rt` is the machine of compactors of `uc_version_state`, written as ordinary code. Its runs are only an id
 //! and a slot (`step_runs.rt`). In two variants a compactor makes its steps in a wrong order. `drawn_steps.rt` runs all
@@ -19,6 +20,8 @@ mod at_once;
 mod drawn_picks;
 #[cfg(test)]
 mod drawn_steps;
+#[cfg(test)]
+mod feed_rows;
 #[cfg(test)]
 mod feeds;
 #[cfg(test)]

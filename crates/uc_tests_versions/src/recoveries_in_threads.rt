@@ -6,8 +6,11 @@ use std::test::Fail;
 use std::thread::Threads;
 use uc_batch::{Ended, fits_batch, write_batch};
 use uc_bytes::{Op, OpRef, WriteRef};
+use uc_log_pieces::Pieces;
 use uc_logrec::LogWriter;
-use uc_version_open::{OpenError, Opener, Recovered, recover, recover_in_threads};
+use uc_version_open::{
+    OpenError, Opener, Recovered, recover, recover_in_threads, recover_pieces_in_threads,
+};
 use uc_version_state::{Options, Placed, Version};
 
 /// A log of changes of every kind, some bytes of which are cut off its end, and what it opens.
@@ -34,8 +37,8 @@ const SIXTY: Row = Row {
     ended: Ended::Clean,
 };
 
-/// Worked by hand. Three memtables that wait are flushed together, while three more are filled; and all that wait, once they
-/// are ten.
+/// Worked by hand. Two memtables that wait are flushed together, while two more are filled; and all that wait, once they are
+/// seven.
 static ROWS: [Row; 22] = [
     Row {
         memtable: 600,
@@ -102,7 +105,7 @@ static ROWS: [Row; 22] = [
         wanted: Err(OpenError::TooManyRuns),
         ..SIXTY
     },
-    // Torn in the middle of the fourth memtable, while three are flushed, and of the fifth.
+    // Torn in the middle of the fourth memtable and of the fifth, while others are flushed.
     Row {
         changes: 24,
         batch: 1,
@@ -193,14 +196,17 @@ fn mixed_log(alloc: Global, changes: u64, batch: u64) -> Result<Vec<u8>, Fail> {
 enum By {
     One,
     Threads,
+    /// Threads, over a log in pieces.
+    ThreadsInPieces,
 }
 
 /// Who flushes memtables while a log is read, and who those that are left at its end.
 type Way = (By, By);
 
 /// All ways but the one in which no thread is started.
-static WAYS: [Way; 3] = [
+static WAYS: [Way; 4] = [
     (By::Threads, By::Threads),
+    (By::ThreadsInPieces, By::Threads),
     (By::Threads, By::One),
     (By::One, By::Threads),
 ];
@@ -217,6 +223,13 @@ struct Outcome {
     ended: Ended,
 }
 
+/// The bytes of a log in pieces.
+fn pieces_of(alloc: Global, log: &[u8]) -> Result<Pieces, AllocError> {
+    let mut pieces = Pieces::new(alloc);
+    pieces.push_bytes(alloc, log)?;
+    Ok(pieces)
+}
+
 /// The store of a log, with memtables flushed by one or by threads.
 fn recovered_by(
     rt: &(impl Threads + Sync),
@@ -228,6 +241,9 @@ fn recovered_by(
     match by {
         By::One => recover(alloc, log, options),
         By::Threads => recover_in_threads(rt, alloc, log, options),
+        By::ThreadsInPieces => {
+            recover_pieces_in_threads(rt, alloc, pieces_of(alloc, log)?, options)
+        }
     }
 }
 
@@ -240,7 +256,7 @@ fn finished_by(
 ) -> Result<Version, OpenError> {
     match by {
         By::One => opener.finish(alloc, &[2, 1]),
-        By::Threads => opener.finish_in_threads(rt, alloc, &[2, 1]),
+        By::Threads | By::ThreadsInPieces => opener.finish_in_threads(rt, alloc, &[2, 1]),
     }
 }
 

@@ -1,4 +1,5 @@
 pub mod Ask
 pub mod Given
+pub mod Parting
 pub mod Plans
 pub mod Readable

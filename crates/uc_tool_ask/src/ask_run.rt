@@ -1,6 +1,6 @@
 //! `ask`: the queries in front of a log, answered beside compactors and a feeder.
 ghost use denote.Param.Send.{IsSync, IsSend};
-ghost use Rattle.std.specs.Prelude.{◌≡◌, ◌+◌, ◌≤◌, All, List, None, true, drop, take, length, vec_len, ◌-◌};
+ghost use Rattle.std.specs.Prelude.{◌≡◌, ◌+◌, ◌≤◌, All, List, None, true, vec_len};
 ghost use Rattle.uc_share.specs.Stores.{IsNamed};
 ghost use Rattle.std.specs.Prelude.{IfOk, OnOk, IfSome};
 ghost use Rattle.uc_batch.specs.Log.{log_writes};
@@ -12,7 +12,7 @@ ghost use Rattle.uc_version_open.specs.Progress.{progress_of};
 ghost use Rattle.uc_query_shared.specs.Given.{ForEachHistory};
 ghost use Rattle.uc_tool_io.specs.Output.{Prints, HasWritten};
 ghost use Rattle.uc_tool_opening.specs.Reasons.{IsReason, TellsOpening, opening_cause};
-ghost use Rattle.uc_tool_ask.specs.Ask.{ask_of, of_log, of_writes, cause_of, opened_cause, without_last};
+ghost use Rattle.uc_tool_ask.specs.Ask.{ask_of, of_log, of_writes, cause_of, opened_cause};
 ghost use Rattle.uc_tool_ask.specs.Given.{replies_given};
 ghost use Rattle.uc_tool_ask.specs.Plans.{IsPlan};
 
@@ -21,6 +21,7 @@ use crate::beside::{Beside, Helpers, work_beside};
 use crate::compactor::Compactor;
 use crate::feeder::feeder_of;
 use crate::opened_part::recover_part;
+use crate::parted_input::{PartError, Parted, part_input};
 use crate::plan::Plan;
 use std::alloc::{AllocError, Global};
 use std::io::{Read, Write};
@@ -28,8 +29,9 @@ use std::marker::{Brand, Send, Sync};
 use std::sync::Wait;
 use std::thread::{Threads, join_mut};
 use uc_batch::{Ended, Write as LogWrite};
+use uc_log_pieces::Pieces;
 use uc_oper::Operator;
-use uc_script::{Head, ScriptError, Source, read_head};
+use uc_script::Source;
 use uc_share::{Name, Opening, Options, Reader, Seat, Store, TurnGate, Ungated};
 use uc_tool_io::{Done, RunError, run_over_input};
 use uc_tool_opening::{
@@ -239,55 +241,27 @@ fn print_opened<O: Operator + Send + Sync, G: TurnGate, R: Threads + Wait + Sync
     }
 }
 
-/// A store that is being opened from the log behind a head of `size` bytes, without its last writes, and how far that was read;
-/// these writes; and the bytes of the head. The log is let go of.
-fn recover_behind(
-    rt: &(impl Threads + Sync),
-    alloc: Global,
-    mut input: Vec<u8>,
-    size: usize,
-    options: Options,
-    later: u64,
-) -> Result<(Recovered, Vec<LogWrite>, Vec<u8>), AllocError>
-    requires { size ≤ vec_len input }
-    ensures opener { IfOk result (λ found. found.0.opener ≡ progress_of options
-        (without_last later (log_writes (drop size input.items)).list)) }
-    ensures ended { IfOk result (λ found. found.0.ended ≡ (log_writes (drop size input.items)).ended) }
-    ensures rising { IfOk result (λ _. IsRising 0 (without_last later (log_writes (drop size input.items)).list)) }
-    ensures behind { IfOk result (λ found. let all = (log_writes (drop size input.items)).list in
-        found.1.items ≡ drop (length all - later) all) }
-    ensures head { IfOk result (λ found. found.2.items ≡ take size input.items) }
-{
-    let (recovered, behind) = recover_part(rt, alloc, &input[size..], options, later)?;
-    input.truncate(size);
-    input.shrink_to_fit();
-    Ok((recovered, behind, input))
-}
-
 /// Answers the queries of a head over the log that stands behind it, whose last writes come meanwhile.
 fn answer_log<O: Operator + Send + Sync, G: TurnGate, R: Threads + Wait + Sync, V: Write>(
     rt: &R,
     alloc: Global,
-    input: Vec<u8>,
-    head: Head,
+    parted: Parted,
     options: &Options,
     plan: Plan,
     later: u64,
     gate: &G,
     writer: &mut V,
 ) -> Worked
-    requires { head.size ≤ vec_len input }
-    ensures printed { Prints (of_log O.meaning options.now head.keeps (queries_in (take head.size input.items))
-        later (log_writes (drop head.size input.items))).replies (V.contents writer.old) (V.contents writer.new) result.0 }
-    ensures done { IfOk result.0 (λ done. done ≡ (of_log O.meaning options.now head.keeps
-        (queries_in (take head.size input.items)) later (log_writes (drop head.size input.items))).done) }
-    ensures told { IsReason (opened_cause options.now head.keeps later (log_writes (drop head.size input.items))) result.1.reason }
+    ensures printed { Prints (of_log O.meaning options.now parted.head.keeps (queries_in parted.lines.items)
+        later (log_writes parted.log)).replies (V.contents writer.old) (V.contents writer.new) result.0 }
+    ensures done { IfOk result.0 (λ done. done ≡ (of_log O.meaning options.now parted.head.keeps
+        (queries_in parted.lines.items) later (log_writes parted.log)).done) }
+    ensures told { IsReason (opened_cause options.now parted.head.keeps later (log_writes parted.log)) result.1.reason }
     ensures opening { OnOk result.0
-        (TellsOpening (opened_cause options.now head.keeps later (log_writes (drop head.size input.items))) result.1.reason) }
+        (TellsOpening (opened_cause options.now parted.head.keeps later (log_writes parted.log)) result.1.reason) }
 {
-    let Ok((recovered, behind, lines)) = recover_behind(
-        rt, alloc, input, head.size, *options, later,
-    ) else {
+    let Parted { head, lines, log } = parted;
+    let Ok((recovered, behind)) = recover_part(rt, alloc, log, *options, later) else {
         return (Err(RunError::Memory), Told::nothing());
     };
     let Recovered { opener, ended } = recovered;
@@ -314,29 +288,29 @@ fn answer_log<O: Operator + Send + Sync, G: TurnGate, R: Threads + Wait + Sync, 
 fn run<O: Operator + Send + Sync, G: TurnGate, R: Threads + Wait + Sync, V: Write>(
     rt: &R,
     alloc: Global,
-    input: Vec<u8>,
+    input: Pieces,
     options: &Options,
     plan: Plan,
     later: u64,
     gate: &G,
     writer: &mut V,
 ) -> Worked
-    ensures printed { Prints (ask_of O.meaning options.now later input.items).replies
+    ensures printed { Prints (ask_of O.meaning options.now later input).replies
         (V.contents writer.old) (V.contents writer.new) result.0 }
-    ensures done { IfOk result.0 (λ done. done ≡ (ask_of O.meaning options.now later input.items).done) }
-    ensures told { IsReason (cause_of options.now later input.items) result.1.reason }
-    ensures opening { OnOk result.0 (TellsOpening (cause_of options.now later input.items) result.1.reason) }
+    ensures done { IfOk result.0 (λ done. done ≡ (ask_of O.meaning options.now later input).done) }
+    ensures told { IsReason (cause_of options.now later input) result.1.reason }
+    ensures opening { OnOk result.0 (TellsOpening (cause_of options.now later input) result.1.reason) }
 {
-    match read_head(alloc, &input) {
-        Ok(head) => answer_log::<O, G, R, V>(
-            rt, alloc, input, head, options, plan, later, gate, writer,
-        ),
-        Err(ScriptError::Fault(line)) => {
-            let reason = reason_of_line(alloc, Source::Head, &input, line);
+    match part_input(alloc, input) {
+        Ok(parted) => {
+            answer_log::<O, G, R, V>(rt, alloc, parted, options, plan, later, gate, writer)
+        }
+        Err(PartError::Fault(line, text)) => {
+            let reason = reason_of_line(alloc, Source::Head, &text, line);
             let outcome = print_fault(alloc, line, writer);
             (outcome, Told::reason_alone(reason))
         }
-        Err(ScriptError::Memory) => (Err(RunError::Memory), Told::nothing()),
+        Err(PartError::Memory) => (Err(RunError::Memory), Told::nothing()),
     }
 }
 
@@ -365,7 +339,7 @@ pub fn ask_through<O: Operator + Send + Sync, R: Read, W: Write, G: TurnGate>(
         piece,
         compactors,
     };
-    let (done, told) = run_over_input(alloc, reader, writer, |input: Vec<u8>, writer: &mut W| {
+    let (done, told) = run_over_input(alloc, reader, writer, |input: Pieces, writer: &mut W| {
         run::<O, G, _, W>(rt, alloc, input, options, plan, later, gate, writer)
     });
     let Told { reason, beside } = told.unwrap_or(Told::nothing());
@@ -386,7 +360,9 @@ pub fn ask_through<O: Operator + Send + Sync, R: Read, W: Write, G: TurnGate>(
 /// `out of memory`; if the reader or the writer fails, or the input is longer than 64 MiB, it is a front of a text that says so or
 /// of that one. A head or an opening that is refused has a reason.
 ///
-/// It goes over the log once if `later` is 0, and else twice, and then holds the last writes beside the store.
+/// If `later` is 0 it goes once over the log. It holds the log in pieces, and lets go of each as soon as the store has its
+/// writes. Else it goes twice over the log in one piece, and then holds the last writes beside the store. In both cases it holds
+/// the head's bytes too.
 ///
 /// [`is_plan`](crate::is_plan) says which numbers go together.
 pub fn ask<O: Operator + Send + Sync, R: Read, W: Write>(

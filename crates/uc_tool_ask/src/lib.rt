@@ -6,6 +6,9 @@
 //! options and of how many writes come later: workers, pieces, compactors and the feeder aren't in it. The law
 //! `queries_are_answered_from_the_log` says what that means in the words of plain writes.
 //!
+//! The input is gathered in pieces. `parted_input.rt` parts it at the end of its head, and `opened_part.rt` opens the store
+//! from the log behind that.
+//!
 //! Read `specs/Ask.antt` first, then `ask_run.rt`, `answers.rt`, `compactor.rt` and `feeder.rt`. Tests hold compactors up by a
 //! [`TurnGate`](uc_share::TurnGate). Recovering, refusing and the lines of answers stand in `uc_tool_opening`, batches in
 //! `uc_query_shared`, and the store with a compactor's turn in `uc_share`.
@@ -18,6 +21,7 @@ mod compactor;
 mod feeder;
 mod laws;
 mod opened_part;
+mod parted_input;
 mod plan;
 
 pub use ask_run::{ask, ask_through};

@@ -9,29 +9,32 @@ use std::alloc::{AllocError, Global};
 use std::marker::Sync;
 use std::thread::Threads;
 use uc_batch::Write;
-use uc_version_open::{Recovered, count_writes, recover_first, recover_in_threads};
+use uc_log_pieces::Pieces;
+use uc_version_open::{Recovered, count_writes, recover_first, recover_pieces_in_threads};
 use uc_version_state::Options;
 
-/// A store that is being opened from a log without its last writes, how far the log was read, and these writes. It goes once
-/// over the log if nothing comes later, and else twice.
+/// A store that is being opened from a log without its last writes, how far the log was read, and these writes. If nothing
+/// comes later it goes once over the log, and lets go of each piece that it has read. Else it makes one piece of the log, and
+/// goes twice over that.
 pub(crate) fn recover_part(
     rt: &(impl Threads + Sync),
     alloc: Global,
-    log: &[u8],
+    log: Pieces,
     options: Options,
     later: u64,
 ) -> Result<(Recovered, Vec<Write>), AllocError>
     ensures opener { IfOk result (λ found.
-        found.0.opener ≡ progress_of options (without_last later (log_writes log.now).list)) }
-    ensures ended { IfOk result (λ found. found.0.ended ≡ (log_writes log.now).ended) }
-    ensures rising { IfOk result (λ _. IsRising 0 (without_last later (log_writes log.now).list)) }
-    ensures behind { IfOk result (λ found. let all = (log_writes log.now).list in
+        found.0.opener ≡ progress_of options (without_last later (log_writes log).list)) }
+    ensures ended { IfOk result (λ found. found.0.ended ≡ (log_writes log).ended) }
+    ensures rising { IfOk result (λ _. IsRising 0 (without_last later (log_writes log).list)) }
+    ensures behind { IfOk result (λ found. let all = (log_writes log).list in
         found.1.items ≡ drop (length all - later) all) }
 {
     if later == 0 {
-        let recovered = recover_in_threads(rt, alloc, log, options)?;
+        let recovered = recover_pieces_in_threads(rt, alloc, log, options)?;
         return Ok((recovered, Vec::new(alloc)));
     }
-    let counted = count_writes(alloc, log)?;
-    recover_first(alloc, log, options, counted.count.saturating_sub(later))
+    let bytes = log.into_vec(alloc)?;
+    let counted = count_writes(alloc, &bytes)?;
+    recover_first(alloc, &bytes, options, counted.count.saturating_sub(later))
 }

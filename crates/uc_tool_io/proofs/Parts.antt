@@ -3,6 +3,7 @@ use Rattle.std.proofs.Common.{◌≡◌, ℕ, zero, suc, ◌+◌, List, [], ◌�
 use Rattle.std.specs.Prelude.{OnOk, OnErr, IfErr}
 use Rattle.std.specs.List.{flat_map}
 use Rattle.std.specs.Io.KnownBytes.{Appends}
+use Rattle.std.proofs.lemmas.List.{append-nil}
 use Rattle.std.proofs.lemmas.List.Concat.{flat_map-append}
 use Rattle.uc_tool_io.specs.Writing.{AppendsFront}
 use Rattle.uc_tool_io.specs.Output.{joined, Stops, Prints}
@@ -64,3 +65,8 @@ module _ (xs : List (List ℕ)) (line : List ℕ) (a b : Option (List ℕ)) (pri
   -- the last line went out in part
   pub stops_at_last : (c : Option (List ℕ)) → AppendsFront b c line → Stops (xs ++ line ∷ []) a c run_error.Device
   stops_at_last c p = stops_behind xs (line ∷ []) a b c run_error.Device printed (front_of_first b c line [] p)
+
+  -- the last line went out too
+  pub prints_last : (c : Option (List ℕ)) → Appends b c line → Appends a c (joined (xs ++ line ∷ []))
+  prints_last c p =
+      subst (Appends a c) (sym (joined_append xs (line ∷ []))) (appends_more a b c (joined xs) (joined (line ∷ [])) printed (subst (Appends b c) (sym (append-nil line)) p))

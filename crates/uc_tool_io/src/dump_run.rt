@@ -17,7 +17,8 @@ use crate::whole_run::run_over_input;
 use std::alloc::Global;
 use std::io;
 use std::io::Read;
-use uc_batch::{Advance, BatchReader, BatchWrites, Ended};
+use uc_batch::{Advance, BatchWrites, Ended};
+use uc_log_pieces::{PieceReader, Pieces};
 
 /// How many bytes of lines are put together before they are written out.
 const FULL: usize = 64 << 10;
@@ -54,13 +55,13 @@ fn print_writes<W: io::Write>(
 }
 
 /// Prints the writes of a log, up to its first fault, and returns how far it was read. A write is printed from
-/// the bytes where it stands in the log.
-fn print_log<W: io::Write>(alloc: Global, input: &[u8], writer: &mut W) -> Result<Ended, RunError>
-    ensures printed { Prints (map write_line (log_writes input.now).list) (W.contents writer.old)
+/// the bytes where it stands in the log, which is let go of piece by piece.
+fn print_log<W: io::Write>(alloc: Global, log: Pieces, writer: &mut W) -> Result<Ended, RunError>
+    ensures printed { Prints (map write_line (log_writes log).list) (W.contents writer.old)
         (W.contents writer.new) result }
-    ensures ended { IfOk result (λ ended. ended ≡ (log_writes input.now).ended) }
+    ensures ended { IfOk result (λ ended. ended ≡ (log_writes log).ended) }
 {
-    let mut batches = BatchReader::new(alloc, input);
+    let mut batches = PieceReader::new(alloc, log);
     let mut lines = Vec::new(alloc);
     loop {
         match batches.advance()? {
@@ -81,9 +82,9 @@ fn done_of(ended: Ended) -> Done
 }
 
 /// Prints what a log holds, and how far it can be read.
-fn run<W: io::Write>(alloc: Global, input: &[u8], writer: &mut W) -> Result<Done, RunError>
-    ensures printed { Prints (dump_of input.now).replies (W.contents writer.old) (W.contents writer.new) result }
-    ensures done { IfOk result (λ done. done ≡ (dump_of input.now).done) }
+fn run<W: io::Write>(alloc: Global, input: Pieces, writer: &mut W) -> Result<Done, RunError>
+    ensures printed { Prints (dump_of input).replies (W.contents writer.old) (W.contents writer.new) result }
+    ensures done { IfOk result (λ done. done ≡ (dump_of input).done) }
 {
     let ended = print_log(alloc, input, writer)?;
     let line = ended_line(alloc, ended)?;
@@ -101,8 +102,8 @@ pub fn dump<R: Read, W: io::Write>(alloc: Global, reader: &mut R, writer: &mut W
     ensures { IfSome (R.remaining reader.old) (λ input.
         HasWritten (dump_of input) input (W.contents writer.old) (W.contents writer.new) result) }
 {
-    let (done, _told) = run_over_input(alloc, reader, writer, |input: Vec<u8>, writer: &mut W| {
-        (run(alloc, &input, writer), ())
+    let (done, _told) = run_over_input(alloc, reader, writer, |input: Pieces, writer: &mut W| {
+        (run(alloc, input, writer), ())
     });
     done
 }

@@ -5,6 +5,7 @@ ghost use Rattle.std.specs.Io.KnownBytes.{IsAtEnd};
 ghost use Rattle.uc_tool_io.specs.Input.{Adds, Exceeds};
 ghost use Rattle.uc_tool_io.specs.declared.input.InputError.TheVariants.{Memory};
 
+use crate::gathered::Gathered;
 use std::alloc::{AllocError, Global};
 use std::io::Read;
 
@@ -44,41 +45,45 @@ fn make_chunk(alloc: Global, size: usize) -> Result<Vec<u8>, AllocError>
 }
 
 /// Reads once, and adds what came to the input. How much came is the answer: none at the end.
-fn read_more<R: Read>(
+fn read_more<R: Read, I: Gathered>(
+    alloc: Global,
     reader: &mut R,
     chunk: &mut [u8],
-    input: &mut Vec<u8>,
+    input: &mut I,
 ) -> Result<usize, InputError>
     requires some { 0 < length chunk.old }
-    requires short { vec_len input.old ≤ INPUT_LIMIT }
+    requires short { length (I.bytes input.old) ≤ INPUT_LIMIT }
     ensures added { IfOk result (λ _.
-        Adds (R.remaining reader.old) (R.remaining reader.new) input.old.items input.new.items) }
+        Adds (R.remaining reader.old) (R.remaining reader.new) (I.bytes input.old) (I.bytes input.new)) }
     ensures end { result ≡ Ok 0 → IsAtEnd (R.remaining reader.new) }
-    ensures short { OnOk result (vec_len input.new ≤ INPUT_LIMIT) }
+    ensures short { OnOk result (length (I.bytes input.new) ≤ INPUT_LIMIT) }
     ensures long { IsErrOf result InputError.TooLong →
-        Exceeds (R.remaining reader.old) (R.remaining reader.new) input.old.items INPUT_LIMIT }
+        Exceeds (R.remaining reader.old) (R.remaining reader.new) (I.bytes input.old) INPUT_LIMIT }
 {
     let Ok(count) = reader.read(chunk) else {
         return Err(InputError::Fault);
     };
-    if count > INPUT_LIMIT - input.len() {
+    if count > INPUT_LIMIT - input.size() {
         return Err(InputError::TooLong);
     }
-    input.extend_from_slice(&chunk[..count])?;
+    input.add(alloc, &chunk[..count])?;
     Ok(count)
 }
 
 /// Reads all there is, before anything in it is judged.
-pub fn read_input<R: Read>(alloc: Global, reader: &mut R) -> Result<Vec<u8>, InputError>
-    ensures whole { IfOk result (λ input. IfSome (R.remaining reader.old) (λ bytes. input.items ≡ bytes)) }
-    ensures short { IfOk result (λ input. vec_len input ≤ INPUT_LIMIT) }
+pub fn read_input<R: Read, I: Gathered + Drop>(
+    alloc: Global,
+    reader: &mut R,
+) -> Result<I, InputError>
+    ensures whole { IfOk result (λ input. IfSome (R.remaining reader.old) (λ bytes. I.bytes input ≡ bytes)) }
+    ensures short { IfOk result (λ input. length (I.bytes input) ≤ INPUT_LIMIT) }
     ensures long { IsErrOf result InputError.TooLong →
         IfSome (R.remaining reader.old) (λ bytes. INPUT_LIMIT < length bytes) }
 {
-    let mut input = Vec::new(alloc);
+    let mut input = I::empty(alloc);
     let mut chunk = make_chunk(alloc, CHUNK)?;
     for _ in 0..READS {
-        if read_more(reader, &mut chunk, &mut input)? == 0 {
+        if read_more(alloc, reader, &mut chunk, &mut input)? == 0 {
             return Ok(input);
         }
     }

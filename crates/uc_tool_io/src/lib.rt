@@ -5,6 +5,7 @@
 //! function of the bytes that it read, and what the writer holds. Read `specs/Output.antt` first, then `input.rt` and
 //! `output.rt`, which are the two ends, and `ending.rt`. [`run_over_input`] is a whole run, from the first byte read to the
 //! flush, over any work: each subcommand is this function over its own work. Read `specs/Works.antt`, then `whole_run.rt`.
+//! What a work takes is [`Gathered`]: all bytes in one piece, or pieces that are let go of as they are read.
 //! The lemmas in `proofs/` are for the loops of the subcommands: `Printing.antt` if each turn prints one reply, `Parts.antt` if
 //! it prints several, and `Written.antt` at the end of a run.
 //!
@@ -28,6 +29,7 @@
 mod done;
 mod dump_run;
 mod ending;
+mod gathered;
 mod input;
 mod line;
 mod logs;
@@ -41,6 +43,7 @@ mod whole_run;
 pub use done::Done;
 pub use dump_run::dump;
 pub use ending::{finish, finish_without_input};
+pub use gathered::Gathered;
 pub use input::{INPUT_LIMIT, InputError, read_input};
 pub use line::{
     fields_line, numbered_line, push_counted, push_fields_line, push_numbered_line, push_text_line,

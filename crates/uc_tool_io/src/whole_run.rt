@@ -7,33 +7,36 @@ ghost use Rattle.uc_tool_io.specs.Works.{TakesInput, PrintsOutput, WasDone};
 
 use crate::done::Done;
 use crate::ending::{finish, finish_without_input};
+use crate::gathered::Gathered;
 use crate::input::read_input;
 use crate::run_error::RunError;
 use std::alloc::Global;
 use std::io::{Read, Write};
 
 /// Reads all of the input, does `work` over it, and ends the run: says if memory ran out, and flushes what was written. It
-/// returns how the run ended, and what the work told beside its outcome, unless the input can't be read.
-pub fn run_over_input<R: Read, W: Write, T, F>(
+/// returns how the run ended, and what the work told beside its outcome, unless the input can't be read. What the work takes
+/// decides what the input is gathered in.
+pub fn run_over_input<R: Read, W: Write, I, T, F>(
     alloc: Global,
     reader: &mut R,
     writer: &mut W,
     work: F,
 ) -> (Done, Option<T>)
 where
-    F: FnOnce(Vec<u8>, &mut W) -> (Result<Done, RunError>, T) + Drop,
+    F: FnOnce(I, &mut W) -> (Result<Done, RunError>, T) + Drop,
+    I: Gathered + Drop,
     T: Drop,
-    requires { TakesInput F.FnOnce work }
+    requires { TakesInput I.bytes F.FnOnce work }
     ensures written { (program : List ℕ → Output) → ((input : List ℕ) → IsWhole (program input).done) →
-        PrintsOutput F.FnOnce work W.contents program →
+        PrintsOutput I.bytes F.FnOnce work W.contents program →
         IfSome (R.remaining reader.old) (λ input.
         HasWritten (program input) input (W.contents writer.old) (W.contents writer.new) result.0) }
     ensures told { IfSome result.1 (λ told.
-        WasDone F.FnOnce work W.contents (R.remaining reader.old) (W.contents writer.old) (W.contents writer.new)
+        WasDone I.bytes F.FnOnce work W.contents (R.remaining reader.old) (W.contents writer.old) (W.contents writer.new)
         result.0 told) }
     ensures untold { IfNone result.1 (result.0 ≢ Done.Refused) }
 {
-    match read_input(alloc, reader) {
+    match read_input::<R, I>(alloc, reader) {
         Ok(input) => {
             let (outcome, told) = work(input, writer);
             (finish(writer, outcome), Some(told))

@@ -1,8 +1,7 @@
 -- What is told of what was read is told of what the reader gives.
-use Rattle.std.proofs.Common.{◌≡◌, ℕ, ◌≤◌, List, Option, Some, None, Result, Ok, Err, vec_len, refl, subst, inl, inr}
+use Rattle.std.proofs.Common.{◌≡◌, ℕ, ◌≤◌, List, Option, Some, None, Result, Ok, Err, length, refl, subst, inl, inr}
 use Rattle.std.specs.Prelude.{◌≢◌, IfSome, IfNone, OnOk}
 use Rattle.std.specs.Option.{option_flatten}
-use Rattle.std.specs.Global.{Vec}
 use Rattle.std.specs.Fn.{Once}
 use denote.Ref.{MutBor}
 use Rattle.uc_tool_io.specs.Ending.{Finishes}
@@ -44,22 +43,22 @@ of_refused (Err run_error.Memory) old new result P (inr ends) is p = absurd cc
 
 -- ---- a whole run over its input
 
-module _ {F W T : Type 0} (g : Once F (Vec ℕ × (MutBor W × Unit {0})) ((Result Done RunError × T) × (MutBor W × Unit {0}))) (f : F) (contents : W → Option (List ℕ)) (remaining old new : Option (List ℕ)) (done : Done) (cause : List ℕ → Option Cause) (reason_of : T → Option Reason) where
+module _ {F I W T : Type 0} (bytes : I → List ℕ) (g : Once F (I × (MutBor W × Unit {0})) ((Result Done RunError × T) × (MutBor W × Unit {0}))) (f : F) (contents : W → Option (List ℕ)) (remaining old new : Option (List ℕ)) (done : Done) (cause : List ℕ → Option Cause) (reason_of : T → Option Reason) where
   -- the reason is told of its input
   abbrev pub Tells : Type 0
   Tells =
-      (input : Vec ℕ) (before after : MutBor W) (outcome : Result Done RunError) (told : T) → vec_len input ≤ INPUT_LIMIT
+      (input : I) (before after : MutBor W) (outcome : Result Done RunError) (told : T) → length (bytes input) ≤ INPUT_LIMIT
       → g.post f (input, (before, tt)) ((outcome, told), (after, tt))
-      → IsReason (cause input.items) (reason_of told) × OnOk outcome (TellsOpening (cause input.items) (reason_of told))
+      → IsReason (cause (bytes input)) (reason_of told) × OnOk outcome (TellsOpening (cause (bytes input)) (reason_of told))
 
-  pub told_after : (told : Option T) → IfSome told (WasDone g f contents remaining old new done) → Tells → IfSome remaining (λ input. IsReason (cause input) (reason_in reason_of told))
+  pub told_after : (told : Option T) → IfSome told (WasDone bytes g f contents remaining old new done) → Tells → IfSome remaining (λ input. IsReason (cause input) (reason_in reason_of told))
   told_after None w tells = of_any (λ input. IsReason (cause input) None) remaining (λ input. tt)
   told_after (Some told) w tells =
-      of_bytes (λ input. IsReason (cause input) (reason_of told)) remaining w.input.items w.whole (tells w.input w.before w.after w.outcome told w.short w.call).0
+      of_bytes (λ input. IsReason (cause input) (reason_of told)) remaining (bytes w.input) w.whole (tells w.input w.before w.after w.outcome told w.short w.call).0
 
-  pub opening_after : (told : Option T) → IfSome told (WasDone g f contents remaining old new done) → IfNone told (done ≢ Refused) → Tells → done ≡ Refused
+  pub opening_after : (told : Option T) → IfSome told (WasDone bytes g f contents remaining old new done) → IfNone told (done ≢ Refused) → Tells → done ≡ Refused
       → IfSome remaining (λ input. TellsOpening (cause input) (reason_in reason_of told))
   opening_after None w none tells is = absurd (none is)
   opening_after (Some told) w none tells is =
       let tells_opening = (tells w.input w.before w.after w.outcome told w.short w.call).1 in
-      of_bytes (λ input. TellsOpening (cause input) (reason_of told)) remaining w.input.items w.whole (of_refused w.outcome (contents w.after.now) new done (TellsOpening (cause w.input.items) (reason_of told)) w.ends is tells_opening)
+      of_bytes (λ input. TellsOpening (cause input) (reason_of told)) remaining (bytes w.input) w.whole (of_refused w.outcome (contents w.after.now) new done (TellsOpening (cause (bytes w.input)) (reason_of told)) w.ends is tells_opening)

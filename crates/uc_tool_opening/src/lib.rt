@@ -1,8 +1,8 @@
 //! What the subcommands that open a store share: opening one from a log, saying why none is opened, and the lines of replies.
 //!
-//! `recover_log` reads a log into a store that is being opened, and says how far the log could be read; `open_ops` opens a
-//! store from a script's writes, by way of a log of them, and `writes_by_log` makes those that are fed later; `print_fault`, `print_refused_opening` and `print_bad_log` end a run
-//! that opened none with the one line that says why. Nothing here claims, compacts or answers: that is left to the
+//! `open_ops` opens a store from a script's writes, by way of a log of them, and `writes_by_log` makes those that are fed later;
+//! `print_fault`, `print_refused_opening` and `print_bad_log` end a run that opened none with the one line that says why.
+//! Nothing here claims, compacts or answers: that is left to the
 //! subcommands above.
 //!
 //! Beside that line a reader may be told more: [`Reason`] is what is wrong with the first line at fault, or the option or
@@ -33,7 +33,7 @@ mod reports;
 
 pub use answers::push_answer_lines;
 pub use asked::{query_of, seq_at};
-pub use opening::{open_ops, recover_log, writes_by_log};
+pub use opening::{open_ops, writes_by_log};
 pub use opening_fault::{OpeningFault, fault_of_opening, option_fault};
 pub use outcome::Outcome;
 pub use reason::{Reason, reason_of_line, reason_of_opening};

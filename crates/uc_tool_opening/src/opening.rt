@@ -46,21 +46,6 @@ fn log_of(alloc: Global, first: u64, ops: Ops) -> Result<Vec<u8>, AllocError>
     write_log(alloc, first, ops.as_slice())
 }
 
-/// A store that is being opened from a log, which is let go of, and how far that was read. Full memtables are flushed in
-/// threads.
-pub fn recover_log(
-    rt: &(impl Threads + Sync),
-    alloc: Global,
-    log: Vec<u8>,
-    options: Options,
-) -> Result<Recovered, AllocError>
-    ensures opener { IfOk result (λ recovered. recovered.opener ≡ progress_of options (log_writes log.items).list) }
-    ensures ended { IfOk result (λ recovered. recovered.ended ≡ (log_writes log.items).ended) }
-    ensures rising { IfOk result (λ _. IsRising 0 (log_writes log.items).list) }
-{
-    recover_in_threads(rt, alloc, &log, options)
-}
-
 /// A store that is being opened from operations, which are numbered from 1, by way of a log of them. What it is made from
 /// is let go of one after the other.
 fn opener_of(
@@ -77,7 +62,7 @@ fn opener_of(
     written_log_is_read();
     written_batch_is_read();
     let log = log_of(alloc, 1, ops)?;
-    let Recovered { opener, .. } = recover_log(rt, alloc, log, options)?;
+    let Recovered { opener, .. } = recover_in_threads(rt, alloc, &log, options)?;
     Ok(opener)
 }
 

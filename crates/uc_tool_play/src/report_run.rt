@@ -17,15 +17,15 @@ use std::io::{Read, Write};
 use std::marker::Sync;
 use std::thread::Threads;
 use uc_batch::Ended;
+use uc_log_pieces::Pieces;
 use uc_oper::Operator;
 use uc_query::report;
 use uc_tool_io::{Done, RunError, run_over_input, write_bytes};
 use uc_tool_opening::{
-    Outcome, Reason, print_bad_log, print_refused_opening, reason_of_opening, recover_log,
-    report_lines,
+    Outcome, Reason, print_bad_log, print_refused_opening, reason_of_opening, report_lines,
 };
 use uc_version::Owned;
-use uc_version_open::{OpenError, Opener, Recovered};
+use uc_version_open::{OpenError, Opener, Recovered, recover_pieces_in_threads};
 use uc_version_state::{Options, Version};
 
 /// Prints what a version holds.
@@ -96,21 +96,21 @@ fn print_opened<O: Operator + Sync, W: Write>(
     }
 }
 
-/// Reports on a log, which is let go of once a store is made from it.
+/// Reports on a log, which is let go of piece by piece while a store is made from it.
 fn run<O: Operator + Sync, W: Write>(
     rt: &(impl Threads + Sync),
     alloc: Global,
-    input: Vec<u8>,
+    log: Pieces,
     options: &Options,
     writer: &mut W,
 ) -> (Result<Done, RunError>, Option<Reason>)
-    ensures printed { Prints (report_of O.meaning options.now input.items).replies
+    ensures printed { Prints (report_of O.meaning options.now log).replies
         (W.contents writer.old) (W.contents writer.new) result.0 }
-    ensures done { IfOk result.0 (λ done. done ≡ (report_of O.meaning options.now input.items).done) }
-    ensures told { IsReason (cause_of options.now input.items) result.1 }
-    ensures opening { OnOk result.0 (TellsOpening (cause_of options.now input.items) result.1) }
+    ensures done { IfOk result.0 (λ done. done ≡ (report_of O.meaning options.now log).done) }
+    ensures told { IsReason (cause_of options.now log) result.1 }
+    ensures opening { OnOk result.0 (TellsOpening (cause_of options.now log) result.1) }
 {
-    let Ok(Recovered { opener, ended }) = recover_log(rt, alloc, input, *options) else {
+    let Ok(Recovered { opener, ended }) = recover_pieces_in_threads(rt, alloc, log, *options) else {
         return (Err(RunError::Memory), None);
     };
     match ended {
@@ -142,8 +142,8 @@ pub fn report_log<O: Operator + Sync, R: Read, W: Write>(
     ensures opening { result.done ≡ Done.Refused →
         IfSome (R.remaining reader.old) (λ input. TellsOpening (cause_of options.now input) result.reason) }
 {
-    let (done, told) = run_over_input(alloc, reader, writer, |input: Vec<u8>, writer: &mut W| {
-        run::<O, W>(rt, alloc, input, options, writer)
+    let (done, told) = run_over_input(alloc, reader, writer, |log: Pieces, writer: &mut W| {
+        run::<O, W>(rt, alloc, log, options, writer)
     });
     Outcome {
         done,

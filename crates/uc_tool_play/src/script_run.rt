@@ -127,7 +127,7 @@ fn run<O: Operator + Sync, W: Write>(
     options: &Options,
     writer: &mut W,
 ) -> (Result<Done, RunError>, Option<Reason>)
-    requires { vec_len input ≤ INPUT_LIMIT }
+    requires { length input.items ≤ INPUT_LIMIT }
     ensures printed { Prints (play_of O.meaning options.now input.items).replies
         (W.contents writer.old) (W.contents writer.new) result.0 }
     ensures done { IfOk result.0 (λ done. done ≡ (play_of O.meaning options.now input.items).done) }
@@ -172,7 +172,7 @@ pub fn play<O: Operator + Sync, R: Read, W: Write>(
         IfSome (R.remaining reader.old) (λ input. TellsOpening (cause_of options.now input) result.reason) }
 {
     let work = |input: Vec<u8>, writer: &mut W| -> (Result<Done, RunError>, Option<Reason>)
-        requires { vec_len input ≤ INPUT_LIMIT }
+        requires { length input.items ≤ INPUT_LIMIT }
     { run::<O, W>(rt, alloc, input, options, writer) };
     let (done, told) = run_over_input(alloc, reader, writer, work);
     Outcome {

@@ -5,3 +5,4 @@ pub mod HeldProgress
 pub mod Parting
 pub mod Lending
 pub mod Reading
+pub mod LogPositions

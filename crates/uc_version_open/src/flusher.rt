@@ -10,7 +10,7 @@ use std::thread::{Threads, join};
 use uc_run::Run;
 
 /// How many full memtables make a round: others flush them, while the calling thread fills as many more.
-pub(crate) const ROUND: usize = 3;
+pub(crate) const ROUND: usize = 2;
 
 /// How full memtables are flushed. What comes of them is the same whoever flushes them.
 pub(crate) trait Flusher {

@@ -12,8 +12,9 @@
 //! [`recover_first`] does so for the first writes alone, and hands those behind them out; [`count_writes`] tells how many
 //! there are. Read `recovery.rt`.
 //!
-//! [`recover_in_threads`] lets full memtables wait, and flushes three at a time side by side while it reads on;
-//! [`Opener::finish_in_threads`] flushes those that are left. A store that opens so is the same, whichever flush ends first.
+//! [`recover_in_threads`] lets full memtables wait, and flushes two at a time side by side while it reads on;
+//! [`Opener::finish_in_threads`] flushes those that are left. [`recover_pieces_in_threads`] does so over a log in pieces, and lets
+//! go of each when its batches were read. A store that opens so is the same, whichever flush ends first.
 //! Read `flusher.rt`, and then `reading.rt`.
 //!
 //! An `Err(AllocError)`, or a variant `Memory`, comes only if an allocation fails.
@@ -26,6 +27,7 @@ mod full_memtable;
 mod keeps;
 mod laws;
 mod lent_memtables;
+mod log_batches;
 mod memtables;
 mod open_error;
 mod opener;
@@ -37,4 +39,7 @@ pub use flushes::{fed_version, fed_version_in_threads, flush_writes, version_wit
 pub use laws::no_refusal_is_leave_to_open;
 pub use open_error::OpenError;
 pub use opener::Opener;
-pub use recovery::{Counted, Recovered, count_writes, recover, recover_first, recover_in_threads};
+pub use recovery::{
+    Counted, Recovered, count_writes, recover, recover_first, recover_in_threads,
+    recover_pieces_in_threads,
+};

@@ -3,7 +3,6 @@ ghost use Rattle.std.specs.Prelude.{◌≡◌, ◌≤◌, ◌++◌, Some, ℕ, L
 ghost use Rattle.std.specs.Thread.{IsSync};
 ghost use Rattle.uc_bytes.specs.declared.write.Write.{Write as WriteOf};
 ghost use Rattle.uc_batch.specs.declared.ended.Ended.{Ended as EndedOf};
-ghost use Rattle.uc_batch.specs.Log.{log_writes};
 ghost use Rattle.uc_batch.specs.Position.{nothing_ahead};
 ghost use Rattle.uc_batch.specs.Rising.{IsRising, last_of};
 ghost use Rattle.uc_run_entry.specs.Run.{Contents};
@@ -15,11 +14,12 @@ ghost use Rattle.uc_version_open.specs.Reading.{IsTaken, ReadsOn, unread};
 
 use crate::flusher::{Flusher, InThreads, ROUND, Work, flush_beside};
 use crate::full_memtable::FullMemtable;
+use crate::log_batches::LogBatches;
 use crate::opener::Opener;
 use std::alloc::{AllocError, Global};
 use std::marker::Sync;
 use std::thread::Threads;
-use uc_batch::{Advance, BatchReader, BatchWrites, Ended};
+use uc_batch::{Advance, BatchWrites, Ended};
 use uc_run::Run;
 use uc_version_state::Options;
 
@@ -47,7 +47,7 @@ pub(crate) fn insert_batch<F: Flusher>(
 /// How far a log was read, and the store that is being opened with what was read of it.
 #[derive(Debug, Drop)]
 pub(crate) struct Reading<'a> {
-    batches: BatchReader<'a>,
+    batches: LogBatches<'a>,
     /// The store.
     pub(crate) opener: Opener,
     /// How far the log goes, once its end was found.
@@ -60,7 +60,7 @@ pub(crate) struct Reading<'a> {
 fn read_on<'a, R: Threads + Sync>(
     rt: &R,
     alloc: Global,
-    mut batches: BatchReader<'a>,
+    mut batches: LogBatches<'a>,
     mut opener: Opener,
 ) -> Result<Reading<'a>, AllocError>
     requires { opener.last ≡ batches.last }
@@ -95,12 +95,12 @@ fn read_on<'a, R: Threads + Sync>(
 pub(crate) fn begin_reading<'a>(
     rt: &(impl Threads + Sync),
     alloc: Global,
-    log: &'a [u8],
+    batches: LogBatches<'a>,
     options: Options,
 ) -> Result<Reading<'a>, AllocError>
-    ensures { IfOk result (λ reading. IsTaken options (log_writes log.now) reading.batches reading.opener) }
+    requires { batches.last ≡ 0 }
+    ensures { IfOk result (λ reading. IsTaken options batches.entry.ahead reading.batches reading.opener) }
 {
-    let batches = BatchReader::new(alloc, log);
     let opener = Opener::new(alloc, options);
     read_on(rt, alloc, batches, opener)
 }
@@ -110,7 +110,7 @@ pub(crate) fn begin_reading<'a>(
 struct ReadOn<'a, 'r, R: Threads + Sync> {
     rt: &'r R,
     alloc: Global,
-    batches: BatchReader<'a>,
+    batches: LogBatches<'a>,
     opener: Opener,
 }
 
@@ -139,7 +139,7 @@ fn flush_beside_reading<'a, R: Threads + Sync>(
     rt: &R,
     alloc: Global,
     memtables: &[FullMemtable],
-    batches: BatchReader<'a>,
+    batches: LogBatches<'a>,
     opener: Opener,
 ) -> Result<(Vec<Run>, Reading<'a>), AllocError>
     requires { opener.last ≡ batches.last }

@@ -8,6 +8,7 @@ ghost use Rattle.uc_version_open.specs.Parting.{ComeNext, IsParted};
 ghost use Rattle.uc_version_open.specs.Progress.{progress_of};
 
 use crate::flusher::Alone;
+use crate::log_batches::LogBatches;
 use crate::opener::Opener;
 use crate::reading::{begin_reading, flush_and_read_on, insert_batch};
 use std::alloc::{AllocError, Global};
@@ -15,6 +16,7 @@ use std::marker::Sync;
 use std::thread::Threads;
 use uc_batch::{Advance, BatchReader, BatchWrites, Ended};
 use uc_bytes::{Write, WriteRef};
+use uc_log_pieces::Pieces;
 use uc_version_state::Options;
 
 /// A store that is being opened, with the writes of a log up to the log's first fault, and how far that was read.
@@ -43,8 +45,30 @@ pub fn recover(alloc: Global, log: &[u8], options: Options) -> Result<Recovered,
     }
 }
 
+/// Takes the writes of a log into a store as [`recover_in_threads`] does. The reader stands at the log's start.
+fn recover_batches(
+    rt: &(impl Threads + Sync),
+    alloc: Global,
+    batches: LogBatches<'_>,
+    options: Options,
+) -> Result<Recovered, AllocError>
+    requires { batches.last ≡ 0 }
+    ensures opener { IfOk result (λ recovered. recovered.opener ≡ progress_of options batches.entry.ahead.list) }
+    ensures ended { IfOk result (λ recovered. recovered.ended ≡ batches.entry.ahead.ended) }
+    ensures rising { IfOk result (λ _. IsRising 0 batches.entry.ahead.list) }
+{
+    let mut reading = begin_reading(rt, alloc, batches, options)?;
+    loop {
+        if let Some(ended) = reading.ended {
+            let opener = reading.opener;
+            return Ok(Recovered { opener, ended });
+        }
+        reading = flush_and_read_on(rt, alloc, reading)?;
+    }
+}
+
 /// As [`recover`], with full memtables flushed side by side, in threads, while this one reads on. So beside what `recover`
-/// holds there are six of them with the runs that are made of them, and up to nine where a batch fills several.
+/// holds there are four of them with the runs that are made of them, and up to six where a batch fills several.
 pub fn recover_in_threads(
     rt: &(impl Threads + Sync),
     alloc: Global,
@@ -55,14 +79,24 @@ pub fn recover_in_threads(
     ensures ended { IfOk result (λ recovered. recovered.ended ≡ (log_writes log.now).ended) }
     ensures rising { IfOk result (λ recovered. IsRising 0 (log_writes log.now).list) }
 {
-    let mut reading = begin_reading(rt, alloc, log, options)?;
-    loop {
-        if let Some(ended) = reading.ended {
-            let opener = reading.opener;
-            return Ok(Recovered { opener, ended });
-        }
-        reading = flush_and_read_on(rt, alloc, reading)?;
-    }
+    let batches = LogBatches::borrowed(alloc, log);
+    recover_batches(rt, alloc, batches, options)
+}
+
+/// As [`recover_in_threads`], of a log in pieces. Each is let go of when its batches were read, so what is left of the log grows
+/// smaller while the store grows.
+pub fn recover_pieces_in_threads(
+    rt: &(impl Threads + Sync),
+    alloc: Global,
+    log: Pieces,
+    options: Options,
+) -> Result<Recovered, AllocError>
+    ensures opener { IfOk result (λ recovered. recovered.opener ≡ progress_of options (log_writes log).list) }
+    ensures ended { IfOk result (λ recovered. recovered.ended ≡ (log_writes log).ended) }
+    ensures rising { IfOk result (λ recovered. IsRising 0 (log_writes log).list) }
+{
+    let batches = LogBatches::in_pieces(alloc, log);
+    recover_batches(rt, alloc, batches, options)
 }
 
 /// How many writes a log has up to its first fault, and how far it was read.

@@ -31,7 +31,7 @@ returns-clause-told g c =
     let told = c.run_over_input-done.result.1 in
     let is : reason_in reason_of told ≡ c.unwrap_or-reason.result.reason = reason_is c.nothing.result (ap reason_of c.nothing.ensures) told ∙ sym (ap reason_of c.unwrap_or-reason.ensures) in
     subst (λ (reason : Option Reason). IfSome remaining (λ input. IsReason (cause input) reason)) is
-    (told_after _ _ g.W.Write.contents remaining _ _ c.run_over_input-done.result.0 cause reason_of told c.run_over_input-done.ensures.told (λ input before after outcome told short call. (search rules, search rules)))
+    (told_after _ _ _ g.W.Write.contents remaining _ _ c.run_over_input-done.result.0 cause reason_of told c.run_over_input-done.ensures.told (λ input before after outcome told short call. (search rules, search rules)))
 
 pub returns-clause-opening : goal.returns-clause-opening
 returns-clause-opening g c refused =
@@ -40,4 +40,4 @@ returns-clause-opening g c refused =
     let told = c.run_over_input-done.result.1 in
     let is : reason_in reason_of told ≡ c.unwrap_or-reason.result.reason = reason_is c.nothing.result (ap reason_of c.nothing.ensures) told ∙ sym (ap reason_of c.unwrap_or-reason.ensures) in
     subst (λ (reason : Option Reason). IfSome remaining (λ input. TellsOpening (cause input) reason)) is
-    (opening_after _ _ g.W.Write.contents remaining _ _ c.run_over_input-done.result.0 cause reason_of told c.run_over_input-done.ensures.told c.run_over_input-done.ensures.untold (λ input before after outcome told short call. (search rules, search rules)) refused)
+    (opening_after _ _ _ g.W.Write.contents remaining _ _ c.run_over_input-done.result.0 cause reason_of told c.run_over_input-done.ensures.told c.run_over_input-done.ensures.untold (λ input before after outcome told short call. (search rules, search rules)) refused)

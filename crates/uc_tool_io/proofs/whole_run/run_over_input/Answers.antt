@@ -1,5 +1,4 @@
-use Rattle.std.proofs.Common.{◌≤◌, length, Err, refl, ap, arith}
-use Rattle.uc_tool_io.specs.declared.input.TheConstants.{INPUT_LIMIT}
+use Rattle.std.proofs.Common.{Err, refl, ap}
 use Rattle.uc_tool_io.proofs.Written.{of_input, of_unread}
 use Rattle.uc_tool_io.proofs.whole_run.run_over_input.Goals as goal
 
@@ -7,9 +6,9 @@ pub returns-in-Ok-clause-written : goal.returns-in-Ok-clause-written
 returns-in-Ok-clause-written g c program whole prints =
     let contents = g.W.Write.contents in
     let input = c.in-Ok.input in
-    let short : length input.items ≤ INPUT_LIMIT = omega (arith, input.ok.0, c.in-Ok.ensures.short) in
+    let bytes = g.I.Gathered.bytes in
     let does = prints input _ _ c.work-outcome.result.0 c.work-outcome.result.1 c.in-Ok.ensures.short c.work-outcome.ensures in
-    of_input program whole (g.R.Read.remaining c.args.reader.now) input.items (contents c.args.writer.now) _ (contents c.finish.new.writer) c.work-outcome.result.0 c.finish.result c.in-Ok.ensures.whole short does.0 does.1 c.finish.ensures
+    of_input program whole (g.R.Read.remaining c.args.reader.now) (bytes input) (contents c.args.writer.now) _ (contents c.finish.new.writer) c.work-outcome.result.0 c.finish.result c.in-Ok.ensures.whole c.in-Ok.ensures.short does.0 does.1 c.finish.ensures
 
 pub returns-in-Ok-clause-told : goal.returns-in-Ok-clause-told
 returns-in-Ok-clause-told g c = record {

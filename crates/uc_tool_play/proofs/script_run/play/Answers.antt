@@ -20,7 +20,7 @@ returns-clause-told g c =
     let told = c.run_over_input-done.result.1 in
     let is : reason_in (λ (reason : Option Reason). reason) told ≡ c.flatten.result = reason_alone told ∙ sym c.flatten.ensures in
     subst (λ (reason : Option Reason). IfSome remaining (λ input. IsReason (cause input) reason)) is
-    (told_after _ _ g.W.Write.contents remaining _ _ c.run_over_input-done.result.0 cause (λ (reason : Option Reason). reason) told c.run_over_input-done.ensures.told (λ input before after outcome reason short call. (search rules, search rules)))
+    (told_after _ _ _ g.W.Write.contents remaining _ _ c.run_over_input-done.result.0 cause (λ (reason : Option Reason). reason) told c.run_over_input-done.ensures.told (λ input before after outcome reason short call. (search rules, search rules)))
 
 pub returns-clause-opening : goal.returns-clause-opening
 returns-clause-opening g c refused =
@@ -29,4 +29,4 @@ returns-clause-opening g c refused =
     let told = c.run_over_input-done.result.1 in
     let is : reason_in (λ (reason : Option Reason). reason) told ≡ c.flatten.result = reason_alone told ∙ sym c.flatten.ensures in
     subst (λ (reason : Option Reason). IfSome remaining (λ input. TellsOpening (cause input) reason)) is
-    (opening_after _ _ g.W.Write.contents remaining _ _ c.run_over_input-done.result.0 cause (λ (reason : Option Reason). reason) told c.run_over_input-done.ensures.told c.run_over_input-done.ensures.untold (λ input before after outcome reason short call. (search rules, search rules)) refused)
+    (opening_after _ _ _ g.W.Write.contents remaining _ _ c.run_over_input-done.result.0 cause (λ (reason : Option Reason). reason) told c.run_over_input-done.ensures.told c.run_over_input-done.ensures.untold (λ input before after outcome reason short call. (search rules, search rules)) refused)

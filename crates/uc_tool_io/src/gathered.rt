@@ -1,0 +1,56 @@
+//! [`Gathered`]: what the bytes of an input are gathered in.
+ghost use Rattle.std.specs.Prelude.{◌≡◌, ◌++◌, [], ℕ, List, length, OnOk};
+
+use std::alloc::{AllocError, Global};
+use uc_log_pieces::Pieces;
+
+/// What the bytes of an input are gathered in, as they are read: a list in one piece for a program that looks at all of it, or
+/// [`Pieces`] for one that goes once over it.
+pub trait Gathered {
+    /// The bytes that it has.
+    ghost bytes: { Self → List ℕ };
+
+    /// None.
+    fn empty(alloc: Global) -> Self
+        ensures { bytes result ≡ [] };
+
+    /// How many there are.
+    fn size(&self) -> usize
+        ensures { result ≡ length (bytes self.now) };
+
+    /// Adds bytes behind those that are there. After an `Err` some of them may be there.
+    fn add(&mut self, alloc: Global, more: &[u8]) -> Result<(), AllocError>
+        ensures { OnOk result (bytes self.new ≡ bytes self.old ++ more.now) };
+}
+
+impl Gathered for Vec<u8> {
+    ghost bytes = { λ v. v.items };
+
+    fn empty(alloc: Global) -> Vec<u8> {
+        Vec::new(alloc)
+    }
+
+    fn size(&self) -> usize {
+        self.as_slice().len()
+    }
+
+    fn add(&mut self, _alloc: Global, more: &[u8]) -> Result<(), AllocError> {
+        self.extend_from_slice(more)
+    }
+}
+
+impl Gathered for Pieces {
+    ghost bytes = { λ pieces. pieces };
+
+    fn empty(alloc: Global) -> Pieces {
+        Pieces::new(alloc)
+    }
+
+    fn size(&self) -> usize {
+        self.len()
+    }
+
+    fn add(&mut self, alloc: Global, more: &[u8]) -> Result<(), AllocError> {
+        self.push_bytes(alloc, more)
+    }
+}
