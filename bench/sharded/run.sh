@@ -57,6 +57,8 @@ find_library() {
     fi
     UCSTORE_LIBRARY=$(realpath -e "$OURS") || exit 2
     export UCSTORE_LIBRARY PYTHONPATH=$here/../../bindings/python PYTHONDONTWRITEBYTECODE=1
+    # As SHARDS.md advises for one machine.
+    export DASK_DISTRIBUTED__COMM__COMPRESSION=None
 }
 
 dask() { # scheduler|worker OPTIONS: begins a process

@@ -1,29 +1,39 @@
-"""A shard: what a worker runs for `ucstore.sharded`. It knows nothing of Dask."""
+"""A sharded store's files, and a shard, which a worker runs. Nothing here knows of Dask."""
+
+from __future__ import annotations
 
 import fcntl
+import json
 import marshal
 import os
+import struct
 import time
-from collections import Counter
-from contextlib import contextmanager
+import weakref
+from bisect import bisect_left, bisect_right
+from collections import Counter, defaultdict
+from contextlib import contextmanager, suppress
+from functools import lru_cache
 from itertools import chain, groupby, islice
 from pathlib import Path
-from typing import Any, BinaryIO, Iterator, List, NamedTuple, Optional
+from typing import Any, BinaryIO, Callable, Iterator, Mapping, NamedTuple, Sequence
+from zlib import crc32
 
-from . import (
-    Delete, DeleteRange, End, Merge, Operation, Operator, Options, Put, Report, Store, TooManyRuns, UcstoreError,
-    batch_bytes, log_writes,
-)
+from . import _TAGS, Delete, DeleteRange, End, Operation, Operator, Options, Store
+from . import TooManyRuns, UcstoreError, batch_bytes, log_writes
 
 # How many rows a page of a scan has at most, and from how many bytes on it is full.
 PAGE_ROWS, PAGE_BYTES = 1000, 1 << 20
 
-_TAGS = {Delete: 0, Put: 1, Merge: 2, DeleteRange: 3}
-_KINDS = tuple(_TAGS)
+# How many operations are packed together: so few that the processor's cache holds them meanwhile.
+PIECE = 2000
 
 
 class ShardedError(UcstoreError):
     """What shards refuse besides what a store refuses."""
+
+
+class BadManifest(ShardedError):
+    """A store can't be made or opened as its manifest says."""
 
 
 class LogDamaged(ShardedError):
@@ -31,7 +41,54 @@ class LogDamaged(ShardedError):
 
 
 class AnotherWriter(ShardedError):
-    """Another writer has the store. Whether it has a batch that this one was writing isn't known."""
+    """Another writer has the store. Whether it has a batch of this one's isn't known."""
+
+
+@contextmanager
+def refusing(refusal: type[ShardedError], text: str, *errors: type[Exception]) -> Iterator[None]:
+    """Raises a refusal in place of some errors."""
+    try:
+        yield
+    except errors as error:
+        raise refusal(f"{text}: {getattr(error, 'strerror', error)}") from None
+
+
+@contextmanager
+def undoing(undo: Callable[..., None], *arguments: Any) -> Iterator[None]:
+    """Undoes something upon an error."""
+    try:
+        yield
+    except BaseException:
+        undo(*arguments)
+        raise
+
+
+def polls(patience: float) -> Iterator[None]:
+    """Waits between the steps of a loop, which ends after so many seconds."""
+    until = time.monotonic() + patience
+    yield
+    while time.monotonic() < until:
+        time.sleep(0.05)
+        yield
+
+
+def append(file: BinaryIO, text: bytes, sync: bool = True) -> None:
+    """Writes to a file, and waits for its device."""
+    file.write(text)
+    file.flush()
+    if sync:
+        os.fsync(file.fileno())
+
+
+def replace(path: Path, text: bytes) -> None:
+    """Writes a file, so that a crash leaves the old one or the new one."""
+    new = path.with_suffix(".new")
+    with open(new, "wb") as file:
+        append(file, text)
+    os.replace(new, path)
+    folder = os.open(path.parent, os.O_RDONLY)
+    os.fsync(folder)
+    os.close(folder)
 
 
 def dumps(found: Any) -> bytes:
@@ -40,211 +97,283 @@ def dumps(found: Any) -> bytes:
     return marshal.dumps(found, 2)
 
 
-def packed(operations: List[Operation]) -> bytes:
-    """A piece: the tags of operations, and all of their texts. Raises `TypeError` if one isn't bytes."""
-    texts = list(chain.from_iterable(operations))
-    if not set(map(type, texts)) <= {bytes}:
-        raise TypeError("the texts of an operation are bytes")
-    return dumps((bytes(map(_TAGS.__getitem__, map(type, operations))), texts))
+def packed(operations: Sequence[Operation]) -> bytes:
+    """A piece: the tags of operations, and their texts. Raises `TypeError` for what is neither."""
+    kinds, texts = list(map(type, operations)), list(chain.from_iterable(operations))
+    if not (set(kinds) <= _TAGS.keys() and set(map(type, texts)) <= {bytes}):
+        raise TypeError("an operation is a Put, Delete, Merge or DeleteRange of bytes")
+    return dumps((bytes(map(_TAGS.__getitem__, kinds)), texts))
 
 
-def unpacked(part: bytes) -> Iterator[Operation]:
-    """The operations of a part, which is a list of pieces: one by one, since Python would search a list of them for garbage."""
-    make = tuple.__new__
+@lru_cache(1 << 16)
+def _length(length: int) -> bytes:
+    """A text's length as it stands before it: seven bits to a byte, the low ones first."""
+    low, rest = length & 0x7F, length >> 7
+    return bytes([low | 0x80]) + _length(rest) if rest else bytes([low])
+
+
+def batch_of(part: bytes, first: int) -> bytes:
+    """The pieces of a part as a write batch of RocksDB, whose first operation has a sequence."""
+    tag_bytes, bodies, count = [bytes([tag]) for tag in range(16)], [], 0
     for piece in marshal.loads(part):
         tags, texts = marshal.loads(piece)
-        text = iter(texts).__next__
-        for tag in tags:
-            yield make(_KINDS[tag], (text(), text())) if tag else Delete(text())
+        fields: list[bytes] = []
+        spelled = zip(map(_length, map(len, texts)), texts)
+        for tag, text in zip(tags, spelled):
+            fields.append(tag_bytes[tag])
+            fields += text
+            if tag != _TAGS[Delete]:
+                fields += next(spelled)
+        bodies.append(b"".join(fields))
+        count += len(tags)
+    return struct.pack("<QI", first, count) + b"".join(bodies)
 
 
-def check_epoch(folder: Path, epoch: str) -> None:
-    """Raises `AnotherWriter` if a newer writer has opened the store."""
-    if (folder / "epoch").read_text() != epoch:
-        raise AnotherWriter(f"a newer writer has opened {folder}")
+class Manifest(NamedTuple):
+    """How many shards there are, between which keys if not by hash, and how they are opened."""
 
-
-def log_path(folder: Path, number: int) -> Path:
-    """The file of a shard's log."""
-    return folder / f"shard-{number}.log"
-
-
-def is_locked(file: BinaryIO, patience: float) -> bool:
-    """Locks a file, and tells whether no other process has it locked, at the latest after so many seconds."""
-    until = time.monotonic() + patience
-    while True:
-        try:
-            fcntl.flock(file, fcntl.LOCK_EX | fcntl.LOCK_NB)
-            return True
-        except BlockingIOError:
-            if time.monotonic() > until:
-                return False
-            time.sleep(0.02)
-
-
-class Start(NamedTuple):
-    """What a shard is opened with."""
-
-    folder: Path
-    number: int
+    shards: int
+    splits: tuple[bytes, ...] | None
     operator: Operator
     options: Options
+
+    def create(self, folder: Path) -> None:
+        """Makes the files of an empty store. Raises `BadManifest` if there are any files."""
+        placement = "crc32" if self.splits is None else [split.hex() for split in self.splits]
+        shape = {"format": 1, "shards": self.shards, "placement": placement}
+        shape.update(operator=self.operator.name, options=self.options._asdict())
+        self.of(shape)
+        folder.mkdir(parents=True, exist_ok=True)
+        if any(folder.iterdir()):
+            raise BadManifest(f"{folder} isn't empty")
+        for number in range(self.shards):
+            (folder / f"shard-{number}.log").touch()
+        replace(folder / "sequencer.log", _record([0] * (self.shards + 1)))
+        replace(folder / "epoch", b"")
+        replace(folder / "manifest.json", json.dumps(shape, indent=1).encode())
+
+    @classmethod
+    def of(cls, shape: Any) -> Manifest:
+        """The manifest that JSON spells. Raises `BadManifest` with what is wrong."""
+        names = ["format", "operator", "options", "placement", "shards"]
+        if not isinstance(shape, dict) or sorted(shape) != names:
+            raise BadManifest(f"it isn't an object of {', '.join(names)}")
+        version, operator, options, placement, shards = map(shape.get, names)
+        if version != 1:
+            raise BadManifest(f"its format is {version!r}, and only 1 is known")
+        if type(shards) is not int or shards < 1:
+            raise BadManifest(f"{shards!r} isn't a number of shards")
+        if operator not in list(Operator.__members__):
+            raise BadManifest(f"there is no operator {operator!r}")
+        wrong = f"keys are placed neither by crc32 nor by split points: {placement!r}"
+        with refusing(BadManifest, wrong, TypeError, ValueError):
+            splits = None if placement == "crc32" else tuple(map(bytes.fromhex, placement))
+        if splits is not None and len(splits) != shards - 1:
+            wrong = f"there are {len(splits)} split points, and {shards} shards have {shards - 1}"
+            raise BadManifest(f"{wrong} between them")
+        if splits is not None and list(splits) != sorted(set(splits)):
+            raise BadManifest("the split points don't rise")
+        with refusing(BadManifest, f"there are no options {options!r}", TypeError, ValueError):
+            manifest = cls(shards, splits, Operator[operator], Options(**options))
+            Store(manifest.operator, manifest.options).close()
+        return manifest
+
+    @classmethod
+    def read(cls, folder: Path) -> Manifest:
+        """The manifest of a folder that has all files."""
+        path = folder / "manifest.json"
+        with refusing(BadManifest, f"{path} is refused", OSError, ValueError, BadManifest):
+            manifest = cls.of(json.loads(path.read_text()))
+            logs = (f"shard-{number}.log" for number in range(manifest.shards))
+            for needed in ("sequencer.log", "epoch", *logs):
+                if not (folder / needed).exists():
+                    raise BadManifest(f"{folder / needed} isn't there")
+        return manifest
+
+    def owner(self, key: bytes) -> int:
+        """The shard that a key belongs to."""
+        return crc32(key) % self.shards if self.splits is None else bisect_right(self.splits, key)
+
+    def touched(self, low: bytes, high: bytes | None) -> range:
+        """The shards that may have keys from `low` to below `high`, in the keys' order if split."""
+        if high is not None and low >= high:
+            return range(0)
+        if self.splits is None:
+            return range(self.shards)
+        end = self.shards if high is None else bisect_left(self.splits, high) + 1
+        return range(bisect_right(self.splits, low), end)
+
+    def parts(self, operations: Sequence[Operation]) -> dict[int, bytes]:
+        """The part of each shard that has some of the operations. Raises what `packed` does."""
+        parts: dict[int, list[bytes]] = defaultdict(list)
+        shards, splits = self.shards, self.splits
+        for begin in range(0, len(operations), PIECE):
+            placed: dict[int, list[Operation]] = defaultdict(list)
+            for operation in operations[begin : begin + PIECE]:
+                if type(operation) is DeleteRange:
+                    for number in self.touched(*operation):
+                        placed[number].append(operation)
+                # Without a call of `owner`, which takes a third of the time.
+                elif splits is None:
+                    placed[crc32(operation[0]) % shards].append(operation)
+                else:
+                    placed[bisect_right(splits, operation[0])].append(operation)
+            for number, some in placed.items():
+                parts[number].append(packed(some))
+        return {number: dumps(pieces) for number, pieces in parts.items()}
+
+
+class Writer(NamedTuple):
+    """Who has a store open, and how."""
+
+    folder: Path
+    manifest: Manifest
     epoch: str
-    """That of the writer."""
     sync: bool
-    """Whether each batch is on the log's device before it is acknowledged."""
     patience: float
-    """For how many seconds it waits till no other process has the log open."""
-    last: int
-    """The last sequence of all shards."""
-    length: int
-    """How many bytes of the log were acknowledged."""
-    keeps: List[int]
-    """How long the log was at each snapshot that is alive."""
+
+    def check(self) -> None:
+        """Raises `AnotherWriter` if a newer writer has opened the store."""
+        if (self.folder / "epoch").read_text() != self.epoch:
+            raise AnotherWriter(f"a newer writer has opened {self.folder}")
 
 
-class Shard:
-    """A store and its log. One process at a time has the log open."""
+def _record(numbers: Sequence[int]) -> bytes:
+    """A record of the sequencer's log: the last sequence, each log's length, and a checksum."""
+    body = struct.pack(f"<{len(numbers)}Q", *numbers)
+    return body + crc32(body).to_bytes(4, "little")
 
-    def __init__(self, start: Start) -> None:
-        """Opens a shard. Raises what `Store.open` does, `LogDamaged`, `AnotherWriter`, and for files `ShardedError`."""
-        self._start, self._last, self._length = start, start.last, start.length
-        self._path = log_path(start.folder, start.number)
-        with self._named():
-            self._file = open(self._path, "r+b")
-        try:
-            with self._named():
-                log = self._read_log()
-            self._feed_rest(log, self._open_store(log))
-        except BaseException:
-            # The error may keep this object alive, and with it the file's lock.
-            self._file.close()
-            raise
 
-    def __del__(self) -> None:
-        # Dask closes nothing: it drops an actor.
-        if "_file" in self.__dict__:
-            self._file.close()
+class Sequencer:
+    """The log of how far all shards are. What it doesn't have wasn't acknowledged."""
 
-    def _read_log(self) -> bytes:
-        """What was acknowledged of the log. What stands behind it, of a batch that not all shards finished, is cut off."""
-        if not is_locked(self._file, self._start.patience):
-            raise ShardedError(f"shard {self._start.number}: {self._path} is open in another process")
-        check_epoch(self._start.folder, self._start.epoch)
-        log = self._file.read(self._length)
-        offset, ended = log_writes(log).end()
-        if ended.end != End.CLEAN or offset != self._length:
-            read = f"can be read up to byte {offset} of the {self._length} that were acknowledged: {ended}"
-            raise LogDamaged(f"shard {self._start.number}: {self._path} {read}")
-        self._file.truncate(self._length)
-        return log
+    def __init__(self, writer: Writer) -> None:
+        """Begins an epoch: older writers are refused. Raises `LogDamaged` and `OSError`."""
+        replace(writer.folder / "epoch", writer.epoch.encode())
+        path, count = writer.folder / "sequencer.log", writer.manifest.shards + 1
+        text, size = path.read_bytes(), 8 * count + 4
+        records = [text[place : place + size] for place in range(0, len(text) - size + 1, size)]
+        found = [struct.unpack(f"<{count}Q", record[:-4]) for record in records]
+        good = [_record(numbers) == record for numbers, record in zip(found, records)]
+        # A crash may have left a part of a record behind the last one.
+        if not any(good) or not all(good[:-1]):
+            damage = size * good.index(False) if good else 0
+            raise LogDamaged(f"{path} is damaged at byte {damage}")
+        self.last, *self.lengths = found[-1 if good[-1] else -2]
+        # A writer that was thought dead goes on with the old file, which nobody reads.
+        replace(path, _record([self.last, *self.lengths]))
+        self._writer, self._file = writer, open(path, "ab")
 
-    @contextmanager
-    def _named(self) -> Iterator[None]:
-        """Says of a file's error whose it is. An `OSError` would be taken for a lost worker."""
-        try:
-            yield
-        except OSError as error:
-            raise ShardedError(f"shard {self._start.number}: {self._path}: {error.strerror}") from None
+    def append(self, last: int, lengths: Mapping[int, int]) -> None:
+        """Acknowledges a batch. Raises `AnotherWriter` and `OSError`, and isn't used then."""
+        self.last = last
+        for number, length in lengths.items():
+            self.lengths[number] = length
+        append(self._file, _record([last, *self.lengths]), self._writer.sync)
+        # A newer writer begins an epoch, and then reads the log: it has this record, or is seen.
+        self._writer.check()
 
-    def _open_store(self, log: bytes) -> int:
-        """Opens the store from the log up to the oldest snapshot, or from less if that would be too many runs at once.
+    def close(self) -> None:
+        """Closes the file."""
+        self._file.close()
 
-        Returns how much of the log it is.
+
+class Shard(Store):
+    """A store beside its log, which one process at a time has open."""
+
+    @classmethod
+    def start(cls, writer: Writer, number: int, length: int, keeps: Sequence[int]) -> Shard:
+        """Opens a shard whose log has a length, and had others at the snapshots that are alive.
+
+        Raises `OutOfMemory`, `LogDamaged`, `AnotherWriter`, and `ShardedError` for a file's error.
         """
-        opened = min(self._start.keeps, default=len(log))
-        while True:
-            try:
-                self._store = Store.open(self._start.operator, log[:opened], self._start.options)
-                return opened
-            except TooManyRuns:
-                opened //= 2
+        path, manifest = writer.folder / f"shard-{number}.log", writer.manifest
+        whose = f"shard {number}: {path}"
+        with refusing(ShardedError, whose, OSError):
+            file = open(path, "r+b")
+            # Dask may keep an error, and with it the file and its lock.
+            with undoing(file.close):
+                log = _read_log(file, whose, writer, length)
+                # As the oldest snapshot was, or less if that would be too many runs at once.
+                opened, shard = min(keeps, default=length), None
+                while shard is None:
+                    try:
+                        shard = cls.open(manifest.operator, log[:opened], manifest.options)
+                    except TooManyRuns:
+                        opened //= 2
+                shard._feed_rest(log, opened, Counter(keeps))
+        shard._writer, shard._whose, shard._file, shard._length = writer, whose, file, length
+        # Dask closes nothing: it drops an actor.
+        weakref.finalize(shard, file.close)
+        return shard
 
-    def _feed_rest(self, log: bytes, opened: int) -> None:
-        """Feeds the batches behind what was opened, and takes the snapshots again that are alive."""
-        keeps = Counter(self._start.keeps)
-        self._keep(keeps[opened])
-        if opened == len(log):
-            return
-        writes = log_writes(log)
+    def _feed_rest(self, log: bytes, opened: int, keeps: Mapping[int, int]) -> None:
+        """Feeds the batches behind what was opened, and takes the snapshots that are alive."""
+        self._settle(keeps[opened])
+        writes = log_writes(log if opened < len(log) else b"")
         for end, batch in groupby(writes, lambda _: writes.offset):
             if end > opened:
                 fed = list(batch)
                 self._feed(batch_bytes((write.operation for write in fed), fed[0].sequence))
-                self._keep(keeps[end])
+                self._settle(keeps[end])
 
-    def _keep(self, times: int) -> None:
-        """Takes as many snapshots."""
-        for _ in range(times):
-            self._store.keep()
-
-    def _feed(self, batch: bytes) -> None:
-        """Feeds a batch, and compacts what is picked then."""
-        try:
-            self._store._feed(batch)
-        except TooManyRuns:
-            self._compact()
-            self._store._feed(batch)
-        self._compact()
-
-    def _compact(self) -> None:
-        """Compacts until nothing is picked."""
-        while self._store.compact():
+    def _settle(self, keeps: int = 0) -> None:
+        """Takes snapshots, and compacts until nothing is picked."""
+        for _ in range(keeps):
+            self.keep()
+        while self.compact():
             pass
 
-    def apply(self, first: int, part: bytes, last: int) -> int:
-        """Appends a part of the batch from `first` to `last` to the log, feeds it, and returns how long the log is then.
+    def apply(self, length: int, first: int, part: bytes) -> int:
+        """Appends a part to the log, feeds it, and returns how long the log is then.
 
-        A batch that it has already, because an answer was lost, isn't appended twice.
+        A log that isn't of the length has it already, because an answer was lost.
         """
-        if last > self._last:
-            # The store's own calls would spell the batch twice.
-            batch = batch_bytes(unpacked(part), first)
-            self._append(self._store._log_record(self._length, batch))
-            self._feed(batch)
-            self._last = last
+        if self._length == length:
+            with refusing(ShardedError, self._whose, OSError), undoing(self._file.close):
+                batch = batch_of(part, first)
+                record = self._log_record(length, batch)
+                self._writer.check()
+                append(self._file, record, self._writer.sync)
+                self._feed(batch)
+                self._settle()
+            self._length += len(record)
         return self._length
 
-    def _append(self, record: bytes) -> None:
-        """Appends a record to the log, and waits for its device."""
-        with self._named():
-            check_epoch(self._start.folder, self._start.epoch)
-            self._file.seek(self._length)
-            self._file.write(record)
-            self._file.flush()
-            if self._start.sync:
-                os.fsync(self._file.fileno())
-        self._length += len(record)
+    def answers(self, queries: bytes, at: int) -> bytes:
+        """The answers at a snapshot to keys, and to scans of a limit, with their places, packed."""
+        found: list[tuple[int, Any]] = []
+        for place, query in marshal.loads(queries):
+            if isinstance(query, bytes):
+                found.append((place, self.get(query, at)))
+            else:
+                found.append((place, list(islice(self.scan(*query[:2], at), query[2]))))
+        return dumps(found)
 
-    def keep(self) -> int:
-        """Takes a snapshot, and returns its sequence."""
-        return self._store.keep()
-
-    def release(self, at: int) -> None:
-        """Releases a snapshot."""
-        self._store.release(at)
-
-    def get(self, at: int, key: bytes) -> Optional[bytes]:
-        """The value under a key at a snapshot, or None."""
-        return self._store.get(key, at)
-
-    def answers(self, at: int, queries: bytes) -> bytes:
-        """The answers to keys, and to scans of a limit, at a snapshot. Both are packed."""
-        return dumps([
-            self._store.get(query, at) if type(query) is bytes else list(islice(self._store.scan(*query[:2], at), query[2]))
-            for query in marshal.loads(queries)
-        ])
-
-    def page(self, at: int, low: bytes, high: Optional[bytes]) -> bytes:
+    def page(self, low: bytes, high: bytes | None, at: int) -> bytes:
         """The first rows of a scan at a snapshot, and whether there may be more, packed."""
         rows, size = [], 0
-        for row in self._store.scan(low, high, at):
+        for row in self.scan(low, high, at):
             rows.append(row)
             size += len(row[0]) + len(row[1])
             if len(rows) == PAGE_ROWS or size >= PAGE_BYTES:
                 return dumps((rows, True))
         return dumps((rows, False))
 
-    def report(self) -> Report:
-        """What the store holds, in numbers."""
-        return self._store.report()
+
+def _read_log(file: BinaryIO, whose: str, writer: Writer, length: int) -> bytes:
+    """What was acknowledged of a log. A batch that not all shards finished is cut off."""
+    for _ in polls(writer.patience):
+        with suppress(BlockingIOError):
+            fcntl.flock(file, fcntl.LOCK_EX | fcntl.LOCK_NB)
+            break
+    else:
+        raise ShardedError(f"{whose} is open in another process")
+    writer.check()
+    log = file.read(length)
+    offset, ended = log_writes(log).end()
+    if ended.end != End.CLEAN or offset != length:
+        read = f"{whose} can be read up to byte {offset} of the {length} that were acknowledged"
+        raise LogDamaged(f"{read}: {ended}")
+    file.truncate(length)
+    return log

@@ -1,126 +1,131 @@
 """A store over many processes: Dask places its shards on workers, calls them, and opens them again.
 
-    client = Client("tcp://127.0.0.1:8786", direct_to_workers=True)
-    with ShardedStore.create(client, "/data/tags", 4, Operator.APPEND) as store:
-        store.write([Put(b"colour", b"blue"), Merge(b"tags", b"new")])
-        with store.snapshot() as snapshot:
-            print(snapshot.get(b"tags"), list(snapshot.scan(b"a", b"z")))
-
-Each shard is a `Store` beside its write-ahead log. A key belongs to the shard `zlib.crc32(key) % shards`, or to the one
-between whose split points it lies. The logs lie in one folder, which the client and all workers reach under the same path.
-
-A batch is there on all shards or on none, for readers and after a crash. Shards append their parts to their logs and feed
-them. Then the writer appends to `sequencer.log` how long all logs are. A log is opened up to that length, and cut off there.
-
-There is one writer at a time, by a lock of Dask's. The file `epoch` names the newest one, and shards of another refuse to
-write. A log is open in one process at a time, by a lock of its file. If a worker dies, its shards are opened on others.
+A key belongs to the shard `zlib.crc32(key) % shards`, or to the one between whose split points it
+lies. Each shard is a `Store` beside its log. The logs lie in one folder, which the client and all
+workers reach under the same path. A batch is there on all shards or on none: when all have it in
+their logs, the writer appends to `sequencer.log` how long these are. What is behind is cut off.
 """
+
+from __future__ import annotations
 
 import heapq
 import marshal
 import threading
+import uuid
 from collections import defaultdict
-from itertools import chain, islice
+from contextlib import AbstractContextManager, suppress
+from itertools import islice
 from pathlib import Path
-from typing import Any, Dict, Iterable, Iterator, List, Mapping, NamedTuple, Optional, Sequence, Set, Tuple, Union
+from typing import Any, Iterable, Iterator, Mapping, NamedTuple, Sequence
 
-from distributed import Client
+from distributed import CancelledError, Client, Future, KilledWorker
+from distributed import TimeoutError as TimedOut
 
-from . import NoStore, NotProtected, Operation, Operator, Options, Report
-from ._dask import NoWorkers, Shards, WriterLock
-from ._folder import BadManifest, Manifest, Sequencer, new_epoch
-from ._shard import AnotherWriter, LogDamaged, ShardedError, Start, dumps
+from . import NoStore, NotProtected, Operation, Operator, Options, Report, UcstoreError
+from ._shard import AnotherWriter, BadManifest, LogDamaged, Manifest, Sequencer, Shard
+from ._shard import ShardedError, Writer, dumps, polls, undoing
 
-__all__ = [
-    "AnotherWriter", "BadManifest", "LogDamaged", "NoWorkers", "Scan", "ShardedError", "ShardedSnapshot", "ShardedStore",
-]
+try:
+    from tqdm import tqdm
+except ImportError:
+    tqdm = None
 
-_Row = Tuple[bytes, bytes]
+__all__ = ["AnotherWriter", "BadManifest", "LogDamaged", "NoWorkers", "Scan"]
+__all__ += ["ShardedError", "ShardedSnapshot", "ShardedStore"]
+
+# Seconds between two looks at a shard that doesn't answer, and how often it is opened for a call.
+_POLL, _TRIES = 0.2, 10
+
+
+class NoWorkers(ShardedError):
+    """No worker is left on which a shard could be opened."""
 
 
 class Scan(NamedTuple):
-    """A query for the keys from `low` to below `high`, or to the last one, with their values: the first `limit`, or all."""
+    """A query for rows from `low` to below `high`, or to the last: the first `limit`, or all."""
 
     low: bytes = b""
-    high: Optional[bytes] = None
-    limit: Optional[int] = None
+    high: bytes | None = None
+    limit: int | None = None
 
 
-class ShardedStore:
-    """A store over shards. Threads may share it: its calls wait for one another. `with` closes it at the end."""
-
-    def __init__(self, client: Client, path: Union[str, Path], *, sync: bool = True, patience: float = 30.0) -> None:
-        """`open` calls it."""
-        self._folder, self._sync, self._patience = Path(path).absolute(), sync, patience
-        self._guard = threading.RLock()
-        self._snapshots: Set["ShardedSnapshot"] = set()
-        self._sequencer: Optional[Sequencer] = None
-        self._manifest = Manifest.read(self._folder)
-        self._lock = WriterLock(client, self._folder, patience)
-        self._shards = Shards(client, self._lock, patience, self._start)
-        self._lock.hold()
-        try:
-            self._epoch = new_epoch(self._folder)
-            self._sequencer = Sequencer(self._folder, self._manifest.shards, self._epoch, sync)
-            self.report()
-        except BaseException:
-            self.close()
-            raise
+class ShardedStore(AbstractContextManager):
+    """A store over shards. Threads may share it: its calls wait for one another."""
 
     @classmethod
     def create(
-        cls, client: Client, path: Union[str, Path], shards: int, operator: Operator, options: Options = Options(),
-        splits: Optional[Sequence[bytes]] = None, *, sync: bool = True, patience: float = 30.0,
-    ) -> "ShardedStore":
+        cls,
+        client: Client,
+        path: str | Path,
+        shards: int,
+        operator: Operator,
+        options: Options = Options(),
+        splits: Sequence[bytes] | None = None,
+        *,
+        sync: bool = True,
+        patience: float = 30.0,
+    ) -> ShardedStore:
         """Makes an empty store in a folder that is empty or isn't there.
 
-        Its keys are placed by hash, or by `splits`, which lie between shards. Raises `BadManifest`, and what `open` does.
+        Its keys are placed by hash, or by `splits`, which lie between shards. Raises `BadManifest`,
+        and what `open` does.
         """
-        Manifest(shards, None if splits is None else tuple(splits), operator, options).create(Path(path).absolute())
-        return cls(client, path, sync=sync, patience=patience)
+        points = None if splits is None else tuple(splits)
+        Manifest(shards, points, operator, options).create(Path(path).absolute())
+        return cls(client, path, sync, patience)
 
     @classmethod
-    def open(cls, client: Client, path: Union[str, Path], *, sync: bool = True, patience: float = 30.0) -> "ShardedStore":
+    def open(
+        cls, client: Client, path: str | Path, *, sync: bool = True, patience: float = 30.0
+    ) -> ShardedStore:
         """Opens a store with all batches that were acknowledged.
 
-        `sync` says whether each batch is on the logs' devices before it is acknowledged. Without it, a machine that crashes
-        may leave logs that are refused. `patience` is for how many seconds a call waits for a worker or a lock.
+        `sync` says whether each batch is on the logs' devices before it is acknowledged. Without
+        it, a machine that crashes may leave logs that are refused. `patience` is for how many
+        seconds a call waits for a worker or a lock.
 
-        Raises what `Store.open` does, `BadManifest`, `AnotherWriter`, `LogDamaged`, `NoWorkers`, and `ShardedError` and
-        `OSError` for a file's error.
+        Raises what `Store.open` does, `BadManifest`, `AnotherWriter`, `LogDamaged`, `NoWorkers`,
+        and `ShardedError` and `OSError` for a file's error.
         """
-        return cls(client, path, sync=sync, patience=patience)
+        return cls(client, path, sync, patience)
+
+    def __init__(self, client: Client, path: str | Path, sync: bool, patience: float) -> None:
+        self._client, self._patience, self._folder = client, patience, Path(path).absolute()
+        self._manifest = Manifest.read(self._folder)
+        self._writer = Writer(self._folder, self._manifest, uuid.uuid4().hex, sync, patience)
+        self._guard = threading.RLock()
+        self._snapshots: set[ShardedSnapshot] = set()
+        self._futures: dict[int, Future] = {}
+        self._actors: dict[int, Any] = {}
+        self._log: Sequencer | None = None
+        # Dask's lock has its owner's client, so that it can be taken from one that is gone.
+        self._lock, self._owner = f"ucstore {self._folder}", f"{client.id} {self._writer.epoch}"
+        with undoing(self.close):
+            self._find_workers()
+            self._log = Sequencer(self._writer)
+            self.report()
 
     def close(self) -> None:
         """Closes the store, and ends its snapshots. A second call does nothing."""
         with self._guard:
-            self._shards.forget(range(self._manifest.shards))
+            self._forget(range(self._manifest.shards))
             self._snapshots.clear()
-            if self._sequencer is not None:
-                self._sequencer.close()
-                self._sequencer = None
-            self._lock.release()
-
-    def __enter__(self) -> "ShardedStore":
-        return self
+            if self._log is not None:
+                self._log.close()
+                self._log = None
+            with suppress(ValueError, OSError, TimedOut):
+                if self._client.status == "running":
+                    release = self._client.scheduler.lock_release
+                    self._client.sync(release, name=self._lock, id=self._owner)
 
     def __exit__(self, *_: Any) -> None:
         self.close()
 
     def _acknowledged(self) -> Sequencer:
         """How far the shards are. Raises `NoStore` if the store is closed."""
-        if self._sequencer is None:
+        if self._log is None:
             raise NoStore()
-        return self._sequencer
-
-    def _start(self, number: int) -> Start:
-        """What a shard is opened with now."""
-        manifest, sequencer = self._manifest, self._acknowledged()
-        keeps = [snapshot.lengths[number] for snapshot in self._snapshots]
-        return Start(
-            self._folder, number, manifest.operator, manifest.options, self._epoch, self._sync, self._patience,
-            sequencer.last, sequencer.lengths[number], keeps,
-        )
+        return self._log
 
     @property
     def last(self) -> int:
@@ -130,68 +135,145 @@ class ShardedStore:
     def write(self, operations: Iterable[Operation]) -> int:
         """Writes a batch, and returns its last sequence once all shards have it in their logs.
 
-        Raises what `Store.feed` does, `NoWorkers`, `AnotherWriter`, and `ShardedError` for a file's error: then the batch
-        isn't there. If the sequencer's log has an error, that isn't known: the store is closed, and opening it tells.
+        Raises what `Store.feed` does, `NoWorkers`, `AnotherWriter`, and `ShardedError` for a file's
+        error: then the batch isn't there. If the sequencer's log has an error, that isn't known:
+        the store is closed, and opening it tells.
         """
         batch = list(operations)
         parts = self._manifest.parts(batch)
         with self._guard:
-            sequencer = self._acknowledged()
-            first, last = sequencer.last + 1, sequencer.last + len(batch)
-            if batch:
-                lengths = self._change("apply", {number: (first, part, last) for number, part in parts.items()})
-                try:
-                    sequencer.append(last, lengths)
-                except BaseException:
-                    self.close()
-                    raise
+            log = self._acknowledged()
+            first, last = log.last + 1, log.last + len(batch)
+            calls = {number: (log.lengths[number], first, part) for number, part in parts.items()}
+            # A shard that has a part which isn't acknowledged is opened again, as it was.
+            with undoing(self._forget, parts):
+                lengths = self._ask("apply", calls)
+                with undoing(self.close):
+                    log.append(last, lengths)
         return last
 
-    def _change(self, method: str, calls: Mapping[int, tuple]) -> Dict[int, Any]:
-        """Asks shards to change. If one refuses, all are opened again as they were."""
-        try:
-            return self._shards.ask(method, calls)
-        except BaseException:
-            self._shards.forget(calls)
-            raise
+    def snapshot(self) -> ShardedSnapshot:
+        """A snapshot at the last sequence, which `with` releases at its end.
 
-    def snapshot(self) -> "ShardedSnapshot":
-        """A snapshot at the last sequence, which `with` releases at its end. Raises `OutOfMemory` and `NoWorkers`."""
+        Raises `OutOfMemory` and `NoWorkers`.
+        """
         with self._guard:
-            lengths = list(self._acknowledged().lengths)
-            at = self._change("keep", {number: () for number in range(self._manifest.shards)})
-            snapshot = ShardedSnapshot(self, at, lengths)
-            self._snapshots.add(snapshot)
-            return snapshot
+            lengths, numbers = list(self._acknowledged().lengths), range(self._manifest.shards)
+            with undoing(self._forget, numbers):
+                at = self._ask("keep", dict.fromkeys(numbers, ()))
+                snapshot = ShardedSnapshot(self, at, lengths)
+                self._snapshots.add(snapshot)
+        return snapshot
 
-    def _release(self, snapshot: "ShardedSnapshot", at: Mapping[int, int]) -> None:
-        """Releases a snapshot, unless it is released. A shard that is opened again meanwhile takes it again before."""
-        with self._guard:
-            if snapshot in self._snapshots:
-                try:
-                    self._shards.ask("release", {number: (sequence,) for number, sequence in at.items()})
-                finally:
-                    self._snapshots.discard(snapshot)
-
-    def _read(self, snapshot: "ShardedSnapshot", method: str, calls: Mapping[int, tuple]) -> Dict[int, Any]:
-        """What shards answer to a call at a snapshot."""
-        with self._guard:
-            self._acknowledged()
-            if snapshot not in self._snapshots:
-                raise NotProtected()
-            return self._shards.ask(method, calls)
-
-    def report(self) -> List[Report]:
+    def report(self) -> list[Report]:
         """What each shard holds, in numbers."""
         with self._guard:
-            found = self._shards.ask("report", {number: () for number in range(self._manifest.shards)})
-        return [found[number] for number in sorted(found)]
+            found = self._ask("report", dict.fromkeys(range(self._manifest.shards), ()))
+        return list(found.values())
+
+    def _ask(self, method: str, calls: Mapping[int, tuple]) -> dict[int, Any]:
+        """What shards answer to a call, all at the same time. Lost ones are opened again."""
+        answers: dict[int, Any] = {}
+        for _ in range(_TRIES):
+            asked, begun = [number for number in calls if number not in answers], {}
+            self._open(asked)
+            for number in asked:
+                with suppress(KeyError, ValueError):
+                    begun[number] = getattr(self._actors[number], method)(*calls[number])
+            answers.update(self._ended(begun, ()))
+            if len(answers) == len(calls):
+                return {number: answers[number] for number in calls}
+        raise ShardedError(f"the workers of shards were lost {_TRIES} times")
+
+    def _open(self, numbers: Iterable[int]) -> None:
+        """Opens the shards that aren't open, as they were acknowledged, but for lost ones."""
+        closed = [number for number in numbers if not self._is_open(number)]
+        if closed:
+            self._forget(closed)
+            workers, begun = self._find_workers(), {}
+            # The scheduler takes the worker that has the fewest actors, if it is told some.
+            how = {"workers": workers, "allow_other_workers": True, "actor": True, "pure": False}
+            for number in closed:
+                length = self._acknowledged().lengths[number]
+                keeps = [snapshot.lengths[number] for snapshot in self._snapshots]
+                start = (Shard.start, self._writer, number, length, keeps)
+                begun[number] = self._futures[number] = self._client.submit(*start, **how)
+            actors = self._ended(begun, workers)
+            bar = {"desc": "opening shards", "delay": 1.0, "leave": False, "disable": None}
+            self._actors.update(tqdm(actors, total=len(closed), **bar) if tqdm else actors)
+
+    def _is_open(self, number: int) -> bool:
+        return number in self._actors and self._futures[number].status == "finished"
+
+    def _ended(self, begun: Mapping[int, Any], workers: Iterable[str]) -> Iterator[tuple[int, Any]]:
+        """What calls come to, but for lost shards. All have ended when one's error is raised."""
+        errors: list[Exception] = []
+        for number, future in begun.items():
+            try:
+                yield number, self._wait(number, future, workers)
+            except (UcstoreError, MemoryError) as error:
+                errors.append(error)
+            except (CancelledError, KilledWorker, OSError, TimedOut, ValueError):
+                self._forget([number])
+        if errors:
+            raise errors[0]
+
+    def _wait(self, number: int, future: Any, workers: Iterable[str]) -> Any:
+        """What a call, or an opening on workers, comes to. Raises what it raises."""
+        while True:
+            try:
+                # An actor belongs to the client that is the current one.
+                with self._client.as_current():
+                    return future.result(timeout=_POLL)
+            except TimedOut:
+                # Dask waits for workers that are gone, and a call of a lost actor may never end.
+                is_lost = self._futures[number].status != "finished"
+                if self._futures[number].status == "pending":
+                    there = self._client.scheduler_info().get("workers", ())
+                    is_lost = set(workers).isdisjoint(there)
+                if is_lost:
+                    raise CancelledError() from None
+
+    def _forget(self, numbers: Iterable[int]) -> None:
+        """Lets go of shards. Their workers close them, once no call is under way."""
+        for number in numbers:
+            self._actors.pop(number, None)
+            future = self._futures.pop(number, None)
+            # An actor's own future, which Python frees at some time, would keep it alive.
+            if future is not None and self._client.status == "running":
+                with suppress(OSError, TimedOut):
+                    future.cancel()
+
+    def _find_workers(self) -> list[str]:
+        """The workers that are there. It takes the lock, if a new scheduler has forgotten that.
+
+        Raises `AnotherWriter` and `NoWorkers` if it waits in vain.
+        """
+        name, owner = self._lock, self._owner
+
+        # A nested function is sent as its code: the scheduler needs no ucstore.
+        def find(dask_scheduler: Any = None) -> tuple[bool, list[str]]:
+            owners = dask_scheduler.extensions["locks"].ids
+            if owners.get(name, owner).split()[0] not in dask_scheduler.clients:
+                owners.pop(name, None)
+            return owners.setdefault(name, owner) == owner, list(dask_scheduler.workers)
+
+        for _ in polls(self._patience):
+            status, is_mine, workers = self._client.status, True, []
+            with suppress(OSError, TimedOut):
+                if status == "running":
+                    is_mine, workers = self._client.run_on_scheduler(find)
+            if is_mine and workers:
+                return workers
+        if is_mine:
+            raise NoWorkers(f"no worker is left for a shard: the client is {status}")
+        raise AnotherWriter(f"another writer has {self._folder} open")
 
 
-class ShardedSnapshot:
-    """A snapshot of all shards: it reads what was written before it was taken. `with` releases it at its end."""
+class ShardedSnapshot(AbstractContextManager):
+    """A snapshot of all shards: it reads what was written before it was taken."""
 
-    def __init__(self, store: ShardedStore, at: Mapping[int, int], lengths: List[int]) -> None:
+    def __init__(self, store: ShardedStore, at: Mapping[int, int], lengths: Sequence[int]) -> None:
         """`ShardedStore.snapshot` calls it."""
         self._store, self._at, self._manifest = store, at, store._manifest
         self.sequence = store.last
@@ -200,65 +282,70 @@ class ShardedSnapshot:
         """How long each shard's log was then."""
 
     def release(self) -> None:
-        """Releases the snapshot. A second call does nothing, and neither does one behind the store's end."""
-        self._store._release(self, self._at)
-
-    def __enter__(self) -> "ShardedSnapshot":
-        return self
+        """Releases the snapshot. A second call does nothing, nor one behind the store's end."""
+        with self._store._guard:
+            if self in self._store._snapshots:
+                try:
+                    # A shard that is opened again meanwhile takes it again before.
+                    self._ask("release", dict.fromkeys(self._at, ()))
+                finally:
+                    self._store._snapshots.discard(self)
 
     def __exit__(self, *_: Any) -> None:
         self.release()
 
-    def _ask(self, method: str, calls: Mapping[int, tuple]) -> Dict[int, Any]:
+    def _ask(self, method: str, calls: Mapping[int, tuple]) -> dict[int, Any]:
         """What shards answer to a call at the snapshot."""
-        return self._store._read(self, method, {number: (self._at[number], *call) for number, call in calls.items()})
+        with self._store._guard:
+            self._store._acknowledged()
+            if self not in self._store._snapshots:
+                raise NotProtected()
+            at = {number: (*call, self._at[number]) for number, call in calls.items()}
+            return self._store._ask(method, at)
 
-    def get(self, key: bytes) -> Optional[bytes]:
-        """The value under a key, or None. Raises `NotProtected` behind its release, `OutOfMemory` and `NoWorkers`."""
-        (number,) = self._manifest.owners([key])
-        return self._ask("get", {number: (key,)})[number]
+    def get(self, key: bytes) -> bytes | None:
+        """The value under a key, or None. Raises `NotProtected`, `OutOfMemory` and `NoWorkers`."""
+        return self.answers([key])[0]
 
-    def scan(self, low: bytes = b"", high: Optional[bytes] = None, limit: Optional[int] = None) -> Iterator[_Row]:
-        """The keys from `low` to below `high`, or to the last one, with their values, in order: the first `limit`, or all.
+    def scan(
+        self, low: bytes = b"", high: bytes | None = None, limit: int | None = None
+    ) -> Iterator[tuple[bytes, bytes]]:
+        """The rows that a `Scan` asks for, in the order of their keys. Raises what `get` does.
 
-        They are fetched in pages of at most 1,000 rows from each shard, and of a MiB or one row. Raises what `get` does.
+        They are fetched in pages of at most 1,000 rows from each shard, and of a MiB or one row.
         """
-        numbers = self._manifest.touched(low, high)
-        if self._manifest.splits is not None:
-            return islice(chain.from_iterable(self._rows(number, low, high) for number in numbers), limit)
-        pages = self._ask("page", {number: (low, high) for number in numbers})
-        return islice(heapq.merge(*(self._rows(number, low, high, pages[number]) for number in numbers)), limit)
+        pages = self._ask("page", dict.fromkeys(self._manifest.touched(low, high), (low, high)))
+        rows = (self._rows(number, page, high) for number, page in pages.items())
+        return islice(heapq.merge(*rows), limit)
 
-    def _rows(self, number: int, low: bytes, high: Optional[bytes], page: Optional[bytes] = None) -> Iterator[_Row]:
-        """The rows of a shard, whose first page may be there."""
-        more = True
+    def _rows(self, number: int, page: bytes, high: bytes | None) -> Iterator[tuple[bytes, bytes]]:
+        """The rows of a shard from a page on."""
+        rows, more = marshal.loads(page)
+        yield from rows
         while more:
-            rows, more = marshal.loads(page or self._ask("page", {number: (low, high)})[number])
-            yield from rows
             # No key is between the last one and this.
-            low, page = rows[-1][0] + b"\0" if rows else low, None
+            page = self._ask("page", {number: (rows[-1][0] + b"\0", high)})[number]
+            rows, more = marshal.loads(page)
+            yield from rows
 
-    def answers(self, queries: Iterable[Union[bytes, Scan]]) -> List[Union[None, bytes, List[_Row]]]:
-        """The answers to queries, in their order: for a key its value or None, for a `Scan` its rows.
+    def answers(self, queries: Iterable[bytes | Scan]) -> list[Any]:
+        """The answers to queries, in their order: a key's value or None, and the rows of a `Scan`.
 
         Each shard is asked once, for all that it has to answer. Raises what `get` does.
         """
-        asked = list(queries)
-        owners = self._manifest.owners([query[0] if isinstance(query, Scan) else query for query in asked])
-        places: Dict[int, List[int]] = defaultdict(list)
-        for place, (query, owner) in enumerate(zip(asked, owners)):
-            for number in self._manifest.touched(*query[:2]) if isinstance(query, Scan) else (owner,):
-                places[number].append(place)
-        plain = [tuple(query) if isinstance(query, Scan) else query for query in asked]
-        found = self._ask("answers", {number: (dumps([plain[place] for place in part]),) for number, part in places.items()})
-        answers: List[Any] = [[] if isinstance(query, Scan) else None for query in asked]
-        for number, part in sorted(places.items()):
-            for place, answer in zip(part, marshal.loads(found[number])):
-                if isinstance(asked[place], Scan):
-                    answers[place].append(answer)
-                else:
-                    answers[place] = answer
+        asked, manifest = list(queries), self._manifest
+        parts: dict[int, list] = defaultdict(list)
         for place, query in enumerate(asked):
-            if isinstance(query, Scan):
-                answers[place] = list(islice(heapq.merge(*answers[place]), query.limit))
-        return answers
+            is_scan = isinstance(query, Scan)
+            numbers = manifest.touched(*query[:2]) if is_scan else (manifest.owner(query),)
+            for number in numbers:
+                parts[number].append((place, tuple(query) if is_scan else query))
+        calls = {number: (dumps(part),) for number, part in parts.items()}
+        found: list[list] = [[] for _ in asked]
+        for part in self._ask("answers", calls).values():
+            for place, answer in marshal.loads(part):
+                found[place].append(answer)
+        return [
+            list(islice(heapq.merge(*some), query.limit)) if isinstance(query, Scan) else some[0]
+            for query, some in zip(asked, found)
+        ]
