@@ -12,3 +12,5 @@ pub mod Judged
 pub mod Named
 pub mod Spelled
 pub mod Refused
+pub mod Joining
+pub mod Passing

@@ -10,3 +10,6 @@ pub mod WriteLog
 pub mod Log
 pub mod Position
 pub mod Refusal
+pub mod Pieces
+pub mod Unread
+pub mod PiecePosition

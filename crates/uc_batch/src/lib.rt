@@ -4,6 +4,10 @@
 //! `write_batch.cc`). Read `error.rt` and `tag.rt` for what a batch may hold, then `records.rt`, `batch_writes.rt` and
 //! `writing.rt`. [`BatchReader`] goes through a log batch by batch and returns borrowed writes.
 //!
+//! [`Pieces`] takes the bytes of a log as they come from a file or a pipe, a MiB to a piece. [`PieceReader`] goes through
+//! them batch by batch, with the clauses of [`BatchReader`], and lets go of each piece as soon as its batches were read. So a
+//! store opens from a log without holding all of it beside the store. Read `pieces.rt`, then `piece_reader.rt`.
+//!
 //! An `Err(AllocError)`, or a variant `Memory`, comes only if an allocation fails.
 #![tactic(auto)]
 
@@ -16,10 +20,15 @@ mod header;
 mod laws;
 mod log;
 mod mode;
+mod payload;
+mod payload_reader;
+mod piece_reader;
+mod pieces;
 mod read_error;
 mod reading;
 mod records;
 mod tag;
+mod unread;
 mod varint;
 mod writes;
 mod writing;
@@ -32,6 +41,8 @@ pub use header::Header;
 pub use laws::{refusal_stands_in_batch, written_batch_is_read, written_batch_is_spelled};
 pub use log::read_writes;
 pub use mode::Mode;
+pub use piece_reader::PieceReader;
+pub use pieces::Pieces;
 pub use read_error::ReadError;
 pub use reading::read_batch;
 pub use uc_bytes::{Op, Write};

@@ -15,9 +15,9 @@ use Rattle.uc_version_state.specs.declared.feed_error.FeedError.TheVariants as f
 use Rattle.uc_version_state.specs.Feeds.{begin_above, first_feed_refusal, feed_refusal, memtables_in}
 use Rattle.uc_version_state.specs.Flushes.{memtables}
 use Rattle.uc_version_state.specs.Versions.{Stored}
-use Rattle.uc_version_open.specs.declared.open_error.OpenError.{OpenError}
-use Rattle.uc_version_open.specs.declared.open_error.OpenError.TheVariants as opens
-use Rattle.uc_version_open.specs.Refusal.{are_few, first_refusal, opening_refusal}
+use Rattle.uc_version_work.specs.declared.open_error.OpenError.{OpenError}
+use Rattle.uc_version_work.specs.declared.open_error.OpenError.TheVariants as opens
+use Rattle.uc_version_work.specs.Refusal.{are_few, first_refusal, opening_refusal}
 use Rattle.uc_version.specs.Owners.{Owner}
 use Rattle.uc_version.specs.declared.compact_error.CompactError.{CompactError}
 use Rattle.uc_version.specs.declared.compact_error.CompactError.TheVariants as compacts

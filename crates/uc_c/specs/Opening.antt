@@ -1,8 +1,8 @@
 -- What an opening puts behind a handle.
 use Rattle.std.specs.Prelude.{◌≡◌, ◌≢◌, ℕ, ℤ, Option, Some, None, ◌⊎◌, MatchOption}
 use Rattle.uc_version_state.specs.Openings.{Opening}
-use Rattle.uc_version_open.specs.Refusal.{opening_refusal}
-use Rattle.uc_version_open.specs.declared.open_error.OpenError.TheVariants.{Memory}
+use Rattle.uc_version_work.specs.Refusal.{opening_refusal}
+use Rattle.uc_version_work.specs.declared.open_error.OpenError.TheVariants.{Memory}
 use Rattle.uc_engine.specs.declared.operator_kind.OperatorKind.{OperatorKind}
 use Rattle.uc_engine.specs.Engines.{Engined, kind_numbered, opened_engine}
 use Rattle.uc_c.specs.declared.status.TheConstants.{OK, NO_STORE, HAS_STORE, UNKNOWN_OPERATOR}

@@ -2,8 +2,8 @@
 use Rattle.std.specs.Prelude.{◌≡◌, ℤ}
 use Rattle.uc_batch.specs.declared.error.BatchError.{BatchError}
 use Rattle.uc_batch.specs.declared.error.BatchError.TheVariants as faults
-use Rattle.uc_version_open.specs.declared.open_error.OpenError.{OpenError}
-use Rattle.uc_version_open.specs.declared.open_error.OpenError.TheVariants as opens
+use Rattle.uc_version_work.specs.declared.open_error.OpenError.{OpenError}
+use Rattle.uc_version_work.specs.declared.open_error.OpenError.TheVariants as opens
 use Rattle.uc_version_state.specs.declared.feed_error.FeedError.{FeedError}
 use Rattle.uc_version_state.specs.declared.feed_error.FeedError.TheVariants as feeds
 use Rattle.uc_version.specs.declared.compact_error.CompactError.{CompactError}

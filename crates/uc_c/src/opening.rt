@@ -1,8 +1,8 @@
 //! Opens a store behind a handle, and closes it.
 ghost use Rattle.std.specs.Prelude.{◌≡◌, ◌≢◌, ◌⊎◌, Some, None, IfOk, IfErr, ⊤};
 ghost use Rattle.uc_batch.specs.Log.{log_writes};
-ghost use Rattle.uc_version_open.specs.Refusal.{opening_refusal};
-ghost use Rattle.uc_version_open.specs.declared.open_error.OpenError.TheVariants.{Memory};
+ghost use Rattle.uc_version_work.specs.Refusal.{opening_refusal};
+ghost use Rattle.uc_version_work.specs.declared.open_error.OpenError.TheVariants.{Memory};
 ghost use Rattle.uc_engine.specs.Engines.{opened_engine, log_opening, empty_opening};
 ghost use Rattle.uc_c.specs.declared.status.TheConstants.{OK};
 ghost use Rattle.uc_c.specs.Numbers.{options_in, ended_in};

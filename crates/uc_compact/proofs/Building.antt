@@ -9,11 +9,11 @@ use Rattle.uc_run_entry.specs.Order.{IsFalling, AreInOrder}
 use Rattle.uc_run_entry.specs.Run.{Contents, IsRun, IsWithin}
 use Rattle.uc_run_entry.specs.Cutting.{fragments_of}
 use Rattle.uc_run_entry.proofs.Pieces.{in_order, seqs_fall}
-use Rattle.uc_compact_rules.specs.Inputs.{Compaction, AreRuns, Stand, low_of, high_of, points_of, ranges_of, keeping_of}
-use Rattle.uc_compact_rules.specs.Stripes.{Keeping}
-use Rattle.uc_compact_rules.specs.Choice.{AreOfOneKey, points_for, points_named, seqs_over}
-use Rattle.uc_compact_rules.specs.Output.{keys_of, fragment_kept, output_of}
-use Rattle.uc_compact_rules.proofs.OutputRun.{cut_within, low_from_one}
+use Rattle.uc_compact.specs.Inputs.{Compaction, AreRuns, Stand, low_of, high_of, points_of, ranges_of, keeping_of}
+use Rattle.uc_compact.specs.Stripes.{Keeping}
+use Rattle.uc_compact.specs.Choice.{AreOfOneKey, points_for, points_named, seqs_over}
+use Rattle.uc_compact.specs.Output.{keys_of, fragment_kept, output_of}
+use Rattle.uc_compact.proofs.OutputRun.{cut_within, low_from_one}
 use Rattle.uc_compact.specs.Parts.{IsFragment}
 
 module _ (m : Operation) (c : Compaction) (are : AreRuns c.inputs) (stand : Stand c.inputs c.keeps) where

@@ -22,10 +22,10 @@ use Rattle.uc_run_entry.proofs.Over.{lt_of, lt_le}
 use Rattle.uc_run_entry.proofs.SeqsOver.{same_bool}
 use Rattle.uc_run_entry.proofs.Sets.{sorted_set, all_back}
 use Rattle.uc_run_entry.proofs.SameSets.{same_set}
-use Rattle.uc_compact_rules.specs.Inputs.{AreRuns, ranges_over, ranges_of}
+use Rattle.uc_compact.specs.Inputs.{AreRuns, ranges_over, ranges_of}
 use Rattle.uc_compact.specs.Pieces.{lists_over, fragments_in, piece_over, pieces_over}
 use Rattle.uc_compact.proofs.Keys.{le_itself, no_less_itself}
-use Rattle.uc_compact_rules.proofs.Lists.{all-append}
+use Rattle.uc_compact.proofs.NestedLists.{all-append}
 use denote.Ref.{Bor}
 
 abbrev Cuts : Type 0

@@ -11,10 +11,10 @@ use Rattle.uc_run_entry.specs.declared.fragment.Fragment.{Fragment}
 use Rattle.uc_run_entry.specs.Order.{IsFalling}
 use Rattle.uc_run_entry.specs.Run.{Contents, covers}
 use Rattle.uc_run_entry.proofs.Sets.{all_back}
-use Rattle.uc_compact_rules.specs.Together.{together}
+use Rattle.uc_compact.specs.Together.{together}
 use Rattle.uc_compact.specs.Pieces.{lists_over, fragments_in, IsList, AreOver, piece_over, pieces_over}
 use Rattle.uc_compact.proofs.Cutting.{IsFilled}
-use Rattle.uc_compact_rules.proofs.Lists.{all-append, all-filter}
+use Rattle.uc_compact.proofs.NestedLists.{all-append, all-filter}
 
 pub map_push : {X Y : Type 0} (f : X → Y) (xs : List X) (x : X) → map f (xs ++ x ∷ []) ≡ map f xs ++ f x ∷ []
 map_push f xs x = map-append f xs (x ∷ [])

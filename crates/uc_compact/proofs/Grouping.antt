@@ -8,9 +8,9 @@ use Rattle.uc_run_entry.specs.declared.fragment.Fragment.{Fragment}
 use Rattle.uc_run_entry.specs.Order.{entry_cmp}
 use Rattle.uc_run_entry.specs.Run.{Contents}
 use Rattle.uc_compact.specs.Groups.{Group, keys_of, group_of, groups_of}
-use Rattle.uc_compact_rules.specs.Stripes.{Keeping}
-use Rattle.uc_compact_rules.specs.Inputs.{AreRuns, points_of}
-use Rattle.uc_compact_rules.specs.Choice.{AreOfOneKey, points_for, points_named, seqs_over}
+use Rattle.uc_compact.specs.Stripes.{Keeping}
+use Rattle.uc_compact.specs.Inputs.{AreRuns, points_of}
+use Rattle.uc_compact.specs.Choice.{AreOfOneKey, points_for, points_named, seqs_over}
 use Rattle.uc_compact.specs.Parts.{points_of_each}
 use Rattle.uc_compact.specs.Kept.{AreOfOneKeyEach}
 use Rattle.uc_compact.proofs.Pushing.{of_groups, HasOneKey}

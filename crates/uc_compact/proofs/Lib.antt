@@ -13,3 +13,23 @@ mod Cutting
 mod Gathered
 mod Fronts
 pub mod NextKeys
+pub mod NestedLists
+pub mod Effects
+pub mod Choosing
+pub mod Across
+pub mod Parted
+pub mod Kept
+pub mod OutputRun
+pub mod Staying
+pub mod Leaving
+pub mod Chosen
+pub mod NumbersFall
+pub mod Searched
+pub mod StripeSteps
+pub mod Onward
+pub mod InTurn
+pub mod Judged
+pub mod OnTop
+pub mod Best
+pub mod Newest
+pub mod Apart

@@ -1,7 +1,7 @@
 -- What holds of all of a list, and lists of lists.
 use Rattle.std.proofs.Common.{◌≡◌, ℕ, ◌≤◌, List, [], ◌∷◌, ◌++◌, length, map, take, take_all, ap, ◌∙◌}
 use Rattle.std.specs.List.{AllByRecursion}
-pub use Rattle.uc_compact_rules.proofs.Lists.{all-append, all-mapped}
+pub use Rattle.uc_compact.proofs.NestedLists.{all-append, all-mapped}
 
 pub all-front : {X : Type 0} (P : X → Type 0) (xs ys : List X) → AllByRecursion P (xs ++ ys) → AllByRecursion P xs
 all-front P [] ys h = tt

@@ -20,10 +20,10 @@ use Rattle.std.proofs.lemmas.List.{length-drop}
 use Rattle.uc_run_entry.proofs.Partitions.{IsCut, filter-cut}
 use Rattle.uc_run_entry.proofs.Sets.{all_back, sorted_set}
 use Rattle.uc_run_entry.proofs.SameSets.{same_sorted, all_inserted}
-use Rattle.uc_compact_rules.specs.Stripes.{Keeping}
-use Rattle.uc_compact_rules.specs.Choice.{AreOfOneKey, points_for, points_named, seqs_over}
-use Rattle.uc_compact_rules.proofs.Lists.{all-filter}
-use Rattle.uc_compact_rules.proofs.OutputRun.{sorted-append}
+use Rattle.uc_compact.specs.Stripes.{Keeping}
+use Rattle.uc_compact.specs.Choice.{AreOfOneKey, points_for, points_named, seqs_over}
+use Rattle.uc_compact.proofs.NestedLists.{all-filter}
+use Rattle.uc_compact.proofs.OutputRun.{sorted-append}
 use Rattle.uc_compact.specs.Groups.{keys_of}
 use Rattle.uc_compact.specs.Kept.{AreOfOneKeyEach, points_kept}
 use Rattle.uc_compact.specs.Cuts.{is_below, is_from}

@@ -7,8 +7,8 @@ use Rattle.uc_oper.specs.Operation.{Operation}
 use Rattle.uc_run_entry.specs.declared.entry.Entry.{Entry}
 use Rattle.uc_run_entry.specs.declared.fragment.Fragment.{Fragment}
 use Rattle.uc_compact.specs.Groups.{Group, Comes}
-use Rattle.uc_compact_rules.specs.Stripes.{Keeping}
-use Rattle.uc_compact_rules.specs.Choice.{AreOfOneKey, points_for, seqs_over}
+use Rattle.uc_compact.specs.Stripes.{Keeping}
+use Rattle.uc_compact.specs.Choice.{AreOfOneKey, points_for, seqs_over}
 
 module _ (m : Operation) (keeping : Keeping) (cut : List Fragment) where
   abbrev pub of_group : Group → List Entry

@@ -6,7 +6,7 @@ use Rattle.std.specs.declared.cmp.Ordering.TheVariants.{Less}
 use Rattle.std.proofs.lemmas.Cmp.{nat_list_cmp_total}
 use Rattle.std.proofs.lemmas.List.{map-append}
 use Rattle.uc_bytes.specs.Bytes.{bytes_cmp}
-use Rattle.uc_compact_rules.proofs.OutputRun.{sorted-append}
+use Rattle.uc_compact.proofs.OutputRun.{sorted-append}
 
 module _ {X : Type 0} (key : X → List ℕ) (k : X) where
   abbrev LastIsBelow : List X → Type 0

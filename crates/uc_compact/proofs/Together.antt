@@ -5,8 +5,8 @@ use Rattle.std.specs.List.{AllByRecursion, IsAllAdjacentAnswer}
 use Rattle.std.proofs.lemmas.Bool.{false≢true}
 use Rattle.std.proofs.lemmas.List.{map-append, take_more}
 use Rattle.uc_run_entry.specs.Run.{Contents}
-use Rattle.uc_compact_rules.specs.Inputs.{AreRuns, AreNewestFirst, low_of}
-use Rattle.uc_compact_rules.proofs.Lists.{all-append}
+use Rattle.uc_compact.specs.Inputs.{AreRuns, AreNewestFirst, low_of}
+use Rattle.uc_compact.proofs.NestedLists.{all-append}
 
 -- one element more of which all hold
 pub one_more : {X Y : Type 0} (f : X → Y) (P : Y → Type 0) (xs : List X) (i : ℕ) (x : X) → i < length xs → x ≡ slice_index_or xs i x → P (f x) → AllByRecursion P (map f (take i xs)) → AllByRecursion P (map f (take (i + 1) xs))

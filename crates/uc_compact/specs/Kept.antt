@@ -5,8 +5,8 @@ use Rattle.uc_oper.specs.Operation.{Operation}
 use Rattle.uc_run_entry.specs.declared.entry.Entry.{Entry}
 use Rattle.uc_run_entry.specs.declared.fragment.Fragment.{Fragment}
 use Rattle.uc_compact.specs.Groups.{keys_of}
-use Rattle.uc_compact_rules.specs.Stripes.{Keeping}
-use Rattle.uc_compact_rules.specs.Choice.{AreOfOneKey, points_for, points_named, seqs_over}
+use Rattle.uc_compact.specs.Stripes.{Keeping}
+use Rattle.uc_compact.specs.Choice.{AreOfOneKey, points_for, points_named, seqs_over}
 
 -- each key's points, and the range deletions over it, are like those of one key
 abbrev pub AreOfOneKeyEach : List Fragment → List Entry → Type 0

@@ -7,3 +7,11 @@ pub mod Heads
 pub mod Ahead
 pub mod Pieces
 pub mod Fronts
+pub mod Stripes
+pub mod Inputs
+pub mod Output
+pub mod Reading
+pub mod Values
+pub mod OneOfEach
+pub mod Choice
+pub mod Together

@@ -2,8 +2,8 @@
 use Rattle.std.specs.Prelude.{◌≡◌, map}
 use Rattle.std.specs.Arc.{arc_value}
 use Rattle.uc_oper.specs.Operation.{Operation}
-use Rattle.uc_compact_rules.specs.Inputs.{Compaction, AreRuns, Stand}
-use Rattle.uc_compact_rules.specs.Output.{output_of}
+use Rattle.uc_compact.specs.Inputs.{Compaction, AreRuns, Stand}
+use Rattle.uc_compact.specs.Output.{output_of}
 use Rattle.uc_compact.specs.declared.compacted.Compacted.TheInside.{Inside}
 
 abbrev pub asked : {O : Type 0} → Inside O → Compaction

@@ -5,7 +5,7 @@ use Rattle.uc_run_entry.specs.declared.fragment.Fragment.{Fragment}
 use Rattle.uc_run_entry.specs.Order.{IsFalling}
 use Rattle.uc_run_entry.specs.Run.{Contents, covers}
 use Rattle.uc_run_entry.specs.Cutting.{Piece, pieces}
-use Rattle.uc_compact_rules.specs.Together.{together}
+use Rattle.uc_compact.specs.Together.{together}
 
 -- the sequences of each fragment over a key
 abbrev pub lists_over : List ℕ → List Fragment → List (List ℕ)

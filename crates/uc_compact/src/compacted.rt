@@ -1,13 +1,13 @@
 //! [`Compacted`]: a compaction with its result.
 ghost use Rattle.std.specs.Prelude.{◌≡◌, map};
 ghost use Rattle.std.specs.Arc.{arc_value};
-ghost use Rattle.uc_compact_rules.specs.Inputs.{AreRuns, Stand};
-ghost use Rattle.uc_compact_rules.specs.Output.{output_of};
-ghost use Rattle.uc_compact_rules.specs.Reading.{KeepsReads};
+ghost use Rattle.uc_compact.specs.Inputs.{AreRuns, Stand};
+ghost use Rattle.uc_compact.specs.Output.{output_of};
+ghost use Rattle.uc_compact.specs.Reading.{KeepsReads};
 
+use crate::compaction_keeps_what_is_read;
 use std::marker::{Model, PhantomData};
 use std::sync::Arc;
-use uc_compact_rules::compaction_keeps_what_is_read;
 use uc_oper::Operator;
 use uc_run::Run;
 
@@ -23,7 +23,7 @@ pub struct Compacted<O: Operator> {
 }
 
 impl<O: Operator> Model for Compacted<O> {
-    ghost use Rattle.uc_compact_rules.specs.Inputs.{Compaction};
+    ghost use Rattle.uc_compact.specs.Inputs.{Compaction};
     ghost use Rattle.uc_compact.specs.Made.{asked, IsMade};
 
     ghost Value = { Compaction };

@@ -1,8 +1,8 @@
 //! [`compact`]: several runs made into one.
 ghost use Rattle.std.specs.Prelude.{◌≡◌, ◌<◌, map, IfOk};
 ghost use Rattle.std.specs.Arc.{arc_value};
-ghost use Rattle.uc_compact_rules.specs.Inputs.{Stand};
-ghost use Rattle.uc_compact_rules.specs.Output.{output_of};
+ghost use Rattle.uc_compact.specs.Inputs.{Stand};
+ghost use Rattle.uc_compact.specs.Output.{output_of};
 
 use crate::compacted::Compacted;
 use crate::inputs::{are_runs, shared};

@@ -3,13 +3,13 @@ ghost use Rattle.std.specs.Prelude.{◌≡◌, ◌++◌, [], ◌∷◌, length, 
 ghost use Rattle.std.specs.List.{AllByRecursion};
 ghost use Rattle.std.specs.List.Sorted.{IsStrictlySortedBy};
 ghost use Rattle.std.specs.Ordering.{nat_cmp};
-ghost use Rattle.uc_compact_rules.specs.Output.{fragment_kept};
+ghost use Rattle.uc_compact.specs.Output.{fragment_kept};
 ghost use Rattle.uc_compact.specs.Parts.{IsFragment};
 
 use crate::piece::Piece;
+use crate::{Keeping, kept_seqs};
 use std::alloc::{AllocError, Global};
 use uc_bytes::Bytes;
-use uc_compact_rules::{Keeping, kept_seqs};
 use uc_run_entry::{Fragment, Seqs};
 
 /// Pushes the fragment that is kept of a piece, if some of its sequences are kept.

@@ -1,11 +1,11 @@
 //! Which runs may be compacted together.
 ghost use Rattle.std.specs.Prelude.{◌≡◌, ◌↔◌, IsTrue, IfOk, map};
 ghost use Rattle.std.specs.Arc.{arc_value};
-ghost use Rattle.uc_compact_rules.specs.Inputs.{AreRuns, AreNewestFirst, Stand, low_of, high_of};
+ghost use Rattle.uc_compact.specs.Inputs.{AreRuns, AreNewestFirst, Stand, low_of, high_of};
 
+use crate::keeps_rise;
 use std::alloc::{AllocError, Global};
 use std::sync::Arc;
-use uc_compact_rules::keeps_rise;
 use uc_run::Run;
 
 /// Each is a run. This fact costs a look at each.

@@ -1,13 +1,13 @@
 //! [`Merger`]: who makes one run of several.
 ghost use Rattle.std.specs.Prelude.{◌≡◌, ⊤, map, IfOk};
 ghost use Rattle.std.specs.Arc.{arc_value};
-ghost use Rattle.uc_compact_rules.specs.Inputs.{Stand};
-ghost use Rattle.uc_compact_rules.specs.Output.{output_of};
+ghost use Rattle.uc_compact.specs.Inputs.{Stand};
+ghost use Rattle.uc_compact.specs.Output.{output_of};
 
 use crate::output::merge_alone;
+use crate::{Alone, By};
 use std::alloc::{AllocError, Global};
 use std::sync::Arc;
-use uc_compact_rules::{Alone, By};
 use uc_oper::Operator;
 use uc_run::Run;
 

@@ -2,8 +2,8 @@
 ghost use Rattle.std.specs.Prelude.{◌≡◌, ◌<◌, Some, None, map, IfOk, if◌then◌else◌};
 ghost use Rattle.std.specs.Arc.{arc_value};
 ghost use Rattle.uc_run_entry.specs.Cutting.{fragments_of};
-ghost use Rattle.uc_compact_rules.specs.Inputs.{Stand, low_of, ranges_of};
-ghost use Rattle.uc_compact_rules.specs.Output.{output_of};
+ghost use Rattle.uc_compact.specs.Inputs.{Stand, low_of, ranges_of};
+ghost use Rattle.uc_compact.specs.Output.{output_of};
 
 use crate::cuts::cut_keys;
 use crate::fragments::fragments_kept;
@@ -11,11 +11,11 @@ use crate::inputs::{are_runs, high_seq, low_seq};
 use crate::parts::{points_kept_alone, points_kept_by_parts};
 use crate::piece::Piece;
 use crate::pieces::pieces_of;
+use crate::{Keeping, compaction_gives_a_run, points_are_chosen_key_by_key};
 use std::alloc::{AllocError, Global};
 use std::marker::Sync;
 use std::sync::Arc;
 use std::thread::Threads;
-use uc_compact_rules::{Keeping, compaction_gives_a_run, points_are_chosen_key_by_key};
 use uc_oper::Operator;
 use uc_run::Run;
 use uc_run_entry::{Fragments, Point};

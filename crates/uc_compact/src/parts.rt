@@ -10,15 +10,15 @@ ghost use Rattle.uc_compact.specs.Cuts.{is_below, is_from};
 ghost use Rattle.uc_compact.specs.Kept as by_key;
 ghost use Rattle.uc_compact.specs.Kept.{AreOfOneKeyEach};
 ghost use Rattle.uc_compact.specs.Parts.{points_of_each};
-ghost use Rattle.uc_compact_rules.specs.Inputs.{AreRuns, points_of};
+ghost use Rattle.uc_compact.specs.Inputs.{AreRuns, points_of};
 
 use crate::piece::Piece;
 use crate::points::points_kept;
+use crate::{Alone, By, Keeping, fold_in_threads};
 use std::alloc::{AllocError, Global};
 use std::marker::Sync;
 use std::sync::Arc;
 use std::thread::{Threads, join};
-use uc_compact_rules::{Alone, By, Keeping, fold_in_threads};
 use uc_oper::{Effect, Operator};
 use uc_run::Run;
 use uc_run_entry::Point;

@@ -5,10 +5,10 @@ ghost use Rattle.std.specs.Ordering.{is_le};
 ghost use Rattle.uc_bytes.specs.Bytes.{bytes_cmp};
 ghost use Rattle.uc_run_entry.specs.Order.{IsFalling};
 ghost use Rattle.uc_run_entry.specs.Run as run;
-ghost use Rattle.uc_compact_rules.specs.Together.{together};
+ghost use Rattle.uc_compact.specs.Together.{together};
 
+use crate::Over;
 use std::marker::Model;
-use uc_compact_rules::Over;
 use uc_run_entry::Seqs;
 
 /// The keys from a cut point to below the next one, with borrowed lists of the sequences of the inputs' fragments over
@@ -25,7 +25,7 @@ impl<'a> Model for Piece<'a> {
     ghost use Rattle.std.specs.List.{AllByRecursion};
     ghost use Rattle.uc_run_entry.specs.declared.fragment.Fragment.{Fragment};
     ghost use Rattle.uc_run_entry.specs.Order.{IsFalling};
-    ghost use Rattle.uc_compact_rules.specs.Together.{together};
+    ghost use Rattle.uc_compact.specs.Together.{together};
 
     ghost Value = { Fragment };
 

@@ -7,7 +7,7 @@ ghost use Rattle.uc_bytes.specs.Bytes.{bytes_cmp};
 ghost use Rattle.uc_run_entry.specs.Order.{AreInOrder};
 ghost use Rattle.uc_run_entry.specs.Run as run;
 ghost use Rattle.uc_run_entry.specs.Cutting as cutting;
-ghost use Rattle.uc_compact_rules.specs.Inputs.{ranges_of};
+ghost use Rattle.uc_compact.specs.Inputs.{ranges_of};
 ghost use Rattle.uc_compact.specs.Pieces.{AreOver, fragments_in, pieces_over};
 
 use crate::front::Front;

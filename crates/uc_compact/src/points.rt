@@ -6,14 +6,14 @@ ghost use Rattle.std.specs.Ordering.{nat_cmp};
 ghost use Rattle.uc_run_entry.specs.Order.{AreInOrder, entry_cmp};
 ghost use Rattle.uc_compact.specs.Kept as by_key;
 ghost use Rattle.uc_compact.specs.Kept.{AreOfOneKeyEach};
-ghost use Rattle.uc_compact_rules.specs.Choice as choice;
-ghost use Rattle.uc_compact_rules.specs.Choice.{AreOfOneKey, points_for};
+ghost use Rattle.uc_compact.specs.Choice as choice;
+ghost use Rattle.uc_compact.specs.Choice.{AreOfOneKey, points_for};
 
 use crate::groups::Groups;
 use crate::piece::Piece;
 use crate::pieces::covering_piece;
+use crate::{Folder, Keeping, Over, push_kept_points};
 use std::alloc::{AllocError, Global};
-use uc_compact_rules::{Folder, Keeping, Over, push_kept_points};
 use uc_oper::Operator;
 use uc_run_entry::Point;
 

@@ -4,7 +4,7 @@ use Rattle.uc_oper.specs.Operation.{Operation}
 use Rattle.uc_version_state.specs.declared.stretch.Stretch.{Stretch}
 use Rattle.uc_version_state.specs.Picks.{picked}
 use Rattle.uc_version_state.specs.Installs.{MayInstall}
-use Rattle.uc_version_compact.specs.Picking.{candidates_of}
+use Rattle.uc_version_work.specs.Picking.{candidates_of}
 use Rattle.uc_version.specs.Owners.{Owner, is_busy}
 use Rattle.uc_version.specs.AtOnce.{install_at, after_compaction, IsNotMade}
 use Rattle.uc_version.specs.declared.compact_error.CompactError.{CompactError}

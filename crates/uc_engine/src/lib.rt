@@ -37,5 +37,5 @@ pub use uc_batch::{BatchError, Ended, Op};
 pub use uc_bytes::Bytes;
 pub use uc_query_read::{Answer, Rows};
 pub use uc_version::{CompactError, FeedError, Options, ReleaseError};
-pub use uc_version_open::OpenError;
+pub use uc_version_work::OpenError;
 pub use write_error::WriteError;

@@ -1,8 +1,8 @@
 //! Engines that open from a write-ahead log, or empty.
 ghost use Rattle.std.specs.Prelude.{◌≡◌, ◌≢◌, None, Some, IfOk, IfErr};
 ghost use Rattle.uc_batch.specs.Log.{log_writes};
-ghost use Rattle.uc_version_open.specs.Refusal.{opening_refusal};
-ghost use Rattle.uc_version_open.specs.declared.open_error.OpenError.TheVariants.{Memory};
+ghost use Rattle.uc_version_work.specs.Refusal.{opening_refusal};
+ghost use Rattle.uc_version_work.specs.declared.open_error.OpenError.TheVariants.{Memory};
 ghost use Rattle.uc_engine.specs.Engines.{opened_engine, log_opening, empty_opening};
 
 use crate::engine::Engine;
@@ -10,7 +10,7 @@ use crate::operator_kind::OperatorKind;
 use std::alloc::{AllocError, Global};
 use uc_batch::Ended;
 use uc_version::{Options, Version};
-use uc_version_open::{OpenError, Opener, Recovered, recover};
+use uc_version_work::{OpenError, Opener, Recovered, recover};
 
 /// An engine that was opened from a log, and how far the log could be read.
 #[derive(Drop)]

@@ -12,7 +12,7 @@ use Rattle.uc_version_state.specs.declared.stretch.Stretch.{Stretch}
 use Rattle.uc_version_state.specs.declared.event.Event.{Event}
 use Rattle.uc_version_state.specs.declared.event.Event.TheVariants as event
 use Rattle.uc_version_state.specs.declared.feed_error.FeedError.{FeedError}
-use Rattle.uc_compact_rules.specs.Inputs.{Compaction, Stand}
+use Rattle.uc_compact.specs.Inputs.{Compaction, Stand}
 use Rattle.uc_version_state.specs.Versions.{Stored, ids_of}
 use Rattle.uc_version_state.specs.Installs.{Install, MayInstall, installed}
 use Rattle.uc_version_state.specs.Feeds.{feed_refusal, MayFeed}
@@ -20,8 +20,8 @@ use Rattle.uc_version_state.specs.Snapshots.{kept, released}
 use Rattle.uc_version_state.specs.Picks.{picked}
 use Rattle.uc_version_state.specs.Histories.{MayHappen, after, Known, known_after}
 use Rattle.uc_version.specs.declared.held_stretch.TheConstants.{MOST_CLAIMS}
-use Rattle.uc_version_compact.specs.declared.claim_error.ClaimError.{ClaimError}
-use Rattle.uc_version_compact.specs.declared.install_error.InstallError.TheVariants.{IdsSpent}
+use Rattle.uc_version_work.specs.declared.claim_error.ClaimError.{ClaimError}
+use Rattle.uc_version_work.specs.declared.install_error.InstallError.TheVariants.{IdsSpent}
 use Rattle.uc_version.specs.Owners.{Owner, IsOwner, is_busy}
 use Rattle.uc_version.specs.Picking.{candidates_of}
 use Rattle.uc_version.specs.Claiming.{Claim, free_number, claim_refusal, claim_of, with_claim, is_held, without_claim}

@@ -29,8 +29,8 @@ use Rattle.uc_run.specs.Heads.{next_key, IsFrom, IsAmong, IsLeast}
 use Rattle.uc_run.specs.NextKey.{IsLeastKey, IsNextKey}
 use Rattle.uc_run.proofs.OtherKeys.{others}
 use Rattle.uc_compact.proofs.Stepping.{unwritten}
-use Rattle.uc_compact_rules.specs.Inputs.{points_of}
-use Rattle.uc_compact_rules.proofs.Lists.{all-append}
+use Rattle.uc_compact.specs.Inputs.{points_of}
+use Rattle.uc_compact.proofs.NestedLists.{all-append}
 use Rattle.uc_query_read.specs.Walks.{runs_of, passed, StandsAt, IsOfRun}
 use Rattle.uc_query_read.proofs.LeastKeys.{in_front, behind, lower, passed_from}
 use Rattle.uc_query_read.proofs.Standing.{same_length}

@@ -10,7 +10,7 @@ use Rattle.uc_bytes.specs.declared.write.Write.{Write}
 use Rattle.uc_model.specs.Meaning.{effect_on}
 use Rattle.uc_run_entry.specs.Run.{Contents}
 use Rattle.uc_run_entry.specs.PlainList.{plain_list}
-use Rattle.uc_compact_rules.specs.Inputs.{writes_of}
+use Rattle.uc_compact.specs.Inputs.{writes_of}
 
 module _ {X : Type 0} (run_of : X → Contents) where
   abbrev writes_in : List X → List Write

@@ -28,8 +28,8 @@ use Rattle.uc_run.specs.NextKey.{IsNextKey}
 use Rattle.uc_run.specs.Heads.{lesser_of}
 use Rattle.uc_compact.proofs.Keys.{no_less_itself, lt_of, le_of_not, lt_le}
 use Rattle.uc_compact.proofs.Lists.{all-append, all-front, all-back}
-use Rattle.uc_compact_rules.specs.Inputs.{writes_of, points_of}
-use Rattle.uc_compact_rules.proofs.Lists.{all-map, none-passed}
+use Rattle.uc_compact.specs.Inputs.{writes_of, points_of}
+use Rattle.uc_compact.proofs.NestedLists.{all-map, none-passed}
 use Rattle.uc_query_read.specs.Walks.{runs_of, IsOfRun}
 use Rattle.uc_query_read.specs.Dead.{IsHidden, AreDead}
 use Rattle.uc_query_read.proofs.Walking.{and_left, and_right, and_none, above}

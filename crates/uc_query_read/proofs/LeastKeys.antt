@@ -12,8 +12,8 @@ use Rattle.uc_run_entry.specs.Seek.{is_passed}
 use Rattle.uc_run.specs.NextKey.{IsLeastKey, IsNextKey}
 use Rattle.uc_run.specs.Heads.{lesser_of}
 use Rattle.uc_compact.proofs.Keys.{lt_of, le_of_not, le_trans, le_of_lt}
-use Rattle.uc_compact_rules.specs.Inputs.{points_of}
-use Rattle.uc_compact_rules.proofs.Lists.{all-append, all-map}
+use Rattle.uc_compact.specs.Inputs.{points_of}
+use Rattle.uc_compact.proofs.NestedLists.{all-append, all-map}
 
 module _ (low : List ℕ) (strict : Bool) where
   abbrev keys : List Entry → List (List ℕ)

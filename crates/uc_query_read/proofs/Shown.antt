@@ -29,8 +29,8 @@ use Rattle.uc_compact.proofs.Lists.{all-front, all-back, all-unmapped}
 use Rattle.uc_query_read.specs.Answers.{is_below, is_in_range, named_keys, rows_of, first_rows}
 use Rattle.uc_query_read.specs.Rising.{KeysRise}
 use Rattle.uc_query_read.specs.Scans.{IsNamed}
-use Rattle.uc_compact_rules.specs.Inputs.{writes_of, points_of}
-use Rattle.uc_compact_rules.proofs.Lists.{all-append, all-map, all-mapped, all-flat_map}
+use Rattle.uc_compact.specs.Inputs.{writes_of, points_of}
+use Rattle.uc_compact.proofs.NestedLists.{all-append, all-map, all-mapped, all-flat_map}
 use Rattle.uc_query_read.specs.Ahead.{is_ahead, keys_ahead}
 use Rattle.uc_query_read.proofs.Walking.{of_passing, to_passing, keys_sorted, each_key}
 

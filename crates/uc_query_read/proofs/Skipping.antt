@@ -18,7 +18,7 @@ use Rattle.uc_run.specs.Cursors.{Standing}
 use Rattle.uc_compact.specs.Groups.{keys_of}
 use Rattle.uc_compact.proofs.Keys.{lt_of}
 use Rattle.uc_query_read.specs.Answers.{is_below, rows_of}
-use Rattle.uc_compact_rules.specs.Inputs.{writes_of, points_of}
+use Rattle.uc_compact.specs.Inputs.{writes_of, points_of}
 use Rattle.uc_query_read.specs.Ahead.{is_ahead, keys_ahead}
 use Rattle.uc_query_read.specs.Walks.{Walk, walk_at, runs_of, sought, StandsAt, Skips}
 use Rattle.uc_query_read.specs.Dead.{AreDead}

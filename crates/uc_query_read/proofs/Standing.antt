@@ -19,7 +19,7 @@ use Rattle.uc_run.specs.NextKey.{IsLeastKey, IsNextKey}
 use Rattle.uc_run.proofs.Order.{key_passed, passed_both}
 use Rattle.uc_compact.proofs.Lists.{all-front, all-back}
 use Rattle.uc_query_read.specs.Answers.{is_below}
-use Rattle.uc_compact_rules.specs.Inputs.{points_of}
+use Rattle.uc_compact.specs.Inputs.{points_of}
 use Rattle.uc_query_read.specs.Ahead.{keys_ahead}
 use Rattle.uc_query_read.specs.Walks.{Walk, walk_at, runs_of, standing_at, passed, StandsAt}
 use Rattle.uc_query_read.proofs.Walking.{comes_none, comes_too_far, comes_next}

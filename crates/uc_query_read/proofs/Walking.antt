@@ -22,7 +22,7 @@ use Rattle.uc_run.proofs.Order.{key_passed}
 use Rattle.uc_compact.specs.Groups.{keys_of}
 use Rattle.uc_compact.proofs.Keys.{lt_of}
 use Rattle.uc_query_read.specs.Answers.{is_below}
-use Rattle.uc_compact_rules.proofs.Lists.{all-map, all-mapped, none-passed}
+use Rattle.uc_compact.proofs.NestedLists.{all-map, all-mapped, none-passed}
 use Rattle.uc_query_read.specs.Ahead.{is_ahead, keys_ahead, keys_behind, Comes}
 
 -- ---- what passes a test

@@ -5,7 +5,7 @@ use Rattle.uc_query_read.specs.Answers.{rows_of}
 use Rattle.uc_run_entry.specs.Run.{Contents, IsRun}
 use Rattle.uc_run_entry.specs.Seek.{seek_place}
 use Rattle.uc_run.specs.Cursors.{Standing}
-use Rattle.uc_compact_rules.specs.Inputs.{points_of, writes_of}
+use Rattle.uc_compact.specs.Inputs.{points_of, writes_of}
 use Rattle.uc_query_read.specs.Ahead.{keys_ahead}
 
 -- runs, the newest first, and the keys of their points that are still ahead

@@ -4,7 +4,7 @@ ghost use Rattle.std.specs.List.Sorted.{IsStrictlySortedBy};
 ghost use Rattle.std.specs.Ordering.{nat_cmp};
 ghost use Rattle.uc_query_read.specs.Answers as answers;
 ghost use Rattle.uc_query_read.specs.declared.query.Query.TheVariants as query;
-ghost use Rattle.uc_compact_rules.specs.Inputs.{writes_of};
+ghost use Rattle.uc_compact.specs.Inputs.{writes_of};
 ghost use Rattle.uc_version_state.specs.Versions.{contents_of, writes_in};
 
 use crate::answer::Answer;

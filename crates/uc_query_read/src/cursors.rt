@@ -2,7 +2,7 @@
 ghost use Rattle.std.specs.Prelude.{◌≡◌, false, option_map, IfOk, IfSome};
 ghost use Rattle.uc_model.specs.Meaning.{value_of};
 ghost use Rattle.uc_query_read.specs.Answers as answers;
-ghost use Rattle.uc_compact_rules.specs.Inputs.{writes_of};
+ghost use Rattle.uc_compact.specs.Inputs.{writes_of};
 ghost use Rattle.uc_version_state.specs.Versions.{contents_of};
 ghost use Rattle.uc_query_read.specs.Ahead.{Comes};
 ghost use Rattle.uc_query_read.specs.Walks.{walk_at, Skips};

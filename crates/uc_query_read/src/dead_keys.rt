@@ -3,7 +3,7 @@ ghost use Rattle.std.specs.Prelude.{◌≡◌, ℕ, Bool, List, true, map, optio
 ghost use Rattle.std.specs.List.{AllByRecursion};
 ghost use Rattle.uc_run.specs.Cursors.{has_ranges};
 ghost use Rattle.uc_run.specs.NextKey.{IsNextKey};
-ghost use Rattle.uc_compact_rules.specs.Inputs.{points_of, writes_of};
+ghost use Rattle.uc_compact.specs.Inputs.{points_of, writes_of};
 ghost use Rattle.uc_query_read.specs.Walks.{runs_of, StandsAt, IsOfRun};
 ghost use Rattle.uc_query_read.specs.Dead.{IsHidden, AreDead};
 

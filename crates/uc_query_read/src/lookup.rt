@@ -1,7 +1,7 @@
 //! The value of a key in runs.
 ghost use Rattle.std.specs.Prelude.{◌≡◌, IfOk};
 ghost use Rattle.uc_model.specs.Meaning.{effect_on, value_of};
-ghost use Rattle.uc_compact_rules.specs.Inputs.{writes_of};
+ghost use Rattle.uc_compact.specs.Inputs.{writes_of};
 ghost use Rattle.uc_version_state.specs.Versions.{contents_of};
 
 use std::alloc::{AllocError, Global};

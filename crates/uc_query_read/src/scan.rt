@@ -2,7 +2,7 @@
 ghost use Rattle.std.specs.Prelude.{◌≡◌, false, IfOk};
 ghost use Rattle.uc_query_read.specs.Answers as answers;
 ghost use Rattle.uc_query_read.specs.Answers.{named_keys};
-ghost use Rattle.uc_compact_rules.specs.Inputs.{writes_of, points_of};
+ghost use Rattle.uc_compact.specs.Inputs.{writes_of, points_of};
 ghost use Rattle.uc_version_state.specs.Versions.{contents_of};
 ghost use Rattle.uc_query_read.specs.Ahead.{keys_ahead};
 

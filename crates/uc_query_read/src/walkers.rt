@@ -5,7 +5,7 @@ ghost use Rattle.uc_model.specs.Meaning.{effect_on, value_of};
 ghost use Rattle.uc_run.specs.Cursors.{has_ranges};
 ghost use Rattle.uc_run.specs.Heads.{next_key, number_of};
 ghost use Rattle.uc_run.specs.NextKey.{IsNextKey};
-ghost use Rattle.uc_compact_rules.specs.Inputs.{points_of, writes_of};
+ghost use Rattle.uc_compact.specs.Inputs.{points_of, writes_of};
 ghost use Rattle.uc_version_state.specs.Versions.{contents_of};
 ghost use Rattle.uc_query_read.specs.Dead.{AreDead};
 ghost use Rattle.uc_query_read.specs.Walks.{runs_of, standing_at, passed, sought, StandsAt, IsOfRun};

@@ -6,8 +6,7 @@ ghost use Rattle.uc_run_entry.specs.Run.{covers};
 ghost use Rattle.uc_run.specs.Cursors as cursors;
 ghost use Rattle.uc_run.specs.Hiding.{hides};
 
-use uc_run_entry::{Fragment, covering_fragment};
-use uc_run_spans::Seqs;
+use uc_run_entry::{Fragment, Seqs, covering_fragment};
 
 /// Whether a fragment ends at or before a key.
 fn ends_by(fragment: &Fragment, key: &[u8]) -> bool

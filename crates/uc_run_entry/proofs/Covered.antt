@@ -16,8 +16,8 @@ use Rattle.uc_run_entry.specs.Shared.{AreOfSame}
 use Rattle.uc_run_entry.specs.Spanning.{span_of, has_pieces, spans_of, with_seqs, covered, some_of}
 use Rattle.uc_run_entry.specs.Cutting.{pieces}
 use Rattle.uc_run_entry.proofs.Spanned.{length-pieces, piece_at}
-use Rattle.uc_run_spans.specs.declared.span.Span.{Span}
-use Rattle.uc_run_spans.specs.Spans.{IsWithin}
+use Rattle.uc_run_entry.specs.declared.span.Span.{Span}
+use Rattle.uc_run_entry.specs.Spans.{IsWithin}
 
 -- ---- the spans of some ranges, one range after the other
 

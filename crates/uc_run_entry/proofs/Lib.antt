@@ -5,9 +5,7 @@ pub mod Covers
 pub mod Lookup
 pub mod Covering
 pub mod Apart
-pub mod Falling
-pub use Rattle.uc_run_spans.proofs.Sets
-pub use Rattle.uc_run_spans.proofs.SameSets
+pub mod SeqsFall
 pub mod Pieces
 pub mod Over
 pub mod SeqsOver
@@ -16,3 +14,15 @@ pub mod Cuts
 pub mod Partitions
 pub mod Spanned
 pub mod Written
+pub mod Sets
+pub mod SameSets
+mod SpanCuts
+mod Flat
+pub mod Filters
+mod Greatest
+mod Joins
+mod Trees
+mod Listed
+pub mod Equal
+pub mod Neighbours
+mod Together

@@ -9,7 +9,7 @@ use Rattle.uc_bytes.specs.Bytes.{bytes_cmp}
 use Rattle.uc_run_entry.specs.declared.fragment.Fragment.{Fragment}
 use Rattle.uc_run_entry.specs.Order.{IsFalling, AreInOrder}
 use Rattle.uc_run_entry.specs.Cutting.{RangeOf, Piece, has_keys, spans, cut_points, pieces, falling, fragment_over, fragments_of}
-use Rattle.uc_run_spans.proofs.Sets.{sorted_set}
+use Rattle.uc_run_entry.proofs.Sets.{sorted_set}
 
 -- each piece has keys, and ends at or before the begin of those behind it
 abbrev ArePieces : List Piece → Type 0

@@ -15,7 +15,7 @@ use Rattle.uc_bytes.specs.Bytes.{bytes_cmp}
 use Rattle.uc_run_entry.specs.declared.fragment.Fragment.{Fragment}
 use Rattle.uc_run_entry.specs.Run.{covers}
 use Rattle.uc_run_entry.specs.Cutting.{RangeOf, Piece, has_keys, range_covers, spans, cut_points, pieces, falling, fragment_over, fragments_of}
-use Rattle.uc_run_spans.proofs.Sets.{sorted_set, all_back}
+use Rattle.uc_run_entry.proofs.Sets.{sorted_set, all_back}
 use Rattle.uc_run_entry.proofs.Over.{is_in, IsAtOrBefore, IsBehind, Around, Outside, stands, one_side, lt_of, le_lt, lt_le}
 
 passed : {X : Type 0} (test : X → Bool) (x : X) (kept : List X) (b : Bool) → test x ≡ b → AllByRecursion (λ y. test y ≡ true) kept → AllByRecursion (λ y. test y ≡ true) (cond b (x ∷ kept) kept)

@@ -11,7 +11,7 @@ use Rattle.std.specs.BTreeMap.Comparable.{le_lt_trans}
 use Rattle.std.proofs.lemmas.Bool.{false≢true}
 use Rattle.std.proofs.lemmas.Map.Lookups.{exact_bytes}
 use Rattle.std.proofs.lemmas.Cmp.{nat_list_cmp_total, nat_cmp_total, then_total, back_total, on_total}
-use Rattle.uc_run_spans.proofs.Neighbours.{AllPairs, pairs_by, sorted_by}
+use Rattle.uc_run_entry.proofs.Neighbours.{AllPairs, pairs_by, sorted_by}
 use Rattle.uc_run_entry.specs.declared.entry.Entry.{Entry}
 use Rattle.uc_bytes.specs.Bytes.{bytes_cmp}
 use Rattle.uc_run_entry.specs.declared.fragment.Fragment.{Fragment}

@@ -15,8 +15,8 @@ use Rattle.uc_run_entry.specs.Cutting.{RangeOf, Piece, spans, pieces, falling, f
 use Rattle.uc_run_entry.specs.Spanning.{span_of, has_pieces, spans_of, with_seqs}
 use Rattle.uc_run_entry.proofs.Over.{lt_of, lt_le}
 use Rattle.uc_run_entry.proofs.Partitions.{partitioned}
-use Rattle.uc_run_spans.specs.declared.span.Span.{Span}
-use Rattle.uc_run_spans.specs.Spans.{stands_in, seqs_in, listed}
+use Rattle.uc_run_entry.specs.declared.span.Span.{Span}
+use Rattle.uc_run_entry.specs.Spans.{stands_in, seqs_in, listed}
 
 -- ---- the elements that a test passes, where they come first
 

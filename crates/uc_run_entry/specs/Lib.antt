@@ -9,3 +9,11 @@ pub mod Overwriting
 pub mod Cutting
 pub mod Shared
 pub mod Spanning
+pub mod Ahead
+pub mod Indexed
+pub mod Joined
+pub mod Lists
+pub mod Newest
+pub mod Seqs
+pub mod Spans
+pub mod Tree

@@ -5,7 +5,7 @@ use Rattle.std.specs.Ordering.{is_lt, is_le}
 use Rattle.uc_bytes.specs.Bytes.{bytes_cmp}
 use Rattle.uc_run_entry.specs.declared.fragment.Fragment.{Fragment}
 use Rattle.uc_run_entry.specs.Cutting.{RangeOf, Piece}
-use Rattle.uc_run_spans.specs.declared.span.Span.{Span}
+use Rattle.uc_run_entry.specs.declared.span.Span.{Span}
 
 -- The pieces that a range covers, by number. The first is the number of cut points below its begin. The last ends at
 -- the last cut point up to its end.

@@ -9,11 +9,11 @@ ghost use Rattle.uc_run_entry.specs.Order.{entry_cmp, IsFalling, AreInOrder, Fir
 ghost use Rattle.uc_run_entry.specs.Run as run;
 ghost use Rattle.uc_run_entry.specs.Run.{IsWithin, IsWhole, IsApart, IsRun};
 
+use crate::Seqs;
 use crate::entry::Entry;
 use crate::fragment::Fragment;
 use std::cmp::Ordering;
 use uc_bytes::MAX_SEQUENCE;
-use uc_run_spans::Seqs;
 
 /// Whether a sequence lies in a range of sequences.
 fn is_within(low: u64, high: u64, seq: u64) -> bool

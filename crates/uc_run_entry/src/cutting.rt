@@ -11,11 +11,11 @@ use crate::fragment::Fragment;
 use crate::fragments::{FEW, Fragments};
 use crate::range::Range;
 use crate::spanning::spans_of;
+use crate::{Seqs, Spans};
 use std::alloc::{AllocError, Global};
 use std::collections::BTreeSet;
 use std::sync::Arc;
 use uc_bytes::Bytes;
-use uc_run_spans::{Seqs, Spans};
 
 /// The cut points: both ends of each range that covers a key, in byte order, each once.
 fn cut_points<'a>(alloc: Global, ranges: &[Range<'a>]) -> Result<BTreeSet<&'a [u8]>, AllocError>

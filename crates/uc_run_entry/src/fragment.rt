@@ -1,9 +1,9 @@
 //! [`Fragment`]: a piece of the key space with the range deletions over it.
 ghost use Rattle.std.specs.Prelude.{◌≡◌, IfOk};
 
+use crate::Seqs;
 use std::alloc::AllocError;
 use uc_bytes::Bytes;
-use uc_run_spans::Seqs;
 
 /// The range deletions over the keys from `begin` to below `end`: each covers all of these keys (RocksDB's fragmented
 /// range tombstones: RocksDB wiki, "DeleteRange").

@@ -4,10 +4,10 @@ ghost use Rattle.std.specs.Arc.{arc_value};
 ghost use Rattle.uc_run_entry.specs.Shared.{ends_of, AreOfSame};
 ghost use Rattle.uc_run_entry.specs.Spanning.{some_of};
 
+use crate::Spans;
 use crate::fragment::Fragment;
 use std::marker::Model;
 use std::sync::Arc;
-use uc_run_spans::Spans;
 
 /// A fragment with at most this many sequences owns them: they take no more memory than a share of spans, and are
 /// searched faster.

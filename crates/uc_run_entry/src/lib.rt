@@ -11,21 +11,41 @@
 //! ends into [`Fragments`], each with the sequences of the ranges over it (RocksDB's fragmented range tombstones).
 //! `specs/Cutting.antt` defines them, and `fragment_laws.rt` has their laws. Read `cutting.rt` first.
 //!
+//! A range deletion is in all fragments between its ends, so n overlapping ranges give up to n^2 sequences. A [`Span`]
+//! says in which fragments a sequence is. [`Spans`] holds spans and answers as the lists would, in the time and memory of
+//! n log n. [`Seqs`] are the sequences of one fragment, which fall: a list of its own or a share of such spans.
+//! `specs/Spans.antt` defines the lists; read `spans.rt` first.
+//!
 //! An `Err(AllocError)` comes only if an allocation fails.
 #![tactic(auto)]
 
+mod ahead;
+mod alike;
 mod checking;
 mod cutting;
 mod entry;
+mod falling;
+mod few_spans;
 mod fragment;
 mod fragment_laws;
 mod fragments;
 mod laws;
+mod lists;
+mod newest;
+mod node;
 mod point;
 mod range;
+mod seqs;
+mod share;
+mod span;
 mod spanning;
+mod spans;
+mod tree;
+mod walks;
 mod what_ref;
+mod within;
 
+pub use ahead::SeqsAhead;
 pub use checking::{covering_fragment, is_run};
 pub use cutting::cut_ranges;
 pub use entry::{Entry, What};
@@ -35,7 +55,11 @@ pub use fragments::Fragments;
 pub use laws::{
     plain_list_does_what_is_found, plain_list_is_in_order, stripes_of_plain_list_do_what_is_found,
 };
+pub use newest::newer;
 pub use point::{INLINE_BYTES, Point, points_of};
 pub use range::Range;
-pub use uc_run_spans::Seqs;
+pub use seqs::Seqs;
+pub use span::Span;
+pub use spans::Spans;
 pub use what_ref::WhatRef;
+pub use within::are_within;

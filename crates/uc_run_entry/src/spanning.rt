@@ -6,9 +6,9 @@ ghost use Rattle.std.specs.Ordering.{is_lt, is_le};
 ghost use Rattle.uc_bytes.specs.Bytes.{bytes_cmp};
 ghost use Rattle.uc_run_entry.specs.Spanning as spanning;
 
+use crate::Span;
 use crate::range::Range;
 use std::alloc::{AllocError, Global};
-use uc_run_spans::Span;
 
 /// Whether a cut point is below a key.
 fn is_below(cut: &[u8], key: &[u8]) -> bool

@@ -1,14 +1,14 @@
 -- What a version's refusal shows of an install.
 use Rattle.std.proofs.Common.{◌≡◌, ◌≢◌, List, refl, sym, subst}
-use Rattle.uc_compact_rules.specs.Inputs.{Compaction}
+use Rattle.uc_compact.specs.Inputs.{Compaction}
 use Rattle.uc_version_state.specs.Versions.{PlacedRun, Stored, contents_of, ids_of}
 use Rattle.uc_version_state.specs.Installs.{terms_of}
 use Rattle.uc_version_state.specs.Refusals.{IsRefused}
 use Rattle.uc_version_state.specs.declared.refusal.Refusal.{Refusal}
 use Rattle.uc_version_state.specs.declared.refusal.Refusal.TheVariants as refusal
-use Rattle.uc_version_compact.specs.Compacting.{Fits, IsInstallable, IsNotInstallable, error_of}
-use Rattle.uc_version_compact.specs.declared.install_error.InstallError.{InstallError}
-use Rattle.uc_version_compact.specs.declared.install_error.InstallError.TheVariants.{WrongInputs, WrongKeeps, Stale, IdsSpent, Memory}
+use Rattle.uc_version_work.specs.Compacting.{Fits, IsInstallable, IsNotInstallable, error_of}
+use Rattle.uc_version_work.specs.declared.install_error.InstallError.{InstallError}
+use Rattle.uc_version_work.specs.declared.install_error.InstallError.TheVariants.{WrongInputs, WrongKeeps, Stale, IdsSpent, Memory}
 use Rattle.uc_share.specs.Installing.{IsOwnRefusal, ShowsRefusal}
 
 not_installable : (v : Stored) (claimed : List PlacedRun) (made : Compaction) (r : Refusal) → made.inputs ≡ contents_of claimed → IsRefused v (ids_of claimed) (terms_of made) r → IsNotInstallable v claimed made (error_of r)

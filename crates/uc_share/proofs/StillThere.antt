@@ -4,13 +4,13 @@ use Rattle.std.specs.Prelude.{Option, Some, None, IfNone}
 use Rattle.std.specs.List.{AllByRecursion}
 use mathlib.Core.List.{IsPrefix}
 use Rattle.uc_oper.specs.Operation.{Operation}
-use Rattle.uc_compact_rules.specs.Inputs.{Compaction, Stand}
+use Rattle.uc_compact.specs.Inputs.{Compaction, Stand}
 use Rattle.uc_version_state.specs.Versions.{PlacedRun, Stored, IsVersion, contents_of, ids_of}
 use Rattle.uc_version_state.specs.Installs.{MayInstall, standing, terms_of}
 use Rattle.uc_version_state.specs.Refusals.{AreInPlace, AreReplaceable}
 use Rattle.uc_version_state.specs.Histories.{after}
 use Rattle.uc_version_state.specs.declared.event.Event.{Event}
-use Rattle.uc_version_compact.specs.Compacting.{IsInstallable, install_for}
+use Rattle.uc_version_work.specs.Compacting.{IsInstallable, install_for}
 use Rattle.uc_share.specs.Installing.{MayInstallHere}
 use Rattle.uc_share.specs.Fronts.{Moment}
 use Rattle.uc_share.proofs.Claimed.{part_within}

@@ -2,15 +2,15 @@
 use Rattle.std.specs.Prelude.{◌≡◌, ◌≢◌, ⊤, List, [], ◌∷◌, ◌++◌}
 use mathlib.Core.List.{IsPrefix}
 use Rattle.uc_oper.specs.Operation.{Operation}
-use Rattle.uc_compact_rules.specs.Inputs.{Compaction}
+use Rattle.uc_compact.specs.Inputs.{Compaction}
 use Rattle.uc_version_state.specs.Versions.{PlacedRun, Stored, ids_of}
 use Rattle.uc_version_state.specs.Installs.{standing}
 use Rattle.uc_version_state.specs.Histories.{MayHappen}
 use Rattle.uc_version_state.specs.declared.event.Event.{Event}
 use Rattle.uc_version_state.specs.declared.event.Event.TheVariants.{Installed}
-use Rattle.uc_version_compact.specs.Compacting.{install_for, IsInstallable, IsNotInstallable}
-use Rattle.uc_version_compact.specs.declared.install_error.InstallError.{InstallError}
-use Rattle.uc_version_compact.specs.declared.install_error.InstallError.TheVariants.{WrongInputs, WrongKeeps, Stale, IdsSpent, Memory}
+use Rattle.uc_version_work.specs.Compacting.{install_for, IsInstallable, IsNotInstallable}
+use Rattle.uc_version_work.specs.declared.install_error.InstallError.{InstallError}
+use Rattle.uc_version_work.specs.declared.install_error.InstallError.TheVariants.{WrongInputs, WrongKeeps, Stale, IdsSpent, Memory}
 
 -- the event that puts what was compacted in place of claimed runs
 abbrev pub event_of : Operation → List PlacedRun → Compaction → Event

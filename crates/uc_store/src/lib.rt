@@ -30,9 +30,8 @@ pub use last_reads::{answer_last, get_last};
 pub use opened_log::{OpenedLog, open_log, open_log_in_threads, open_pieces_in_threads};
 pub use opened_shared::{OpenedShared, open_shared, open_shared_in_threads};
 pub use shared_batches::feed_shared_batch;
-pub use uc_batch::{Ended, Op, Writes};
+pub use uc_batch::{Ended, Op, Pieces, Writes};
 pub use uc_bytes::{Bytes, Write};
-pub use uc_log_pieces::Pieces;
 pub use uc_oper::{Append, Counter, Maximum, Operator, Tail};
 pub use uc_query::{Answer, AskError, Query, Report, Rows, answer_one, answer_plain, get, report};
 pub use uc_query_shared::{Free, Gate, MOST_WORKERS, answer_all};
@@ -43,4 +42,4 @@ pub use uc_version::{
     Alone, By, ClaimError, CompactError, FeedError, InstallError, Merger, Options, Owned,
     OwnedClaim, Placed, ReleaseError, Stretch, Version,
 };
-pub use uc_version_open::OpenError;
+pub use uc_version_work::OpenError;

@@ -3,18 +3,17 @@ ghost use Rattle.std.specs.Prelude.{◌≡◌, ◌≢◌, None, Some, true, IfOk
 ghost use Rattle.uc_batch.specs.Log.{log_writes};
 ghost use Rattle.uc_version_state.specs.Options.{are_good};
 ghost use Rattle.uc_version_state.specs.Openings.{Opening, opened};
-ghost use Rattle.uc_version_open.specs.Refusal.{opening_refusal};
-ghost use Rattle.uc_version_open.specs.declared.open_error.OpenError.TheVariants.{Memory};
+ghost use Rattle.uc_version_work.specs.Refusal.{opening_refusal};
+ghost use Rattle.uc_version_work.specs.declared.open_error.OpenError.TheVariants.{Memory};
 ghost use Rattle.uc_version.specs.Owners.{unclaimed};
 
 use std::alloc::{AllocError, Global};
 use std::marker::Sync;
 use std::thread::Threads;
-use uc_batch::Ended;
-use uc_log_pieces::Pieces;
+use uc_batch::{Ended, Pieces};
 use uc_oper::Operator;
 use uc_version::{Options, Owned, Version};
-use uc_version_open::{
+use uc_version_work::{
     OpenError, Recovered, recover, recover_in_threads, recover_pieces_in_threads,
 };
 

@@ -1,9 +1,8 @@
 //! Logs in pieces, read as the same logs in one piece.
 use std::alloc::Global;
 use std::test::Fail;
-use uc_batch::{Advance, Mode, Writes, fits_batch, read_writes, write_batch};
+use uc_batch::{Advance, Mode, PieceReader, Pieces, Writes, fits_batch, read_writes, write_batch};
 use uc_bytes::{Bytes, Op};
-use uc_log_pieces::{PieceReader, Pieces};
 use uc_logrec::LogWriter;
 
 /// The log of batches, each of which sets the key `a` to a value of so many bytes; then of a payload without bytes.

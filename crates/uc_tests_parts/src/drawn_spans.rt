@@ -2,7 +2,7 @@
 use std::alloc::{AllocError, Global};
 use std::sync::Arc;
 use std::test::Fail;
-use uc_run_spans::{Seqs, Span, Spans, are_within};
+use uc_run_entry::{Seqs, Span, Spans, are_within};
 
 /// Sequences are below this.
 const MOST_SEQS: u64 = 9;

@@ -2,7 +2,7 @@
 use std::alloc::{AllocError, Global};
 use std::test::Fail;
 use std::thread::Threads;
-use uc_compact_rules::{
+use uc_compact::{
     By, Keeping, Over, are_of_one_key, compaction_gives_a_run, compaction_keeps_one_of_each_stripe,
     compaction_keeps_what_is_read, compaction_of_the_oldest_leaves_values, fold_in_threads,
     keeps_rise, kept_seqs, points_are_chosen_key_by_key, push_kept_points, runs_compose,

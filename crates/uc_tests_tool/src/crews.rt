@@ -11,9 +11,9 @@ use std::test::Fail;
 use std::thread::Threads;
 use uc_bytes::OpRef;
 use uc_oper::Append;
+use uc_tool::report_log;
 use uc_tool_ask::{TurnGate, ask_through, is_plan};
 use uc_tool_io::Done;
-use uc_tool_play::report_log;
 use uc_version_state::Options;
 
 /// Merges join texts by commas.

@@ -11,8 +11,8 @@ use uc_bytes::Op;
 use uc_oper::{Append, Counter, Maximum, Operator, Tail};
 use uc_tests_shared::dice::Dice;
 use uc_tests_shared::lines::op_line;
+use uc_tool::play;
 use uc_tool_io::Done;
-use uc_tool_play::play;
 
 /// How many drawn inputs each operator has.
 const INPUTS: u64 = 60;

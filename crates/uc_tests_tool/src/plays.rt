@@ -6,8 +6,8 @@ use std::str;
 use std::thread::Threads;
 use uc_oper::Operator;
 use uc_tests_shared::options::small;
+use uc_tool::play;
 use uc_tool_io::Done;
-use uc_tool_play::play;
 use uc_version_state::Options;
 
 /// A script, and what it prints.

@@ -4,14 +4,13 @@ use std::cmp;
 use std::marker::Sync;
 use std::test::Fail;
 use std::thread::Threads;
-use uc_batch::{Ended, fits_batch, write_batch};
+use uc_batch::{Ended, Pieces, fits_batch, write_batch};
 use uc_bytes::{Op, OpRef, WriteRef};
-use uc_log_pieces::Pieces;
 use uc_logrec::LogWriter;
-use uc_version_open::{
+use uc_version_state::{Options, Placed, Version};
+use uc_version_work::{
     OpenError, Opener, Recovered, recover, recover_in_threads, recover_pieces_in_threads,
 };
-use uc_version_state::{Options, Placed, Version};
 
 /// A log of changes of every kind, some bytes of which are cut off its end, and what it opens.
 struct Row {

@@ -1,0 +1,10 @@
+pub mod Plays
+pub mod Calls
+pub mod Judged
+pub mod Lasts
+pub mod Opened
+pub mod ReadAnswers
+pub mod Compactions
+pub mod Reports
+pub mod Reported
+pub mod NoMorePicks

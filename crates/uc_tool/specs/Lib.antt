@@ -1,3 +1,8 @@
+pub mod Play
+pub mod Turn
+pub mod Reading
+pub mod Report
+pub mod Compacting
 pub use Rattle.uc_tool_io.specs.Input
 pub use Rattle.uc_tool_io.specs.Output
 pub use Rattle.uc_tool_opening.specs.Opening
@@ -5,16 +10,11 @@ pub use Rattle.uc_tool_opening.specs.Asked
 pub use Rattle.uc_tool_opening.specs.Reasons
 pub use Rattle.uc_tool_io.specs.Writing
 pub use Rattle.uc_tool_io.specs.Texts
-pub use Rattle.uc_tool_play.specs.Play
-pub use Rattle.uc_tool_play.specs.Turn
 pub use Rattle.uc_tool_ask.specs.Ask
 pub use Rattle.uc_tool_ask.specs.Plans
 pub use Rattle.uc_tool_ask.specs.Readable
-pub use Rattle.uc_tool_play.specs.Report
-pub use Rattle.uc_tool_play.specs.Compacting
 pub use Rattle.uc_tool_io.specs.Ending
 pub use Rattle.uc_tool_io.specs.Status
 pub use Rattle.uc_tool_io.specs.Dump
-pub use Rattle.uc_tool_play.specs.Reading
 pub use Rattle.uc_tool_io.specs.OperatorName
 pub use Rattle.uc_tool_io.specs.Refusal

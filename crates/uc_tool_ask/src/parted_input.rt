@@ -6,7 +6,7 @@ ghost use Rattle.uc_tool_ask.specs.Parting.{IsFaultOf};
 ghost use Rattle.uc_tool_ask.specs.declared.parted_input.PartError.TheVariants.{Memory};
 
 use std::alloc::{AllocError, Global};
-use uc_log_pieces::Pieces;
+use uc_batch::Pieces;
 use uc_script::{Head, ScriptError, read_head, what_follows_a_head_changes_nothing};
 
 /// How many bytes a head is looked for in first.

@@ -17,8 +17,7 @@ use crate::whole_run::run_over_input;
 use std::alloc::Global;
 use std::io;
 use std::io::Read;
-use uc_batch::{Advance, BatchWrites, Ended};
-use uc_log_pieces::{PieceReader, Pieces};
+use uc_batch::{Advance, BatchWrites, Ended, PieceReader, Pieces};
 
 /// How many bytes of lines are put together before they are written out.
 const FULL: usize = 64 << 10;

@@ -2,7 +2,7 @@
 ghost use Rattle.std.specs.Prelude.{◌≡◌, ◌++◌, [], ℕ, List, length, OnOk};
 
 use std::alloc::{AllocError, Global};
-use uc_log_pieces::Pieces;
+use uc_batch::Pieces;
 
 /// What the bytes of an input are gathered in, as they are read: a list in one piece for a program that looks at all of it, or
 /// [`Pieces`] for one that goes once over it.

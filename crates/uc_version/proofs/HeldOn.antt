@@ -4,7 +4,7 @@ use Rattle.std.specs.Prelude.{Option, Some, None}
 use Rattle.std.proofs.lemmas.List.{get_or-set_other}
 use Rattle.std.proofs.Math.ListN.{get_or-map}
 use Rattle.uc_oper.specs.Operation.{Operation}
-use Rattle.uc_compact_rules.specs.Inputs.{Compaction}
+use Rattle.uc_compact.specs.Inputs.{Compaction}
 use Rattle.uc_version_state.specs.declared.stretch.Stretch.{Stretch}
 use Rattle.uc_version.specs.declared.held_stretch.HeldStretch.{HeldStretch}
 use Rattle.uc_version.specs.Owners.{Owner, runs_held}

@@ -3,8 +3,8 @@ use Rattle.std.proofs.Common.{◌≡◌, ◌≢◌, ℕ, Bool, true, false, eqb,
 use Rattle.std.specs.Prelude.{Option, Some, None}
 use Rattle.std.proofs.lemmas.Bool.Decides.{nat_tests}
 use Rattle.uc_oper.specs.Operation.{Operation}
-use Rattle.uc_compact_rules.specs.Inputs.{Compaction}
-use Rattle.uc_compact_rules.specs.Output.{output_of}
+use Rattle.uc_compact.specs.Inputs.{Compaction}
+use Rattle.uc_compact.specs.Output.{output_of}
 use Rattle.uc_version_state.specs.Versions.{Stored, ids_of}
 use Rattle.uc_version_state.specs.Installs.{newest_id}
 use Rattle.uc_version.specs.declared.held_stretch.HeldStretch.{HeldStretch}

@@ -2,8 +2,8 @@
 use Rattle.std.proofs.Common.{◌≡◌, ℕ, ◌+◌, ◌≤◌, List, length, set, map, refl, sym, ap, ◌∙◌, arith}
 use Rattle.std.specs.Prelude.{Option, None}
 use Rattle.uc_oper.specs.Operation.{Operation}
-use Rattle.uc_compact_rules.specs.Inputs.{Compaction, Stand}
-use Rattle.uc_compact_rules.specs.Output.{output_of}
+use Rattle.uc_compact.specs.Inputs.{Compaction, Stand}
+use Rattle.uc_compact.specs.Output.{output_of}
 use Rattle.uc_version_state.specs.Versions.{Stored, IsVersion, contents_of}
 use Rattle.uc_version_state.specs.Installs.{Install, MayInstall, replaced, installed}
 use Rattle.uc_version_state.proofs.Found.{first_is, count_is, standing_is}
@@ -11,8 +11,8 @@ use Rattle.uc_version.specs.declared.held_stretch.HeldStretch.{HeldStretch}
 use Rattle.uc_version.specs.Owners.{Owner, runs_held}
 use Rattle.uc_version.specs.Claiming.{Claim}
 use Rattle.uc_version.specs.Installing.{stretch_of, MayReplace, moved_up, after_install, install_of}
-use Rattle.uc_version_compact.proofs.Fitting.{may_install}
-use Rattle.uc_version_compact.proofs.PartSlots.{part_length}
+use Rattle.uc_version_work.proofs.Fitting.{may_install}
+use Rattle.uc_version_work.proofs.PartSlots.{part_length}
 
 module _ (m : Operation) (v : Stored) (is_version : IsVersion v) (h : HeldStretch) (two : 2 ≤ h.count) (within : h.first + h.count ≤ length v.runs)
     (made : Compaction) (stand : Stand made.inputs made.keeps) (may : MayReplace v h made) where

@@ -1,15 +1,15 @@
 -- A claim's own compaction, at any later time: no keep and no run behind it refuses it.
 use Rattle.std.proofs.Common.{◌≡◌, ◌+◌, ◌<◌, ◌≤◌, true, List, length, fold, sym, subst, arith}
 use Rattle.uc_oper.specs.Operation.{Operation}
-use Rattle.uc_compact_rules.specs.Inputs.{Compaction}
+use Rattle.uc_compact.specs.Inputs.{Compaction}
 use Rattle.uc_version_state.specs.declared.stretch.Stretch.{Stretch}
 use Rattle.uc_version_state.specs.Versions.{PlacedRun, Stored, IsVersion, ids_of}
 use Rattle.uc_version_state.specs.Refusals.{AreInPlace}
 use Rattle.uc_version_state.specs.declared.event.Event.{Event}
 use Rattle.uc_version_state.specs.Histories.{MayFollow, after}
-use Rattle.uc_version_compact.specs.declared.install_error.InstallError.{InstallError}
-use Rattle.uc_version_compact.specs.declared.install_error.InstallError.TheVariants.{IdsSpent}
-use Rattle.uc_version_compact.specs.Compacting.{runs_at, compaction_at, IsInstallable, IsNotInstallable}
+use Rattle.uc_version_work.specs.declared.install_error.InstallError.{InstallError}
+use Rattle.uc_version_work.specs.declared.install_error.InstallError.TheVariants.{IdsSpent}
+use Rattle.uc_version_work.specs.Compacting.{runs_at, compaction_at, IsInstallable, IsNotInstallable}
 use Rattle.uc_version.specs.Owners.{Owner, IsOwner}
 use Rattle.uc_version.specs.Claiming.{Claim, is_held}
 use Rattle.uc_version.specs.Installing.{place_held, stretch_of, claimed_runs, compaction_of, IdLeft, MayReplace, IsRefused}

@@ -1,7 +1,7 @@
 //! Stretches that are compacted at once: one call claims, compacts and installs.
 ghost use Rattle.std.specs.Prelude.{◌≡◌, None, true, map, IfOk, IfErr};
 ghost use Rattle.std.specs.Arc.{arc_value};
-ghost use Rattle.uc_compact_rules.specs.Inputs.{Stand};
+ghost use Rattle.uc_compact.specs.Inputs.{Stand};
 ghost use Rattle.uc_version_state.specs.Installs.{IdLeft, MayInstall};
 ghost use Rattle.uc_version.specs.Claiming as claiming;
 ghost use Rattle.uc_version.specs.Installing.{stretch_of, compaction_of, after_install};

@@ -14,10 +14,10 @@ use std::thread::Threads;
 use uc_batch::Writes;
 use uc_bytes::Write;
 use uc_oper::Operator;
-use uc_version_open::{fed_version, fed_version_in_threads};
 use uc_version_state::{
     FeedError, ReleaseError, Version, feeds_and_keeps_give_versions, no_refusal_is_leave_to_feed,
 };
+use uc_version_work::{fed_version, fed_version_in_threads};
 
 impl<O: Operator> Owned<O> {
     /// Shows the version after writes were fed. Returns how many runs there are more.

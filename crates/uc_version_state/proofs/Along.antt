@@ -9,7 +9,7 @@ use Rattle.uc_bytes.specs.declared.write.Write.{Write}
 use Rattle.uc_batch.specs.Rising.{last_of}
 use Rattle.uc_model.specs.Meaning.{effect_on, value_of}
 use Rattle.uc_model.proofs.MeaningLaws.{effect_gives, effect_continues}
-use Rattle.uc_compact_rules.specs.Reading.{IsReadAt}
+use Rattle.uc_compact.specs.Reading.{IsReadAt}
 use Rattle.uc_version_state.specs.Versions.{Stored, IsVersion, writes_in}
 use Rattle.uc_version_state.specs.Openings.{opened}
 use Rattle.uc_version_state.specs.Feeds.{fed, MayFeed}

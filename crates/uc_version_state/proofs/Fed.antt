@@ -2,7 +2,7 @@
 use Rattle.std.proofs.Common.{◌≤◌, List, arith}
 use Rattle.uc_bytes.specs.declared.write.Write.{Write}
 use Rattle.uc_batch.specs.Rising.{last_of}
-use Rattle.uc_compact_rules.proofs.Lists.{all-map}
+use Rattle.uc_compact.proofs.NestedLists.{all-map}
 use Rattle.uc_version_state.specs.Versions.{Stored, IsVersion}
 use Rattle.uc_version_state.specs.Feeds.{fed, MayFeed}
 use Rattle.uc_version_state.proofs.Memtables.{last_above, last_limit}

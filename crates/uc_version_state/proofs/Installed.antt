@@ -8,9 +8,9 @@ use Rattle.uc_claims.specs.Claims.{times}
 use Rattle.uc_claims.specs.declared.table.TheConstants.{MOST_SLOTS}
 use Rattle.uc_claims.proofs.Times.{times-append, times-distinct}
 use Rattle.uc_run_entry.specs.Run.{Contents, IsRun}
-use Rattle.uc_compact_rules.specs.Inputs.{AreNewestFirst, high_of, low_of}
-use Rattle.uc_compact_rules.proofs.Lists.{all-append, all-map}
-use Rattle.uc_compact_rules.proofs.OutputRun.{output_is_run}
+use Rattle.uc_compact.specs.Inputs.{AreNewestFirst, high_of, low_of}
+use Rattle.uc_compact.proofs.NestedLists.{all-append, all-map}
+use Rattle.uc_compact.proofs.OutputRun.{output_is_run}
 use Rattle.uc_version_state.specs.Versions.{PlacedRun, Stored, IsVersion, contents_of, ids_of, slots_of}
 use Rattle.uc_version_state.specs.Installs.{Install, MayInstall, inputs_in, older_in, compaction_in, slot_of, installed}
 use Rattle.uc_version_state.proofs.Once.{distinct-from_times, alone, times_of_all}

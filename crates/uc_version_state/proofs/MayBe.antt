@@ -3,7 +3,7 @@ use Rattle.std.proofs.Common.{◌≡◌, ap, subst}
 use Rattle.std.specs.Prelude.{Option, Some, None, IfNone}
 use Rattle.uc_oper.specs.Operation.{Operation}
 use Rattle.uc_run_entry.specs.Run.{Contents}
-use Rattle.uc_compact_rules.specs.Inputs.{high_of}
+use Rattle.uc_compact.specs.Inputs.{high_of}
 use Rattle.uc_version_state.specs.Versions.{Stored, contents_of}
 use Rattle.uc_version_state.specs.declared.refusal.Refusal.{Refusal}
 use Rattle.uc_version_state.specs.Installs.{Install, MayInstall, MayReplace, inputs_in, older_in}

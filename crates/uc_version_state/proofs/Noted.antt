@@ -7,7 +7,7 @@ use Rattle.std.proofs.lemmas.List.{length-map, length-take-le, length-drop, take
 use Rattle.uc_oper.specs.Operation.{Operation, IsLawful}
 use Rattle.uc_model.proofs.Members.{contains_first, contains_later}
 use Rattle.uc_claims.specs.declared.table.TheConstants.{MOST_SLOTS}
-use Rattle.uc_compact_rules.proofs.Lists.{all-map}
+use Rattle.uc_compact.proofs.NestedLists.{all-map}
 use Rattle.uc_version_state.specs.Versions.{PlacedRun, Stored, IsVersion, ids_of, slots_of}
 use Rattle.uc_version_state.specs.Openings.{opened}
 use Rattle.uc_version_state.specs.Installs.{part_of, place_of, newest_id, standing}

@@ -4,7 +4,7 @@ use Rattle.std.specs.Prelude.{◌&&◌}
 use Rattle.uc_oper.specs.Operation.{Operation, IsLawful}
 use Rattle.uc_batch.specs.Rising.{last_of}
 use Rattle.uc_model.specs.Meaning.{effect_on}
-use Rattle.uc_compact_rules.proofs.Lists.{all-append}
+use Rattle.uc_compact.proofs.NestedLists.{all-append}
 use Rattle.uc_version_state.specs.declared.options.Options.{Options}
 use Rattle.uc_version_state.specs.declared.options.TheConstants.{GREATEST_FIRST_ID}
 use Rattle.uc_version_state.specs.Options.{are_good}

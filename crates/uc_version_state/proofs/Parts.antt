@@ -5,8 +5,8 @@ use Rattle.std.proofs.lemmas.List.{take-append-drop, append-nil, append_assoc, d
 use Rattle.uc_run_entry.specs.Run.{Contents}
 use Rattle.uc_run_entry.specs.PlainList.{plain_list}
 use Rattle.uc_bytes.specs.declared.write.Write.{Write}
-use Rattle.uc_compact_rules.specs.Inputs.{AreNewestFirst, low_of, high_of, writes_of}
-use Rattle.uc_compact_rules.proofs.Lists.{all-append}
+use Rattle.uc_compact.specs.Inputs.{AreNewestFirst, low_of, high_of, writes_of}
+use Rattle.uc_compact.proofs.NestedLists.{all-append}
 
 pub in_parts : {X : Type 0} (n m : ℕ) (xs : List X) → take n xs ++ (take m (drop n xs) ++ drop (n + m) xs) ≡ xs
 in_parts {X} n m xs =

@@ -13,8 +13,8 @@ use Rattle.uc_claims.specs.Holding.{AreDistinct}
 use Rattle.uc_claims.specs.declared.table.TheConstants.{MOST_SLOTS}
 use Rattle.uc_run_entry.specs.Run.{Contents, IsRun}
 use Rattle.uc_run_entry.specs.PlainList.{plain_list}
-use Rattle.uc_compact_rules.specs.Inputs.{AreRuns, AreNewestFirst, writes_of}
-use Rattle.uc_compact_rules.proofs.Lists.{all-map}
+use Rattle.uc_compact.specs.Inputs.{AreRuns, AreNewestFirst, writes_of}
+use Rattle.uc_compact.proofs.NestedLists.{all-map}
 use Rattle.uc_run.specs.Flush.{flushed, first_of}
 use Rattle.uc_version_state.specs.Versions.{PlacedRun, Stored, contents_of, ids_of, slots_of}
 use Rattle.uc_version_state.specs.Flushes.{with_run, flushed_onto}

@@ -11,10 +11,10 @@ use Rattle.uc_model.specs.Meaning.{effect_on, value_of}
 use Rattle.uc_model.proofs.MeaningLaws.{effect_continues}
 use Rattle.uc_run_entry.specs.Run.{Contents}
 use Rattle.uc_run_entry.specs.PlainList.{plain_list}
-use Rattle.uc_compact_rules.specs.Inputs.{AreRuns, AreNewestFirst, Stand, writes_of, high_of}
-use Rattle.uc_compact_rules.specs.Output.{output_of}
-use Rattle.uc_compact_rules.specs.Reading.{IsReadAt, KeepsReads}
-use Rattle.uc_compact_rules.proofs.Staying.{keeps_reads}
+use Rattle.uc_compact.specs.Inputs.{AreRuns, AreNewestFirst, Stand, writes_of, high_of}
+use Rattle.uc_compact.specs.Output.{output_of}
+use Rattle.uc_compact.specs.Reading.{IsReadAt, KeepsReads}
+use Rattle.uc_compact.proofs.Staying.{keeps_reads}
 use Rattle.uc_version_state.specs.Versions.{PlacedRun, Stored, IsVersion, contents_of, ids_of, writes_in}
 use Rattle.uc_version_state.specs.Installs.{Install, MayInstall, place_in, inputs_in, older_in, compaction_in, slot_of, installed}
 use Rattle.uc_version_state.proofs.Parts.{in_parts, writes-append, all-front, all-behind, first-front, first-behind, of_newest}

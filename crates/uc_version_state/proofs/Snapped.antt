@@ -9,8 +9,8 @@ use Rattle.std.proofs.lemmas.Bool.Decides.{nat_tests}
 use Rattle.std.proofs.lemmas.List.Elements.{Contains-push_cases}
 use Rattle.uc_claims.specs.Claims.{times}
 use Rattle.uc_claims.proofs.Times.{list_any-times, times-from_Contains, Contains-from_times, times-filter}
-use Rattle.uc_compact_rules.proofs.Lists.{all-append, all-filter}
-use Rattle.uc_compact_rules.proofs.OutputRun.{sorted-append}
+use Rattle.uc_compact.proofs.NestedLists.{all-append, all-filter}
+use Rattle.uc_compact.proofs.OutputRun.{sorted-append}
 use Rattle.uc_version_state.specs.Versions.{Stored, IsVersion}
 use Rattle.uc_version_state.specs.Snapshots.{with_keep, without_keep, kept, released}
 

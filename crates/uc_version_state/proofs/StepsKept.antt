@@ -11,7 +11,7 @@ use Rattle.uc_claims.specs.Claims.{times}
 use Rattle.uc_claims.specs.Holding.{without}
 use Rattle.uc_claims.specs.declared.table.TheConstants.{MOST_SLOTS}
 use Rattle.uc_claims.proofs.Times.{times-append, times-cons, one_same, one_other, times-from_Contains, times-without_other, times-without_same}
-use Rattle.uc_compact_rules.specs.Output.{output_of}
+use Rattle.uc_compact.specs.Output.{output_of}
 use Rattle.uc_version_state.specs.Versions.{PlacedRun, Stored, IsVersion, ids_of, slots_of}
 use Rattle.uc_version_state.specs.Openings.{Opening, opened}
 use Rattle.uc_version_state.specs.Installs.{Install, MayInstall, MayReplace, part_of, standing, behind, replaced, terms_of}

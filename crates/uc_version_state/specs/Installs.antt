@@ -4,8 +4,8 @@ use Rattle.std.specs.List.Sorted.{IsStrictlySortedBy}
 use Rattle.std.specs.Ordering.{nat_cmp}
 use Rattle.uc_oper.specs.Operation.{Operation}
 use Rattle.uc_run_entry.specs.Run.{Contents}
-use Rattle.uc_compact_rules.specs.Inputs.{Compaction, high_of}
-use Rattle.uc_compact_rules.specs.Output.{output_of}
+use Rattle.uc_compact.specs.Inputs.{Compaction, high_of}
+use Rattle.uc_compact.specs.Output.{output_of}
 use Rattle.uc_version_state.specs.Versions.{PlacedRun, Stored, contents_of, ids_of}
 
 -- a compaction's inputs by their ids, the newest first; the keeps that it was made for; whether the oldest run of all is

@@ -9,8 +9,8 @@ use Rattle.std.specs.List.Sorted.{IsStrictlySortedBy}
 use Rattle.std.specs.Ordering.{nat_cmp}
 use Rattle.uc_oper.specs.Operation.{Operation}
 use Rattle.uc_claims.specs.Holding.{without}
-use Rattle.uc_compact_rules.specs.Inputs.{Compaction}
-use Rattle.uc_compact_rules.specs.Output.{output_of}
+use Rattle.uc_compact.specs.Inputs.{Compaction}
+use Rattle.uc_compact.specs.Output.{output_of}
 use Rattle.uc_version_state.specs.Versions.{PlacedRun, Stored, contents_of, ids_of, slots_of}
 use Rattle.uc_version_state.specs.Installs.{Install, MayReplace, terms_of, part_of, standing, behind}
 use Rattle.uc_version_state.specs.declared.event.Event.{Event}

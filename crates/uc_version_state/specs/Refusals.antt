@@ -2,7 +2,7 @@
 use Rattle.std.specs.Prelude.{◌≡◌, ℕ, Bool, not, ◌&&◌, ◌==◌, List, [], ◌∷◌, Option, Some, None, nat_lt, if◌then◌else◌}
 use Rattle.std.specs.List.{list_any}
 use Rattle.uc_oper.specs.Operation.{Operation}
-use Rattle.uc_compact_rules.specs.Output.{output_of}
+use Rattle.uc_compact.specs.Output.{output_of}
 use Rattle.uc_version_state.specs.Versions.{Stored, ids_of}
 use Rattle.uc_version_state.specs.Installs.{Install, Terms, KeepsKnown, NothingBelow, IdLeft, MayReplace, standing, behind, compaction_in}
 use Rattle.uc_version_state.specs.declared.refusal.Refusal.{Refusal}

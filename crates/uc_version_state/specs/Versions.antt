@@ -7,7 +7,7 @@ use Rattle.uc_bytes.specs.declared.write.Write.{Write}
 use Rattle.uc_claims.specs.Holding.{AreDistinct}
 use Rattle.uc_claims.specs.declared.table.TheConstants.{MOST_SLOTS}
 use Rattle.uc_run_entry.specs.Run.{Contents}
-use Rattle.uc_compact_rules.specs.Inputs.{AreRuns, AreNewestFirst, writes_of}
+use Rattle.uc_compact.specs.Inputs.{AreRuns, AreNewestFirst, writes_of}
 
 -- a run with its place: a number that no other run ever has, and a slot that it has until it is replaced
 pub record PlacedRun : Type 0 where

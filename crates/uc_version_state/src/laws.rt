@@ -9,7 +9,7 @@ ghost use Rattle.uc_claims.specs.Holding.{AreDistinct};
 ghost use Rattle.uc_claims.specs.declared.table.TheConstants.{MOST_SLOTS};
 ghost use Rattle.uc_model.specs.Meaning.{effect_on, value_of};
 ghost use Rattle.uc_run.specs.Size.{memtable_size};
-ghost use Rattle.uc_compact_rules.specs.Reading.{IsReadAt};
+ghost use Rattle.uc_compact.specs.Reading.{IsReadAt};
 ghost use Rattle.uc_version_state.specs.Versions.{PlacedRun, Stored, IsVersion, ids_of, writes_in};
 ghost use Rattle.uc_version_state.specs.Flushes.{memtables, least_free};
 ghost use Rattle.uc_version_state.specs.Feeds.{MayFeed, fed, feed_refusal};

@@ -1,5 +1,5 @@
 use Rattle.std.proofs.Common.{◌≡◌, ltb, length, map, filter, take}
-use Rattle.uc_compact_rules.specs.Output.{fragment_kept}
+use Rattle.uc_compact.specs.Output.{fragment_kept}
 use Rattle.uc_compact.proofs.fragments.fragments_kept.Given as goal
 
 abbrev pub invariant-loop-piece : goal.invariant-loop-piece

@@ -2,8 +2,8 @@ use Rattle.std.proofs.Common.{◌≡◌, map, subst}
 use Rattle.std.specs.Arc.{arc_value}
 use Rattle.std.specs.Result.{IfOk}
 use Rattle.uc_run_entry.specs.Run.{Contents}
-use Rattle.uc_compact_rules.specs.Inputs.{Compaction}
-use Rattle.uc_compact_rules.specs.Output.{output_of}
+use Rattle.uc_compact.specs.Inputs.{Compaction}
+use Rattle.uc_compact.specs.Output.{output_of}
 use Rattle.uc_compact.proofs.Building.{is_run_by, run_by}
 use Rattle.uc_compact.proofs.output.merge_by_parts.Goals as goal
 

@@ -1,6 +1,6 @@
 use Rattle.std.proofs.Common.{◌≡◌, ◌∙◌, map}
 use Rattle.std.specs.Arc.{arc_value}
-use Rattle.uc_compact_rules.specs.Inputs.{Compaction, keeping_of}
+use Rattle.uc_compact.specs.Inputs.{Compaction, keeping_of}
 use Rattle.uc_compact.proofs.Building.{are_fragments, fragments_by, keeping_by}
 use Rattle.uc_compact.proofs.output.output_fragments.Goals as goal
 

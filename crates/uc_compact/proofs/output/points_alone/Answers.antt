@@ -1,7 +1,7 @@
 use Rattle.std.proofs.Common.{◌≡◌, map}
 use Rattle.std.specs.Arc.{arc_value}
 use Rattle.std.proofs.lemmas.Result.{IfOk-weaker}
-use Rattle.uc_compact_rules.specs.Inputs.{Compaction, keeping_of}
+use Rattle.uc_compact.specs.Inputs.{Compaction, keeping_of}
 use Rattle.uc_compact.proofs.Building.{in_order_in, one_key_in, points_by, keeping_by}
 use Rattle.uc_compact.proofs.output.points_alone.Goals as goal
 

@@ -1,7 +1,7 @@
 use Rattle.std.proofs.Common.{ℕ, Bool, List, option_map, take}
 use Rattle.std.specs.List.{AllByRecursion}
 use Rattle.uc_run.specs.NextKey.{IsNextKey}
-use Rattle.uc_compact_rules.specs.Inputs.{points_of}
+use Rattle.uc_compact.specs.Inputs.{points_of}
 use Rattle.uc_query_read.specs.Walks.{runs_of, StandsAt}
 use Rattle.uc_query_read.proofs.dead_keys.least_key.Given as goal
 

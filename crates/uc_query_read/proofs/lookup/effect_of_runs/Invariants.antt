@@ -1,6 +1,6 @@
 use Rattle.std.proofs.Common.{◌≡◌, take}
 use Rattle.uc_model.specs.Meaning.{effect_on}
-use Rattle.uc_compact_rules.specs.Inputs.{writes_of}
+use Rattle.uc_compact.specs.Inputs.{writes_of}
 use Rattle.uc_version_state.specs.Versions.{contents_of}
 use Rattle.uc_query_read.proofs.lookup.effect_of_runs.Given as goal
 

@@ -1,6 +1,6 @@
 use Rattle.std.proofs.Common.{◌≡◌, ◌≤◌, ◌++◌, false, length, take}
 use Rattle.uc_query_read.specs.Answers.{rows_of}
-use Rattle.uc_compact_rules.specs.Inputs.{writes_of, points_of}
+use Rattle.uc_compact.specs.Inputs.{writes_of, points_of}
 use Rattle.uc_version_state.specs.Versions.{contents_of}
 use Rattle.uc_query_read.specs.Ahead.{keys_ahead}
 use Rattle.uc_query_read.proofs.scan.first_rows.Given as goal

@@ -1,6 +1,6 @@
 use Rattle.std.proofs.Common.{◌∙◌}
 use Rattle.std.proofs.lemmas.Bool.{false≢true}
-use Rattle.uc_compact_rules.specs.Inputs.{writes_of}
+use Rattle.uc_compact.specs.Inputs.{writes_of}
 use Rattle.uc_version_state.specs.Versions.{contents_of}
 use Rattle.uc_query_read.proofs.Shown.{rows_shown, rows_rise}
 use Rattle.uc_query_read.proofs.scan.rows_of_runs.Goals as goal

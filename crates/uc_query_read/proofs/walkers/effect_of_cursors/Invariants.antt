@@ -1,6 +1,6 @@
 use Rattle.std.proofs.Common.{◌≡◌, take}
 use Rattle.uc_model.specs.Meaning.{effect_on}
-use Rattle.uc_compact_rules.specs.Inputs.{writes_of}
+use Rattle.uc_compact.specs.Inputs.{writes_of}
 use Rattle.uc_query_read.specs.Walks.{runs_of}
 use Rattle.uc_query_read.proofs.walkers.effect_of_cursors.Given as goal
 

@@ -1,5 +1,5 @@
 use Rattle.std.proofs.Common.{arith}
-use Rattle.uc_run_entry.proofs.Falling.{from_by}
+use Rattle.uc_run_entry.proofs.SeqsFall.{from_by}
 use Rattle.uc_run_entry.proofs.checking.are_from.Goals as goal
 
 pub returns-else-low-eq0 : goal.returns-else-low-eq0

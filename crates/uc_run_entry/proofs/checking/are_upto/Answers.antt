@@ -1,5 +1,5 @@
 use Rattle.std.proofs.Common.{refl}
-use Rattle.uc_run_entry.proofs.Falling.{upto_by, upto_none}
+use Rattle.uc_run_entry.proofs.SeqsFall.{upto_by, upto_none}
 use Rattle.uc_run_entry.proofs.checking.are_upto.Goals as goal
 
 pub returns-in-None : goal.returns-in-None

@@ -1,5 +1,5 @@
 use Rattle.std.proofs.Common.{eqb, refl}
-use Rattle.uc_run_entry.proofs.Falling.{among_by, not_among}
+use Rattle.uc_run_entry.proofs.SeqsFall.{among_by, not_among}
 use Rattle.uc_run_entry.proofs.checking.has_seq.Goals as goal
 
 pub returns-in-None : goal.returns-in-None

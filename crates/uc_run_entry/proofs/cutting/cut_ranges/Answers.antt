@@ -9,9 +9,9 @@ use Rattle.uc_bytes.specs.Bytes.{bytes_cmp}
 use Rattle.uc_run_entry.specs.Cutting.{cut_points, has_keys, pieces}
 use Rattle.uc_run_entry.specs.Spanning.{spans_of, covered, with_seqs}
 use Rattle.uc_run_entry.proofs.Covered.{all_within, seqs_of_covered}
-use Rattle.uc_run_spans.proofs.Sets.{sorted_set}
+use Rattle.uc_run_entry.proofs.Sets.{sorted_set}
 use Rattle.uc_run_entry.proofs.Spanned.{spanned, length-pieces}
-use Rattle.uc_run_spans.specs.Spans.{IsWithin, seqs_in, falling, listed}
+use Rattle.uc_run_entry.specs.Spans.{IsWithin, seqs_in, falling, listed}
 use Rattle.uc_run_entry.proofs.cutting.cut_ranges.Goals as goal
 
 pub spans_of-requires : goal.spans_of-requires

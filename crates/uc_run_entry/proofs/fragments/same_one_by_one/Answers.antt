@@ -1,5 +1,5 @@
 use Rattle.std.proofs.Common.{rules}
-use Rattle.uc_run_spans.proofs.Equal.{equal_by}
+use Rattle.uc_run_entry.proofs.Equal.{equal_by}
 use Rattle.uc_run_entry.proofs.fragments.same_one_by_one.Goals as goal
 
 pub returns : goal.returns

@@ -1,7 +1,7 @@
 use Rattle.std.proofs.Common.{◌≡◌, ℕ, List, option_map, subst, sym, ap}
 use Rattle.std.specs.Prelude.{IfSome}
 use Rattle.std.specs.List.{AllByRecursion}
-use Rattle.uc_compact_rules.specs.Inputs.{points_of}
+use Rattle.uc_compact.specs.Inputs.{points_of}
 use Rattle.uc_run.specs.Cursors.{Standing}
 use Rattle.uc_run.specs.Heads.{IsLeast, number_of}
 use Rattle.uc_run.specs.NextKey.{IsNextKey}

@@ -1,5 +1,5 @@
 use Rattle.std.proofs.Common.{subst}
-use Rattle.uc_compact_rules.specs.Inputs.{Compaction}
+use Rattle.uc_compact.specs.Inputs.{Compaction}
 use Rattle.uc_share.specs.Claims.{claimed_runs}
 use Rattle.uc_share.specs.Installing.{EndsWith, event_of}
 use Rattle.uc_share.proofs.store.Store.compact_held.Goals as goal

@@ -1,0 +1,60 @@
+//! What a key's points do, as one effect.
+ghost use Rattle.std.specs.Prelude.{◌≡◌, map, IfOk};
+ghost use Rattle.std.specs.Option.{option_to_list};
+ghost use Rattle.uc_oper.specs.Operation.{Operation};
+ghost use Rattle.uc_oper.specs.declared.effect.Effect.{Effect as EffectOf};
+ghost use Rattle.uc_run_entry.specs.Lookup as lookup;
+ghost use Rattle.uc_compact.specs.Choice.{PointsFall};
+
+use crate::falling::points_above;
+use crate::folder::Folder;
+use std::alloc::{AllocError, Global};
+use uc_oper::{Effect, Operator};
+use uc_run_entry::Point;
+
+/// The points, the newest first, without those that a newer one overwrites.
+fn lasting<'b, 'a>(points: &'b [&'a Point]) -> &'b [&'a Point]
+    ensures { (m : Operation) (before : EffectOf) →
+        lookup.points_effect m before (map (λ p. p.now) result.now) ≡
+        lookup.points_effect m before (map (λ p. p.now) points.now) }
+{
+    match points.iter().position(|point| point.overwrites()) {
+        None => points,
+        Some(place) => &points[..place + 1],
+    }
+}
+
+/// What points of one key, the newest first, make of an effect before them. An `Err` loses that effect.
+fn points_effect<O: Operator, F: Folder<O>>(
+    folder: &F,
+    alloc: Global,
+    before: Effect,
+    points: &[&Point],
+) -> Result<Effect, AllocError>
+    requires { F.can_fold folder.now }
+    ensures { IfOk result (λ effect. effect ≡ lookup.points_effect O.meaning before (map (λ p. p.now) points.now)) }
+{
+    folder.fold(alloc, before, lasting(points))
+}
+
+/// What a key's points, the newest first, and the range deletions over it do. `newest` is the newest of those
+/// deletions, if there is one.
+pub(crate) fn effect_above_newest<O: Operator, F: Folder<O>>(
+    folder: &F,
+    alloc: Global,
+    points: &[&Point],
+    newest: Option<u64>,
+) -> Result<Effect, AllocError>
+    requires can { F.can_fold folder.now }
+    requires fall { PointsFall (map (λ p. p.now) points.now) }
+    ensures { IfOk result (λ effect.
+        effect ≡ lookup.above_newest O.meaning (map (λ p. p.now) points.now) (option_to_list newest)) }
+{
+    match newest {
+        None => points_effect::<O, F>(folder, alloc, Effect::Keep, points),
+        Some(newest) => {
+            let newer = &points[..points_above(points, newest)];
+            points_effect::<O, F>(folder, alloc, Effect::Set(None), newer)
+        }
+    }
+}

@@ -1,5 +1,0 @@
-use Rattle.uc_compact_rules.proofs.OutputRun.{output_is_run}
-use Rattle.uc_compact_rules.proofs.laws.compaction_gives_a_run.Goals as goal
-
-pub returns : goal.returns
-returns g c = λ compaction are stand. output_is_run g.O.Operator.meaning compaction are stand

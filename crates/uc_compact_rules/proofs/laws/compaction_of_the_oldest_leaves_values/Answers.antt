@@ -1,8 +1,0 @@
-use Rattle.uc_compact_rules.proofs.Leaving.{only_values, no_seqs}
-use Rattle.uc_compact_rules.proofs.laws.compaction_of_the_oldest_leaves_values.Goals as goal
-
-pub returns : goal.returns
-returns g c compaction are stand = record {
-  points = only_values g.O.Operator.meaning compaction are stand;
-  fragments = no_seqs g.O.Operator.meaning compaction are stand;
-}

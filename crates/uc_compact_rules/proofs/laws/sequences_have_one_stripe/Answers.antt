@@ -1,5 +1,0 @@
-use Rattle.uc_compact_rules.proofs.Parted.{one_stripe}
-use Rattle.uc_compact_rules.proofs.laws.sequences_have_one_stripe.Goals as goal
-
-pub returns : goal.returns
-returns c = λ keeps seq rise some below. one_stripe keeps seq rise some below

@@ -1,3 +1,0 @@
-pub mod Compacting
-pub mod Picking
-pub mod Ranges

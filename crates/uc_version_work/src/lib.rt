@@ -1,0 +1,65 @@
+//! What both stores do with versions: they open one from a log's writes, feed it, and compact stretches of its runs.
+//!
+//! The store of one owner (`uc_version`) and the store that threads share (`uc_share`) stand on this. Nothing here knows who
+//! claims runs.
+//!
+//! An [`Opener`] takes the writes of a log one after the other, so no list of them is ever held. A full memtable
+//! becomes a run when the next write comes. It refuses nothing before its end, since a fault of the log comes before a
+//! refused opening. Read `specs/Refusal.antt` first, which says when a store isn't opened, then `specs/Progress.antt`
+//! and `opener.rt`. A store opens with `opened` of `uc_version_state`.
+//!
+//! Writes that are fed to a store later fill the same memtables: [`fed_version`], [`fed_version_in_threads`], or in two steps
+//! [`flush_writes`] and [`version_with_flushed`].
+//!
+//! [`recover`] goes once through a write-ahead log and hands each write, borrowed from the log's bytes, to an opener.
+//! [`recover_first`] does so for the first writes alone, and hands those behind them out; [`count_writes`] tells how many
+//! there are. Read `recovery.rt`.
+//!
+//! [`recover_in_threads`] lets full memtables wait, and flushes several at a time side by side while it reads on;
+//! [`Opener::finish_in_threads`] flushes those that are left. [`recover_pieces_in_threads`] does so over a log in pieces, and lets
+//! go of each when its batches were read. A store that opens so is the same, whichever flush ends first.
+//! Read `flusher.rt`, and then `reading.rt`.
+//!
+//! A stretch of a version's runs is compacted, and the result is judged and installed. Read `specs/Compacting.antt` first, then
+//! `stretches.rt` and `refusal.rt`. `specs/Ranges.antt` says which stretches may be claimed at all, and `candidates.rt` picks one.
+//!
+//! An `Err(AllocError)`, or a variant `Memory`, comes only if an allocation fails.
+#![tactic(auto)]
+
+mod candidates;
+mod claim_error;
+mod first_version;
+mod flusher;
+mod flushes;
+mod full_memtable;
+mod install_error;
+mod install_laws;
+mod keeps;
+mod laws;
+mod lent_memtables;
+mod log_batches;
+mod memtables;
+mod open_error;
+mod opener;
+mod reading;
+mod recovery;
+mod refusal;
+mod runs;
+mod stretches;
+
+pub use candidates::pick;
+pub use claim_error::ClaimError;
+pub use first_version::open_version;
+pub use flushes::{fed_version, fed_version_in_threads, flush_writes, version_with_flushed};
+pub use install_error::InstallError;
+pub use install_laws::{own_compactions_stay_installable, what_fits_may_be_installed};
+pub use laws::no_refusal_is_leave_to_open;
+pub use open_error::OpenError;
+pub use opener::Opener;
+pub use recovery::{
+    Counted, Recovered, count_writes, recover, recover_first, recover_in_threads,
+    recover_pieces_in_threads,
+};
+pub use refusal::{are_inputs, error_of, install_refusal, present_refusal};
+pub use runs::{run_ids, runs_of, slots_of, stretch_runs};
+pub use stretches::{compact_stretch, compact_stretch_by, install_of};
