@@ -13,7 +13,6 @@ use uc_run::Run;
 
 /// Runs that were compacted, and the run that was made of them. A contract sees it as what was asked for: the runs, the
 /// keeps, and whether the oldest run of all was among them. These determine its output.
-#[derive(Drop)]
 pub struct Compacted<O: Operator> {
     pub(crate) inputs: Vec<Arc<Run>>,
     pub(crate) keeps: Vec<u64>,
@@ -31,6 +30,19 @@ impl<O: Operator> Model for Compacted<O> {
     ghost view = { asked };
 
     ghost invariant = { IsMade O.meaning };
+}
+
+// A destructor of its own: where a value is dropped, the proof of a caller has one call, and not one for each field.
+impl<O: Operator> Drop for Compacted<O> {
+    fn drop(self) {
+        let Compacted {
+            inputs: _,
+            keeps: _,
+            oldest: _,
+            output: _,
+            operator: _,
+        } = self;
+    }
 }
 
 impl<O: Operator> Compacted<O> {
@@ -66,7 +78,14 @@ impl<O: Operator> Compacted<O> {
     pub fn into_output(self) -> Arc<Run>
         ensures { arc_value result ≡ output_of O.meaning self }
     {
-        self.output
+        let Compacted {
+            inputs: _,
+            keeps: _,
+            oldest: _,
+            output,
+            operator: _,
+        } = self;
+        output
     }
 
     /// What holds of every value: the runs are runs, and they and the keeps may be compacted together. Proof step: does

@@ -32,7 +32,7 @@ use uc_run_entry::{
 
 /// An immutable sorted table (LevelDB `table_format.md`, in memory): points in order of key, fragments of range
 /// deletions, and the range of their sequences. A contract sees it as these.
-#[derive(Debug, Drop)]
+#[derive(Debug)]
 pub struct Run {
     low: u64,
     high: u64,
@@ -53,6 +53,21 @@ impl Model for Run {
     ghost view = { contents };
 
     ghost invariant = { IsHeld };
+}
+
+// A destructor of its own: where a value is dropped, the proof of a caller has one call, and not one for each field.
+impl Drop for Run {
+    fn drop(self) {
+        let Run {
+            low: _,
+            high: _,
+            points: _,
+            fences: _,
+            filter: _,
+            fragments: _,
+            size: _,
+        } = self;
+    }
 }
 
 /// The filter and the fences of points, made side by side.

@@ -14,7 +14,7 @@ use std::sync::Arc;
 pub(crate) const FEW: u64 = 8;
 
 /// Fragments, and the spans that those with many sequences share. A contract sees the list of the fragments.
-#[derive(Debug, Drop)]
+#[derive(Debug)]
 pub struct Fragments {
     list: Vec<Fragment>,
     spans: Option<Arc<Spans>>,
@@ -30,6 +30,13 @@ impl Model for Fragments {
     ghost view = { λ f. f.list.items };
 
     ghost invariant = { AreShared };
+}
+
+// A destructor of its own: where a value is dropped, the proof of a caller has one call, and not one for each field.
+impl Drop for Fragments {
+    fn drop(self) {
+        let Fragments { list: _, spans: _ } = self;
+    }
 }
 
 /// Whether a fragment has the ends of another.

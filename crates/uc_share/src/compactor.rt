@@ -18,7 +18,6 @@ use uc_version_work::InstallError;
 
 /// Who compacts a store: a reader and a seat of it. Contracts see the seat, which is there between turns, and what the reader has
 /// seen of the history.
-#[derive(Drop)]
 pub struct Compactor<O: Operator, N: Name> {
     reader: Reader<O, N>,
     seat: Option<Seat>,
@@ -35,12 +34,20 @@ impl<O: Operator, N: Name> Model for Compactor<O, N> {
     ghost invariant = { λ c. (c.seat ≢ None) × IfSome c.seat (λ seat. seat.table ≡ N.table) };
 }
 
+// A destructor of its own: where a value is dropped, the proof of a caller has one call, and not one for each field.
+impl<O: Operator, N: Name> Drop for Compactor<O, N> {
+    fn drop(self) {
+        let Compactor { reader: _, seat: _ } = self;
+    }
+}
+
 impl<O: Operator, N: Name> Compactor<O, N> {
     /// Its reader, if it compacts no more. The seat is let go of.
     pub fn into_reader(self) -> Reader<O, N>
         ensures { result ≡ self.seen }
     {
-        self.reader
+        let Compactor { reader, seat: _ } = self;
+        reader
     }
 }
 

@@ -34,7 +34,6 @@ pub(crate) enum LookError {
 ///
 /// It is made of taken slots by a look at what is shown, and by nothing else: so who has one has taken its slots first, has
 /// looked then, and has them still.
-#[derive(Drop)]
 pub struct Held<O: Operator, N: Name> {
     taken: Taken<O, N>,
 }
@@ -45,6 +44,13 @@ impl<O: Operator, N: Name> Model for Held<O, N> {
     ghost Value = { Claim };
 
     ghost view = { λ h. h.taken };
+}
+
+// A destructor of its own: where a value is dropped, the proof of a caller has one call, and not one for each field.
+impl<O: Operator, N: Name> Drop for Held<O, N> {
+    fn drop(self) {
+        let Held { taken: _ } = self;
+    }
 }
 
 /// Whether runs stand in a version as neighbours in their order, by their ids.
@@ -87,7 +93,8 @@ impl<O: Operator, N: Name> Held<O, N> {
     pub(crate) fn into_taken(self) -> Taken<O, N>
         ensures { result ≡ self }
     {
-        self.taken
+        let Held { taken } = self;
+        taken
     }
 
     /// The seat with the slots of the claimed runs.

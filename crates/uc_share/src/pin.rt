@@ -12,7 +12,6 @@ use uc_version_state::Version;
 
 /// A version that a reader holds on to, whatever is shown later, with the history that leads to it. Contracts see both, and not
 /// where the version is shared.
-#[derive(Drop)]
 pub struct Pin<O: Operator, N: Name> {
     share: Share,
     front: Front<N>,
@@ -27,6 +26,17 @@ impl<O: Operator, N: Name> Model for Pin<O, N> {
     ghost view = { λ p. moment N.book p.share p.front };
 
     ghost invariant = { λ p. IsMoment O.meaning N.keeps_stay N.book N.base (moment N.book p.share p.front) };
+}
+
+// A destructor of its own: where a value is dropped, the proof of a caller has one call, and not one for each field.
+impl<O: Operator, N: Name> Drop for Pin<O, N> {
+    fn drop(self) {
+        let Pin {
+            share: _,
+            front: _,
+            of: _,
+        } = self;
+    }
 }
 
 impl<O: Operator, N: Name> Pin<O, N> {

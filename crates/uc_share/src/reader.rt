@@ -21,7 +21,6 @@ pub(crate) type Place<O, N> = reader::Reader<Shown, u64, Rises<O, N>>;
 
 /// A thread's reader. It pins versions, and has seen a beginning of the store's history. Contracts see that beginning: the
 /// events since the version that the store was opened with. It is legal behind every history with which that version stands.
-#[derive(Drop)]
 pub struct Reader<O: Operator, N: Name> {
     place: Option<Place<O, N>>,
     front: Front<N>,
@@ -40,6 +39,17 @@ impl<O: Operator, N: Name> Model for Reader<O, N> {
 
     ghost invariant = { λ r. (r.place ≢ None) × IfSome r.place (λ p. length r.front ≤ sides.view p.place)
         × AreSeen O.meaning N.keeps_stay N.base r.front };
+}
+
+// A destructor of its own: where a value is dropped, the proof of a caller has one call, and not one for each field.
+impl<O: Operator, N: Name> Drop for Reader<O, N> {
+    fn drop(self) {
+        let Reader {
+            place: _,
+            front: _,
+            number: _,
+        } = self;
+    }
 }
 
 /// Looks at what is shown, and pins it for the reader with this number. It waits for nobody.

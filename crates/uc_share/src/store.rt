@@ -36,7 +36,6 @@ use uc_version_work::{ClaimError, InstallError, are_inputs, install_of, pick};
 
 /// A store that threads share by reference: claim words for the slots of its runs, and behind a lock what shows readers the
 /// next version. Contracts see its table of claim words, which its seats carry too, and how it is compacted.
-#[derive(Drop)]
 pub struct Store<O: Operator, N: Name, W: Wait + Drop> {
     words: Words,
     options: Options,
@@ -53,6 +52,17 @@ impl<O: Operator, N: Name, W: Wait + Drop> Model for Store<O, N, W> {
     ghost view = { λ s. record { table = s.words; options = s.options } };
 
     ghost invariant = { λ s. (s.words ≡ N.table) × (are_good s.options ≡ true) };
+}
+
+// A destructor of its own: where a value is dropped, the proof of a caller has one call, and not one for each field.
+impl<O: Operator, N: Name, W: Wait + Drop> Drop for Store<O, N, W> {
+    fn drop(self) {
+        let Store {
+            words: _,
+            options: _,
+            desk: _,
+        } = self;
+    }
 }
 
 impl<O: Operator, N: Name, W: Wait + Drop> Store<O, N, W> {

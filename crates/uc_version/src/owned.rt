@@ -25,7 +25,6 @@ use uc_version_work::{
 };
 
 /// A store with one owner: a version, and the claims of stretches of its runs.
-#[derive(Drop)]
 pub struct Owned<O: Operator> {
     pub(crate) version: Version,
     options: Options,
@@ -44,6 +43,20 @@ impl<O: Operator> Model for Owned<O> {
     ghost view = { owner };
 
     ghost invariant = { IsOwned };
+}
+
+// A destructor of its own: where a value is dropped, the proof of a caller has one call, and not one for each field.
+impl<O: Operator> Drop for Owned<O> {
+    fn drop(self) {
+        let Owned {
+            version: _,
+            options: _,
+            table: _,
+            held: _,
+            claims: _,
+            operator: _,
+        } = self;
+    }
 }
 
 impl<O: Operator> Owned<O> {

@@ -8,7 +8,7 @@ use std::marker::Model;
 /// What a store holds at a moment (RocksDB wiki, "Universal Compaction", "Snapshot"): sorted runs, the newest first;
 /// the keeps, at which reads are made; the last sequence; the number of the next run; and from how many bytes on a
 /// memtable is flushed.
-#[derive(Debug, Drop)]
+#[derive(Debug)]
 pub struct Version {
     pub(crate) runs: Vec<Placed>,
     pub(crate) keeps: Vec<u64>,
@@ -26,6 +26,19 @@ impl Model for Version {
     ghost view = { stored };
 
     ghost invariant = { HoldsVersion };
+}
+
+// A destructor of its own: where a value is dropped, the proof of a caller has one call, and not one for each field.
+impl Drop for Version {
+    fn drop(self) {
+        let Version {
+            runs: _,
+            keeps: _,
+            last: _,
+            next_id: _,
+            limit: _,
+        } = self;
+    }
 }
 
 impl Version {
