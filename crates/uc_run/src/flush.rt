@@ -8,6 +8,7 @@ ghost use Rattle.uc_run.specs.Ranks.{points_of};
 ghost use Rattle.uc_run.specs.Flush as flush;
 
 use crate::entry_ref::EntryRef;
+use crate::make_small::make_small;
 use crate::ranked_point::{RankedPoint, pack_ranked, sort_by_key};
 use crate::slot::Slot;
 use std::alloc::{AllocError, Global};
@@ -101,7 +102,9 @@ pub(crate) fn points_by_key(
 {
     let mut points = points_in(alloc, text, slots)?;
     sort_by_key(&mut points);
-    pack_ranked(alloc, &points)
+    let packed = pack_ranked(alloc, &points);
+    make_small(&mut points);
+    packed
 }
 
 /// The sequence of the first slot, or 0 if there is none.

@@ -25,6 +25,7 @@ mod heads;
 mod key_hash;
 mod laws;
 mod lookup;
+mod make_small;
 mod memtable;
 mod near;
 mod places;

@@ -7,6 +7,7 @@ ghost use Rattle.uc_run.specs.Slots.{Grows};
 
 use crate::flush::{first_seq, points_by_key, ranges_in};
 use crate::laws::flushed_writes_are_a_run;
+use crate::make_small::make_small;
 use crate::run::Run;
 use crate::size::op_size;
 use crate::slot::Slot;
@@ -17,7 +18,7 @@ use uc_run_entry::cut_ranges;
 
 /// The newest writes, before they become a run (RocksDB wiki, "MemTable"). A contract sees it as the list of the
 /// writes that were inserted, in order.
-#[derive(Debug, Drop)]
+#[derive(Debug)]
 pub struct Memtable {
     /// The arena: the texts of all writes, one after the other.
     text: Vec<u8>,
@@ -36,6 +37,19 @@ impl Model for Memtable {
     ghost view = { inserted };
 
     ghost invariant = { IsHeld };
+}
+
+impl Drop for Memtable {
+    fn drop(mut self) {
+        make_small(&mut self.text);
+        make_small(&mut self.slots);
+        let Memtable {
+            text: _,
+            slots: _,
+            size: _,
+            last: _,
+        } = self;
+    }
 }
 
 /// Writes both texts at the end. An `Err` writes nothing.

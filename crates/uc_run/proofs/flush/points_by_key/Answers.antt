@@ -10,8 +10,8 @@ use Rattle.uc_run.proofs.flush.points_by_key.Goals as goal
 pub sort_by_key-requires : goal.sort_by_key-requires
 sort_by_key-requires c = subst HaveOwnSeqs (sym (ap points_of c.deref_mut.ensures.value ∙ c.in_ok-points.ensures)) c.requires.own
 
-pub pack_ranked-requires : goal.pack_ranked-requires
-pack_ranked-requires c =
+pub pack_ranked-packed-requires : goal.pack_ranked-packed-requires
+pack_ranked-packed-requires c =
     let points = c.in_ok-points.points in
     let back = back_by_key _ points.items c.deref_mut.result.now c.sort_by_key.new.points _ c.deref.result.now points.len c.in_ok-points.ensures (sym points.ok.0) c.deref_mut.ensures.value c.sort_by_key.ensures.order c.sort_by_key.ensures.len c.deref.ensures.value in
     subst (AllByRecursion (λ (p : Entry). p.seq < 2 ^ 56)) (sym back) c.requires.below
@@ -20,4 +20,4 @@ pub returns : goal.returns
 returns c =
     let points = c.in_ok-points.points in
     let back = back_by_key _ points.items c.deref_mut.result.now c.sort_by_key.new.points _ c.deref.result.now points.len c.in_ok-points.ensures (sym points.ok.0) c.deref_mut.ensures.value c.sort_by_key.ensures.order c.sort_by_key.ensures.len c.deref.ensures.value in
-    subst (λ (ps : List Entry). IfOk c.pack_ranked.result (λ packed. packed.items ≡ ps)) back c.pack_ranked.ensures
+    subst (λ (ps : List Entry). IfOk c.pack_ranked-packed.result (λ packed. packed.items ≡ ps)) back c.pack_ranked-packed.ensures
