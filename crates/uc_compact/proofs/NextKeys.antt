@@ -1,11 +1,8 @@
 -- The next keys beside the points that are ahead.
-use Rattle.std.proofs.Common.{◌≡◌, ◌≢◌, ℕ, suc, ◌+◌, ◌<◌, inl, inr, Bool, true, false, cond, List, [], ◌∷◌, ◌++◌, length, get_or, set, map, take, drop, Option, Some, None, refl, sym, ap, ◌∙◌}
-use Rattle.std.specs.Prelude.{option_map}
-use Rattle.std.specs.List.{AllByRecursion, flat_map, slice_get}
+use Rattle.std.proofs.Common.{◌≡◌, ◌≢◌, ℕ, zero, suc, ◌+◌, ◌-◌, ◌<◌, ◌≤◌, inl, inr, Bool, true, false, cond, List, [], ◌∷◌, ◌++◌, length, get_or, set, map, take, drop, Option, Some, None, refl, sym, ap, ◌∙◌, subst, arith}
+use Rattle.std.specs.List.{AllByRecursion, AllWithin, flat_map}
 use Rattle.std.specs.Cmp.Lexicographic.{bytes_decides}
-use Rattle.std.proofs.lemmas.Bool.{false≢true}
-use Rattle.std.proofs.lemmas.List.{get_or_default, append-nil, map-set, set-get_or}
-use Rattle.std.proofs.lemmas.Option.{slice_get_read, slice_get-map}
+use Rattle.std.proofs.lemmas.List.{get_or-map, append-nil, map-set, set-get_or}
 use Rattle.uc_bytes.specs.Bytes.{same_bytes}
 use Rattle.uc_run_entry.specs.declared.entry.Entry.{Entry}
 use Rattle.uc_run_entry.proofs.Written.{written}
@@ -65,6 +62,10 @@ module _ (key : List ℕ) where
   abbrev taken : List Entry → List Entry
   taken ps = take (first_named key ps) ps
 
+  -- up to a place all cursors have moved past the key, and its points have been taken
+  abbrev pub IsTakenTo : List (List Entry) → List (List Entry) → List Entry → List Entry → ℕ → Type 0
+  IsTakenTo old now before so_far i = (now ≡ map left (take i old) ++ drop i old) × (so_far ≡ before ++ flat_map taken (take i old))
+
   unnamed_by : (p : Entry) (ps : List Entry) (b : Bool) → same_bytes p.key key ≡ b → p.key ≢ key → cond b (suc (first_named key ps)) 0 ≡ 0
   unnamed_by p ps true e other = absurd (other ((bytes_decides p.key key).0 e))
   unnamed_by p ps false e other = refl
@@ -73,21 +74,38 @@ module _ (key : List ℕ) where
   unnamed [] other = refl
   unnamed (p ∷ ps) other = unnamed_by p ps (same_bytes p.key key) refl (λ same. other (ap (λ (k : List ℕ). Some k) same))
 
-  module _ (keys : List (Option (List ℕ))) (old now : List (List Entry)) (i : ℕ) (found : Bool) (lt : i < length old) (lt_now : i < length now) (beside : keys ≡ map first_key now) (is : now ≡ map left (take i old) ++ drop i old) (finds : slice_get keys i ≡ Some (Some key) → found ≡ true) (not : found ≡ false) where
-    abbrev here : List Entry
-    here = get_or now i []
+  module _ (keys : List (Option (List ℕ))) (old now : List (List Entry)) (beside : keys ≡ map first_key now) where
+    -- a cursor that isn't at the key stays where it was
+    module _ (i : ℕ) (lt : i < length old) (lt_now : i < length now) (other : (d : Option (List ℕ)) → get_or keys i d ≢ Some key) (is : now ≡ map left (take i old) ++ drop i old) where
+      abbrev here : List Entry
+      here = get_or now i []
 
-    key_here : slice_get keys i ≡ Some (first_key here)
-    key_here =
-        ap (λ (ks : List (Option (List ℕ))). slice_get ks i) beside
-        ∙ slice_get-map first_key now i
-        ∙ ap (option_map first_key) (slice_get_read now (length now) i here refl lt_now (get_or_default now i [] here lt_now))
+      key_here : get_or keys i None ≡ first_key here
+      key_here = ap (λ (ks : List (Option (List ℕ))). get_or ks i None) beside ∙ get_or-map first_key now i [] None lt_now
 
-    none : first_named key here ≡ 0
-    none = unnamed here (λ same. false≢true (sym not ∙ finds (key_here ∙ ap (λ (k : Option (List ℕ)). Some k) same)))
+      none : first_named key here ≡ 0
+      none = unnamed here (λ same. other None (key_here ∙ same))
 
-    pub unmoved : now ≡ map left (take (i + 1) old) ++ drop (i + 1) old
-    unmoved = sym (set-get_or now i []) ∙ written left old now i [] here lt is (ap (λ n. drop n here) (sym none))
+      unmoved : now ≡ map left (take (i + 1) old) ++ drop (i + 1) old
+      unmoved = sym (set-get_or now i []) ∙ written left old now i [] here lt is (ap (λ n. drop n here) (sym none))
 
-    pub untaken : (before so_far : List Entry) → so_far ≡ before ++ flat_map taken (take i old) → so_far ≡ before ++ flat_map taken (take (i + 1) old)
-    untaken before so_far had = gathered left taken old now i [] before so_far so_far lt is had (sym (append-nil so_far) ∙ ap (λ n. so_far ++ take n here) (sym none))
+      untaken : (before so_far : List Entry) → so_far ≡ before ++ flat_map taken (take i old) → so_far ≡ before ++ flat_map taken (take (i + 1) old)
+      untaken before so_far had = gathered left taken old now i [] before so_far so_far lt is had (sym (append-nil so_far) ∙ ap (λ n. so_far ++ take n here) (sym none))
+
+    passed_by : (i n : ℕ) → i + n ≤ length old → length now ≡ length old → AllWithin (λ k. k ≢ Some key) keys i (i + n) → (before so_far : List Entry) → IsTakenTo old now before so_far i → IsTakenTo old now before so_far (i + n)
+    passed_by i zero le long others before so_far h = subst (IsTakenTo old now before so_far) (omega arith) h
+    passed_by i (suc n) le long others before so_far h =
+        let same : (i + 1) + n ≡ i + suc n = omega arith in
+        let lt : i < length old = omega (arith, le) in
+        let lt_now : i < length now = omega (arith, le, long) in
+        let other = λ (d : Option (List ℕ)). others i d (omega arith) (omega arith) in
+        subst (IsTakenTo old now before so_far) same
+        (passed_by (i + 1) n (omega (arith, le)) long (λ k d from to. others k d (omega (arith, from)) (omega (arith, to))) before so_far
+        (unmoved i lt lt_now other h.0, untaken i lt lt_now other h.0 before so_far h.1))
+
+    -- nor do those between two places, if none of them is at the key
+    pub passed_to : (i j : ℕ) → i ≤ j → j ≤ length old → length now ≡ length old → AllWithin (λ k. k ≢ Some key) keys i j → (before so_far : List Entry) → IsTakenTo old now before so_far i → IsTakenTo old now before so_far j
+    passed_to i j le within long others before so_far h =
+        let whole : i + (j - i) ≡ j = omega (arith, le) in
+        subst (IsTakenTo old now before so_far) whole
+        (passed_by i (j - i) (omega (arith, whole, within)) long (subst (AllWithin (λ k. k ≢ Some key) keys i) (sym whole) others) before so_far h)

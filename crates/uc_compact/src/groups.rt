@@ -62,12 +62,12 @@ fn take_from_each<'a>(
     ensures left { OnOk result (cursors.new ≡ map (λ ps. drop (first_named head.entry.key.now ps) ps) cursors.old) }
     ensures heads { OnOk result (heads.new.keys ≡ map first_key cursors.new) }
 {
-    for place in 0..cursors.len() {
-        if heads.is_at(place, head) {
-            let cursor = &mut cursors[place];
-            cursor.take_named(head.key, points)?;
-            heads.set(place, cursor.key());
-        }
+    let mut place = heads.next_at(0, head);
+    while place < cursors.len() {
+        let cursor = &mut cursors[place];
+        cursor.take_named(head.key, points)?;
+        heads.set(place, cursor.key());
+        place = heads.next_at(place + 1, head);
     }
     Ok(())
 }

@@ -1,35 +1,15 @@
 -- The least number, and the least key, which is among those with that number.
-use Rattle.std.proofs.Common.{◌≡◌, ℕ, ◌+◌, ◌-◌, ◌^◌, ◌<◌, ◌≤◌, inl, inr, Bool, true, false, cond, eqb, ltb, List, [], ◌∷◌, ◌++◌, length, get_or, map, take, min, Option, Some, None, refl, sym, ap, ◌∙◌, subst, arith}
+use Rattle.std.proofs.Common.{◌≡◌, ℕ, zero, suc, ◌+◌, ◌-◌, ◌^◌, ◌<◌, ◌≤◌, inl, inr, Bool, true, false, cond, eqb, ltb, List, [], ◌∷◌, length, get_or, map, take, Option, Some, None, refl, sym, ap, ◌∙◌, subst, arith}
 use Rattle.std.specs.Prelude.{unwrap_or, IfSome}
-use Rattle.std.specs.List.{All, AllByRecursion, Contains}
+use Rattle.std.specs.List.{All, AllByRecursion, AllWithin, Contains}
 use Rattle.std.proofs.lemmas.Bool.Decides.{nat_tests}
-use Rattle.std.proofs.lemmas.List.{get_or-map, length-map, take_all, take_more}
-use Rattle.std.proofs.lemmas.List.Elements.{All-head, All-tail, All-cons, All-contains, All-more, All-nil, All-weaker, Contains-append_left, Contains-push}
+use Rattle.std.proofs.lemmas.List.{get_or-map, length-map, take_all}
+use Rattle.std.proofs.lemmas.List.Elements.{All-head, All-tail, All-cons, All-contains, All-nil}
 use Rattle.std.proofs.lemmas.Simd.{map-map}
 use Rattle.uc_run.specs.Heads.{next_number, number_of, lesser_of, IsFrom, IsAmong, IsLeast}
 use Rattle.uc_run.specs.Prefixes.{AreBytes}
 use Rattle.uc_run.proofs.LeastHead.{least_at}
 use Rattle.uc_run.proofs.NumberOrder.{number_bound, lower_number}
-
--- ---- the least of some numbers, one number more at a time
-
-module _ (ns : List ℕ) (i least next : ℕ) (lt : i < length ns) (is : next ≡ min least (get_or ns i 0)) where
-  pub lower_more : All (λ n. least ≤ n) (take i ns) → All (λ n. next ≤ n) (take (i + 1) ns)
-  lower_more lower =
-      All-more (λ n. next ≤ n) ns i 0 lt (All-weaker (λ n. least ≤ n) (λ n. next ≤ n) (λ n le. omega (arith, le, is)) (take i ns) lower) (omega (arith, is))
-
-  pub there_more : (least < 2 ^ 64 - 1 → Contains (take i ns) least) → next < 2 ^ 64 - 1 → Contains (take (i + 1) ns) next
-  there_more there below = subst (λ (ms : List ℕ). Contains ms next) (sym (take_more ns i 0 lt)) (by (ltb (get_or ns i 0) least) refl)
-    where
-      by : (b : Bool) → ltb (get_or ns i 0) least ≡ b → Contains (take i ns ++ get_or ns i 0 ∷ []) next
-      by true e =
-          let less : get_or ns i 0 < least = grind (arith, nat_tests) in
-          let new : get_or ns i 0 ≡ next = omega (arith, less, is) in
-          subst (λ (n : ℕ). Contains (take i ns ++ get_or ns i 0 ∷ []) n) new (Contains-push (take i ns) (get_or ns i 0))
-      by false e =
-          let le : least ≤ get_or ns i 0 = grind (arith, nat_tests) in
-          let old : least ≡ next = omega (arith, le, is) in
-          subst (λ (n : ℕ). Contains (take i ns ++ get_or ns i 0 ∷ []) n) old (Contains-append_left (take i ns) (get_or ns i 0 ∷ []) least (there (omega (arith, old, below))))
 
 -- ---- the least key
 
@@ -146,19 +126,34 @@ module _ {X : Type 0} (f : X → Key) (front : List ℕ) (low : ℕ) (xs : List 
   pub other_more : (i : ℕ) (d : X) (least next : Key) → i < length xs → (get_or ns i 0 ≡ low → ⊥) → next ≡ least → IsLeast (map (λ x. numbered front low (f x)) (take i xs)) least → IsLeast (map (λ x. numbered front low (f x)) (take (i + 1) xs)) next
   other_more i d least next lt e made h = more i d least next false lt (grind (arith, nat_tests)) made h
 
+  -- those up to a place that have another number
+  others_more : (i n : ℕ) (d : X) (least : Key) → i + n ≤ length xs → AllWithin (λ m. m ≡ low → ⊥) ns i (i + n) → IsLeast (map (λ x. numbered front low (f x)) (take i xs)) least → IsLeast (map (λ x. numbered front low (f x)) (take (i + n) xs)) least
+  others_more i zero d least le others h = subst (λ (k : ℕ). IsLeast (map (λ x. numbered front low (f x)) (take k xs)) least) (omega arith) h
+  others_more i (suc n) d least le others h =
+      let same : (i + 1) + n ≡ i + suc n = omega arith in
+      subst (λ (k : ℕ). IsLeast (map (λ x. numbered front low (f x)) (take k xs)) least) same
+      (others_more (i + 1) n d least (omega (arith, le)) (λ k e from lt. others k e (omega (arith, from)) (omega (arith, lt)))
+      (other_more i d least least (omega (arith, le)) (others i 0 (omega arith) (omega arith)) refl h))
+
+  pub others_to : (i j : ℕ) (d : X) (least : Key) → i ≤ j → j ≤ length xs → AllWithin (λ m. m ≡ low → ⊥) ns i j → IsLeast (map (λ x. numbered front low (f x)) (take i xs)) least → IsLeast (map (λ x. numbered front low (f x)) (take j xs)) least
+  others_to i j d least le within others h =
+      let whole : i + (j - i) ≡ j = omega (arith, le) in
+      subst (λ (k : ℕ). IsLeast (map (λ x. numbered front low (f x)) (take k xs)) least) whole
+      (others_more i (j - i) d least (omega (arith, whole, within)) (subst (AllWithin (λ m. m ≡ low → ⊥) ns i) (sym whole) others) h)
+
   pub as_long : length ns ≡ length xs
   as_long = ap length each ∙ length-map (map f xs) (next_number front) ∙ length-map xs f
 
   -- at the end
-  pub least_of_all : (i : ℕ) (least : Key) → length ns ≤ i → All (λ n. low ≤ n) ns → (low < 2 ^ 64 - 1 → Contains ns low) → All (λ key. AreBytes (unwrap_or key [])) (map f xs) → IsLeast (map (λ x. numbered front low (f x)) (take i xs)) least → IsLeast (map f xs) least
+  pub least_of_all : (i : ℕ) (least : Key) → length xs ≤ i → All (λ n. low ≤ n) ns → (low < 2 ^ 64 - 1 → Contains ns low) → All (λ key. AreBytes (unwrap_or key [])) (map f xs) → IsLeast (map (λ x. numbered front low (f x)) (take i xs)) least → IsLeast (map f xs) least
   least_of_all i least end lower there bytes h =
-      let all : take i xs ≡ xs = take_all i xs (omega (arith, as_long, end)) in
+      let all : take i xs ≡ xs = take_all i xs end in
       least_numbered front low (map f xs) least (subst (All (λ n. low ≤ n)) each lower) (λ below. subst (λ (ms : List ℕ). Contains ms low) each (there below)) bytes
       (subst (λ (keys : List Key). IsLeast keys least) (ap (map (λ x. numbered front low (f x))) all ∙ sym (map-map (numbered front low) f xs)) h)
 
-  pub number_of_least : (i : ℕ) (least : Key) → length ns ≤ i → IsLeast (map (λ x. numbered front low (f x)) (take i xs)) least → IfSome least (λ k. number_of front k ≡ low)
+  pub number_of_least : (i : ℕ) (least : Key) → length xs ≤ i → IsLeast (map (λ x. numbered front low (f x)) (take i xs)) least → IfSome least (λ k. number_of front k ≡ low)
   number_of_least i None end h = tt
   number_of_least i (Some k) end h =
-      let all : take i xs ≡ xs = take_all i xs (omega (arith, as_long, end)) in
+      let all : take i xs ≡ xs = take_all i xs end in
       number_is front low k (map f xs)
       (subst (λ (keys : List Key). IsLeast keys (Some k)) (ap (map (λ x. numbered front low (f x))) all ∙ sym (map-map (numbered front low) f xs)) h).1

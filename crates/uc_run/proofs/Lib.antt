@@ -25,4 +25,6 @@ pub mod KeyOrder
 pub mod LeastHead
 pub mod OtherKeys
 pub mod NumberOrder
+pub mod LeastInBlocks
 pub mod LeastNumber
+pub mod NextHead

@@ -8,4 +8,4 @@ next_keys h = record { front = h.front.now; keys = map (option_map (λ key. key.
 
 -- each key beside its number
 abbrev pub IsNumbered : Inside → Type 0
-IsNumbered h = AreNumbered h.front.now (map (option_map (λ key. key.now)) h.keys.items) h.numbers.items
+IsNumbered h = AreNumbered h.front.now (map (option_map (λ key. key.now)) h.keys.items) h.numbers

@@ -14,5 +14,6 @@ pub mod Cursors
 pub mod Hiding
 pub mod KeyHash
 pub mod Filters
+pub mod NumberBlocks
 pub mod Heads
 pub mod HeldHeads

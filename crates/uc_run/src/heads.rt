@@ -1,12 +1,14 @@
 //! [`Heads`]: the next keys of several walks; and [`Head`], one of them.
-ghost use Rattle.std.specs.Prelude.{◌≡◌, ℕ, ◌-◌, ◌^◌, ◌<◌, ◌≤◌, ◌↔◌, List, [], Some, Contains, IsTrue, IfOk, IfSome, length, map, option_map, unwrap_or};
-ghost use Rattle.std.specs.List.{All, slice_get, slice_set};
+ghost use Rattle.std.specs.Prelude.{◌≡◌, ◌≢◌, ℕ, ◌+◌, ◌<◌, ◌≤◌, ◌↔◌, List, [], Some, IsTrue, IfOk, IfSome, length, map, option_map, unwrap_or};
+ghost use Rattle.std.specs.List.{AllWithin, HoldsAt, slice_get, slice_set};
 ghost use Rattle.uc_run.specs.Heads as heads;
 ghost use Rattle.uc_run.specs.Heads.{AreNumbered, IsLeast};
+ghost use Rattle.uc_run.specs.NumberBlocks.{IsLeastNumber};
 ghost use Rattle.uc_run.specs.Prefixes.{AreBytes};
 
 use crate::common_front::{front_of_cursors, front_of_runs};
 use crate::cursor::Cursor;
+use crate::number_blocks::NumberBlocks;
 use crate::prefixes::prefix_of;
 use std::alloc::{AllocError, Global};
 use std::marker::Model;
@@ -27,8 +29,8 @@ pub struct Head<'a> {
 pub struct Heads<'a> {
     front: &'a [u8],
     keys: Vec<Option<&'a [u8]>>,
-    /// The number of each key, in one piece: a text is looked at only where numbers are equal.
-    numbers: Vec<u64>,
+    /// The number of each key: a text is looked at only where numbers are equal.
+    numbers: NumberBlocks,
 }
 
 impl<'a> Model for Heads<'a> {
@@ -93,15 +95,19 @@ fn next_number(front: &[u8], key: Option<&[u8]>) -> u64
 }
 
 /// The number of each key.
-fn numbers_of(alloc: Global, front: &[u8], keys: &[Option<&[u8]>]) -> Result<Vec<u64>, AllocError>
+fn numbers_of(
+    alloc: Global,
+    front: &[u8],
+    keys: &[Option<&[u8]>],
+) -> Result<NumberBlocks, AllocError>
     ensures { IfOk result (λ numbers.
-        AreNumbered front.now (map (option_map (λ key. key.now)) keys.now) numbers.items) }
+        AreNumbered front.now (map (option_map (λ key. key.now)) keys.now) numbers) }
 {
     let mut numbers = Vec::with_capacity(alloc, keys.len())?;
     for key in keys {
         numbers.push(next_number(front, *key))?;
     }
-    Ok(numbers)
+    NumberBlocks::of(alloc, numbers)
 }
 
 /// The lesser of two keys, if there are two; else the one there is.
@@ -134,34 +140,40 @@ fn is_key(next: Option<&[u8]>, key: &[u8]) -> bool
     }
 }
 
-/// The least of some numbers, or 2^64 - 1 if there are none.
-fn least_number(numbers: &[u64]) -> u64
-    ensures lower { All (λ number. result ≤ number) numbers.now }
-    ensures there { result < 2 ^ 64 - 1 → Contains numbers.now result }
-{
-    let mut least = u64::MAX;
-    for number in numbers {
-        least = least.min(*number);
-    }
-    least
-}
-
 /// The least of some keys: one of those with the least number.
-fn least_of<'a>(keys: &[Option<&'a [u8]>], numbers: &[u64], low: u64) -> Option<&'a [u8]>
+fn least_of<'a>(keys: &[Option<&'a [u8]>], numbers: &NumberBlocks, low: u64) -> Option<&'a [u8]>
     requires numbered { (front : List ℕ) × AreNumbered front (map (option_map (λ key. key.now)) keys.now) numbers.now }
-    requires lower { All (λ number. low ≤ number) numbers.now }
-    requires there { low < 2 ^ 64 - 1 → Contains numbers.now low }
+    requires low { IsLeastNumber numbers.now low }
     ensures least { IsLeast (map (option_map (λ key. key.now)) keys.now) (option_map (λ key. key.now) result) }
     ensures number { (front : List ℕ) → AreNumbered front (map (option_map (λ key. key.now)) keys.now) numbers.now →
         IfSome (option_map (λ key. key.now) result) (λ key. heads.number_of front key ≡ low) }
 {
     let mut least = None;
-    for (walk, number) in numbers.iter().enumerate() {
-        if *number == low {
-            least = lesser(least, keys[walk]);
-        }
+    let mut walk = numbers.next(0, low);
+    while walk < keys.len() {
+        least = lesser(least, keys[walk]);
+        walk = numbers.next(walk + 1, low);
     }
     least
+}
+
+/// The first walk from one on whose key is the head's, or how many walks there are if none's is.
+fn next_of(keys: &[Option<&[u8]>], numbers: &NumberBlocks, from: usize, head: Head<'_>) -> usize
+    requires numbered { (front : List ℕ)
+        × AreNumbered front (map (option_map (λ key. key.now)) keys.now) numbers.now
+        × (head.number ≡ heads.number_of front head.key.now) }
+    requires within { from ≤ length keys.now }
+    ensures bound { (from ≤ result) × (result ≤ length keys.now) }
+    ensures before { AllWithin (λ key. key ≢ Some head.entry.key.now)
+        (map (option_map (λ key. key.now)) keys.now) from result }
+    ensures there { result < length keys.now →
+        HoldsAt (λ key. key ≡ Some head.entry.key.now) (map (option_map (λ key. key.now)) keys.now) result }
+{
+    let mut walk = numbers.next(from, head.number);
+    while walk < keys.len() && !is_key(keys[walk], head.key) {
+        walk = numbers.next(walk + 1, head.number);
+    }
+    walk
 }
 
 impl<'a> Heads<'a> {
@@ -195,13 +207,13 @@ impl<'a> Heads<'a> {
         })
     }
 
-    /// The least of the keys. It costs one step for each walk, and a comparison of texts for each whose number is the
-    /// least one's.
+    /// The least of the keys. It costs two steps for each 16 walks, and for each walk whose number is the least one's a
+    /// comparison of texts and a look at those beside it.
     pub fn least(&self) -> Option<Head<'a>>
         ensures least { IsLeast self.now.keys (option_map (λ head. head.key.now) result) }
         ensures number { IfSome result (λ head. head.number ≡ heads.number_of self.now.front head.key.now) }
     {
-        let number = least_number(&self.numbers);
+        let number = self.numbers.least();
         let key = least_of(&self.keys, &self.numbers, number)?;
         Some(Head { key, number })
     }
@@ -213,10 +225,23 @@ impl<'a> Heads<'a> {
         requires number { head.number ≡ heads.number_of self.now.front head.key.now }
         ensures { IsTrue result ↔ (slice_get self.now.keys walk ≡ Some (Some head.entry.key.now)) }
     {
-        self.numbers[walk] == head.number && is_key(self.keys[walk], head.key)
+        self.numbers.at(walk) == head.number && is_key(self.keys[walk], head.key)
     }
 
-    /// Puts another next key in place of a walk's.
+    /// The first walk from one on whose next key is the head's, or how many walks there are if none's is. It costs a
+    /// step for each 16 walks, and a look at each 16 that may have the key.
+    pub fn next_at(&self, from: usize, head: Head<'_>) -> usize
+        requires within { from ≤ length self.now.keys }
+        requires number { head.number ≡ heads.number_of self.now.front head.key.now }
+        ensures bound { (from ≤ result) × (result ≤ length self.now.keys) }
+        ensures before { AllWithin (λ key. key ≢ Some head.entry.key.now) self.now.keys from result }
+        ensures there { result < length self.now.keys →
+            HoldsAt (λ key. key ≡ Some head.entry.key.now) self.now.keys result }
+    {
+        next_of(&self.keys, &self.numbers, from, head)
+    }
+
+    /// Puts another next key in place of a walk's. It costs a look at the numbers of 16 walks.
     #[inline]
     pub fn set(&mut self, walk: usize, key: Option<&'a [u8]>)
         requires { walk < length self.old.keys }
@@ -226,7 +251,8 @@ impl<'a> Heads<'a> {
               keys = slice_set self.old.keys walk (option_map (λ k. k.now) key.entry);
             } }
     {
-        self.numbers[walk] = next_number(self.front, key);
+        let number = next_number(self.front, key);
+        self.numbers.set(walk, number);
         self.keys[walk] = key;
     }
 

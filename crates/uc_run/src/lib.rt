@@ -28,6 +28,7 @@ mod lookup;
 mod make_small;
 mod memtable;
 mod near;
+mod number_blocks;
 mod places;
 mod prefixes;
 mod ranked_point;

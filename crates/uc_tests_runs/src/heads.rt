@@ -146,6 +146,16 @@ fn begin_with(points: &[Point], key: &[u8]) -> bool {
     }
 }
 
+/// The first run from one on that begins with the key, or how many runs there are if none does.
+fn next_beginning(runs: &[&[Point]], from: usize, key: &[u8]) -> usize {
+    for walk in from..runs.len() {
+        if begin_with(runs[walk], key) {
+            return walk;
+        }
+    }
+    runs.len()
+}
+
 /// Whether heads find this key, the least of the first ones, at the runs that begin with it.
 fn find_least(alloc: Global, runs: &[&[Point]], least: Option<&[u8]>) -> Result<bool, AllocError> {
     let heads = Heads::of_runs(alloc, runs)?;
@@ -153,11 +163,13 @@ fn find_least(alloc: Global, runs: &[&[Point]], least: Option<&[u8]>) -> Result<
         return Ok(least.is_none());
     };
     for walk in 0..runs.len() {
-        if heads.is_at(walk, head) != begin_with(runs[walk], head.key) {
+        if heads.is_at(walk, head) != begin_with(runs[walk], head.key)
+            || heads.next_at(walk, head) != next_beginning(runs, walk, head.key)
+        {
             return Ok(false);
         }
     }
-    Ok(least == Some(head.key))
+    Ok(least == Some(head.key) && heads.next_at(runs.len(), head) == runs.len())
 }
 
 /// A walk through each run.
@@ -183,7 +195,8 @@ fn walk_at(heads: &Heads<'_>, walks: usize, head: Head<'_>) -> Option<usize>
     None
 }
 
-/// Moves the first walk that is at the least key past it, and pushes that key. Does nothing at the end.
+/// Moves the first walk that is at the least key past it, and pushes that key. Does nothing at the end, nor if a search
+/// finds another walk than looking at each does.
 fn take_least<'a>(
     cursors: &mut [Cursor<'a>],
     heads: &mut Heads<'a>,
@@ -195,7 +208,8 @@ fn take_least<'a>(
     let Some(head) = heads.least() else {
         return Ok(());
     };
-    if let Some(walk) = walk_at(heads, cursors.len(), head) {
+    let walk = heads.next_at(0, head);
+    if walk_at(heads, cursors.len(), head) == Some(walk) {
         cursors[walk].pass(head.key);
         heads.set(walk, cursors[walk].key());
         keys.push(head.key)?;
@@ -237,6 +251,35 @@ fn heads_are_in_order(rt: HostRuntime) -> Result<(), Fail> {
         assert!(rt;
             are_in_order(rt.alloc(), &runs_of(rt.alloc(), keys)?)?,
             "{keys:?}"
+        );
+    }
+    Ok(())
+}
+
+/// How many walks there are: around one block of their numbers, and around two.
+static COUNTS: [usize; 8] = [0, 1, 15, 16, 17, 31, 32, 33];
+
+/// Three keys for a walk. Every fifth walk has the same.
+fn keys_of_walk(walk: usize) -> Keys {
+    let first = walk % 5;
+    &SHARED[first..first + 3]
+}
+
+/// So many runs of these keys.
+fn counted_runs(alloc: Global, count: usize) -> Result<Vec<Run>, Fail> {
+    let mut runs = Vec::new(alloc);
+    for walk in 0..count {
+        push_run(alloc, &mut runs, keys_of_walk(walk))?;
+    }
+    Ok(runs)
+}
+
+#[test]
+fn heads_of_many_walks_are_in_order(rt: HostRuntime) -> Result<(), Fail> {
+    for count in &COUNTS {
+        assert!(rt;
+            are_in_order(rt.alloc(), &counted_runs(rt.alloc(), *count)?)?,
+            "{count} walks"
         );
     }
     Ok(())

@@ -1,13 +1,24 @@
-use Rattle.std.specs.Global.{Vec}
-use Rattle.std.proofs.Common.{◌≡◌, ◌<◌, ◌∙◌, ℕ, length, map, take, drop, List, sym, ap, subst, option_map}
+use Rattle.std.proofs.Common.{◌≡◌, ◌<◌, ◌≤◌, ◌+◌, ◌∙◌, ℕ, length, map, take, drop, set, List, sym, ap, subst, option_map, refl, arith}
+use Rattle.std.proofs.lemmas.List.{append-nil, length-map, length-set}
 use Rattle.uc_run_entry.specs.declared.entry.Entry.{Entry}
 use Rattle.uc_run_entry.proofs.Written.{written}
 use Rattle.uc_run.specs.Heads.{NextKeys}
 use Rattle.uc_compact.specs.Heads.{first_key, first_named}
 use Rattle.uc_compact.proofs.Stepping.{gathered}
-use Rattle.uc_compact.proofs.NextKeys.{moved, unmoved, untaken}
+use Rattle.uc_compact.proofs.NextKeys.{moved, passed_to}
 use Rattle.uc_compact.proofs.groups.take_from_each.Goals as goal
-use Rattle.uc_compact.proofs.groups.take_from_each.Goals.{then-is_at+in_ok-take_named, else-is_at}
+
+pub loop-place-init : goal.loop-place-init
+loop-place-init c =
+    let old = c.args.cursors.now in
+    let before = map (λ p. p.now) c.args.points.now.items in
+    let within : c.next_at-place.result ≤ length old = subst (λ (n : ℕ). c.next_at-place.result ≤ n) (ap length c.requires.keys ∙ length-map old first_key) c.next_at-place.ensures.bound.1 in
+    record {
+      within = within;
+      taken = passed_to c.args.head.key.now c.args.heads.now.keys old old c.requires.keys 0 c.next_at-place.result (omega arith) within refl c.next_at-place.ensures.before before before (refl, sym (append-nil before));
+      heads = c.requires.keys;
+      front = refl;
+    }
 
 pub loop-place-preserved : goal.loop-place-preserved
 loop-place-preserved c =
@@ -15,29 +26,26 @@ loop-place-preserved c =
     let old = c.args.cursors.now in
     let now = c.loop-place.cursors in
     let place = c.loop-place.place in
+    let next = c.next_at-place-in-loop-place.result in
+    let own = c.take_named.new.self in
     let left = λ (ps : List Entry). drop (first_named key ps) ps in
     let taken = λ (ps : List Entry). take (first_named key ps) ps in
     let before = map (λ p. p.now) c.args.points.now.items in
     let so_far = map (λ p. p.now) c.loop-place.points.items in
-    let long : (length now ≡ length old) → place < length now = λ e. subst (λ (n : ℕ). place < n) (sym e) c.loop-place-test.true in
-    elim c.if-is_at.branch [
-      | then-is_at+in_ok-take_named w ↦
-          record {
-            left = w.cursors-is ∙ written left old now place _ w.take_named.new.self c.loop-place-test.true c.loop-place.invariant.left w.in_ok-take_named.ensures.left;
-            taken = gathered left taken old now place _ before so_far (map (λ p. p.now) c.if-is_at.points.items) c.loop-place-test.true c.loop-place.invariant.left c.loop-place.invariant.taken (ap (λ (ps : Vec _). map (λ p. p.now) ps.items) w.points-is ∙ w.in_ok-take_named.ensures.taken);
-            heads =
-                ap (λ (h : NextKeys). h.keys) (w.heads-is ∙ w.set.ensures)
-                ∙ moved c.loop-place.heads.keys now place w.take_named.new.self (option_map (λ k. k.now) w.key.result) c.loop-place.invariant.heads w.key.ensures
-                ∙ ap (map first_key) (sym w.cursors-is);
-            front = ap (λ (h : NextKeys). h.front) (w.heads-is ∙ w.set.ensures) ∙ c.loop-place.invariant.front;
-          }
-      | else-is_at w ↦
-          let unmoved_at = unmoved key c.loop-place.heads.keys old now place c.is_at.result c.loop-place-test.true (long c.loop-place.auto.cursors) c.loop-place.invariant.heads c.loop-place.invariant.left c.is_at.ensures.1 w.if-is_at.false in
-          let untaken_at = untaken key c.loop-place.heads.keys old now place c.is_at.result c.loop-place-test.true (long c.loop-place.auto.cursors) c.loop-place.invariant.heads c.loop-place.invariant.left c.is_at.ensures.1 w.if-is_at.false in
-          record {
-            left = w.cursors-is ∙ unmoved_at;
-            taken = ap (λ (ps : Vec _). map (λ p. p.now) ps.items) w.points-is ∙ untaken_at before so_far c.loop-place.invariant.taken;
-            heads = ap (λ (h : NextKeys). h.keys) w.heads-is ∙ c.loop-place.invariant.heads ∙ ap (map first_key) (sym w.cursors-is);
-            front = ap (λ (h : NextKeys). h.front) w.heads-is ∙ c.loop-place.invariant.front;
-          }
-    ]
+    let more = map (λ p. p.now) c.take_named.new.points.items in
+    let lt : place < length old = subst (λ (n : ℕ). place < n) c.loop-place.auto.cursors c.loop-place-test.true in
+    let beside : c.set.new.self.keys ≡ map first_key (set now place own) =
+    ap (λ (h : NextKeys). h.keys) c.set.ensures
+    ∙ moved c.loop-place.heads.keys now place own (option_map (λ k. k.now) c.key.result) c.loop-place.invariant.heads c.key.ensures in
+    let long : length (set now place own) ≡ length old = length-set now place own ∙ c.loop-place.auto.cursors in
+    let within : next ≤ length old = subst (λ (n : ℕ). next ≤ n) (ap length beside ∙ length-map (set now place own) first_key ∙ long) c.next_at-place-in-loop-place.ensures.bound.1 in
+    record {
+      within = within;
+      taken =
+          passed_to key c.set.new.self.keys old (set now place own) beside (place + 1) next c.next_at-place-in-loop-place.ensures.bound.0 within long c.next_at-place-in-loop-place.ensures.before before more (
+            written left old now place _ own lt c.loop-place.invariant.taken.0 c.in_ok-take_named.ensures.left,
+            gathered left taken old now place _ before so_far more lt c.loop-place.invariant.taken.0 c.loop-place.invariant.taken.1 c.in_ok-take_named.ensures.taken,
+          );
+      heads = beside;
+      front = ap (λ (h : NextKeys). h.front) c.set.ensures ∙ c.loop-place.invariant.front;
+    }

@@ -15,11 +15,12 @@ invariant_of-self c =
     let set_is = map-set (option_map (λ k. k.now)) c.self.inside.keys.items c.args.walk c.args.key in
     record {
       each =
-          ap (λ (numbers : List ℕ). slice_set numbers c.args.walk c.next_number.result) c.self.invariant.each
-          ∙ ap (slice_set (map next keys) c.args.walk) c.next_number.ensures.number
+          c.set.ensures
+          ∙ ap (λ (numbers : List ℕ). slice_set numbers c.args.walk c.next_number-number.result) c.self.invariant.each
+          ∙ ap (slice_set (map next keys) c.args.walk) c.next_number-number.ensures.number
           ∙ sym (map-set next keys c.args.walk key)
           ∙ ap (map next) (sym set_is);
-      bytes = subst (All (λ (k : Option (List ℕ)). AreBytes (unwrap_or k []))) (sym set_is) (All-set (λ (k : Option (List ℕ)). AreBytes (unwrap_or k [])) keys c.args.walk key c.next_number.ensures.bytes c.self.invariant.bytes);
+      bytes = subst (All (λ (k : Option (List ℕ)). AreBytes (unwrap_or k []))) (sym set_is) (All-set (λ (k : Option (List ℕ)). AreBytes (unwrap_or k [])) keys c.args.walk key c.next_number-number.ensures.bytes c.self.invariant.bytes);
     }
 
 pub returns : goal.returns
