@@ -6,9 +6,12 @@ pub mod Effects
 pub mod Slots
 pub mod Order
 pub mod LookupEffects
+pub mod NewestPut
 pub mod Fenced
 pub mod KeyPoints
 pub mod PrefixOrder
+pub mod TextOrder
+pub mod SameText
 pub mod Fronts
 pub mod Decided
 pub mod RankedOrder

@@ -77,12 +77,12 @@ not_below at seq e = grind (arith, nat_tests)
 
 -- ---- the points of a key at or below a sequence
 
-other_key : (x y : List ℕ) (b : Bool) → same_bytes x y ≡ b → (bytes_cmp x y ≡ Equal → ⊥) → same_bytes x y ≡ false
+pub other_key : (x y : List ℕ) (b : Bool) → same_bytes x y ≡ b → (bytes_cmp x y ≡ Equal → ⊥) → same_bytes x y ≡ false
 other_key x y true e other =
     absurd (other (subst (λ (z : List ℕ). bytes_cmp x z ≡ Equal) (same_text x y (sym e)) (tied_itself nat_list_cmp_total x)))
 other_key x y false e other = e
 
-same_key : (x y : List ℕ) → bytes_cmp x y ≡ Equal → same_bytes x y ≡ true
+pub same_key : (x y : List ℕ) → bytes_cmp x y ≡ Equal → same_bytes x y ≡ true
 same_key x y e = (bytes_decides x y).1 (exact_bytes x y e)
 
 neither : (a b : Bool) → b ≡ false → (a && b) ≡ false

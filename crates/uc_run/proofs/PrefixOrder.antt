@@ -16,12 +16,12 @@ bytes_behind (suc n) [] h = h
 bytes_behind (suc n) (x ∷ xs) h = bytes_behind n xs (λ i. h (suc i))
 
 -- the first n bytes, the first one worth the most
-abbrev number : ℕ → List ℕ → ℕ
+abbrev pub number : ℕ → List ℕ → ℕ
 number zero xs = 0
 number (suc n) [] = 0
 number (suc n) (x ∷ xs) = x * 256 ^ n + number n xs
 
-is_number : (xs : List ℕ) → prefix_of xs ≡ number 8 xs
+pub is_number : (xs : List ℕ) → prefix_of xs ≡ number 8 xs
 unfolding prefix_of
 is_number [] = refl
 is_number (a ∷ []) = omega arith
@@ -105,7 +105,7 @@ one_more a b Equal e = let same : a ≡ b = grind (arith, nat_tests) in grind (a
 one_more a b Greater e = greater_is (suc a) (suc b) (let lt : b < a = grind (arith, nat_tests) in omega (arith, lt))
 
 -- a first byte that is higher outweighs the others
-outweighs : (n x y : ℕ) (xs ys : List ℕ) → AreBytes xs → x < y → x * 256 ^ n + number n xs < y * 256 ^ n + number n ys
+pub outweighs : (n x y : ℕ) (xs ys : List ℕ) → AreBytes xs → x < y → x * 256 ^ n + number n xs < y * 256 ^ n + number n ys
 outweighs n x y xs ys bytes lt =
     let up : suc x * 256 ^ n ≤ y * 256 ^ n = mul-le-mul_right (256 ^ n) lt in
     omega (arith, up, suc-mul x (256 ^ n), number_below n xs bytes)

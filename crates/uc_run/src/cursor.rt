@@ -10,12 +10,13 @@ ghost use Rattle.uc_run.specs.Hiding.{hidden_to};
 ghost use Rattle.uc_run.specs.NextKey.{IsNextKey};
 
 use crate::fences::passed_from;
-use crate::lookup::effect_found;
+use crate::lookup::{effect_found, newest_put};
 use crate::near::{end_of_hiding, fragments_ended, fragments_near};
 use crate::places::points_between;
 use crate::run::Run;
 use std::alloc::{AllocError, Global};
 use std::marker::Model;
+use uc_bytes::Bytes;
 use uc_oper::{Effect, Operator};
 use uc_run_entry::plain_list_does_what_is_found;
 
@@ -87,8 +88,8 @@ impl<'a> Cursor<'a> {
     }
 
     /// What the run's writes at or below a sequence together do to a key, if the cursor is just before the key's
-    /// points. A key with few points costs a step for each. A key with many, or past the end of the cursor's fragment,
-    /// costs a search.
+    /// points. A key whose newest point is a put costs a look at that, if the run has no range deletions. Otherwise a key
+    /// with few points costs a step for each. A key with many, or past the end of the cursor's fragment, costs a search.
     pub fn effect<O: Operator>(
         &self,
         alloc: Global,
@@ -101,9 +102,15 @@ impl<'a> Cursor<'a> {
         self.run.recall();
         plain_list_does_what_is_found::<O>();
         let points = self.run.entries();
+        let fragments = self.run.fragments();
+        if fragments.is_empty() {
+            if let Some(value) = newest_put(points, self.place, key, at) {
+                return Ok(Effect::Set(Some(Bytes::from_slice(alloc, value)?)));
+            }
+        }
         let end = passed_from(points, self.run.fences(), self.place, key, true);
         let on = points_between(points, self.place, end, key, at);
-        let over = fragments_near(self.run.fragments(), self.fragment, key);
+        let over = fragments_near(fragments, self.fragment, key);
         effect_found::<O>(alloc, on, over, key, at)
     }
 

@@ -10,6 +10,7 @@ use crate::common_front::{front_of_cursors, front_of_runs};
 use crate::cursor::Cursor;
 use crate::number_blocks::NumberBlocks;
 use crate::prefixes::prefix_of;
+use crate::texts::{same_text, text_order};
 use std::alloc::{AllocError, Global};
 use std::marker::Model;
 use uc_run_entry::Point;
@@ -75,10 +76,13 @@ fn number_of(front: &[u8], key: &[u8]) -> u64
     ensures number { result ≡ heads.number_of front.now key.now }
     ensures bytes { AreBytes key.now }
 {
-    match key.strip_prefix(front) {
-        Some(rest) => prefix_of(rest),
-        None if key.cmp(front).is_lt() => 0,
-        None => u64::MAX,
+    let (begin, rest) = key.split_at(front.len().min(key.len()));
+    if same_text(begin, front) {
+        prefix_of(rest)
+    } else if text_order(key, front).is_lt() {
+        0
+    } else {
+        u64::MAX
     }
 }
 
@@ -118,7 +122,7 @@ pub fn lesser<'a>(key: Option<&'a [u8]>, other: Option<&'a [u8]>) -> Option<&'a 
 {
     match (key, other) {
         (Some(key), Some(other)) => {
-            if other.cmp(key).is_lt() {
+            if text_order(other, key).is_lt() {
                 Some(other)
             } else {
                 Some(key)
@@ -135,7 +139,7 @@ fn is_key(next: Option<&[u8]>, key: &[u8]) -> bool
     ensures { IsTrue result ↔ (option_map (λ k. k.now) next.entry ≡ Some key.now) }
 {
     match next {
-        Some(next) => next == key,
+        Some(next) => same_text(next, key),
         None => false,
     }
 }

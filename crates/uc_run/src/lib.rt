@@ -37,6 +37,7 @@ mod run_size;
 mod same;
 mod size;
 mod slot;
+mod texts;
 
 pub use cursor::Cursor;
 pub use heads::{Head, Heads, lesser};

@@ -1,18 +1,22 @@
 //! What a lookup of a key finds among points and fragments.
-ghost use Rattle.std.specs.Prelude.{◌≡◌, filter, IfOk, nat_le};
+ghost use Rattle.std.specs.Prelude.{◌≡◌, false, filter, Some, IfOk, IfSome, nat_le};
 ghost use Rattle.std.specs.List.{AllByRecursion, flat_map, slice_get};
+ghost use Rattle.std.specs.List.Sorted.{IsStrictlySortedBy};
 ghost use Rattle.uc_oper.specs.Operation.{Operation};
 ghost use Rattle.uc_oper.specs.declared.effect.Effect.{Effect as EffectOf};
-ghost use Rattle.uc_run_entry.specs.Order.{IsFalling, AreInOrder};
+ghost use Rattle.uc_oper.specs.declared.effect.Effect.TheVariants.{Keep, Set};
+ghost use Rattle.uc_run_entry.specs.Order.{entry_cmp, IsFalling, AreInOrder};
 ghost use Rattle.uc_run_entry.specs.Run.{covers};
 ghost use Rattle.uc_run_entry.specs.Lookup as lookup;
+ghost use Rattle.uc_run_entry.specs.Seek.{seek_place};
 ghost use Rattle.uc_run.specs.Places.{PointsFall};
 
 use crate::near::fragments_near;
 use crate::places::newer_than;
+use crate::texts::same_text;
 use std::alloc::{AllocError, Global};
 use uc_oper::{Effect, Operator};
-use uc_run_entry::{Fragment, Point, covering_fragment};
+use uc_run_entry::{Fragment, Point, WhatRef, covering_fragment};
 
 /// The points, the newest first, without those that a newer one overwrites.
 fn lasting(points: &[Point]) -> &[Point]
@@ -54,6 +58,30 @@ fn newest_over(fragments: &[Fragment], key: &[u8], at: u64) -> Option<u64>
     let near = fragments_near(fragments, fragments.len(), key);
     let fragment = covering_fragment(near, key)?;
     fragment.seqs.newest_at_or_below(at)
+}
+
+/// The value that the first of a key's points puts, if the search for the key finds that point at the place, and it is a
+/// put at or below the sequence. Then it alone says what the key's points do.
+#[inline]
+pub(crate) fn newest_put<'a>(
+    points: &'a [Point],
+    place: usize,
+    key: &[u8],
+    at: u64,
+) -> Option<&'a [u8]>
+    requires sorted { IsStrictlySortedBy entry_cmp points.now }
+    requires place { place ≡ seek_place points.now key.now false }
+    ensures { (m : Operation) → IfSome result (λ value.
+        lookup.points_effect m Keep (filter (lookup.is_visible key.now at) points.now) ≡ Set (Some value.now)) }
+{
+    let point = points.get(place)?;
+    if at < point.seq() || !same_text(point.key(), key) {
+        return None;
+    }
+    match point.what() {
+        WhatRef::Put(value) => Some(value),
+        WhatRef::Delete | WhatRef::Merge(_) => None,
+    }
 }
 
 /// What a lookup of the key at the sequence finds: what the key's points at or below the sequence do above the newest

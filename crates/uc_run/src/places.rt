@@ -12,6 +12,7 @@ ghost use Rattle.uc_run.specs.Places.{PointsFall};
 
 use crate::fences::{Fences, passed_from, seek_by_fences};
 use crate::filter::Filter;
+use crate::texts::text_order;
 use std::cmp::Ordering;
 use uc_run_entry::Point;
 
@@ -20,7 +21,7 @@ use uc_run_entry::Point;
 pub(crate) fn is_passed(low: &[u8], strict: bool, key: &[u8]) -> bool
     ensures { result ≡ seek.is_passed low.now strict key.now }
 {
-    match key.cmp(&low) {
+    match text_order(key, low) {
         Ordering::Less => true,
         Ordering::Equal => strict,
         Ordering::Greater => false,
@@ -32,7 +33,7 @@ pub(crate) fn is_passed(low: &[u8], strict: bool, key: &[u8]) -> bool
 fn is_newer(point: &Point, key: &[u8], at: u64) -> bool
     ensures { result ≡ places.is_newer key.now at point.now }
 {
-    match point.key().cmp(&key) {
+    match text_order(point.key(), key) {
         Ordering::Less => true,
         Ordering::Equal => at < point.seq(),
         Ordering::Greater => false,

@@ -26,6 +26,7 @@ pub(crate) fn byte_or_zero(bytes: &[u8], place: usize) -> u8
 }
 
 /// The first eight bytes as a number, with zeros for those that aren't there.
+#[inline(never)]
 fn padded_prefix(bytes: &[u8]) -> u64
     ensures { result ≡ prefixes.prefix_of bytes.now }
 {

@@ -1,0 +1,22 @@
+use Rattle.std.proofs.Common.{rules, ◌≡◌, ◌<◌, ◌≤◌, ◌∙◌, false, true, length, get_or, sym, ap, arith}
+use Rattle.uc_bytes.specs.Bytes.{same_bytes}
+use Rattle.uc_run_entry.specs.declared.entry.Entry.{Entry}
+use Rattle.uc_run_entry.specs.declared.entry.What.TheVariants.{Put}
+use Rattle.uc_run_entry.specs.Lookup.{is_visible}
+use Rattle.uc_run.proofs.NewestPut.{put_decides, visible_is}
+use Rattle.uc_run.proofs.Passing.{seek_point}
+use Rattle.uc_run.proofs.lookup.newest_put.Goals as goal
+
+pub returns-in-Put : goal.returns-in-Put
+returns-in-Put c m =
+    let points = c.args.points.now in
+    let key = c.args.key.now in
+    let p : Entry = c.in_ok-point.point.now in
+    let there : c.args.place < length points = search rules in
+    let is : p ≡ get_or points c.args.place p = search rules in
+    let same : same_bytes p.key key ≡ true = search rules in
+    let by : p.seq ≤ c.args.at = search rules in
+    let put : p.what ≡ Put c.in-Put.value.now = search rules in
+    let visible = visible_is key c.args.at p by same in
+    put_decides m key c.args.at c.in-Put.value.now points c.args.place p (λ k lt. (seek_point points key false c.requires.sorted c.args.place c.requires.place).0 k p (omega arith) lt) there
+    (ap (is_visible key c.args.at) (sym is) ∙ visible) (ap (λ (q : Entry). q.what) (sym is) ∙ put)

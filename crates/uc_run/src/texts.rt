@@ -1,0 +1,42 @@
+//! The order of texts, eight bytes at a time.
+ghost use Rattle.std.specs.Prelude.{◌≡◌};
+ghost use Rattle.uc_bytes.specs.Bytes.{bytes_cmp, same_bytes};
+
+use crate::prefixes::{PREFIX_BYTES, prefix_of};
+use std::cmp::Ordering;
+
+/// The order of two texts: byte by byte, a proper prefix first. It costs a step for each eight bytes that are equal,
+/// where the `cmp` of slices looks at each byte.
+pub(crate) fn text_order(text: &[u8], other: &[u8]) -> Ordering
+    ensures { result ≡ bytes_cmp text.now other.now }
+{
+    let (mut rest, mut other_rest) = (text, other);
+    loop {
+        let (number, other_number) = (prefix_of(rest), prefix_of(other_rest));
+        if number != other_number {
+            return number.cmp(&other_number);
+        }
+        if rest.len().min(other_rest.len()) <= PREFIX_BYTES {
+            return rest.len().cmp(&other_rest.len());
+        }
+        rest = &rest[PREFIX_BYTES..];
+        other_rest = &other_rest[PREFIX_BYTES..];
+    }
+}
+
+/// Whether two texts are equal. It costs a step for each eight bytes.
+pub(crate) fn same_text(text: &[u8], other: &[u8]) -> bool
+    ensures { result ≡ same_bytes text.now other.now }
+{
+    let (mut rest, mut other_rest) = (text, other);
+    loop {
+        if rest.len().min(other_rest.len()) < PREFIX_BYTES {
+            return rest == other_rest;
+        }
+        if prefix_of(rest) != prefix_of(other_rest) {
+            return false;
+        }
+        rest = &rest[PREFIX_BYTES..];
+        other_rest = &other_rest[PREFIX_BYTES..];
+    }
+}
