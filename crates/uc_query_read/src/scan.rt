@@ -62,8 +62,5 @@ pub(crate) fn rows_of_runs<O: Operator>(
     scan_rows_are_first::<O>();
     value_is_given::<O>();
     let rows = first_rows::<O>(alloc, runs, low, high, at, limit)?;
-    match Rows::of(rows) {
-        Some(rows) => Ok(rows),
-        None => unreachable!(),
-    }
+    Ok(Rows::known(rows))
 }
