@@ -1,13 +1,13 @@
 -- Cursors beside their next keys, and what those that aren't at a key say of it.
-use Rattle.std.proofs.Common.{◌≡◌, ◌≢◌, ℕ, suc, ◌+◌, ◌<◌, arith, Bool, true, false, List, [], ◌∷◌, ◌++◌, map, take, drop, set, length, get_or, max, Contains, Option, Some, None, refl, sym, ap, ◌∙◌, subst, ltb, inl, inr}
-use Rattle.std.specs.Prelude.{option_map, IsTrue}
-use Rattle.std.specs.List.{AllByRecursion, slice_get}
+use Rattle.std.proofs.Common.{◌≡◌, ◌≢◌, ℕ, zero, suc, ◌+◌, ◌-◌, ◌<◌, ◌≤◌, arith, Bool, true, false, List, [], ◌∷◌, ◌++◌, map, take, drop, set, length, get_or, max, Contains, Option, Some, None, refl, sym, ap, ◌∙◌, subst, ltb, inl, inr}
+use Rattle.std.specs.Prelude.{option_map}
+use Rattle.std.specs.List.{AllByRecursion, AllWithin, HoldsAt, slice_get}
 use Rattle.std.specs.Ordering.{is_lt, is_le}
 use Rattle.std.specs.declared.cmp.Ordering.{Ordering}
 use Rattle.std.specs.declared.cmp.Ordering.TheVariants.{Less, Equal, Greater}
 use Rattle.std.specs.Cmp.Lexicographic.{bytes_decides}
 use Rattle.std.proofs.lemmas.Bool.{false≢true, lt-ltb}
-use Rattle.std.proofs.lemmas.List.{get_or-map, get_or_default, get_or_at, set-get_or, drop_more, length-map, length-take-le, map-set}
+use Rattle.std.proofs.lemmas.List.{get_or-map, get_or_default, set-get_or, map-set}
 use Rattle.std.proofs.lemmas.List.Elements.{All-from_recursion}
 use Rattle.std.proofs.lemmas.List.Sums.{length-filter}
 use Rattle.std.proofs.lemmas.Map.Lookups.{exact_bytes}
@@ -116,17 +116,37 @@ module _ (key : List ℕ) where
       let stays : max c.place (seek_place c.run.points key true) ≡ c.place = omega (arith, same, at) in
       ap (λ (n : ℕ). record { run = c.run; place = n }) stays
 
-  pub unpassed : NextKeysLaw → (keys : List (Option (List ℕ))) (old now : List Standing) (i : ℕ) (found : Bool) → i < length old → i < length now → keys ≡ map next_key now → now ≡ map (passed key) (take i old) ++ drop i old → AllByRecursion (StandsAt key false) old → AllByRecursion IsOfRun old → (slice_get keys i ≡ Some (Some key) → found ≡ true) → found ≡ false →
-      now ≡ map (passed key) (take (i + 1) old) ++ drop (i + 1) old
-  unpassed law keys old now i found lt lt_now beside is stand of_runs finds not =
-      let c = get_or now i nowhere in
-      let same : c ≡ get_or old i nowhere = unwritten (passed key) old now i nowhere lt is in
-      let stays : passed key c ≡ c =
-      passes_nothing law c
-      (subst IsOfRun (sym same) (of_one IsOfRun old i nowhere lt of_runs))
-      (subst (StandsAt key false) (sym same) (of_one (StandsAt key false) old i nowhere lt stand))
-      (is_other keys now beside i nowhere lt_now key found finds not) in
-      sym (set-get_or now i nowhere) ∙ written (passed key) old now i nowhere c lt is (sym stays)
+  -- up to a place all cursors have passed it
+  abbrev pub IsPassedTo : List Standing → List Standing → ℕ → Type 0
+  IsPassedTo old now i = now ≡ map (passed key) (take i old) ++ drop i old
+
+  module _ (law : NextKeysLaw) (keys : List (Option (List ℕ))) (old now : List Standing) (beside : keys ≡ map next_key now) (stand : AllByRecursion (StandsAt key false) old) (of_runs : AllByRecursion IsOfRun old) (long : length now ≡ length old) where
+    unpassed : (i : ℕ) → i < length old → HoldsAt (λ k. k ≢ Some key) keys i → IsPassedTo old now i → IsPassedTo old now (i + 1)
+    unpassed i lt other is =
+        let c = get_or now i nowhere in
+        let lt_now : i < length now = omega (arith, lt, long) in
+        let there : get_or keys i None ≡ next_key c = ap (λ (ks : List (Option (List ℕ))). get_or ks i None) beside ∙ get_or-map next_key now i nowhere None lt_now in
+        let same : c ≡ get_or old i nowhere = unwritten (passed key) old now i nowhere lt is in
+        let stays : passed key c ≡ c =
+        passes_nothing law c
+        (subst IsOfRun (sym same) (of_one IsOfRun old i nowhere lt of_runs))
+        (subst (StandsAt key false) (sym same) (of_one (StandsAt key false) old i nowhere lt stand))
+        (λ at. other None (there ∙ at)) in
+        sym (set-get_or now i nowhere) ∙ written (passed key) old now i nowhere c lt is (sym stays)
+
+    all_unpassed : (i n : ℕ) → i + n ≤ length old → AllWithin (λ k. k ≢ Some key) keys i (i + n) → IsPassedTo old now i → IsPassedTo old now (i + n)
+    all_unpassed i zero le others is = subst (IsPassedTo old now) (omega arith) is
+    all_unpassed i (suc n) le others is =
+        let same : (i + 1) + n ≡ i + suc n = omega arith in
+        subst (IsPassedTo old now) same
+        (all_unpassed (i + 1) n (omega (arith, le)) (λ k d from to. others k d (omega (arith, from)) (omega (arith, to)))
+        (unpassed i (omega (arith, le)) (λ d. others i d (omega arith) (omega arith)) is))
+
+    -- those that aren't at the key stay
+    pub passed_to : (i j : ℕ) → i ≤ j → j ≤ length old → AllWithin (λ k. k ≢ Some key) keys i j → IsPassedTo old now i → IsPassedTo old now j
+    passed_to i j le within others is =
+        let whole : i + (j - i) ≡ j = omega (arith, le) in
+        subst (IsPassedTo old now) whole (all_unpassed i (j - i) (omega (arith, whole, within)) (subst (AllWithin (λ k. k ≢ Some key) keys i) (sym whole) others) is)
 
 -- ---- the least of the next keys
 

@@ -1,5 +1,5 @@
 -- The rows of a scan: they are the first of those that it may show, and no other list is that.
-use Rattle.std.proofs.Common.{◌≡◌, ℕ, zero, suc, List, [], ◌∷◌, take, Option, Some, None, option_map, filter_map, All, Contains, inl, inr, ⊎_elim, refl, sym, ap, ◌∙◌, subst, arith}
+use Rattle.std.proofs.Common.{◌≡◌, ℕ, zero, suc, ◌≤◌, List, [], ◌∷◌, ◌++◌, length, take, Option, Some, None, option_map, filter_map, All, Contains, inl, inr, ⊎_elim, refl, sym, ap, ◌∙◌, subst, arith}
 use Rattle.std.specs.List.{AllByRecursion, cons_option}
 use Rattle.std.specs.List.Sorted.{IsStrictlySortedBy}
 use Rattle.std.specs.declared.cmp.Ordering.{Ordering}
@@ -12,6 +12,8 @@ use Rattle.uc_bytes.specs.Bytes.{bytes_cmp}
 use Rattle.uc_oper.specs.Operation.{Operation}
 use Rattle.uc_bytes.specs.declared.write.Write.{Write}
 use Rattle.uc_model.specs.Meaning.{value_of}
+use Rattle.std.proofs.lemmas.List.{append-nil, take_all}
+use Rattle.uc_query_read.specs.Ahead.{Comes}
 use Rattle.uc_query_read.specs.Answers.{named_keys, rows_of}
 use Rattle.uc_query_read.specs.Scans.{IsRow, AreFirst, IsScan}
 use Rattle.uc_model.proofs.Members.{contains_first, contains_later, contains_cases, contains_nothing}
@@ -187,3 +189,10 @@ first_once (row ∷ rows) (other ∷ others) P one (suc limit) s t =
 pub rows_once : (m : Operation) (ws : List Write) (low : List ℕ) (high : Option (List ℕ)) (at limit : ℕ) (rows others : List Row) → IsScan m ws low high at limit rows → IsScan m ws low high at limit others → rows ≡ others
 rows_once m ws low high at limit rows others s t =
     first_once rows others (IsRow m ws low high at) (λ row other p q e. same_row (λ key. value_of m ws key at) row.0 row.1 other p.1 q.1 e) limit s t
+
+-- where no key is ahead, the rows so far are all
+pub all_rows : (m : Operation) (ws : List Write) (at limit : ℕ) (rows all : List (List ℕ × List ℕ)) (keys others : List (List ℕ)) (first : Option (List ℕ)) → length rows ≤ limit → Comes keys first others → first ≡ None → take limit (rows ++ rows_of m ws at keys) ≡ take limit all → rows ≡ take limit all
+all_rows m ws at limit rows all keys others first few comes none whole =
+    let ended = subst (λ (f : Option (List ℕ)). Comes keys f others) none comes in
+    let rest : rows ≡ rows ++ rows_of m ws at keys = sym (append-nil rows) ∙ ap (λ (ks : List (List ℕ)). rows ++ rows_of m ws at ks) (sym ended.0) in
+    sym (take_all limit rows few) ∙ ap (take limit) rest ∙ whole

@@ -111,12 +111,12 @@ fn pass_there<'a>(cursors: &mut [Cursor<'a>], heads: &mut Heads<'a>, head: Head<
     ensures heads { heads.new.keys ≡ map next_key cursors.new }
 {
     keys_at_places_are_next();
-    for place in 0..cursors.len() {
-        if heads.is_at(place, head) {
-            let cursor = &mut cursors[place];
-            cursor.pass(head.key);
-            heads.set(place, cursor.key());
-        }
+    let mut place = heads.next_at(0, head);
+    while place < cursors.len() {
+        let cursor = &mut cursors[place];
+        cursor.pass(head.key);
+        heads.set(place, cursor.key());
+        place = heads.next_at(place + 1, head);
     }
 }
 
