@@ -184,7 +184,10 @@ impl<'a> Walkers<'a> {
             head,
             at,
         )?;
-        effect.apply::<O>(alloc, None)
+        match effect {
+            Effect::Set(value) => Ok(value),
+            other => other.apply::<O>(alloc, None),
+        }
     }
 
     /// Moves past the points at and below a key that are the first ahead.
