@@ -8,7 +8,8 @@
 # It measures crates/uc_c/out/libuc_c.a (or OURS), which `rt lib` in crates/uc_c builds; `none` leaves it out. All programs are
 # workload.c and one of ucstore.c, rocksdb.c and leveldb.c, built by `cc -std=c99 -O2` in a temporary folder. RocksDB is that
 # without assertions (../rocksdb/build.sh makes it) and Debian's (librocksdb-dev), whose assertions are on; LevelDB is Debian's
-# (libleveldb-dev). What isn't there is left out.
+# (libleveldb-dev). The same work called from Rattle is crates/bench_engine/out/bench_engine (or RATTLE), which `rt run` in
+# crates/bench_engine builds. What isn't there is left out.
 #
 # WRITES writes (1300000) of 300,000 keys of 16 bytes are written in batches of 1,000. In `puts` all set numbers of 8 bytes; in
 # `counters` half of them merge some, which LevelDB can't do. Then nothing is left to be compacted, a snapshot is taken, and all
@@ -28,6 +29,7 @@ set -u -o pipefail
 here=$(cd "$(dirname "${BASH_SOURCE[0]}")" && pwd) || exit 1
 top=$here/../..
 ours=${OURS:-$top/crates/uc_c/out/libuc_c.a}
+rattle=${RATTLE:-$top/crates/bench_engine/out/bench_engine}
 turns=${TURNS:-3}
 writes=${WRITES:-1300000}
 gets=${GETS:-1000000}
@@ -63,6 +65,7 @@ build_ours() {
 build_all() {
     cc -std=c99 -O2 -Wall -Wextra -pedantic -c "$here/workload.c" -o "$folder/workload.o" || fail "workload.c doesn't build"
     if [ "$ours" != none ]; then build_ours; fi
+    if [ -x "$rattle" ]; then cp "$rattle" "$folder/rattle"; fi
     if has_released; then
         compile rocksdb -I "$rocksdb_folder/include"
     elif has_header rocksdb/c.h; then
@@ -86,6 +89,7 @@ declare -A programs everies
 plan() { # NAME PROGRAM [EVERY]: adds a row, where the program is there
     case $2 in
         ours) if [ "$ours" = none ]; then return; fi ;;
+        rattle) if [ ! -x "$folder/rattle" ]; then return; fi ;;
         rocksdb | debian) if ! has_rocksdb "$2"; then return; fi ;;
         leveldb) if [ -z "$has_leveldb" ]; then return; fi ;;
     esac
@@ -97,8 +101,9 @@ plan() { # NAME PROGRAM [EVERY]: adds a row, where the program is there
 # Runs one row's program, and keeps its line.
 run_once() { # PART NAME
     rm -rf "$memory/store"
-    "$folder/${programs[$2]}" "$1" "$writes" 1000 "${everies[$2]}" "$gets" "$scans" "$memory/store" >> "$folder/row.$2" ||
-        fail "$2 fails"
+    local words=("$1" "$writes" 1000 "${everies[$2]}" "$gets" "$scans")
+    if [ "${programs[$2]}" != rattle ]; then words+=("$memory/store"); fi
+    "$folder/${programs[$2]}" "${words[@]}" >> "$folder/row.$2" || fail "$2 fails"
 }
 
 # Runs all rows in turn, and makes sure that all read the same.
@@ -144,7 +149,7 @@ print_row() { # NAME
 keep_row() { # PART NAME
     local program=${2%%,*} every
     for every in 1 64; do
-        case $2 in ours,*) if [ "${everies[$2]}" -ne "$every" ]; then continue; fi ;; esac
+        case $2 in ours,* | Rattle,*) if [ "${everies[$2]}" -ne "$every" ]; then continue; fi ;; esac
         keep_ms 'writes from C' "$1, compacted behind $every" "$program" "$(median "$2" '$1 + $2')"
         keep_ms 'lookups from C' "$1, compacted behind $every" "$program" "$(median "$2" '$3')"
         keep_ms 'scans from C' "$1, compacted behind $every" "$program" "$(median "$2" '$4')"
@@ -156,6 +161,7 @@ run_part() { # PART
     local name
     plan 'ours, each' ours 1
     plan 'ours, every 64th' ours 64
+    plan 'Rattle, every 64th' rattle 64
     plan RocksDB rocksdb
     plan "Debian's" debian
     if [ "$1" = puts ]; then plan LevelDB leveldb; fi
@@ -185,7 +191,10 @@ rocksdb_options="universal compaction (trigger 4, size ratio 1, amplification 20
 callbacks, memory environment, no log, no compression, a cache of blocks of 1 GiB, a filter of 10 bits a key, max_background_jobs 2"
 say_rocksdb
 echo
-for work in 'writes from C' 'lookups from C' 'scans from C'; do goal "$work" 'counters, compacted behind 64' RocksDB ms 'at most' 0.5; done
+for work in 'writes from C' 'lookups from C' 'scans from C'; do
+    goal "$work" 'counters, compacted behind 64' RocksDB ms 'at most' 0.5
+    goal "$work" 'counters, compacted behind 64' Rattle ms 'at most' 1.05
+done
 for part; do run_part "$part"; done
 say_machine
 write_results_beside c
