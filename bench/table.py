@@ -59,8 +59,8 @@ def deleted(work, how, label, kind, baseline):
 
 
 def from_c(label, work, part, baseline, name):
-    """A line of a store that is called from C, and compacted behind 64 batches."""
-    return Line("c", label, work, (f"{part}, compacted behind 64",), baseline, name=name)
+    """A line of a store that is called from C, and compacted behind 240 batches."""
+    return Line("c", label, work, (f"{part}, compacted behind 240",), baseline, name=name)
 
 
 def pins(label, work, readers, name, **options):

@@ -16,10 +16,10 @@
 # rows are read once. GETS keys (1000000) are looked up one by one, and SCANS scans (10000) read 1 to 50 rows each. All programs
 # must read the same.
 #
-# Our store has no threads: each batch is a run at once, and the caller compacts what is picked until nothing is, behind each batch or
-# behind 64. The others write into memtables of 4 MiB, flush them, and compact by one thread beside the caller. So the time of their
-# writes has that of waiting for these threads, and the time of compacting is what is left then. In the end RocksDB waits, and LevelDB,
-# which has no call for that, compacts everything. No store compresses, all have caches for all blocks and filters of 10 bits a key.
+# Our store has no threads: each batch is a run at once, and the caller compacts what is picked until nothing is, behind each batch,
+# behind 64, or behind 240. The others write into memtables of 4 MiB, flush them, and compact by one thread beside the caller. So the
+# time of their writes has that of waiting for these threads, and the time of compacting is what is left then. In the end RocksDB
+# waits, and LevelDB, which has no call for that, compacts everything. No store compresses, all have caches for all blocks and filters of 10 bits a key.
 # RocksDB picks by the rules of ours, in its memory environment and without a log. LevelDB always writes one, to files in /dev/shm.
 #
 # Each program runs in a process of its own, in turn, TURNS times (3), and Debian's RocksDB in the first turn alone. Each figure is
@@ -139,7 +139,7 @@ as_ms() { # NANOSECONDS
 
 print_row() { # NAME
     local expression
-    printf '%-18s %5s' "$1" "$(median "$1" '$5')"
+    printf '%-20s %5s' "$1" "$(median "$1" '$5')"
     for expression in '$1' '$2' '$1 + $2' '$3' '$4'; do printf ' %10s' "$(as_ms "$(median "$1" "$expression")")"; done
     for expression in '$1 + $2' '$3' '$4'; do printf ' %10s' "$(over "$1" RocksDB "$expression")"; done
     printf '\n'
@@ -148,7 +148,7 @@ print_row() { # NAME
 # Keeps the times of a row. Those of the others stand beside ours for each number of batches.
 keep_row() { # PART NAME
     local program=${2%%,*} every
-    for every in 1 64; do
+    for every in 1 64 240; do
         case $2 in ours,* | Rattle,*) if [ "${everies[$2]}" -ne "$every" ]; then continue; fi ;; esac
         keep_ms 'writes from C' "$1, compacted behind $every" "$program" "$(median "$2" '$1 + $2')"
         keep_ms 'lookups from C' "$1, compacted behind $every" "$program" "$(median "$2" '$3')"
@@ -161,13 +161,14 @@ run_part() { # PART
     local name
     plan 'ours, each' ours 1
     plan 'ours, every 64th' ours 64
-    plan 'Rattle, every 64th' rattle 64
+    plan 'ours, every 240th' ours 240
+    plan 'Rattle, every 240th' rattle 240
     plan RocksDB rocksdb
     plan "Debian's" debian
     if [ "$1" = puts ]; then plan LevelDB leveldb; fi
     measure "$1"
     echo "$1: $writes writes in batches of 1,000, $gets lookups, $scans scans; ms, and shares of RocksDB's"
-    printf '%-18s %5s %10s %10s %10s %10s %10s %10s %10s %10s\n' '' runs writes compacting together lookups scans '/ together' \
+    printf '%-20s %5s %10s %10s %10s %10s %10s %10s %10s %10s\n' '' runs writes compacting together lookups scans '/ together' \
         '/ lookups' '/ scans'
     for name in "${names[@]}"; do
         keep_row "$1" "$name"
@@ -192,8 +193,8 @@ callbacks, memory environment, no log, no compression, a cache of blocks of 1 Gi
 say_rocksdb
 echo
 for work in 'writes from C' 'lookups from C' 'scans from C'; do
-    goal "$work" 'counters, compacted behind 64' RocksDB ms 'at most' 0.5
-    goal "$work" 'counters, compacted behind 64' Rattle ms 'at most' 1.05
+    goal "$work" 'counters, compacted behind 240' RocksDB ms 'at most' 0.5
+    goal "$work" 'counters, compacted behind 240' Rattle ms 'at most' 1.05
 done
 for part; do run_part "$part"; done
 say_machine
