@@ -1,6 +1,6 @@
 //! Writes a write-ahead log as LevelDB and RocksDB have them to standard output, for measurements.
 //!
-//!     make_log small|large|counters|hot MIB
+//!     make_log small|large|counters|words|long|hot MIB
 //!     make_log deleted|ranged
 //!     make_log lines
 //!
@@ -8,8 +8,9 @@
 //! with values of 2,000 bytes, each of which spans three or four blocks. `counters`: batches of one write to
 //! one of 300,000 keys of 16 bytes, by lot: 50 percent merges and 45 percent puts of 8 bytes, 5 percent
 //! deletions, and of 10,000 writes one deletes the range of 30 neighbouring keys. `hot`: batches of one write to
-//! one of 1,000 such keys: 90 percent merges, 9 percent puts, 1 percent deletions. The log has as many whole
-//! batches as fit the given size.
+//! one of 1,000 such keys: 90 percent merges, 9 percent puts, 1 percent deletions. `words`: as `counters`, without ranges, and
+//! with made-up words of 2 to 6 letters for keys, short ones often. `long`: as `words`, with keys of 100 bytes, of which
+//! all have the first 40. The log has as many whole batches as fit the given size.
 //!
 //! `deleted`: 250,000 keys are put in their order, and then nine of ten deleted, in batches of 100 writes. `ranged`: the
 //! same keys are put, and then of each 1,000 neighbours the first 900 deleted by one range deletion.
@@ -67,11 +68,51 @@ struct Shape {
     value: usize,
 }
 
+/// What keys of a log look like.
+#[derive(Clone, Copy)]
+enum Keys {
+    Words,
+    Long,
+}
+
+impl Keys {
+    /// The key with a number below `KEYS`.
+    fn key(self, number: u64) -> String {
+        match self {
+            Keys::Words => word_of(number),
+            Keys::Long => format!("tenant/00000042/region/eu-west/counters/{number:08}/{:051}", number * 7919),
+        }
+    }
+
+    /// The number of a key by lot. Some words are frequent.
+    fn number(self, lot: &mut Lot) -> u64 {
+        match self {
+            Keys::Words => lot.next() % (lot.next() % KEYS + 1),
+            Keys::Long => lot.next() % KEYS,
+        }
+    }
+}
+
+/// A made-up word: the more syllables, the greater its number.
+fn word_of(number: u64) -> String {
+    const CONSONANTS: [char; 14] = ['b', 'd', 'f', 'g', 'h', 'k', 'l', 'm', 'n', 'p', 'r', 's', 't', 'w'];
+    const VOWELS: [char; 5] = ['a', 'e', 'i', 'o', 'u'];
+    let mut word = String::new();
+    let mut rest = number + 1;
+    while rest > 0 {
+        word.push(CONSONANTS[(rest % 14) as usize]);
+        word.push(VOWELS[(rest / 14 % 5) as usize]);
+        rest /= 70;
+    }
+    word
+}
+
 /// What a log holds.
 #[derive(Clone, Copy)]
 enum Kind {
     Puts(Shape),
     Counters,
+    Keyed(Keys),
     Hot,
 }
 
@@ -80,7 +121,7 @@ impl Kind {
     fn writes(self) -> u32 {
         match self {
             Kind::Puts(shape) => shape.puts,
-            Kind::Counters | Kind::Hot => 1,
+            Kind::Counters | Kind::Keyed(_) | Kind::Hot => 1,
         }
     }
 
@@ -94,6 +135,7 @@ impl Kind {
                 }
             }
             Kind::Counters => push_counter_write(lot, out),
+            Kind::Keyed(keys) => push_keyed_write(keys, lot, out),
             Kind::Hot => push_hot_write(lot, out),
         }
     }
@@ -118,6 +160,18 @@ fn push_counter_write(lot: &mut Lot, out: &mut Vec<u8>) {
         1..=500 => record(DELETE, place, &[]),
         501..=5_500 => record(MERGE, place, &string(&lot.next().to_le_bytes())),
         _ => record(PUT, place, &string(&lot.next().to_le_bytes())),
+    });
+}
+
+/// A merge, a put or a deletion of a counter with such a key.
+fn push_keyed_write(keys: Keys, lot: &mut Lot, out: &mut Vec<u8>) {
+    let percent = lot.next() % 100;
+    let key = string(keys.key(keys.number(lot)).as_bytes());
+    let number = string(&lot.next().to_le_bytes());
+    out.extend(match percent {
+        0..=4 => [&[DELETE], key.as_slice()].concat(),
+        5..=54 => [&[MERGE], key.as_slice(), number.as_slice()].concat(),
+        _ => [&[PUT], key.as_slice(), number.as_slice()].concat(),
     });
 }
 
@@ -221,7 +275,7 @@ fn log_of_lines(lines: impl BufRead) -> io::Result<Vec<u8>> {
 
 fn usage() -> ! {
     eprintln!(
-        "usage: make_log small|large|counters|hot MIB, or make_log deleted|ranged, or make_log lines"
+        "usage: make_log small|large|counters|words|long|hot MIB, or make_log deleted|ranged, or make_log lines"
     );
     std::process::exit(2)
 }
@@ -238,6 +292,8 @@ fn kind_named(word: &str) -> Option<Kind> {
             value: 2_000,
         }),
         "counters" => Kind::Counters,
+        "words" => Kind::Keyed(Keys::Words),
+        "long" => Kind::Keyed(Keys::Long),
         "hot" => Kind::Hot,
         _ => return None,
     })

@@ -16,7 +16,7 @@
 # times (5), and Debian's RocksDB in the first turn alone, over logs of SIZES MiB (16 30 60), in turn and each time in a
 # process of its own: the least seconds from start to end and the most memory are printed. The logs have batches of one
 # write: half merges of counters, 45 percent puts, 5 percent deletions, and now and then a range deletion (`make_log
-# counters`). RESULTS names a file for the figures as JSON. It takes about two minutes.
+# counters`). Two more of the last size have short words for keys, and keys of 100 bytes (`make_log words`, `long`). RESULTS names a file for the figures as JSON. It takes about two minutes.
 set -u -o pipefail
 
 here=$(cd "$(dirname "${BASH_SOURCE[0]}")" && pwd) || exit 1
@@ -225,11 +225,12 @@ run_once() { # PROGRAM LOG
     echo "$((end - start)) $(tail -n 1 "$folder/memory")" >> "$folder/figures.$1"
 }
 
-measure() { # MIB: a line for each program with its microseconds and KiB
-    local log=$folder/log turn program
-    "$folder/make_log" counters "$1" > "$log" || fail "no log"
-    check_same "$log" "$1 MiB"
-    if [ "$1" -eq "${sizes[0]}" ]; then
+measure() { # MIB|words|long: a line for each program with its microseconds and KiB
+    local log=$folder/log turn program words=(counters "$1")
+    case $1 in words | long) words=("$1" "${sizes[-1]}") ;; esac
+    "$folder/make_log" "${words[@]}" > "$log" || fail "no log"
+    check_same "$log" "${words[*]} MiB"
+    if [ "$1" = "${sizes[0]}" ]; then
         check_values "$log"
         check_damaged "$log"
     fi
@@ -262,7 +263,8 @@ table() {
             n = names[line]; s = size[line]
             if (n == "debian") continue
             t = time[n, s]; m = memory[n, s]
-            printf "%2d MiB  %-21s  %7.3f  %10.1f  %10s  %7s  %8s  %10s  %10s  %7s  %8s\n", s, word[n], t / 1e6, m / 1024,
+            log_of = s ~ /^[0-9]+$/ ? sprintf("%2d MiB", s) : s
+            printf "%-6s  %-21s  %7.3f  %10.1f  %10s  %7s  %8s  %10s  %10s  %7s  %8s\n", log_of, word[n], t / 1e6, m / 1024,
                 ratio(t, time["baseline", s]), ratio(t, time["rocksdb", s]), ratio(t, time["debian", s]),
                 ratio(t, time[n, s / 2]), ratio(m, memory["baseline", s]), ratio(m, memory["rocksdb", s]),
                 ratio(m, memory["debian", s])
@@ -278,11 +280,18 @@ keep_all() {
             ucstore) name=ours ;;
             baseline) name="plain Rust" ;;
             one)
+                case $size in words | long) continue ;; esac
                 keep_seconds 'report, one processor' "$size MiB" ours "$time"
                 keep_seconds 'report, four processors' "$size MiB" 'one processor' "$time"
                 continue
                 ;;
             *) name=$(name_of "$program") ;;
+        esac
+        case $size in
+            words | long)
+                keep_run "report, $size" "${sizes[-1]} MiB" "$name" "$time" "$memory"
+                continue
+                ;;
         esac
         keep_run report "$size MiB" "$name" "$time" "$memory"
         case $program in
@@ -294,6 +303,8 @@ keep_all() {
     goal report '60 MiB' 'plain Rust' s 'at most' 1.5
     goal report '60 MiB' RocksDB s 'at most' 0.15
     goal report '60 MiB' RocksDB MiB 'at most' 1.3
+    goal 'report, words' '60 MiB' RocksDB s 'at most' 0.25
+    goal 'report, long' '60 MiB' RocksDB s 'at most' 0.25
     goal 'report, one processor' '60 MiB' RocksDB s 'at most' 0.28
     goal 'report, four processors' '60 MiB' 'one processor' s 'at most' 0.43
     goal 'report, twice the log' '*' 'half of it' s 'at most' 2.3
@@ -317,7 +328,7 @@ check_number_of_runs
 check_refused
 say_machine
 say_rocksdb
-for size in "${sizes[@]}"; do
+for size in "${sizes[@]}" words long; do
     measure "$size" || exit 1
 done > "$folder/least"
 table < "$folder/least"
