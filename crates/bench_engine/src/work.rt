@@ -112,34 +112,6 @@ fn sum_of_rows(alloc: Global, engine: &Engine, at: u64) -> Result<u64> {
     Ok(with_answer(0, &rows))
 }
 
-/// Looks drawn keys up, as [`get_all`] does.
-fn get_drawn(
-    clock: &impl Clock,
-    alloc: Global,
-    engine: &Engine,
-    numbers: &mut Numbers,
-    count: usize,
-    read: (u64, u64),
-) -> Result<(u64, u64)> {
-    let (at, checksum) = read;
-    let keys = drawn_keys(alloc, numbers, count)?;
-    get_all(clock, alloc, engine, &keys, at, checksum)
-}
-
-/// Reads rows from drawn keys on, as [`scan_all`] does.
-fn scan_drawn(
-    clock: &impl Clock,
-    alloc: Global,
-    engine: &Engine,
-    numbers: &mut Numbers,
-    count: usize,
-    read: (u64, u64),
-) -> Result<(u64, u64)> {
-    let (at, checksum) = read;
-    let keys = drawn_keys(alloc, numbers, count)?;
-    scan_all(clock, alloc, engine, &keys, at, checksum)
-}
-
 /// What was done: how long each step took, how many runs there are then, and a checksum of what was read.
 #[derive(Clone, Copy)]
 pub(crate) struct Done {
@@ -162,8 +134,10 @@ fn do_work_with(
     let (writing, compacting) = write_drawn(clock, alloc, engine, &mut numbers, asked)?;
     let at = engine.keep()?;
     let sum = sum_of_rows(alloc, engine, at)?;
-    let (gets, sum) = get_drawn(clock, alloc, engine, &mut numbers, asked.gets, (at, sum))?;
-    let (scans, sum) = scan_drawn(clock, alloc, engine, &mut numbers, asked.scans, (at, sum))?;
+    let looked_up = drawn_keys(alloc, &mut numbers, asked.gets)?;
+    let scanned = drawn_keys(alloc, &mut numbers, asked.scans)?;
+    let (gets, sum) = get_all(clock, alloc, engine, &looked_up, at, sum)?;
+    let (scans, sum) = scan_all(clock, alloc, engine, &scanned, at, sum)?;
     let runs = engine.report().runs;
     Ok(Done {
         times: [writing, compacting, gets, scans],
