@@ -1,4 +1,4 @@
-//! What `bench/c` does from C, called from Rattle: the same batches, lookups and scans, over the engine that the C library exports.
+//! What `bench/c` does from C, called from Rattle: the same batches, lookups and scans, over the engine of the C library.
 //!
 //! `bench_engine puts|counters WRITES SIZE EVERY GETS SCANS` prints the line that the programs of `bench/c` print: the nanoseconds of
 //! the writes, of compacting, of the lookups and of the scans; how many runs there are; and a checksum of what was read. Without

@@ -4,6 +4,7 @@ ghost use Rattle.uc_compact.specs.Heads as heads;
 
 use std::alloc::AllocError;
 use std::marker::Model;
+use uc_run::same_text;
 use uc_run_entry::Point;
 
 /// The points of a run that are still ahead. A contract sees it as their list.
@@ -27,7 +28,7 @@ fn first_named(points: &[Point], key: &[u8]) -> usize
     ensures count { result ≡ heads.first_named key.now points.now }
 {
     let mut count = 0;
-    while count < points.len() && points[count].key() == key {
+    while count < points.len() && same_text(points[count].key(), key) {
         count += 1;
     }
     count

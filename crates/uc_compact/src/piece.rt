@@ -9,6 +9,7 @@ ghost use Rattle.uc_compact.specs.Together.{together};
 
 use crate::Over;
 use std::marker::Model;
+use uc_run::text_order;
 use uc_run_entry::Seqs;
 
 /// The keys from a cut point to below the next one, with borrowed lists of the sequences of the inputs' fragments over
@@ -79,13 +80,13 @@ impl<'a> Piece<'a> {
     pub(crate) fn ends_by(&self, key: &[u8]) -> bool
         ensures { result ≡ is_le (bytes_cmp self.now.end key.now) }
     {
-        self.end.cmp(&key).is_le()
+        text_order(self.end, key).is_le()
     }
 
     /// Whether a key is one of its keys.
     pub(crate) fn covers(&self, key: &[u8]) -> bool
         ensures { result ≡ run.covers self.now key.now }
     {
-        self.begin.cmp(&key).is_le() && key.cmp(&self.end).is_lt()
+        text_order(self.begin, key).is_le() && text_order(key, self.end).is_lt()
     }
 }

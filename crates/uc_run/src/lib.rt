@@ -48,6 +48,7 @@ pub use laws::{
 pub use memtable::Memtable;
 pub use run::Run;
 pub use size::op_size;
+pub use texts::{same_text, text_order};
 pub use uc_run_entry::{
     Entry, Fragment, Fragments, Range, What, WhatRef, covering_fragment, cut_ranges,
     fragments_are_in_order, fragments_cover_what_ranges_cover, is_run,

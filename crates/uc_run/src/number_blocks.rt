@@ -1,7 +1,7 @@
 //! [`NumberBlocks`]: numbers, with the least of each block of them.
 ghost use Rattle.std.specs.Prelude.{◌≡◌, ◌≢◌, ◌+◌, ◌*◌, ◌<◌, ◌≤◌, [], slice_index_or, length, min, IfOk};
 ghost use Rattle.std.specs.List.{AllWithin, HoldsAt, slice_set};
-ghost use Rattle.uc_run.specs.NumberBlocks.{AreLeasts, IsLeastNumber, numbers_in, blocks_of};
+ghost use Rattle.uc_run.specs.NumberBlocks.{AreLeasts, IsLeastNumber, block_numbers, numbers_in, blocks_of};
 
 use std::alloc::{AllocError, Global};
 use std::cmp;
@@ -44,7 +44,7 @@ fn least_number(numbers: &[u64]) -> u64
 #[inline]
 fn block_end(numbers: &[u64], block: usize) -> usize
     requires { block < blocks_of numbers.now }
-    ensures { result ≡ min (length numbers.now) (16 * block + 16) }
+    ensures { result ≡ min (length numbers.now) (block_numbers * block + block_numbers) }
 {
     cmp::min(numbers.len(), block * BLOCK_NUMBERS + BLOCK_NUMBERS)
 }

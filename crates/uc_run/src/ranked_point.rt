@@ -10,6 +10,7 @@ ghost use Rattle.uc_run.specs.Ranks.{ranked_at, ranked_cmp, first_key, HasFront,
 
 use crate::entry_ref::EntryRef;
 use crate::prefixes::{common_prefix_len, prefix_of};
+use crate::texts::same_text;
 use std::alloc::{AllocError, Global};
 use std::cmp::Ordering;
 use std::marker::Model;
@@ -86,7 +87,8 @@ pub(crate) fn begins_with(front: &[u8], key: &[u8]) -> usize
     ensures front { HasFront result front.now key.now }
     ensures bytes { AreBytes key.now }
 {
-    if key.starts_with(front) {
+    let (begin, _) = key.split_at(front.len().min(key.len()));
+    if same_text(begin, front) {
         return front.len();
     }
     common_prefix_len(front, key)

@@ -7,7 +7,7 @@ use std::cmp::Ordering;
 
 /// The order of two texts: byte by byte, a proper prefix first. It costs a step for each eight bytes that are equal,
 /// where the `cmp` of slices looks at each byte.
-pub(crate) fn text_order(text: &[u8], other: &[u8]) -> Ordering
+pub fn text_order(text: &[u8], other: &[u8]) -> Ordering
     ensures { result ≡ bytes_cmp text.now other.now }
 {
     let (mut rest, mut other_rest) = (text, other);
@@ -25,7 +25,7 @@ pub(crate) fn text_order(text: &[u8], other: &[u8]) -> Ordering
 }
 
 /// Whether two texts are equal. It costs a step for each eight bytes.
-pub(crate) fn same_text(text: &[u8], other: &[u8]) -> bool
+pub fn same_text(text: &[u8], other: &[u8]) -> bool
     ensures { result ≡ same_bytes text.now other.now }
 {
     let (mut rest, mut other_rest) = (text, other);

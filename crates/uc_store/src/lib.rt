@@ -1,10 +1,10 @@
 //! The store for programs: one crate to name.
 //!
 //! [`open_log`] opens a store from the bytes of a write-ahead log, and says how far the log could be read;
-//! [`open_log_in_threads`] gives the same sooner, and [`open_pieces_in_threads`] lets go of the log meanwhile. [`get`] looks a key up at a sequence that a snapshot protects, [`answer_one`]
-//! answers any query and [`answer_plain`] a batch of them by many workers. [`feed_batch`] writes, and [`get_last`] and
-//! [`answer_last`] read at the last sequence. [`Owned`] takes snapshots, and picks what to compact; [`report`] says what a store
-//! holds.
+//! [`open_log_in_threads`] gives the same sooner, and [`open_pieces_in_threads`] lets go of the log meanwhile. [`get`] looks a key
+//! up at a sequence that a snapshot protects, [`answer_one`] answers any query and [`answer_plain`] a batch of them by many
+//! workers. [`feed_batch`] writes, and [`get_last`] and [`answer_last`] read at the last sequence. [`Owned`] takes snapshots, and
+//! picks what to compact; [`report`] says what a store holds.
 //!
 //! [`open_shared`] opens a [`Store`] that threads share, and [`open_shared_in_threads`] does so sooner. [`feed_shared_batch`]
 //! writes to it, [`Store::keep`] and [`Store::release`] take and release snapshots, and [`Store::turn`] compacts for a

@@ -4,8 +4,9 @@
 //! out by hand. Reports, dumps and devices that fail are tested in `uc_tests_program`.
 //!
 //! Of `play`, `plays.rt` runs a script. `scripts.rt` has scripts and what they print, `compactions.rt` scripts that claim and compact
-//! runs, `live_scripts.rt` scripts that write and keep behind their `open` (drawn in `drawn_live_scripts.rt`), `refused_scripts.rt` scripts and options that are refused, and `drawn_scripts.rt` compares the two ways to an answer on
-//! scripts that are drawn by lot.
+//! runs, `live_scripts.rt` scripts that write and keep behind their `open` (drawn in `drawn_live_scripts.rt`), `refused_scripts.rt`
+//! scripts and options that are refused, and `drawn_scripts.rt` compares the two ways to an answer on scripts that are drawn by
+//! lot.
 //!
 //! Of `ask`, `asks.rt` has the runs, `logs.rt` the logs behind the heads, and `counts.rt` what threads wait for. `answers.rt`
 //! has the worked answers, `later.rt` those where the last writes come later, and `crews.rt` what compactors install beside each

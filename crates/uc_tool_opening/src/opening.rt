@@ -3,7 +3,6 @@
 ghost use Rattle.std.specs.Prelude.{◌≡◌, ◌≢◌, Some, None, IfOk, IfErr};
 ghost use Rattle.uc_logrec.specs.Log.{log_text};
 ghost use Rattle.uc_batch.specs.Batch.{numbered};
-ghost use Rattle.uc_batch.specs.Log.{log_writes};
 ghost use Rattle.uc_batch.specs.Rising.{IsRising};
 ghost use Rattle.uc_batch.specs.declared.ended.Ended.TheVariants.{Clean};
 ghost use Rattle.uc_version_state.specs.Openings.{Opening, opened};

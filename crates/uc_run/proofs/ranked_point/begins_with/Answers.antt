@@ -1,17 +1,20 @@
-use Rattle.std.proofs.Common.{◌≡◌, ◌≤◌, ◌∙◌, ℕ, length, take, sym, subst, arith}
+use Rattle.std.proofs.Common.{◌≡◌, ◌≤◌, ◌∙◌, ℕ, List, length, min, take, sym, ap, subst, arith}
 use Rattle.std.specs.Cmp.Lexicographic.{same_text}
 use Rattle.std.proofs.lemmas.List.{take_all}
 use Rattle.uc_run.specs.Ranks.{HasFront}
 use Rattle.uc_run.proofs.RankedOrder.{common_front, common_bound}
 use Rattle.uc_run.proofs.ranked_point.begins_with.Goals as goal
 
-pub returns-then-starts_with-clause-front : goal.returns-then-starts_with-clause-front
-returns-then-starts_with-clause-front c =
+pub returns-then-same_text-clause-front : goal.returns-then-same_text-clause-front
+returns-then-same_text-clause-front c =
     let front = c.args.front.now in
     let key = c.args.key.now in
-    let begin : front ≡ take (length front) key = same_text front (take (length front) key) (sym (sym c.starts_with.ensures.value ∙ c.if-starts_with.true)) in
+    let all : c.split_at.result.0.now ≡ front = same_text c.split_at.result.0.now front (sym (sym c.same_text.ensures ∙ c.if-same_text.true)) in
+    let long : length front ≡ c.min.result = sym (ap length all) ∙ c.split_at.ensures.front_len in
+    let least : c.min.result ≡ min (length front) (length key) = c.min.ensures in
+    let begin : front ≡ take (length front) key = sym all ∙ c.split_at.ensures.front ∙ ap (λ (n : ℕ). take n key) (sym long) in
     record {
-      long = c.starts_with.ensures.bound c.if-starts_with.true;
+      long = omega (arith, long, least);
       same = sym begin ∙ sym (take_all (length front) front (omega arith));
     }
 
