@@ -14,15 +14,18 @@
 mod log;
 #[path = "../store.rs"]
 mod store;
+#[path = "../values.rs"]
+mod values;
 
-use log::{read_batch, Ended, LogReader, Op};
-use std::collections::{BTreeMap, HashMap};
+use log::Op;
+use std::collections::HashMap;
 use std::io::{self, BufWriter, Read, Write};
 use std::ops::Bound;
 use std::sync::atomic::{AtomicUsize, Ordering};
 use std::thread;
 use std::time::Instant;
 use store::Numbers;
+use values::{each_clean_write, values_of, Values};
 
 const KEYS: u64 = 300_000;
 const HOT_KEYS: u64 = 1_000;
@@ -35,8 +38,6 @@ const MOST_ROWS: u64 = 50;
 /// How many queries a thread draws at a time.
 const PIECE: usize = 16;
 
-type Values = BTreeMap<Vec<u8>, Vec<u8>>;
-
 enum Query {
     Get { key: Vec<u8> },
     Scan { low: Vec<u8>, limit: u64 },
@@ -45,73 +46,6 @@ enum Query {
 enum Answer {
     Value(Option<Vec<u8>>),
     Rows(Vec<(Vec<u8>, Vec<u8>)>),
-}
-
-/// The number that 8 bytes stand for, low byte first; 0 for any other text.
-fn number(bytes: &[u8]) -> u64 {
-    bytes.try_into().map_or(0, u64::from_le_bytes)
-}
-
-/// Changes values as a write does.
-fn apply(values: &mut Values, op: Op) {
-    match op {
-        Op::Put(key, value) => {
-            values.insert(key.to_vec(), value.to_vec());
-        }
-        Op::Delete(key) => {
-            values.remove(key);
-        }
-        Op::Merge(key, operand) => {
-            let value = values.entry(key.to_vec()).or_default();
-            let sum = number(value).wrapping_add(number(operand));
-            *value = sum.to_le_bytes().to_vec();
-        }
-        Op::Range(begin, end) => {
-            if begin < end {
-                let bounds = (Bound::Included(begin), Bound::Excluded(end));
-                let range = values.range::<[u8], _>(bounds);
-                let keys: Vec<Vec<u8>> = range.map(|(key, _)| key.clone()).collect();
-                for key in keys {
-                    values.remove(&key);
-                }
-            }
-        }
-    }
-}
-
-/// Goes through the writes of a log, and says how it ends.
-fn each_write(log: &[u8], mut take: impl FnMut(Op)) -> Ended {
-    let mut reader = LogReader::new(log);
-    let mut last = 0;
-    let mut batches = 0;
-    loop {
-        let payload = match reader.payload() {
-            Ok(payload) => payload,
-            Err(ended) => return ended,
-        };
-        batches += 1;
-        let mut ops = Vec::new();
-        match read_batch(payload, last, &mut ops) {
-            Ok(seq) => last = seq + ops.len() as u64 - 1,
-            Err(fault) => return Ended::Batch(batches, fault),
-        }
-        ops.into_iter().for_each(&mut take);
-    }
-}
-
-/// Goes through the writes of a log that has to end clean.
-fn each_clean_write(log: &[u8], take: impl FnMut(Op)) {
-    match each_write(log, take) {
-        Ended::Clean => {}
-        ended => panic!("{ended}"),
-    }
-}
-
-/// The values after all writes of a log, which is let go of.
-fn values_of(log: Vec<u8>) -> Values {
-    let mut values = Values::new();
-    each_clean_write(&log, |op| apply(&mut values, op));
-    values
 }
 
 fn key_of(number: u64) -> Vec<u8> {

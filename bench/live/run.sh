@@ -198,11 +198,11 @@ live() {
     for size in 1000 10000; do
         if [ "$ours" = none ]; then continue; fi
         ratio=$(over "ours_$size" "RocksDB_$size" "$all_steps")
-        echo "goal, batches of $size: at most 0.5 of RocksDB's time: $ratio, $(verdict "$ratio" 0.5)"
+        echo "goal, batches of $size: at most 0.25 of RocksDB's time: $ratio, $(verdict "$ratio" 0.25)"
         ratio=$(growth "ours_$size")
         echo "goal, batches of $size: a feed at 1.2 million writes at most 1.3 of that at 0.1 million: $ratio, $(verdict "$ratio" 1.3)"
     done
-    goal 'live writes' '*' RocksDB s 'at most' 0.5
+    goal 'live writes' '*' RocksDB s 'at most' 0.25
     goal 'a feed at 1.2 million writes' '*' 'at 0.1 million' ms 'at most' 1.3
     echo
     forget

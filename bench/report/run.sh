@@ -1,5 +1,5 @@
 #!/bin/bash
-# Measures `ucstore report --operator counter` against the same work in plain Rust, and against RocksDB.
+# Measures `ucstore report --operator counter` against the same work in plain Rust, against RocksDB, and against a `BTreeMap`.
 #
 #     bench/report/run.sh
 #
@@ -10,13 +10,16 @@
 # against Debian's (librocksdb-dev), whose assertions are on; what isn't there is left out. RocksDB recovers the same log in
 # its memory environment; ../rocksdb_store.h has its options, and they are printed. It compacts by as many threads as there
 # are processors, plain Rust by one. Ours flushes and compacts in four threads; it is measured on one processor too (taskset).
+# btree_map.rs folds the writes in one thread, as they come, into a map of values. ../copying.rs only reads and copies the log: no
+# program could be faster.
 #
 # First the reports of small logs are compared with ones worked by hand, those of large and of damaged logs with each
-# other, and the values of all keys after the compactions with those that RocksDB has. Then each program runs TURNS
+# other, and the values of all keys after the compactions with those that RocksDB and the map have. Then each program runs TURNS
 # times (5), and Debian's RocksDB in the first turn alone, over logs of SIZES MiB (16 30 60), in turn and each time in a
 # process of its own: the least seconds from start to end and the most memory are printed. The logs have batches of one
 # write: half merges of counters, 45 percent puts, 5 percent deletions, and now and then a range deletion (`make_log
-# counters`). Two more of the last size have short words for keys, and keys of 100 bytes (`make_log words`, `long`). RESULTS names a file for the figures as JSON. It takes about two minutes.
+# counters`). Two more of the last size have short words for keys, and keys of 100 bytes (`make_log words`, `long`). RESULTS names
+# a file for the figures as JSON. It takes about two minutes.
 set -u -o pipefail
 
 here=$(cd "$(dirname "${BASH_SOURCE[0]}")" && pwd) || exit 1
@@ -40,7 +43,9 @@ build() { # SOURCE
 # Builds what there is, and says which programs print reports, and which are measured.
 build_all() {
     build "$here/../make_log.rs"
+    build "$here/../copying.rs"
     build "$here/baseline.rs"
+    build "$here/btree_map.rs"
     reporting=(baseline)
     if [ "$ours" != none ]; then
         ours=$(realpath -e "$ours") || exit 2
@@ -48,6 +53,7 @@ build_all() {
     fi
     measured=("${reporting[@]}")
     if [ "$ours" != none ]; then measured+=(one); fi
+    measured+=(btree_map copying)
     build_rocksdb "$here/rocksdb.cc"
     measured+=("${rocksdbs[@]}")
 }
@@ -195,6 +201,7 @@ check_values() { # LOG
         # shellcheck disable=SC2086
         [ "$("$folder/baseline" --values $words < "$log")" = "$values" ] || fail "$words: other values"
     done
+    [ "$("$folder/btree_map" < "$log")" = "$values" ] || fail "the map has other values"
     for rocksdb in "${rocksdbs[@]}"; do
         [ "$("$folder/$rocksdb" --values < "$log")" = "$values" ] || fail "$rocksdb has other values"
     done
@@ -257,16 +264,17 @@ table() {
     }
     END {
         word["ucstore"] = "ucstore"; word["one"] = "the same, 1 processor"; word["baseline"] = "plain Rust"; word["rocksdb"] = "RocksDB"
-        print "                                                     time against                               memory against"
-        print "log     program                seconds  memory MiB  plain Rust  RocksDB  Debian\047s  half a log  plain Rust  RocksDB  Debian\047s"
+        word["btree_map"] = "BTreeMap"; word["copying"] = "reading and copying"
+        print "                                                     time against                                         memory against"
+        print "log     program                seconds  memory MiB  plain Rust  BTreeMap  RocksDB  Debian\047s  half a log  plain Rust  RocksDB  Debian\047s"
         for (line = 1; line <= count; line++) {
             n = names[line]; s = size[line]
             if (n == "debian") continue
             t = time[n, s]; m = memory[n, s]
             log_of = s ~ /^[0-9]+$/ ? sprintf("%2d MiB", s) : s
-            printf "%-6s  %-21s  %7.3f  %10.1f  %10s  %7s  %8s  %10s  %10s  %7s  %8s\n", log_of, word[n], t / 1e6, m / 1024,
-                ratio(t, time["baseline", s]), ratio(t, time["rocksdb", s]), ratio(t, time["debian", s]),
-                ratio(t, time[n, s / 2]), ratio(m, memory["baseline", s]), ratio(m, memory["rocksdb", s]),
+            printf "%-6s  %-21s  %7.3f  %10.1f  %10s  %8s  %7s  %8s  %10s  %10s  %7s  %8s\n", log_of, word[n], t / 1e6, m / 1024,
+                ratio(t, time["baseline", s]), ratio(t, time["btree_map", s]), ratio(t, time["rocksdb", s]),
+                ratio(t, time["debian", s]), ratio(t, time[n, s / 2]), ratio(m, memory["baseline", s]), ratio(m, memory["rocksdb", s]),
                 ratio(m, memory["debian", s])
         }
     }'
@@ -279,6 +287,8 @@ keep_all() {
         case $program in
             ucstore) name=ours ;;
             baseline) name="plain Rust" ;;
+            btree_map) name=BTreeMap ;;
+            copying) name="reading and copying" ;;
             one)
                 case $size in words | long) continue ;; esac
                 keep_seconds 'report, one processor' "$size MiB" ours "$time"
@@ -301,13 +311,16 @@ keep_all() {
         if [ "$program" = ucstore ]; then keep_growth "$size" "$time"; fi
     done
     goal report '60 MiB' 'plain Rust' s 'at most' 1.5
+    goal report '60 MiB' BTreeMap s 'at most' 0.25
     goal report '60 MiB' RocksDB s 'at most' 0.15
     goal report '60 MiB' RocksDB MiB 'at most' 1.3
+    goal 'report, words' '60 MiB' BTreeMap s 'at most' 0.25
     goal 'report, words' '60 MiB' RocksDB s 'at most' 0.25
+    goal 'report, long' '60 MiB' BTreeMap s 'at most' 0.25
     goal 'report, long' '60 MiB' RocksDB s 'at most' 0.25
     goal 'report, one processor' '60 MiB' RocksDB s 'at most' 0.28
     goal 'report, four processors' '60 MiB' 'one processor' s 'at most' 0.43
-    goal 'report, twice the log' '*' 'half of it' s 'at most' 2.3
+    goal 'report, twice the log' '*' 'half of it' s 'at most' 2.2
 }
 
 # Keeps our seconds beside those of half the log, if that was measured before.
