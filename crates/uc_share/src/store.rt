@@ -5,7 +5,7 @@ ghost use mathlib.Core.List.{IsPrefix};
 ghost use Rattle.uc_claims.specs.Holding.{free_seat};
 ghost use Rattle.uc_claims.specs.declared.table.TheConstants.{MOST_SLOTS};
 ghost use Rattle.uc_version_state.specs.Options.{are_good};
-ghost use Rattle.uc_version_state.specs.Versions.{ids_of};
+ghost use Rattle.uc_version_state.specs.Versions.{contents_of, ids_of};
 ghost use Rattle.uc_version_state.specs.Refusals.{AreInPlace};
 ghost use Rattle.uc_version_state.specs.Histories.{MayFollow, after};
 ghost use Rattle.uc_version_work.specs.Compacting.{compaction_at};
@@ -213,7 +213,7 @@ impl<O: Operator, N: Name, W: Wait + Drop> Store<O, N, W> {
         }
     }
 
-    /// Puts what was compacted of the claimed runs in their place, and leaves the claim as it is.
+    /// Puts what was compacted in place of the claimed runs if these were its inputs, and leaves the claim as it is.
     fn replace(
         &self,
         rt: &impl Wait,
@@ -236,6 +236,29 @@ impl<O: Operator, N: Name, W: Wait + Drop> Store<O, N, W> {
         if !are_inputs(made, held.runs()) {
             return Err(InstallError::WrongInputs);
         }
+        self.replace_inputs(rt, alloc, held, made, reader)
+    }
+
+    /// Puts what was compacted of the claimed runs in their place, and leaves the claim as it is. It compares no points.
+    pub(crate) fn replace_inputs(
+        &self,
+        rt: &impl Wait,
+        alloc: Global,
+        held: &Held<O, N>,
+        made: &Compacted<O>,
+        reader: &mut Reader<O, N>,
+    ) -> Result<(), InstallError>
+        requires table { held.now.seat.table ≡ self.now.table }
+        requires inputs { made.now.inputs ≡ contents_of (claimed_runs held.now) }
+        ensures seen { IsPrefix reader.old reader.new }
+        ensures legal { MayFollow O.meaning N.base reader.new }
+        ensures installed { OnOk result
+            (EndsWith reader.old (event_of O.meaning (claimed_runs held.now) made.now) reader.new) }
+        ensures refused { IfErr result (λ error.
+            ShowsRefusal (fold after N.base reader.new) (claimed_runs held.now) made.now error) }
+        ensures own { IfErr result (λ error.
+            made.now ≡ compaction_at held.now.pin.version held.now.stretch → IsOwnRefusal error) }
+    {
         let install = install_of(alloc, held.runs(), made);
         let mut desk = self.desk.lock(rt);
         desk.install(rt, alloc, held, made, install, reader)

@@ -98,7 +98,8 @@ impl<O: Operator + Sync, N: Name, W: Wait + Drop> Store<O, N, W> {
         }
     }
 
-    /// Compacts a claim and installs what comes of it. If that is refused, the claim is abandoned.
+    /// Compacts a claim and installs what comes of it, which compares no points: what was compacted are the claimed runs. The claim
+    /// is abandoned then, and also if that is refused.
     fn compact_held(
         &self,
         rt: &(impl Threads + Wait + Sync),
@@ -121,9 +122,9 @@ impl<O: Operator + Sync, N: Name, W: Wait + Drop> Store<O, N, W> {
         let Ok(made) = held.compact(rt, alloc) else {
             return (self.abandon(held).0, Err(InstallError::Memory));
         };
-        match self.install(rt, alloc, held, made, reader) {
-            Ok(seat) => (seat, Ok(Turn::Installed)),
-            Err((held, _made, error)) => (self.abandon(held).0, Err(error)),
+        match self.replace_inputs(rt, alloc, &held, &made, reader) {
+            Ok(()) => (self.abandon(held).0, Ok(Turn::Installed)),
+            Err(error) => (self.abandon(held).0, Err(error)),
         }
     }
 }
