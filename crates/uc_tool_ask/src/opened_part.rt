@@ -10,7 +10,9 @@ use std::marker::Sync;
 use std::thread::Threads;
 use uc_batch::{Pieces, Write};
 use uc_version_state::Options;
-use uc_version_work::{Recovered, count_writes, recover_first, recover_pieces_in_threads};
+use uc_version_work::{
+    Recovered, count_writes, recover_first_in_threads, recover_pieces_in_threads,
+};
 
 /// A store that is being opened from a log without its last writes, how far the log was read, and these writes. If nothing
 /// comes later it goes once over the log, and lets go of each piece that it has read. Else it makes one piece of the log, and
@@ -35,5 +37,6 @@ pub(crate) fn recover_part(
     }
     let bytes = log.into_vec(alloc)?;
     let counted = count_writes(alloc, &bytes)?;
-    recover_first(alloc, &bytes, options, counted.count.saturating_sub(later))
+    let most = counted.count.saturating_sub(later);
+    recover_first_in_threads(rt, alloc, &bytes, options, most)
 }

@@ -12,12 +12,12 @@
 //! [`flush_writes`] and [`version_with_flushed`].
 //!
 //! [`recover`] goes once through a write-ahead log and hands each write, borrowed from the log's bytes, to an opener.
-//! [`recover_first`] does so for the first writes alone, and hands those behind them out; [`count_writes`] tells how many
-//! there are. Read `recovery.rt`.
+//! [`count_writes`] tells how many there are. Read `recovery.rt`.
 //!
 //! [`recover_in_threads`] lets full memtables wait, and flushes several at a time side by side while it reads on;
 //! [`Opener::finish_in_threads`] flushes those that are left. [`recover_pieces_in_threads`] does so over a log in pieces, and lets
-//! go of each when its batches were read. A store that opens so is the same, whichever flush ends first.
+//! go of each when its batches were read. [`recover_first_in_threads`] takes the first writes alone, and hands those behind them
+//! out. A store that opens so is the same, whichever flush ends first.
 //! Read `flusher.rt`, and then `reading.rt`.
 //!
 //! A stretch of a version's runs is compacted, and the result is judged and installed. Read `specs/Compacting.antt` first, then
@@ -57,7 +57,7 @@ pub use laws::no_refusal_is_leave_to_open;
 pub use open_error::OpenError;
 pub use opener::Opener;
 pub use recovery::{
-    Counted, Recovered, count_writes, recover, recover_first, recover_in_threads,
+    Counted, Recovered, count_writes, recover, recover_first_in_threads, recover_in_threads,
     recover_pieces_in_threads,
 };
 pub use refusal::{are_inputs, error_of, install_refusal, present_refusal};

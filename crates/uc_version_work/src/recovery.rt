@@ -1,4 +1,4 @@
-//! [`recover`] and [`recover_first`]: a log's writes in a store that is being opened.
+//! [`recover`] and [`recover_first_in_threads`]: a log's writes in a store that is being opened.
 ghost use Rattle.std.specs.Prelude.{◌≡◌, ◌<◌, ◌+◌, ◌^◌, ◌++◌, ◌∷◌, [], ℕ, List, IfOk, OnOk, drop, length, take};
 ghost use Rattle.uc_bytes.specs.declared.write.Write.{Write as WriteOf};
 ghost use Rattle.uc_batch.specs.Log.{log_writes};
@@ -7,7 +7,7 @@ ghost use Rattle.uc_version_state.specs.declared.options.Options.{Options as Opt
 ghost use Rattle.uc_version_work.specs.Parting.{ComeNext, IsParted};
 ghost use Rattle.uc_version_work.specs.Progress.{progress_of};
 
-use crate::flusher::Alone;
+use crate::flusher::{Alone, Flusher, InThreads};
 use crate::log_batches::LogBatches;
 use crate::opener::Opener;
 use crate::reading::{begin_reading, flush_and_read_on, insert_batch};
@@ -143,7 +143,13 @@ struct Parted {
 }
 
 /// Takes the next write of a log.
-fn part_write(alloc: Global, parted: &mut Parted, write: &WriteRef<'_>) -> Result<(), AllocError>
+fn part_write<F: Flusher>(
+    flusher: &F,
+    alloc: Global,
+    parted: &mut Parted,
+    write: &WriteRef<'_>,
+) -> Result<(), AllocError>
+    requires can { F.can_flush }
     requires above { 0 < parted.old.left → parted.old.opener.last < write.now.seq }
     requires below { write.now.seq < 2 ^ 56 }
     ensures parted { (options : OptionsOf) (most : ℕ) (before : List WriteOf) →
@@ -152,7 +158,7 @@ fn part_write(alloc: Global, parted: &mut Parted, write: &WriteRef<'_>) -> Resul
     ensures last { OnOk result (0 < parted.new.left → parted.new.opener.last ≡ write.now.seq) }
 {
     if parted.left > 0 {
-        parted.opener.insert(alloc, write)?;
+        parted.opener.insert_by(flusher, alloc, write)?;
         parted.left -= 1;
     } else {
         parted.behind.push(write.to_write(alloc)?)?;
@@ -161,21 +167,28 @@ fn part_write(alloc: Global, parted: &mut Parted, write: &WriteRef<'_>) -> Resul
 }
 
 /// Takes the writes of a batch.
-fn part_batch(alloc: Global, parted: &mut Parted, writes: BatchWrites<'_>) -> Result<(), AllocError>
-    requires { ComeNext parted.old.opener parted.old.left writes }
+fn part_batch<F: Flusher>(
+    flusher: &F,
+    alloc: Global,
+    parted: &mut Parted,
+    writes: BatchWrites<'_>,
+) -> Result<(), AllocError>
+    requires can { F.can_flush }
+    requires next { ComeNext parted.old.opener parted.old.left writes }
     ensures { (options : OptionsOf) (most : ℕ) (before : List WriteOf) →
         IsParted options most before parted.old.opener parted.old.left parted.old.behind.items → OnOk result
         (IsParted options most (before ++ writes.entry) parted.new.opener parted.new.left parted.new.behind.items) }
 {
     for write in writes {
-        part_write(alloc, parted, &write)?;
+        part_write(flusher, alloc, parted, &write)?;
     }
     Ok(())
 }
 
-/// As [`recover`], for the first `most` writes alone. Those behind them come as they are, the oldest first. It holds them
-/// beside what `recover` holds.
-pub fn recover_first(
+/// As [`recover_in_threads`], for the first `most` writes alone. Those behind them come as they are, the oldest first. It holds
+/// them beside what `recover` holds, and up to six full memtables, which are flushed side by side.
+pub fn recover_first_in_threads(
+    rt: &(impl Threads + Sync),
     alloc: Global,
     log: &[u8],
     options: Options,
@@ -195,7 +208,10 @@ pub fn recover_first(
     let mut batches = BatchReader::new(alloc, log);
     loop {
         match batches.advance()? {
-            Advance::Batch => part_batch(alloc, &mut parted, batches.writes())?,
+            Advance::Batch => {
+                let flusher = InThreads::new(rt);
+                part_batch(&flusher, alloc, &mut parted, batches.writes())?;
+            }
             Advance::Ended(ended) => {
                 let Parted { opener, behind, .. } = parted;
                 return Ok((Recovered { opener, ended }, behind));

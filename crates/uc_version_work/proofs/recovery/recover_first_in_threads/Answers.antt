@@ -3,11 +3,11 @@ use Rattle.uc_bytes.specs.declared.write.Write.{Write}
 use Rattle.uc_batch.specs.Log.{log_writes}
 use Rattle.uc_batch.proofs.Joined.{joins}
 use Rattle.uc_version_work.specs.Parting.{IsParted}
-use Rattle.uc_version_work.proofs.recovery.recover_first.Goals as goal
+use Rattle.uc_version_work.proofs.recovery.recover_first_in_threads.Goals as goal
 
 -- src/recovery.rt:157:5
 pub loop-batches-preserved : goal.loop-batches-preserved
-loop-batches-preserved c =
+loop-batches-preserved g c =
     let l = c.loop-batches in
     let comes = rw c.in-Batch.is at c.in_ok-advance.ensures.ok in
     let writes = l.invariant.0 in
