@@ -9,7 +9,8 @@ use uc_bytes::{Op, OpRef, WriteRef};
 use uc_logrec::LogWriter;
 use uc_version_state::{Options, Placed, Version};
 use uc_version_work::{
-    OpenError, Opener, Recovered, recover, recover_in_threads, recover_pieces_in_threads,
+    OpenError, Opener, Recovered, recover, recover_first_in_threads, recover_in_threads,
+    recover_pieces_in_threads,
 };
 
 /// A log of changes of every kind, some bytes of which are cut off its end, and what it opens.
@@ -197,15 +198,18 @@ enum By {
     Threads,
     /// Threads, over a log in pieces.
     ThreadsInPieces,
+    /// Threads, over the first writes of a log, which are all.
+    ThreadsOverFirst,
 }
 
 /// Who flushes memtables while a log is read, and who those that are left at its end.
 type Way = (By, By);
 
 /// All ways but the one in which no thread is started.
-static WAYS: [Way; 4] = [
+static WAYS: [Way; 5] = [
     (By::Threads, By::Threads),
     (By::ThreadsInPieces, By::Threads),
+    (By::ThreadsOverFirst, By::Threads),
     (By::Threads, By::One),
     (By::One, By::Threads),
 ];
@@ -243,6 +247,10 @@ fn recovered_by(
         By::ThreadsInPieces => {
             recover_pieces_in_threads(rt, alloc, pieces_of(alloc, log)?, options)
         }
+        By::ThreadsOverFirst => {
+            let (recovered, _) = recover_first_in_threads(rt, alloc, log, options, u64::MAX)?;
+            Ok(recovered)
+        }
     }
 }
 
@@ -255,7 +263,9 @@ fn finished_by(
 ) -> Result<Version, OpenError> {
     match by {
         By::One => opener.finish(alloc, &[2, 1]),
-        By::Threads | By::ThreadsInPieces => opener.finish_in_threads(rt, alloc, &[2, 1]),
+        By::Threads | By::ThreadsInPieces | By::ThreadsOverFirst => {
+            opener.finish_in_threads(rt, alloc, &[2, 1])
+        }
     }
 }
 
