@@ -15,12 +15,12 @@ use std::alloc::{AllocError, Global};
 use std::marker::Sync;
 use std::slice;
 use std::thread::Threads;
-use uc_batch::{Mode, ReadError, Writes, read_writes, write_batch, written_batch_is_read};
+use uc_batch::{Mode, Pieces, ReadError, Writes, read_writes, write_batch, written_batch_is_read};
 use uc_bytes::Op;
 use uc_logrec::{LogWriter, written_log_is_read};
 use uc_script::{Keeps, Ops};
 use uc_version_state::{Options, Version};
-use uc_version_work::{OpenError, Opener, Recovered, recover_in_threads};
+use uc_version_work::{OpenError, Opener, Recovered, recover_pieces_in_threads};
 
 /// Writes the operations as a log, a batch for each, numbered from `first` on.
 fn write_log(alloc: Global, first: u64, ops: &[Op]) -> Result<Vec<u8>, AllocError>
@@ -45,6 +45,15 @@ fn log_of(alloc: Global, first: u64, ops: Ops) -> Result<Vec<u8>, AllocError>
     write_log(alloc, first, ops.as_slice())
 }
 
+/// A log in pieces, so that each can be let go of when it was read.
+fn in_pieces(alloc: Global, log: Vec<u8>) -> Result<Pieces, AllocError>
+    ensures { IfOk result (λ pieces. pieces ≡ log.items) }
+{
+    let mut pieces = Pieces::new(alloc);
+    pieces.push_bytes(alloc, &log)?;
+    Ok(pieces)
+}
+
 /// A store that is being opened from operations, which are numbered from 1, by way of a log of them. What it is made from
 /// is let go of one after the other.
 fn opener_of(
@@ -60,8 +69,8 @@ fn opener_of(
     // What is written is read again: the laws of the layers below, which do nothing when they run.
     written_log_is_read();
     written_batch_is_read();
-    let log = log_of(alloc, 1, ops)?;
-    let Recovered { opener, .. } = recover_in_threads(rt, alloc, &log, options)?;
+    let log = in_pieces(alloc, log_of(alloc, 1, ops)?)?;
+    let Recovered { opener, .. } = recover_pieces_in_threads(rt, alloc, log, options)?;
     Ok(opener)
 }
 

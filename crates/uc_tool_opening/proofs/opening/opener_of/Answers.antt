@@ -8,10 +8,10 @@ use Rattle.uc_tool_opening.proofs.opening.opener_of.Goals as goal
 
 pub returns-clause-opener : goal.returns-clause-opener
 returns-clause-opener g c =
-    let again = ap log_writes (c.deref.ensures.value ∙ c.in_ok-log.ensures) ∙ log_again c.written_batch_is_read.ensures c.written_log_is_read.ensures 1 c.args.ops c.requires in
+    let again = ap log_writes (c.in_ok-log.ensures ∙ c.in_ok-log_of.ensures) ∙ log_again c.written_batch_is_read.ensures c.written_log_is_read.ensures 1 c.args.ops c.requires in
     c.in_ok-opener.ensures.opener ∙ ap (λ (w : WriteLog). progress_of c.args.options w.list) again
 
 pub returns-clause-rising : goal.returns-clause-rising
 returns-clause-rising g c =
-    let again = ap log_writes (c.deref.ensures.value ∙ c.in_ok-log.ensures) ∙ log_again c.written_batch_is_read.ensures c.written_log_is_read.ensures 1 c.args.ops c.requires in
+    let again = ap log_writes (c.in_ok-log.ensures ∙ c.in_ok-log_of.ensures) ∙ log_again c.written_batch_is_read.ensures c.written_log_is_read.ensures 1 c.args.ops c.requires in
     subst (λ (w : WriteLog). IsRising 0 w.list) again c.in_ok-opener.ensures.rising
