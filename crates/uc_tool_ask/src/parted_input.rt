@@ -12,6 +12,9 @@ use uc_script::{Head, ScriptError, read_head, what_follows_a_head_changes_nothin
 /// How many bytes a head is looked for in first.
 const FIRST_BYTES: usize = 1 << 20;
 
+/// How many bytes are moved at a time at the most: as many as a piece has, so one comes out as it is.
+const MOVED_BYTES: usize = 1 << 20;
+
 /// A head, and the log behind it.
 #[derive(Debug, Drop)]
 pub(crate) struct Parted {
@@ -46,9 +49,13 @@ fn double_front(alloc: Global, front: &mut Vec<u8>, rest: &mut Pieces) -> Result
     ensures longer { OnOk result (vec_len front.old ≤ vec_len front.new) }
     ensures left { OnOk result (length rest.new ≡ length rest.old - vec_len front.old) }
 {
-    let size = front.len().min(rest.len());
-    let more = rest.split_front(alloc, size)?;
-    front.extend_from_slice(&more)
+    let mut missing = front.len().min(rest.len());
+    while missing > 0 {
+        let more = rest.split_front(alloc, missing.min(MOVED_BYTES))?;
+        front.extend_from_slice(&more)?;
+        missing -= more.len();
+    }
+    Ok(())
 }
 
 /// Parts an input at the end of its head, which was read in its front. What the front has behind the head goes back to the
