@@ -64,7 +64,7 @@ impl<O: Operator> Owned<O> {
     }
 
     /// As [`feed`](Owned::feed), with full memtables flushed side by side, in threads. What it gives is the same, and so is what it
-    /// refuses. It pays if the writes fill several memtables, of which it holds up to six more meanwhile.
+    /// refuses. It pays if the writes fill several memtables, of which it holds up to four meanwhile.
     pub fn feed_in_threads(
         &mut self,
         rt: &(impl Threads + Sync),

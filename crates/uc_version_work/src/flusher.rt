@@ -17,8 +17,9 @@ pub(crate) trait Flusher {
     /// What is asked of what a flusher is made of. One that starts threads shares it among them.
     ghost can_flush: { Type 0 };
 
-    /// How many full memtables may wait, those among them that others flush. One more, and all are flushed at once.
-    const MOST_WAITING: usize;
+    /// How many full memtables may wait, those among them that others flush. One more, and all are flushed at once. A contract
+    /// doesn't see it.
+    fn most_waiting(&self) -> usize;
 
     /// The runs of these memtables, in their order.
     fn flush(&self, alloc: Global, full: &[FullMemtable]) -> Result<Vec<Run>, AllocError>
@@ -115,7 +116,9 @@ pub(crate) struct Alone;
 impl Flusher for Alone {
     ghost can_flush = { ⊤ };
 
-    const MOST_WAITING: usize = 0;
+    fn most_waiting(&self) -> usize {
+        0
+    }
 
     fn flush(&self, alloc: Global, full: &[FullMemtable]) -> Result<Vec<Run>, AllocError> {
         flush_in_turn(alloc, full)
@@ -126,20 +129,30 @@ impl Flusher for Alone {
 #[derive(Drop)]
 pub(crate) struct InThreads<'a, R: Threads + Sync> {
     rt: &'a R,
+    most_waiting: usize,
 }
 
 impl<'a, R: Threads + Sync> InThreads<'a, R> {
-    /// Threads of this runtime.
+    /// Threads of this runtime, which flush four memtables at a time.
     pub(crate) fn new(rt: &'a R) -> InThreads<'a, R> {
-        InThreads { rt }
+        let most_waiting = 3;
+        InThreads { rt, most_waiting }
+    }
+
+    /// Threads of this runtime, beside which others flush rounds. A round's memtables wait, as many that are filled meanwhile,
+    /// and as many again for batches that fill several at once.
+    pub(crate) fn beside_rounds(rt: &'a R) -> InThreads<'a, R> {
+        let most_waiting = 3 * ROUND;
+        InThreads { rt, most_waiting }
     }
 }
 
 impl<'a, R: Threads + Sync> Flusher for InThreads<'a, R> {
     ghost can_flush = { IsSync R.row };
 
-    // A round's memtables, as many that are filled meanwhile, and as many again for batches that fill several at once.
-    const MOST_WAITING: usize = 3 * ROUND;
+    fn most_waiting(&self) -> usize {
+        self.most_waiting
+    }
 
     fn flush(&self, alloc: Global, full: &[FullMemtable]) -> Result<Vec<Run>, AllocError> {
         flush_side_by_side(self.rt, alloc, full)

@@ -86,7 +86,7 @@ pub fn fed_version(
     version_with_flushed(alloc, version, writes, runs)
 }
 
-/// As [`fed_version`], with full memtables flushed side by side, in threads. It holds up to six more memtables meanwhile.
+/// As [`fed_version`], with full memtables flushed side by side, in threads. It holds up to four of them meanwhile.
 pub fn fed_version_in_threads(
     rt: &(impl Threads + Sync),
     alloc: Global,

@@ -204,7 +204,7 @@ impl Memtables {
         ensures err { OnErr result (self.new ≡ self.old) }
     {
         begin_next(alloc, &mut self.full, &mut self.newest, write)?;
-        if self.full.len() + self.lent.as_slice().len() <= F::MOST_WAITING {
+        if self.full.len() + self.lent.as_slice().len() <= flusher.most_waiting() {
             return Ok(());
         }
         if let Err(error) = flush_all(

@@ -70,7 +70,7 @@ fn read_on<'a, R: Threads + Sync>(
     loop {
         match batches.advance()? {
             Advance::Batch => {
-                let flusher = InThreads::new(rt);
+                let flusher = InThreads::beside_rounds(rt);
                 insert_batch(&flusher, alloc, &mut opener, batches.writes())?;
             }
             Advance::Ended(ended) => {

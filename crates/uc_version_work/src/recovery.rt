@@ -186,7 +186,7 @@ fn part_batch<F: Flusher>(
 }
 
 /// As [`recover_in_threads`], for the first `most` writes alone. Those behind them come as they are, the oldest first. It holds
-/// them beside what `recover` holds, and up to six full memtables, which are flushed side by side.
+/// them beside what `recover` holds, and up to four full memtables, which are flushed side by side.
 pub fn recover_first_in_threads(
     rt: &(impl Threads + Sync),
     alloc: Global,
