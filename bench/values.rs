@@ -11,20 +11,42 @@ fn number(bytes: &[u8]) -> u64 {
     bytes.try_into().map_or(0, u64::from_le_bytes)
 }
 
+/// Gives a key a value, in the memory of the one that it has.
+fn put(values: &mut Values, key: &[u8], value: &[u8]) {
+    match values.get_mut(key) {
+        Some(old) => {
+            old.clear();
+            old.extend_from_slice(value);
+        }
+        None => {
+            values.insert(key.to_vec(), value.to_vec());
+        }
+    }
+}
+
+/// Adds an operand to the value of a key, which is 0 if it has none.
+fn merge(values: &mut Values, key: &[u8], operand: &[u8]) {
+    match values.get_mut(key) {
+        Some(value) => {
+            let sum = number(value).wrapping_add(number(operand));
+            value.clear();
+            value.extend_from_slice(&sum.to_le_bytes());
+        }
+        None => {
+            let sum = number(operand);
+            values.insert(key.to_vec(), sum.to_le_bytes().to_vec());
+        }
+    }
+}
+
 /// Changes values as a write does.
 fn apply(values: &mut Values, op: Op) {
     match op {
-        Op::Put(key, value) => {
-            values.insert(key.to_vec(), value.to_vec());
-        }
+        Op::Put(key, value) => put(values, key, value),
         Op::Delete(key) => {
             values.remove(key);
         }
-        Op::Merge(key, operand) => {
-            let value = values.entry(key.to_vec()).or_default();
-            let sum = number(value).wrapping_add(number(operand));
-            *value = sum.to_le_bytes().to_vec();
-        }
+        Op::Merge(key, operand) => merge(values, key, operand),
         Op::Range(begin, end) => {
             if begin < end {
                 let bounds = (Bound::Included(begin), Bound::Excluded(end));
