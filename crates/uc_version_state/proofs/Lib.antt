@@ -27,6 +27,7 @@ pub mod InPlace
 pub mod Growing
 pub mod SameRuns
 mod First
+mod Flagged
 mod Collected
 mod Unclaimed
 mod Picked
@@ -34,4 +35,8 @@ mod Places
 mod Noted
 mod Counted
 mod StepsKept
+mod Leading
+mod Stretches
+mod Looking
 mod Lone
+mod Beside

@@ -1,13 +1,14 @@
 -- Steps of any number of compactors, and of others that feed, keep and release, one after the other, from an opening on.
-use Rattle.std.specs.Prelude.{◌≡◌, ℕ, ◌<◌, ⊤, List, [], ◌∷◌, length, fold, replicate}
+use Rattle.std.specs.Prelude.{◌≡◌, ℕ, ◌<◌, ⊤, List, [], ◌∷◌, ◌++◌, length, map, fold, replicate}
 use Rattle.uc_oper.specs.Operation.{Operation}
 use Rattle.uc_bytes.specs.declared.write.Write.{Write}
 use Rattle.uc_claims.specs.declared.table.TheConstants.{MOST_SLOTS}
 use Rattle.uc_version_state.specs.Openings.{Opening, MayOpen}
-use Rattle.uc_version_state.specs.Installs.{Install}
+use Rattle.uc_version_state.specs.Versions.{PlacedRun}
+use Rattle.uc_version_state.specs.declared.event.Event.{Event}
 use Rattle.uc_version_state.specs.declared.event.Event.TheVariants.{Installed, Flushed, Kept, Released}
 use Rattle.uc_version_state.specs.Histories.{MayHappen}
-use Rattle.uc_version_state.specs.Machine.{Idle, Machine, Action, MayAct, present, phase_of, happens, after_action}
+use Rattle.uc_version_state.specs.Machine.{Idle, Checked, Machine, Action, MayAct, present, phase_of, happens, after_action}
 
 -- One step: an action of the compactor with a number, or one event that any caller makes, without a claim word.
 pub data Step : Type 0 where
@@ -59,10 +60,21 @@ pub record IsPossible (m : Operation) (course : Course) : Type 0 where
 abbrev pub machine_after : Course → Machine
 machine_after course = fold after_step (started course.opening course.compactors) course.steps
 
--- a course of one compactor that installs only this
-pub record InstallsAlone (m : Operation) (o : Opening) (i : Install) : Type 0 where
-  pub course : Course
-  pub opens_so : course.opening ≡ o
-  pub alone : course.compactors ≡ 1
-  pub possible : IsPossible m course
-  pub installed : (machine_after course).history.events ≡ Installed i ∷ []
+-- the events of callers that need no claim word
+abbrev pub NeedsNoWord : Event → Type 0
+NeedsNoWord (Installed i) = ⊥
+NeedsNoWord _ = ⊤
+
+-- a course of a compactor for each of these stretches
+abbrev pub course_of : Opening → List (List PlacedRun) → List Step → Course
+course_of o noted steps = record { opening = o; compactors = length noted; steps = steps }
+
+-- A course of a compactor for each of these stretches. Before anything happens all of them have looked, each found its
+-- stretch in place, and after the course just these events have happened.
+pub record LookThen (m : Operation) (o : Opening) (noted : List (List PlacedRun)) (events : List Event) : Type 0 where
+  pub looking : List Step
+  pub rest : List Step
+  pub checked : (machine_after (course_of o noted looking)).phases ≡ map (λ ps. Checked ps) noted
+  pub nothing_yet : (machine_after (course_of o noted looking)).history.events ≡ []
+  pub possible : IsPossible m (course_of o noted (looking ++ rest))
+  pub happened : (machine_after (course_of o noted (looking ++ rest))).history.events ≡ events

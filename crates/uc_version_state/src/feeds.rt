@@ -1,5 +1,5 @@
 //! Writes that are fed: what refuses them, and the version after them.
-ghost use Rattle.std.specs.Prelude.{◌≡◌, ◌<◌, ◌^◌, ◌+◌, ◌++◌, IfOk, length};
+ghost use Rattle.std.specs.Prelude.{◌≡◌, ◌<◌, ◌^◌, ◌+◌, ◌++◌, ℕ, false, IfOk, length, slice_index_or};
 ghost use Rattle.uc_version_state.specs.Versions.{IsVersion, slots_of};
 ghost use Rattle.uc_version_state.specs.Flushes as flushes;
 ghost use Rattle.uc_version_state.specs.Feeds as feeds;
@@ -24,30 +24,33 @@ fn begin_above(last: u64, writes: &[Write]) -> bool
     }
 }
 
-/// Whether a run has a slot.
-fn is_taken(runs: &[Placed], slot: usize) -> bool
-    ensures { result ≡ flushes.is_taken (slots_of runs.now) slot }
+/// A flag for each of as many slots as there are runs: whether a run has it.
+fn taken_slots(alloc: Global, runs: &[Placed]) -> Result<Vec<bool>, AllocError>
+    ensures long { IfOk result (λ taken. length taken.items ≡ length runs.now) }
+    ensures flags { IfOk result (λ taken. (slot : ℕ) → slot < length runs.now →
+        slice_index_or taken.items slot false ≡ flushes.is_taken (slots_of runs.now) slot) }
 {
+    let mut taken = Vec::from_elem(alloc, false, runs.len())?;
     for placed in runs {
-        if placed.slot() == slot {
-            return true;
+        let slot = placed.slot();
+        if slot < taken.len() {
+            taken[slot] = true;
         }
     }
-    false
+    Ok(taken)
 }
 
-/// The least slot that no run has.
-fn least_free(runs: &[Placed]) -> usize
-    ensures { result ≡ flushes.least_free (slots_of runs.now) }
+/// The least slot that no run has. It looks at each run once.
+fn least_free(alloc: Global, runs: &[Placed]) -> Result<usize, AllocError>
+    ensures { IfOk result (λ slot. slot ≡ flushes.least_free (slots_of runs.now)) }
 {
-    let mut slot = 0;
-    for _ in 0..runs.len() {
-        if !is_taken(runs, slot) {
-            return slot;
+    let taken = taken_slots(alloc, runs)?;
+    for slot in 0..runs.len() {
+        if !taken[slot] {
+            return Ok(slot);
         }
-        slot += 1;
     }
-    slot
+    Ok(runs.len())
 }
 
 /// Runs with their places before older ones, the newest first. The given ones come oldest first. They get ids from `id`
@@ -62,7 +65,7 @@ pub fn placed_onto(
     ensures { IfOk result (λ all. all.items ≡ flushes.placed_onto id placed.items runs.items) }
 {
     for run in runs {
-        let slot = least_free(&placed);
+        let slot = least_free(alloc, &placed)?;
         let run = Arc::new(alloc, run)?;
         placed.insert(0, Placed { id, slot, run })?;
         id += 1;

@@ -65,7 +65,7 @@ pub use picking::pick_among;
 pub use placed::Placed;
 pub use refusal::Refusal;
 pub use release_error::ReleaseError;
-pub use step_laws::{a_lone_compactor_installs, never_stale};
+pub use step_laws::{a_lone_compactor_installs, never_stale, two_compactors_install_beside_others};
 pub use stretch::Stretch;
 pub use terms::Terms;
 pub use version::Version;

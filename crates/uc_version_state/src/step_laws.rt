@@ -1,14 +1,18 @@
 //! What holds of every course of steps.
-ghost use Rattle.std.specs.Prelude.{◌≡◌, ◌≢◌, ◌≤◌, ◌+◌, ℕ, List, Contains, length};
+ghost use Rattle.std.specs.Prelude.{◌≡◌, ◌≢◌, ◌≤◌, ◌⊎◌, ◌+◌, ℕ, List, [], ◌∷◌, ◌++◌, Contains, length};
+ghost use Rattle.std.specs.List.{AllByRecursion};
 ghost use Rattle.uc_oper.specs.Operation.{Operation, IsLawful};
 ghost use Rattle.uc_version_state.specs.Versions.{PlacedRun, ids_of};
 ghost use Rattle.uc_version_state.specs.Openings.{Opening, MayOpen, opened};
-ghost use Rattle.uc_version_state.specs.Installs.{Install, part_of, standing};
+ghost use Rattle.uc_version_state.specs.Installs.{Install, installed, part_of, standing};
 ghost use Rattle.uc_version_state.specs.Refusals.{AreInPlace};
+ghost use Rattle.uc_version_state.specs.declared.stretch.Stretch.{Stretch};
+ghost use Rattle.uc_version_state.specs.declared.event.Event.{Event};
 ghost use Rattle.uc_version_state.specs.declared.event.Event.TheVariants.{Installed};
-ghost use Rattle.uc_version_state.specs.Histories.{IsLegal, MayHappen};
+ghost use Rattle.uc_version_state.specs.Histories.{History, IsLegal, MayHappen, version_after};
 ghost use Rattle.uc_version_state.specs.Machine.{Checked, IsMadeFor, present, phase_of, slots_held};
-ghost use Rattle.uc_version_state.specs.Courses.{Course, IsPossible, machine_after, InstallsAlone};
+ghost use Rattle.uc_version_state.specs.Courses.{Course, IsPossible, machine_after};
+ghost use Rattle.uc_version_state.specs.Courses.{NeedsNoWord, LookThen};
 
 use crate::laws::opening_gives_a_version;
 use uc_run::flushed_writes_are_a_run;
@@ -39,12 +43,31 @@ pub fn never_stale()
     opening_gives_a_version();
 }
 
-/// The machine isn't empty: a compactor that goes through its phases alone installs its output, for any stretch of any
-/// opening.
+/// The machine isn't empty: a compactor alone looks and installs its output, for any stretch of any opening.
 pub fn a_lone_compactor_installs()
     ensures { (m : Operation) (o : Opening) (first count : ℕ) (i : Install) → IsLawful m → MayOpen o →
         2 ≤ count → first + count ≤ length (opened o).runs →
-        IsMadeFor m (opened o) (part_of first count (opened o).runs) i → InstallsAlone m o i }
+        IsMadeFor m (opened o) (part_of first count (opened o).runs) i →
+        LookThen m o (part_of first count (opened o).runs ∷ []) (Installed i ∷ []) }
+{
+    flushed_writes_are_a_run();
+    opening_gives_a_version();
+}
+
+/// Nor is it empty beside others. Two compactors look, with any two stretches of any opening that share no run. Whatever is
+/// then fed, kept and released, the one installs its output, and after it the other.
+pub fn two_compactors_install_beside_others()
+    ensures { (m : Operation) (o : Opening) (s t : Stretch) (meanwhile : List Event) (i j : Install) →
+        let runs = (opened o).runs in
+        let one = part_of s.first s.count runs in
+        let other = part_of t.first t.count runs in
+        let history : History = record { opening = o; events = meanwhile } in
+        IsLawful m → IsLegal m history → AllByRecursion NeedsNoWord meanwhile →
+        2 ≤ s.count → s.first + s.count ≤ length runs → 2 ≤ t.count → t.first + t.count ≤ length runs →
+        (s.first + s.count ≤ t.first) ⊎ (t.first + t.count ≤ s.first) →
+        IsMadeFor m (version_after history) one i →
+        IsMadeFor m (installed i (version_after history)) other j →
+        LookThen m o (one ∷ other ∷ []) (meanwhile ++ Installed i ∷ Installed j ∷ []) }
 {
     flushed_writes_are_a_run();
     opening_gives_a_version();

@@ -12,7 +12,7 @@ loop-run-preserved c =
     let run = c.in-Some.run' in
     let inserted : c.insert.new.self.items ≡ with_run l.id l.placed.items run =
     c.in_ok-insert.ensures.items
-    ∙ ap (λ slot. record { id = l.id; slot = slot; run = arc_value c.in_ok-run.run' } ∷ l.placed.items) (c.least_free-slot.ensures ∙ ap (λ (older : List PlacedRun). least_free (slots_of older)) c.deref.ensures.value)
+    ∙ ap (λ slot. record { id = l.id; slot = slot; run = arc_value c.in_ok-run.run' } ∷ l.placed.items) (c.in_ok-slot.ensures ∙ ap (λ (older : List PlacedRun). least_free (slots_of older)) c.deref.ensures.value)
     ∙ ap (λ (r : Contents). with_run l.id l.placed.items r) c.in_ok-run.ensures.ok in
     let e = length-append l.yielded (run ∷ []) in
     let next = l.invariant.next in

@@ -1,4 +1,4 @@
-use Rattle.std.proofs.Common.{[], ◌≤◌, ap, sym, cond, arith}
+use Rattle.std.proofs.Common.{[], ap, sym, cond, arith}
 use Rattle.std.proofs.lemmas.Bool.{lt-leb}
 use Rattle.uc_version_state.specs.Picks.{collected}
 use Rattle.uc_version_state.proofs.Collected.{no_more}
