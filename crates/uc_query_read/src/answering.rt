@@ -2,7 +2,9 @@
 ghost use Rattle.std.specs.Prelude.{◌≡◌, IfOk};
 ghost use Rattle.std.specs.List.Sorted.{IsStrictlySortedBy};
 ghost use Rattle.std.specs.Ordering.{nat_cmp};
+ghost use Rattle.uc_model.specs.Meaning.{value_of};
 ghost use Rattle.uc_query_read.specs.Answers as answers;
+ghost use Rattle.uc_query_read.specs.declared.answer.Answer.TheVariants as given;
 ghost use Rattle.uc_query_read.specs.declared.query.Query.TheVariants as query;
 ghost use Rattle.uc_compact.specs.Inputs.{writes_of};
 ghost use Rattle.uc_version_state.specs.Versions.{contents_of, writes_in};
@@ -101,4 +103,17 @@ pub fn get<O: Operator>(
     } else {
         Ok(Answer::NotProtected(at))
     }
+}
+
+/// Looks up a borrowed key at the last sequence, whether or not a snapshot is there. The answer is a value.
+pub fn get_last<O: Operator>(
+    alloc: Global,
+    version: &Version,
+    key: &[u8],
+) -> Result<Answer, AllocError>
+    ensures { IfOk result (λ answer.
+        answer ≡ given.Value (value_of O.meaning (writes_in version.now) key.now version.now.last)) }
+{
+    let value = value_of_runs::<O>(alloc, version.runs(), key, version.last())?;
+    Ok(Answer::Value(value))
 }

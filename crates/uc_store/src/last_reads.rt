@@ -9,7 +9,7 @@ ghost use Rattle.uc_version.specs.Feeding.{after_release};
 
 use std::alloc::{AllocError, Global};
 use uc_oper::Operator;
-use uc_query::{Answer, Query, answer_one, get};
+use uc_query::{Answer, Query, answer_one};
 use uc_version::Owned;
 
 /// Releases the last sequence, which was kept for a read.
@@ -43,22 +43,14 @@ pub fn answer_last<O: Operator>(
     answer
 }
 
-/// Looks up a borrowed key at the last sequence, as [`answer_last`] does. The answer is a value.
+/// Looks up a borrowed key at the last sequence, whether or not a snapshot is there. The answer is a value. It only reads.
 pub fn get_last<O: Operator>(
     alloc: Global,
-    store: &mut Owned<O>,
+    store: &Owned<O>,
     key: &[u8],
 ) -> Result<Answer, AllocError>
-    ensures answer { IfOk result (λ answer. answer ≡
-        given.Value (value_of O.meaning (writes_in store.old.version) key.now store.old.version.last)) }
-    ensures same { store.new ≡ store.old }
+    ensures { IfOk result (λ answer. answer ≡
+        given.Value (value_of O.meaning (writes_in store.now.version) key.now store.now.version.last)) }
 {
-    let last = store.version().last();
-    if store.version().is_kept(last) {
-        return get::<O>(alloc, store.version(), key, last);
-    }
-    store.keep()?;
-    let answer = get::<O>(alloc, store.version(), key, last);
-    release_last(store);
-    answer
+    uc_query::get_last::<O>(alloc, store.version(), key)
 }
