@@ -235,6 +235,16 @@ static bool try_refused(const struct call *call, size_t before, int32_t *status)
     return refused;
 }
 
+/* Lays the record of a call's batch out behind the log, and returns its size: 0 if the store is full. */
+static size_t log_batch(const struct call *call) {
+    size_t size = 0, room = MOST_LOG - history_length;
+    int32_t status =
+        ucstore_log_record(&store, history_length, call->batch, call->batch_length, history + history_length, room, &size);
+    CHECK(status == UCSTORE_OK || (status == UCSTORE_TOO_MANY_RUNS && size == 0));
+    CHECK(size <= room);
+    return size;
+}
+
 /* Tries a call with each of its allocations refused, and then, if it wasn't done yet, with none. */
 static int32_t with_refusals(const struct call *call, struct held *held) {
     static struct held found;
@@ -242,29 +252,24 @@ static int32_t with_refusals(const struct call *call, struct held *held) {
     size_t before = 0;
     long blocks = live;
     while (try_refused(call, before++, &status) && status == UCSTORE_OUT_OF_MEMORY) {
-        /* Room for the snapshot that a look-up at the last sequence takes and releases may stay. */
-        CHECK(live == blocks || (call->kind == GET_LAST && live == blocks + 1));
-        blocks = live;
+        CHECK(live == blocks);
         look(&found);
         CHECK(is_same(&found, held));
+        /* A caller whose feed was refused may begin anew, at the record. */
+        if (call->kind == FEED) {
+            log_batch(call);
+        }
     }
     CHECK(status != UCSTORE_OUT_OF_MEMORY);
     return status;
-}
-
-/* Lays the record of a call's batch out behind the log, and returns its size. */
-static size_t log_batch(const struct call *call) {
-    size_t size = 0, room = MOST_LOG - history_length;
-    CHECK(ucstore_log_record(&store, history_length, call->batch, call->batch_length, history + history_length, room, &size) ==
-          UCSTORE_OK);
-    CHECK(size <= room);
-    return size;
 }
 
 static void step(struct held *held) {
     struct call call = draw_call(held);
     size_t record = log_batch(&call);
     int32_t status = with_refusals(&call, held);
+    /* What has a record is fed. */
+    CHECK(call.kind != FEED || (status == UCSTORE_OK) == (record > 0));
     if (status == UCSTORE_TOO_MANY_RUNS) {
         call.kind = COMPACT;
         status = with_refusals(&call, held);

@@ -255,11 +255,18 @@ static void number_batch(uint8_t *batch, size_t size) {
     push_number(batch, &place, draw(2) == 0 ? 0 : count + 1);
 }
 
-/* Adds the next batch to the log. */
+/* Adds the next batch to the log, as the header says: a full store is compacted before. */
 static void log_batch(const uint8_t *batch, size_t size) {
-    size_t record = 0, room = MOST_LOG - history_length;
-    CHECK(ucstore_log_record(&store, history_length, batch, size, history + history_length, room, &record) == UCSTORE_OK);
-    CHECK(record <= room);
+    uint8_t *room = history + history_length;
+    size_t record = 99;
+    int32_t status = ucstore_log_record(&store, history_length, batch, size, room, MOST_LOG - history_length, &record);
+    if (status == UCSTORE_TOO_MANY_RUNS) {
+        CHECK(record == 99);
+        CHECK(ucstore_feed(&store, batch, size) == UCSTORE_TOO_MANY_RUNS);
+        compact();
+        status = ucstore_log_record(&store, history_length, batch, size, room, MOST_LOG - history_length, &record);
+    }
+    CHECK(status == UCSTORE_OK && record <= MOST_LOG - history_length);
     history_length += record;
 }
 
@@ -273,15 +280,9 @@ static void write_one(void) {
     uint8_t batch[BATCH] = {0};
     size_t size = 12;
     struct write w = draw_write();
-    int32_t status;
     push_record(batch, &size, &w);
     log_batch(batch, size);
-    status = write_alone(&w);
-    if (status == UCSTORE_TOO_MANY_RUNS) {
-        compact();
-        status = write_alone(&w);
-    }
-    CHECK(status == UCSTORE_OK);
+    CHECK(write_alone(&w) == UCSTORE_OK);
     wrote(&w);
 }
 
@@ -289,19 +290,13 @@ static void feed(void) {
     struct write drawn[8];
     uint8_t batch[BATCH] = {0};
     size_t size = 12, length = (size_t)draw(9);
-    int32_t status;
     for (size_t place = 0; place < length; place++) {
         drawn[place] = draw_write();
         push_record(batch, &size, &drawn[place]);
     }
     number_batch(batch, size);
     log_batch(batch, size);
-    status = ucstore_feed(&store, batch, size);
-    if (status == UCSTORE_TOO_MANY_RUNS) {
-        compact();
-        status = ucstore_feed(&store, batch, size);
-    }
-    CHECK(status == UCSTORE_OK);
+    CHECK(ucstore_feed(&store, batch, size) == UCSTORE_OK);
     for (size_t place = 0; place < length; place++) {
         wrote(&drawn[place]);
     }
@@ -590,6 +585,83 @@ static void soak(uint32_t drawn_operator, size_t operations) {
     printf("operator %u: %zu operations, %zu writes\n", (unsigned)merge_operator, operations, count);
 }
 
+/* Writes a batch durably, as the header says, whatever the record is refused for. */
+static void write_durably(const uint8_t *batch, size_t size) {
+    size_t record = 0, room = 0;
+    int32_t status = UCSTORE_ROOM;
+    while (status != UCSTORE_OK) {
+        status = ucstore_log_record(&store, history_length, batch, size, history + history_length, room, &record);
+        switch (status) {
+        case UCSTORE_OK:
+            break;
+        case UCSTORE_ROOM:
+            CHECK(room < record && record <= MOST_LOG - history_length);
+            room = record;
+            break;
+        case UCSTORE_TOO_MANY_RUNS:
+            compact();
+            break;
+        default:
+            CHECK(false);
+        }
+    }
+    history_length += record;
+    CHECK(ucstore_feed(&store, batch, size) == UCSTORE_OK);
+}
+
+/* More batches than there are slots, each a run, with the greatest trigger. The log has all of them. */
+static void durable(void) {
+    static const uint8_t one[] = {0, 0, 0, 0, 0, 0, 0, 0, 1, 0, 0, 0, 2, 1, 'k', 8, 1, 0, 0, 0, 0, 0, 0, 0};
+    struct ucstore_options options;
+    struct ucstore_ended ended;
+    uint8_t sum[8];
+    size_t size = 0;
+    uint64_t last = 0;
+    history_length = 0;
+    CHECK(ucstore_options(&options) == UCSTORE_OK);
+    options.memtable = 1;
+    options.trigger = 255;
+    options.percent = UINT32_MAX;
+    options.least = 300;
+    CHECK(ucstore_create(&store, UCSTORE_COUNTER, &options) == UCSTORE_OK);
+    for (int done = 0; done < 1000; done++) {
+        write_durably(one, sizeof one);
+    }
+    CHECK(ucstore_close(&store) == UCSTORE_OK);
+    options.memtable = 1 << 22;
+    CHECK(ucstore_open(&store, UCSTORE_COUNTER, &options, history, history_length, &ended) == UCSTORE_OK);
+    CHECK(ended.kind == UCSTORE_CLEAN && ucstore_last(&store, &last) == UCSTORE_OK && last == 1000);
+    CHECK(ucstore_get_last(&store, (const uint8_t *)"k", 1, sum, sizeof sum, &size) == UCSTORE_OK);
+    CHECK(size == 8 && number(sum) == 1000);
+    CHECK(ucstore_close(&store) == UCSTORE_OK);
+}
+
+/* Lengths of 0 with null addresses. */
+static void nothing_is_read(void) {
+    struct ucstore_options options;
+    struct ucstore_ended ended;
+    struct ucstore_log_place place = {0, 0, 0};
+    size_t size = 99;
+    uint64_t rows = 99;
+    CHECK(ucstore_options(&options) == UCSTORE_OK);
+    CHECK(ucstore_open(&store, UCSTORE_APPEND, &options, NULL, 0, &ended) == UCSTORE_OK && ended.kind == UCSTORE_CLEAN);
+    CHECK(ucstore_feed(&store, NULL, 0) == UCSTORE_NOT_A_BATCH);
+    CHECK(ucstore_log_record(&store, 0, NULL, 0, NULL, 0, &size) == UCSTORE_NOT_A_BATCH);
+    CHECK(ucstore_put(&store, NULL, 0, NULL, 0) == UCSTORE_OK);
+    CHECK(ucstore_merge(&store, NULL, 0, NULL, 0) == UCSTORE_OK);
+    CHECK(ucstore_get_last(&store, NULL, 0, NULL, 0, &size) == UCSTORE_OK && size == 1);
+    CHECK(ucstore_get(&store, NULL, 0, 0, NULL, 0, &size) == UCSTORE_NOT_FOUND);
+    CHECK(ucstore_keeps(&store, NULL, 0, &size) == UCSTORE_OK && size == 1);
+    CHECK(ucstore_scan(&store, NULL, 0, NULL, 0, true, 0, 9, NULL, 0, &size, &rows) == UCSTORE_OK && size == 0 && rows == 0);
+    CHECK(ucstore_keep(&store, &rows) == UCSTORE_OK && rows == 2);
+    CHECK(ucstore_scan(&store, NULL, 0, NULL, 0, true, 2, 9, NULL, 0, &size, &rows) == UCSTORE_OK && size == 0 && rows == 0);
+    CHECK(ucstore_scan(&store, NULL, 0, NULL, 0, false, 2, 9, NULL, 0, &size, &rows) == UCSTORE_OK && size == 17 && rows == 0);
+    CHECK(ucstore_delete_range(&store, NULL, 0, NULL, 0) == UCSTORE_OK);
+    CHECK(ucstore_delete(&store, NULL, 0) == UCSTORE_OK);
+    CHECK(ucstore_log_next(NULL, 0, &place, NULL, 0, &size, &rows, &ended) == UCSTORE_LOG_ENDS && ended.kind == UCSTORE_CLEAN);
+    CHECK(ucstore_close(&store) == UCSTORE_OK);
+}
+
 /* What is refused, and what a handle without a store answers. */
 static void refusals(void) {
     struct ucstore_options options;
@@ -624,6 +696,11 @@ static void refusals(void) {
     options.least = 1;
     CHECK(ucstore_create(&store, UCSTORE_TAIL, &options) == UCSTORE_BAD_OPTION && store.at == NULL);
     options.least = 2;
+    options.trigger = 256;
+    CHECK(ucstore_create(&store, UCSTORE_TAIL, &options) == UCSTORE_BAD_OPTION && store.at == NULL);
+    options.trigger = 4;
+    place.offset = 2;
+    CHECK(ucstore_log_next(text, 1, &place, room, sizeof room, &size, &seq, &ended) == UCSTORE_BAD_PLACE && place.offset == 2);
     CHECK(ucstore_open(&store, UCSTORE_TAIL, &options, text, 1, &ended) == UCSTORE_OK);
     CHECK(ended.kind == UCSTORE_TORN && ended.fault == 0 && ended.place == 0);
     CHECK(ucstore_create(&store, UCSTORE_TAIL, &options) == UCSTORE_HAS_STORE);
@@ -649,6 +726,8 @@ int main(int argc, char **argv) {
     history = (uint8_t *)malloc(MOST_LOG);
     CHECK(writes != NULL && history != NULL);
     refusals();
+    nothing_is_read();
+    durable();
     for (uint32_t one = UCSTORE_APPEND; one <= UCSTORE_TAIL; one++) {
         soak(one, operations);
     }

@@ -5,18 +5,26 @@
  *     struct ucstore store = {0};
  *
  * Each function of a store takes the handle's address first, and each but `ucstore_version` answers one of the statuses
- * below. If it answers another than UCSTORE_OK, nothing has changed: neither the store, nor what an address leads to, but
- * for what `ucstore_log_next` tells.
+ * below. On any status but UCSTORE_OK the store and all outputs are unchanged, but for what `ucstore_log_record` and
+ * `ucstore_log_next` tell.
  *
- * A store is in memory. To keep it, append what `ucstore_log_record` gives for each batch to a file, then feed that
- * batch, and open the store from the file's bytes the next time. A single write isn't in such a log: feed a batch of it.
+ * A store is in memory. To keep it, write each batch in this order, and open the store from the file's bytes the next time:
+ * 1. `ucstore_log_record` gives the batch's record. UCSTORE_TOO_MANY_RUNS: `ucstore_compact`, then again. Any other refusal:
+ *    the batch isn't written, and the log stays as it is.
+ * 2. Append the record to the file, and sync it. If that fails, cut the file back to where the record begins.
+ * 3. `ucstore_feed` the same batch, with no other write in between. It is refused for want of memory alone. Then feed the same
+ *    batch again, or cut the file back to where the record begins. Don't record another batch before: two records would have
+ *    one sequence, and the next opening would end at the second.
+ * A single write isn't in such a log: feed a batch of it.
  *
  * What C owes:
  * - It neither copies, changes nor frees what is in a handle, but by these functions. A handle may lie anywhere, and
  *   move between calls. It is closed before it ends.
- * - One call at a time on a handle, reads too. Handles may go from thread to thread.
- * - Each address leads to as much memory as its type or its length says, and isn't null, even where the length is 0.
- *   What a function writes overlaps nothing else that it is given.
+ * - One call at a time on a handle, reads too. Two handles may be used by two threads at once, and a handle may go from
+ *   thread to thread.
+ * - Each address leads to as much memory as its type or its length says. If a length is 0, its address is not read, and may
+ *   be null. No other address is null. What a function writes overlaps nothing else that it is given.
+ * - What a function writes to has a value of its type before: `bool compacted = false;`.
  * - malloc, realloc and free are those of one allocator, whose blocks are aligned for any type. No function is called from
  *   a signal handler, or in a forked child of a process with threads.
  */
@@ -50,7 +58,7 @@ enum ucstore_status {
     UCSTORE_NOT_PROTECTED = 5,     /* No snapshot is at the sequence. */
     UCSTORE_UNKNOWN_OPERATOR = 6,  /* No operator has the number. */
     UCSTORE_BAD_OPTION = 7,        /* An option isn't in its range. */
-    UCSTORE_TOO_MANY_RUNS = 8,     /* There would be more than 256 runs: compact. */
+    UCSTORE_TOO_MANY_RUNS = 8,     /* There would be more than 256 runs: `ucstore_compact` makes them fewer. */
     UCSTORE_IDS_SPENT = 9,         /* No number is left for a run: the greatest is 2^64 - 2. */
     UCSTORE_SEQUENCES_SPENT = 10,  /* Too few sequences are left: the greatest is 2^56 - 1. */
     UCSTORE_TOO_LONG = 11,         /* A text has 2^32 bytes or more. */
@@ -72,12 +80,12 @@ enum ucstore_operator {
 /* How a store is opened and compacted (RocksDB wiki, "Universal Compaction"). */
 struct ucstore_options {
     uint64_t memtable;  /* From how many bytes on a memtable is flushed, at least 1. */
-    uint32_t trigger;   /* From how many runs on something is compacted, at least 1. */
+    uint32_t trigger;   /* From how many runs on something is compacted, 1 to 255. */
     uint32_t ratio;     /* By how many percent a run may be larger than those above it to be compacted with them. */
     uint32_t percent;   /* Above how many percent of the oldest run's size the newer ones are compacted with it. */
     uint32_t least;     /* The least number of runs for a compaction by size ratio, at least 2. */
     uint32_t greatest;  /* The greatest number of runs for a compaction, at least `least`. */
-    uint64_t first_id;  /* The number of the first run, at least 1. */
+    uint64_t first_id;  /* The number of the first run, 1 to 2^64 - 257. */
 };
 
 /* How far a log was read. */
@@ -92,7 +100,7 @@ enum ucstore_end {
  * doesn't match, 3 for an unknown type, 4 and 5 for a MIDDLE and a LAST without a FIRST, 6 and 7 for a FULL and a
  * FIRST before a LAST. With UCSTORE_BATCH_FAULT it is 1 for fewer bytes than a header, 2 for a sequence that isn't
  * above the last, 3 for one of 2^56 or more, 4 for an unknown tag, 5 for a record cut short, 6 for a number that
- * doesn't fit 32 bits, 7 for another column family, 8 for a wrong count and 9 for want of memory. Else it is 0. */
+ * doesn't fit 32 bits, 7 for another column family and 8 for a wrong count. Else it is 0. */
 struct ucstore_ended {
     uint32_t kind;
     uint32_t fault;
@@ -139,7 +147,8 @@ int32_t ucstore_open(struct ucstore *store, uint32_t merge_operator, const struc
 int32_t ucstore_close(struct ucstore *store);
 
 /* Feeds a write batch, as RocksDB writes it: 8 bytes for a sequence, 4 for a count, and as many records. The operations
- * get that sequence and those behind it. If it is 0, they get the sequences behind the last one.
+ * get that sequence and those after it. If it is 0, they get the sequences after the last one. UCSTORE_SEQUENCES_SPENT also
+ * says that the batch's own sequence is above 2^56 - 1.
  * UCSTORE_NO_STORE, UCSTORE_NOT_A_BATCH, UCSTORE_SEQUENCE_BACK, UCSTORE_SEQUENCES_SPENT, UCSTORE_TOO_MANY_RUNS,
  * UCSTORE_IDS_SPENT, UCSTORE_OUT_OF_MEMORY. */
 int32_t ucstore_feed(struct ucstore *store, const uint8_t *batch, size_t batch_length);
@@ -194,7 +203,8 @@ int32_t ucstore_get_last(struct ucstore *store, const uint8_t *key, size_t key_l
 /* Scans the first rows, at most `limit`, of the keys from `low` to below `high`, or to the last one if not `bounded`,
  * at a snapshot. The rows that fit the room are written one behind the other, each as 8 bytes for the key's length,
  * low byte first, the key, 8 bytes for the value's length, and the value. `rows` tells how many these are, and `size`
- * how many bytes all rows have: if it is above the room's length, some aren't there.
+ * how many bytes all rows have: if it is above the room's length, some aren't there. All rows up to the limit are found,
+ * whatever the room: to read page by page, give a limit, and begin the next page behind the last key.
  * UCSTORE_NO_STORE, UCSTORE_NOT_PROTECTED, UCSTORE_OUT_OF_MEMORY. */
 int32_t ucstore_scan(struct ucstore *store, const uint8_t *low, size_t low_length, const uint8_t *high, size_t high_length,
                      bool bounded, uint64_t at, uint64_t limit, uint8_t *room, size_t room_length, size_t *size,
@@ -208,11 +218,13 @@ int32_t ucstore_compact(struct ucstore *store, bool *compacted);
  * UCSTORE_NO_STORE. */
 int32_t ucstore_report(struct ucstore *store, struct ucstore_report *report);
 
-/* Copies the bytes that the batch which is fed next adds to a log of `log_length` bytes, as many of them as there is room
- * for, and tells how many they are: zero bytes up to the next place of a header, if any are needed, and the batch with
- * its sequence. The store stays as it is. A caller that keeps the log in a file appends all the bytes, and then feeds the
- * batch.
- * UCSTORE_NO_STORE, UCSTORE_NOT_A_BATCH, UCSTORE_SEQUENCE_BACK, UCSTORE_SEQUENCES_SPENT, UCSTORE_OUT_OF_MEMORY. */
+/* Copies the bytes that the batch which is fed next adds to a log of `log_length` bytes, and tells how many they are: zero
+ * bytes up to the next place of a header, if any are needed, and the batch with its sequence. The store stays as it is.
+ * The head of this file says what to do with them.
+ *
+ * UCSTORE_ROOM: the record doesn't fit the room. Nothing is written there, and `size` tells how much room it needs.
+ * UCSTORE_NO_STORE, UCSTORE_NOT_A_BATCH, UCSTORE_SEQUENCE_BACK, UCSTORE_SEQUENCES_SPENT, UCSTORE_TOO_MANY_RUNS,
+ * UCSTORE_IDS_SPENT, UCSTORE_OUT_OF_MEMORY: as `ucstore_feed` would refuse the batch. */
 int32_t ucstore_log_record(struct ucstore *store, uint64_t log_length, const uint8_t *batch, size_t batch_length,
                            uint8_t *room, size_t room_length, size_t *size);
 
@@ -224,7 +236,7 @@ int32_t ucstore_log_record(struct ucstore *store, uint64_t log_length, const uin
  * UCSTORE_ROOM: the writes don't fit the room. The place stays, and `size` tells how much room they need.
  * UCSTORE_LOG_ENDS: no batch comes next. The place stays, and `ended` tells how far the log was read, as `ucstore_open`
  * does. A log that is cut at `place->offset` can be appended to.
- * UCSTORE_BAD_PLACE: there are more batches than bytes before the place.
+ * UCSTORE_BAD_PLACE: there are more batches than bytes before the place, or it lies past the log.
  * UCSTORE_OUT_OF_MEMORY. */
 int32_t ucstore_log_next(const uint8_t *log, size_t log_length, struct ucstore_log_place *place, uint8_t *room,
                          size_t room_length, size_t *size, uint64_t *writes, struct ucstore_ended *ended);

@@ -146,7 +146,7 @@ class Options(NamedTuple):
     memtable: int = 4194304
     """From how many bytes on a memtable is flushed, at least 1."""
     trigger: int = 4
-    """From how many runs on something is compacted, at least 1."""
+    """From how many runs on something is compacted, 1 to 255."""
     ratio: int = 1
     """By how many percent a run may be larger than those above it to be compacted with them."""
     percent: int = 200
@@ -640,7 +640,8 @@ class Store:
         Append them to the log's file, wait until they are on its device, and `feed` the operations: then `open` has them
         again after a crash. A file that was read is cut first, as `LogWrites.end` says.
 
-        Raises `SequenceBack`, `NotABatch` for a text of 2^32 bytes or more, `SequencesSpent` and `OutOfMemory`.
+        Raises what `feed` would. Fed next, operations that have a record are refused for want of memory alone: feed
+        them again then, or cut the file back to where their record begins.
         """
         return self._log_record(length, batch_bytes(operations, sequence))
 
@@ -649,8 +650,12 @@ class Store:
         size, room_length = _SIZE(), len(batch) + _HEADER * (len(batch) // _MOST_FRAGMENT + 3)
         while True:
             room = ctypes.create_string_buffer(room_length)
-            self._call(_library.log_record, length, *_texts(batch), room, room_length, ctypes.byref(size))
-            if size.value <= room_length:
+            with self._lock:
+                status = _library.log_record(
+                    self._handle, length, *_texts(batch), room, room_length, ctypes.byref(size)
+                )
+            if status != _ROOM:
+                _check(status)
                 return ctypes.string_at(room, size.value)
             room_length = size.value
 

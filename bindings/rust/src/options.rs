@@ -16,7 +16,7 @@ use crate::sys;
 pub struct Options {
     /// From how many bytes on a memtable is flushed, at least 1.
     pub memtable: u64,
-    /// From how many runs on something is compacted, at least 1.
+    /// From how many runs on something is compacted, 1 to 255.
     pub trigger: u32,
     /// By how many percent a run may be larger than those above it to be compacted with them.
     pub ratio: u32,

@@ -312,15 +312,15 @@ impl Store {
     ///
     /// # Errors
     ///
-    /// [`Error::NotABatch`] if a text has 2^32 bytes or more, [`Error::SequenceBack`], [`Error::SequencesSpent`],
-    /// [`Error::OutOfMemory`].
+    /// What [`feed`](Store::feed) would refuse the batch for. Fed next, a batch that has a record is refused for want of memory
+    /// alone: feed it again then, or cut the file back to where its record begins.
     pub fn log_record(&self, length: u64, batch: &Batch) -> Result<Vec<u8>, Error> {
         let bytes = batch.as_bytes();
         // Room for a header in each block, and for the end of the block before.
         let mut room = vec![0; bytes.len() + HEADER_SIZE * (bytes.len() / MOST_FRAGMENT + 3)];
         loop {
             let mut size = 0;
-            check(unsafe {
+            let status = unsafe {
                 sys::ucstore_log_record(
                     self.handle(),
                     length,
@@ -330,12 +330,13 @@ impl Store {
                     room.len(),
                     &mut size,
                 )
-            })?;
-            let fits = size <= room.len();
-            room.resize(size, 0);
-            if fits {
+            };
+            if status != sys::ROOM {
+                check(status)?;
+                room.truncate(size);
                 return Ok(room);
             }
+            room.resize(size, 0);
         }
     }
 

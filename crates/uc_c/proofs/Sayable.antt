@@ -1,5 +1,5 @@
 -- Errors that some status says.
-use Rattle.std.proofs.Common.{◌≡◌, ◌≢◌, ℕ, ◌+◌, ◌^◌, Bool, true, false, List, [], ◌∷◌, length, Option, Some, None, Result, nat_lt, refl, sym, subst, inl, inr, arith}
+use Rattle.std.proofs.Common.{◌≡◌, ◌≢◌, ℕ, ◌+◌, ◌^◌, Bool, true, false, cond, List, [], ◌∷◌, length, Option, Some, None, nat_le, nat_lt, refl, sym, subst, inl, inr, arith}
 use Rattle.std.proofs.lemmas.Bool.{lt-ltb}
 use Rattle.uc_bytes.specs.declared.op.Op.{Op}
 use Rattle.uc_bytes.specs.declared.write.Write.{Write}
@@ -23,7 +23,9 @@ use Rattle.uc_version.specs.declared.compact_error.CompactError.{CompactError}
 use Rattle.uc_version.specs.declared.compact_error.CompactError.TheVariants as compacts
 use Rattle.uc_engine.specs.declared.write_error.WriteError.{WriteError}
 use Rattle.uc_engine.specs.declared.write_error.WriteError.TheVariants as writes
-use Rattle.uc_engine.specs.Batches.{numbered, IsNotRead, IsNotFed}
+use Rattle.uc_engine.specs.declared.opening.TheConstants.{GREATEST_TRIGGER}
+use Rattle.uc_engine.specs.Engines.{engine_refusal}
+use Rattle.uc_engine.specs.Batches.{numbered, IsNotFed}
 use Rattle.uc_engine.specs.Compacting.{IsNotDone}
 use Rattle.uc_engine.specs.Writing.{next_write, IsNotWritten}
 use Rattle.uc_c.specs.declared.status.TheConstants.{OUT_OF_MEMORY, BAD_OPTION, TOO_MANY_RUNS, IDS_SPENT, SEQUENCES_SPENT, TOO_LONG, NOT_A_BATCH, SEQUENCE_BACK}
@@ -41,10 +43,17 @@ module _ (list : List Write) (options : Options) where
   refused_opening : (error : OpenError) → opening_refusal (record { writes = list; keeps = []; options = options }) ≡ Some error → IsSayable OpenSays error
   refused_opening = first_said (are_good options) (are_few (length (memtables options.memtable list)))
 
-  pub open_said : (error : OpenError) → (error ≢ opens.Memory → opening_refusal (record { writes = list; keeps = []; options = options }) ≡ Some error) → IsSayable OpenSays error
-  open_said opens.BadCount h = refused_opening opens.BadCount (h (λ e. cc))
+  judged_said : (small : Bool) (error : OpenError) → cond small (opening_refusal (record { writes = list; keeps = []; options = options })) (Some opens.BadOption) ≡ Some error → IsSayable OpenSays error
+  judged_said true error e = refused_opening error e
+  judged_said false error e = let same : opens.BadOption ≡ error = cc in subst (IsSayable OpenSays) same (BAD_OPTION, refl)
+
+  refused_engine : (error : OpenError) → engine_refusal (record { writes = list; keeps = []; options = options }) ≡ Some error → IsSayable OpenSays error
+  refused_engine = judged_said (nat_le options.trigger GREATEST_TRIGGER)
+
+  pub open_said : (error : OpenError) → (error ≢ opens.Memory → engine_refusal (record { writes = list; keeps = []; options = options }) ≡ Some error) → IsSayable OpenSays error
+  open_said opens.BadCount h = refused_engine opens.BadCount (h (λ e. cc))
   open_said opens.BadOption h = (BAD_OPTION, refl)
-  open_said (opens.SnapshotAhead keep) h = refused_opening (opens.SnapshotAhead keep) (h (λ e. cc))
+  open_said (opens.SnapshotAhead keep) h = refused_engine (opens.SnapshotAhead keep) (h (λ e. cc))
   open_said opens.TooManyRuns h = (TOO_MANY_RUNS, refl)
   open_said opens.Memory h = (OUT_OF_MEMORY, refl)
 
@@ -79,12 +88,6 @@ fault_said (faults.BadVarint place) = (NOT_A_BATCH, refl)
 fault_said (faults.OtherFamily id) = (NOT_A_BATCH, refl)
 fault_said faults.WrongCount = (NOT_A_BATCH, refl)
 fault_said faults.Memory = (NOT_A_BATCH, refl)
-
-pub record_said : (read : Result (List Write) BatchError) (error : WriteError) → IsNotRead read error → IsSayable WriteSays error
-record_said read (writes.Faulty fault) h = fault_said fault
-record_said read writes.SequencesSpent h = (SEQUENCES_SPENT, refl)
-record_said read writes.TooLong h = (TOO_LONG, refl)
-record_said read (writes.NotFed error) h = memory_said error h
 
 pub write_said : (v : Stored) (op : Op) (error : WriteError) → IsNotWritten v op error → IsSayable WriteSays error
 write_said v op (writes.Faulty fault) h = fault_said fault

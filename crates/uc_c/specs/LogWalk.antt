@@ -58,13 +58,14 @@ module _ (status : ℤ) (log : List ℕ) (old new : CLogPlace) (room room' : Lis
   -- No batch is ahead, and it is told how far the log was read.
   pub record Stops : Type 0 where
     pub found : Ended
+    pub there : old.offset ≤ length log
     pub ends : EndsAt found log old
     pub told : status ≡ LOG_ENDS
     pub ended_is : ended ≡ ended_in found
 
-  -- Memory was refused, or no walk leads to the place.
+  -- Memory was refused, or no walk leads to the place: there are more batches than bytes before it, or it is past the log.
   abbrev pub IsRefused : Type 0
-  IsRefused = (status ≡ OUT_OF_MEMORY) ⊎ ((status ≡ BAD_PLACE) × (old.offset < old.batches))
+  IsRefused = (status ≡ OUT_OF_MEMORY) ⊎ ((status ≡ BAD_PLACE) × ((old.offset < old.batches) ⊎ (length log < old.offset)))
 
   -- what a step of a walk does
   abbrev pub Walks : Type 0

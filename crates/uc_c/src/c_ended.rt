@@ -1,5 +1,6 @@
 //! [`CEnded`]: how a log ended, as C sees it.
-ghost use Rattle.std.specs.Prelude.{◌≡◌};
+ghost use Rattle.std.specs.Prelude.{◌≡◌, [], ◌∷◌};
+ghost use Rattle.uc_c.specs.declared.c_ended.TheConstants as ends;
 
 use crate::fault_codes::{batch_fault_code, log_fault_code};
 use uc_engine::Ended;
@@ -15,6 +16,11 @@ pub const LOG_FAULT: u32 = 2;
 
 /// The log was read to the payload of the number `place`, from 1, which isn't a batch that may follow.
 pub const BATCH_FAULT: u32 = 3;
+
+/// The kinds have the numbers that `enum ucstore_end` gives them, in its order.
+pub fn ends_are_numbered()
+    ensures { ends.CLEAN ∷ ends.TORN ∷ ends.LOG_FAULT ∷ ends.BATCH_FAULT ∷ [] ≡ 0 ∷ 1 ∷ 2 ∷ 3 ∷ [] }
+{}
 
 /// How a log ended, as C sees it.
 #[repr(C)]

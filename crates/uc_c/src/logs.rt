@@ -15,9 +15,8 @@ use crate::status::{BAD_PLACE, LOG_ENDS, NO_STORE, OK, OUT_OF_MEMORY, ROOM, writ
 use std::alloc::Global;
 use uc_handle::Handle;
 
-/// Copies the bytes that a write batch adds to a log of so many bytes, as much of them as there is room for, and says
-/// how many they are. The batch is the one that is fed next. It is refused if `ucstore_feed` would find no batch in its bytes,
-/// would find its sequence not above the last one, or too few sequences left, and for want of memory.
+/// Copies the bytes that a write batch adds to a log of so many bytes, if there is room for them, and says how many they
+/// are. The batch is the one that is fed next. It is refused as `ucstore_feed` would refuse it.
 #[unsafe(no_mangle)]
 pub extern "C" fn ucstore_log_record(
     alloc: Global,
@@ -29,7 +28,8 @@ pub extern "C" fn ucstore_log_record(
 ) -> i32
     ensures records { Answers result handle.old.held handle.new.held (λ e.
         Records result e log_length batch.now room.old room.new size.new) }
-    ensures untold { (result ≡ OK) ⊎ ((room.new ≡ room.old) × (size.new ≡ size.old)) }
+    ensures untold { (result ≡ OK) ⊎ (room.new ≡ room.old) }
+    ensures size_untold { (result ≡ OK) ⊎ ((result ≡ ROOM) ⊎ (size.new ≡ size.old)) }
 {
     let Some(engine) = handle.take(alloc) else {
         return NO_STORE;
@@ -37,11 +37,7 @@ pub extern "C" fn ucstore_log_record(
     let record = engine.log_record(alloc, log_length, batch);
     handle.put(engine);
     match record {
-        Ok(bytes) => {
-            fill(room, bytes.as_slice());
-            *size = bytes.len();
-            OK
-        }
+        Ok(bytes) => lay(bytes.as_slice(), room, size),
         Err(error) => write_status(error),
     }
 }
@@ -52,7 +48,7 @@ pub extern "C" fn ucstore_log_record(
 ///
 /// If they don't fit the room, the place stays, and only the size is told. Where the log ends, or the batch may not follow,
 /// the place stays too, and it is told how far the log was read. It is refused if the place has more batches than bytes
-/// before it, and for want of memory.
+/// before it or lies past the log, and for want of memory.
 #[unsafe(no_mangle)]
 pub extern "C" fn ucstore_log_next(
     alloc: Global,
@@ -71,7 +67,7 @@ pub extern "C" fn ucstore_log_next(
     ensures size_untold { (result ≡ OK) ⊎ ((result ≡ ROOM) ⊎ (size.new ≡ size.old)) }
     ensures ended_untold { (result ≡ LOG_ENDS) ⊎ (ended.new ≡ ended.old) }
 {
-    if place.batches > place.offset {
+    if place.batches > place.offset || place.offset > log.len() as u64 {
         return BAD_PLACE;
     }
     match step_from(alloc, log, *place) {
@@ -82,6 +78,21 @@ pub extern "C" fn ucstore_log_next(
         }
         Err(_) => OUT_OF_MEMORY,
     }
+}
+
+/// Puts bytes into the room, if they fit, and tells how many they are.
+fn lay(bytes: &[u8], room: &mut [u8], size: &mut usize) -> i32
+    ensures size { size.new ≡ length bytes.now }
+    ensures fits { length bytes.now ≤ length room.old →
+        (result ≡ OK) × (room.new ≡ filled bytes.now room.old) }
+    ensures lacks { length room.old < length bytes.now → (result ≡ ROOM) × (room.new ≡ room.old) }
+{
+    *size = bytes.len();
+    if bytes.len() > room.len() {
+        return ROOM;
+    }
+    fill(room, bytes);
+    OK
 }
 
 /// Puts writes into the room, and moves the place behind them, if they fit.
@@ -100,12 +111,10 @@ fn show(
     ensures lacks { length room.old < length laid.now.bytes.items →
         (result ≡ ROOM) × (place.new ≡ place.old) × (room.new ≡ room.old) × (count.new ≡ count.old) }
 {
-    *size = laid.bytes.len();
-    if laid.bytes.len() > room.len() {
-        return ROOM;
+    let status = lay(laid.bytes.as_slice(), room, size);
+    if status == OK {
+        *count = laid.count;
+        *place = behind;
     }
-    fill(room, laid.bytes.as_slice());
-    *count = laid.count;
-    *place = behind;
-    OK
+    status
 }

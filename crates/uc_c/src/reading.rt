@@ -41,7 +41,7 @@ pub extern "C" fn ucstore_get(
     }
 }
 
-/// Looks a key up at the last sequence, as if a snapshot were there, and copies its value as `ucstore_get` does. It is
+/// Looks a key up at the last sequence, whether or not a snapshot is there, and copies its value as `ucstore_get` does. It is
 /// refused for want of memory.
 #[unsafe(no_mangle)]
 pub extern "C" fn ucstore_get_last(
@@ -58,7 +58,7 @@ pub extern "C" fn ucstore_get_last(
         room.old room.new size.new) }
     ensures untold { (result ≡ OK) ⊎ ((room.new ≡ room.old) × (size.new ≡ size.old)) }
 {
-    let Some(mut engine) = handle.take(alloc) else {
+    let Some(engine) = handle.take(alloc) else {
         return NO_STORE;
     };
     let answer = engine.get_last(alloc, key);

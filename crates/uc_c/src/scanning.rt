@@ -1,5 +1,5 @@
 //! Scans of the store behind a handle.
-ghost use Rattle.std.specs.Prelude.{◌≡◌, ◌⊎◌, ◌≤◌, ◌++◌, length, take, Some, None, IfOk, OnOk, if◌then◌else◌};
+ghost use Rattle.std.specs.Prelude.{◌≡◌, ◌⊎◌, ◌≤◌, ◌++◌, length, take, Some, None, IfOk, IfSome, OnOk, if◌then◌else◌};
 ghost use Rattle.uc_query_read.specs.declared.query.Query.TheVariants as queries;
 ghost use Rattle.uc_engine.specs.Engines.{answer_in};
 ghost use Rattle.uc_c.specs.declared.status.TheConstants.{OK, OUT_OF_MEMORY};
@@ -12,6 +12,9 @@ use crate::status::{NO_STORE, NOT_PROTECTED, OK, OUT_OF_MEMORY};
 use std::alloc::{AllocError, Global};
 use uc_engine::{Answer, Bytes, Engine};
 use uc_handle::Handle;
+
+/// The bytes of the two lengths in a row.
+const LENGTHS: usize = 16;
 
 /// The rows that fit a room, and the size of all.
 #[derive(Drop)]
@@ -113,7 +116,11 @@ fn laid_rows(alloc: Global, rows: &[(Bytes, Bytes)], room: usize) -> Result<Laid
     let whole = if count == rows.len() {
         bytes.len()
     } else {
-        rows_bytes(alloc, rows)?.len()
+        // More than a `usize` holds lies in no memory.
+        let Some(whole) = rows_size(rows) else {
+            return Err(AllocError);
+        };
+        whole
     };
     Ok(Laid {
         bytes,
@@ -143,15 +150,16 @@ fn fitting_bytes(
     Ok((bytes, rows.len()))
 }
 
-/// The bytes of all rows.
-fn rows_bytes(alloc: Global, rows: &[(Bytes, Bytes)]) -> Result<Vec<u8>, AllocError>
-    ensures { IfOk result (λ bytes. bytes.items ≡ layout.rows_bytes rows.now) }
+/// The size of all rows, if a `usize` holds it.
+fn rows_size(rows: &[(Bytes, Bytes)]) -> Option<usize>
+    ensures { IfSome result (λ size. size ≡ length (layout.rows_bytes rows.now)) }
 {
-    let mut bytes = Vec::new(alloc);
+    let mut size: usize = 0;
     for row in rows {
-        push_row(&mut bytes, row)?;
+        let texts = row.0.len().checked_add(row.1.len())?;
+        size = size.checked_add(texts)?.checked_add(LENGTHS)?;
     }
-    Ok(bytes)
+    Some(size)
 }
 
 /// Writes a row at the end.

@@ -1,5 +1,7 @@
 //! What a function of this library answers.
+ghost use Rattle.std.specs.Prelude.{◌≡◌, List, [], ◌∷◌, ℤ, pos};
 ghost use Rattle.uc_c.specs.Replies.{IsSayable};
+ghost use Rattle.uc_c.specs.declared.status.TheConstants as statuses;
 ghost use Rattle.uc_c.specs.Statuses.{OpenSays, BatchSays, FeedSays, WriteSays, CompactSays};
 
 use uc_engine::{BatchError, CompactError, FeedError, OpenError, WriteError};
@@ -54,6 +56,16 @@ pub const LOG_ENDS: i32 = 15;
 
 /// The sequence of the batch is neither 0 nor above the last one.
 pub const SEQUENCE_BACK: i32 = 16;
+
+/// The statuses have the numbers that `enum ucstore_status` gives them, in its order.
+pub fn statuses_are_numbered()
+    ensures first { statuses.OK ∷ statuses.OUT_OF_MEMORY ∷ statuses.NO_STORE ∷ statuses.HAS_STORE ∷ statuses.NOT_FOUND
+        ∷ statuses.NOT_PROTECTED ∷ statuses.UNKNOWN_OPERATOR ∷ statuses.BAD_OPTION ∷ statuses.TOO_MANY_RUNS ∷ []
+        ≡ pos 0 ∷ pos 1 ∷ pos 2 ∷ pos 3 ∷ pos 4 ∷ pos 5 ∷ pos 6 ∷ pos 7 ∷ pos 8 ∷ [] }
+    ensures rest { statuses.IDS_SPENT ∷ statuses.SEQUENCES_SPENT ∷ statuses.TOO_LONG ∷ statuses.NOT_A_BATCH
+        ∷ statuses.BAD_PLACE ∷ statuses.ROOM ∷ statuses.LOG_ENDS ∷ statuses.SEQUENCE_BACK ∷ []
+        ≡ pos 9 ∷ pos 10 ∷ pos 11 ∷ pos 12 ∷ pos 13 ∷ pos 14 ∷ pos 15 ∷ pos 16 ∷ [] }
+{}
 
 /// The status for an opening that is refused.
 pub fn open_status(error: OpenError) -> i32

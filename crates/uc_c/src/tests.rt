@@ -275,6 +275,26 @@ fn refuse_reads(rt: &impl Abort, alloc: Global, store: &mut Handle) {
     assert!(rt; seq == 7 && size == 7);
 }
 
+/// Options out of their range: the least `least` is 2, and the greatest trigger 255.
+fn refuse_options(rt: &impl Abort, alloc: Global, store: &mut Handle) {
+    let narrow = COptions {
+        least: 1,
+        ..usual()
+    };
+    assert_eq!(rt; ucstore_create(alloc, store, APPEND, &narrow), BAD_OPTION);
+    let high = COptions {
+        trigger: 256,
+        ..usual()
+    };
+    assert_eq!(rt; ucstore_create(alloc, store, APPEND, &high), BAD_OPTION);
+    let mut ended = untold();
+    assert_eq!(rt;
+        ucstore_open(alloc, store, APPEND, &high, &LOG, &mut ended),
+        BAD_OPTION
+    );
+    assert!(rt; ended.kind == 7);
+}
+
 /// What a handle without a store answers, and openings that are refused.
 #[test]
 fn no_store(rt: HostRuntime) {
@@ -286,14 +306,7 @@ fn no_store(rt: HostRuntime) {
         ucstore_create(alloc, &mut store, 4, &usual()),
         UNKNOWN_OPERATOR
     );
-    let options = COptions {
-        least: 1,
-        ..usual()
-    };
-    assert_eq!(rt;
-        ucstore_create(alloc, &mut store, APPEND, &options),
-        BAD_OPTION
-    );
+    refuse_options(&rt, alloc, &mut store);
     assert_eq!(rt; ucstore_close(alloc, &mut store), NO_STORE);
     drop(store.into_box());
 }
@@ -308,10 +321,10 @@ fn record_one(rt: &impl Abort, alloc: Global, store: &mut Handle) {
     assert!(rt; room == LOG && size == 27);
     // There is no room for a header in the last six bytes of a block.
     assert_eq!(rt;
-        ucstore_log_record(alloc, store, 32762, &BATCH, &mut [], &mut size),
-        OK
+        ucstore_log_record(alloc, store, 32762, &BATCH, &mut room, &mut size),
+        ROOM
     );
-    assert_eq!(rt; size, 33);
+    assert!(rt; room == LOG && size == 33);
     assert_eq!(rt;
         ucstore_log_record(alloc, store, 0, &[1], &mut room, &mut size),
         NOT_A_BATCH
@@ -383,18 +396,12 @@ fn a_walk(rt: HostRuntime) {
     assert!(rt; place.offset == 27 && ended.kind == CLEAN);
 }
 
-/// A place that no walk leads to.
-#[test]
-fn no_walk(rt: HostRuntime) {
-    let mut place = CLogPlace {
-        offset: 0,
-        last: 0,
-        batches: 1,
-    };
+/// No walk leads to the place.
+fn refuse_place(rt: &impl Abort, alloc: Global, mut place: CLogPlace) {
     let (mut size, mut count, mut ended) = (7, 7, untold());
     assert_eq!(rt;
         ucstore_log_next(
-            rt.alloc(),
+            alloc,
             &LOG,
             &mut place,
             &mut [],
@@ -405,4 +412,21 @@ fn no_walk(rt: HostRuntime) {
         BAD_PLACE
     );
     assert!(rt; size == 7 && count == 7 && ended == untold());
+}
+
+/// Places with more batches than bytes before them, and past the log.
+#[test]
+fn no_walk(rt: HostRuntime) {
+    let crowded = CLogPlace {
+        offset: 0,
+        last: 0,
+        batches: 1,
+    };
+    refuse_place(&rt, rt.alloc(), crowded);
+    let past = CLogPlace {
+        offset: 28,
+        last: 0,
+        batches: 0,
+    };
+    refuse_place(&rt, rt.alloc(), past);
 }

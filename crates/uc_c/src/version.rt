@@ -1,6 +1,5 @@
 //! The version of the functions that C calls.
 ghost use Rattle.std.specs.Prelude.{◌≡◌};
-ghost use Rattle.uc_c.specs.declared.version.TheConstants.{VERSION};
 
 /// The version: it grows when a function or a status changes its meaning.
 pub const VERSION: u32 = 1;
@@ -8,7 +7,7 @@ pub const VERSION: u32 = 1;
 /// The version of the functions that C calls.
 #[unsafe(no_mangle)]
 pub extern "C" fn ucstore_version() -> u32
-    ensures { result ≡ VERSION }
+    ensures { result ≡ 1 }
 {
     VERSION
 }

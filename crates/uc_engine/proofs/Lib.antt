@@ -1,3 +1,3 @@
 mod FedBatches
+mod Free
 mod Recorded
-mod Released

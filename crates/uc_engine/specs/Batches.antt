@@ -44,10 +44,20 @@ IsNotRead read SequencesSpent = read ≡ Err SequenceTooLarge
 IsNotRead read TooLong = ⊥
 IsNotRead read (NotFed error) = error ≡ Memory
 
--- Why it isn't fed: it can't be read, or the store refuses its writes. Want of memory may be told before a refusal is known.
+-- A batch is read, and the store takes its writes: only memory can be refused to them.
+pub record IsTaken (v : Stored) (read : Result (List Write) BatchError) : Type 0 where
+  pub writes : List Write
+  pub is : read ≡ Ok writes
+  pub taken : feed_refusal v writes ≡ None
+
+-- Why it isn't taken: it can't be read, or the store refuses its writes. Want of memory may be told before a refusal is
+-- known.
+abbrev pub IsNotTaken : Stored → Result (List Write) BatchError → WriteError → Type 0
+IsNotTaken v read (Faulty fault) = read ≡ Err fault
+IsNotTaken v read SequencesSpent = read ≡ Err SequenceTooLarge
+IsNotTaken v read TooLong = ⊥
+IsNotTaken v read (NotFed error) = (error ≡ Memory) ⊎ ((writes : List Write) × (read ≡ Ok writes) × (feed_refusal v writes ≡ Some error))
+
+-- Why the batch that comes next isn't fed.
 abbrev pub IsNotFed : Stored → List ℕ → WriteError → Type 0
-IsNotFed v bytes (Faulty fault) = next_batch v.last bytes ≡ Err fault
-IsNotFed v bytes SequencesSpent = next_batch v.last bytes ≡ Err SequenceTooLarge
-IsNotFed v bytes TooLong = ⊥
-IsNotFed v bytes (NotFed error) =
-    (error ≡ Memory) ⊎ ((writes : List Write) × (next_batch v.last bytes ≡ Ok writes) × (feed_refusal v writes ≡ Some error))
+IsNotFed v bytes error = IsNotTaken v (next_batch v.last bytes) error

@@ -36,7 +36,7 @@ pub(crate) fn with_sequence(
 }
 
 /// The writes of a batch whose sequence is above the last one.
-fn writes_of(alloc: Global, batch: &[u8], last: u64) -> Result<Writes, WriteError>
+pub(crate) fn writes_of(alloc: Global, batch: &[u8], last: u64) -> Result<Writes, WriteError>
     ensures ok { IfOk result (λ writes. batch_of last batch.now ≡ Ok writes.list) }
     ensures err { IfErr result (IsNotRead (batch_of last batch.now)) }
 {

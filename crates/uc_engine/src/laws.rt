@@ -1,12 +1,19 @@
 //! What holds of the definitions alone.
-ghost use Rattle.std.specs.Prelude.{◌≡◌, ℕ, List, [], ◌++◌, Ok};
+ghost use Rattle.std.specs.Prelude.{◌≡◌, ◌≤◌, ℕ, true, List, [], ◌++◌, Ok, None, length, replicate, is_some};
 ghost use Rattle.uc_bytes.specs.declared.write.Write.{Write};
 ghost use Rattle.uc_logrec.specs.Position.{LiesIn};
 ghost use Rattle.uc_batch.specs.Batch.{batch_of};
 ghost use Rattle.uc_batch.specs.Rising.{last_of};
+ghost use Rattle.uc_claims.specs.declared.table.TheConstants.{MOST_SLOTS};
+ghost use Rattle.uc_version_state.specs.Options.{are_good};
+ghost use Rattle.uc_version.specs.declared.held_stretch.TheConstants.{MOST_CLAIMS};
+ghost use Rattle.uc_version.specs.Owners.{Owner};
+ghost use Rattle.uc_engine.specs.declared.opening.TheConstants.{GREATEST_TRIGGER};
+ghost use Rattle.uc_engine.specs.Compacting.{next_stretch};
 ghost use Rattle.uc_engine.specs.Recording.{HasBatches, IsRecorded, IsRecovered};
 
 use uc_logrec::{log_goes_on, walk_goes_on};
+use uc_version_state::something_is_picked_above_the_trigger;
 
 /// Each log begins with no batches. If it begins with some that end at an offset, and a payload there is a batch that comes after
 /// their last sequence, it begins with that one too.
@@ -25,4 +32,13 @@ pub fn recorded_batch_is_recovered()
 {
     log_goes_on();
     walk_goes_on();
+}
+
+/// A full store is no dead end: with a run in each slot, options that an engine opens with, and no claim held, something is
+/// picked.
+pub fn full_engines_have_something_to_compact()
+    ensures { (o : Owner) → are_good o.options ≡ true → o.options.trigger ≤ GREATEST_TRIGGER → o.claims ≡ replicate MOST_CLAIMS None →
+        length o.version.runs ≡ MOST_SLOTS → is_some (next_stretch o) ≡ true }
+{
+    something_is_picked_above_the_trigger();
 }

@@ -6,6 +6,7 @@
 //!
 //! A program makes it durable by a log in a file: it appends [`Engine::log_record`] of each batch, and feeds the batch. By the laws
 //! [`batches_are_walked`] and [`recorded_batch_is_recovered`] the log then has the batch's writes behind those that it had.
+//! A store whose runs have all slots takes no writes: compact it. By [`full_engines_have_something_to_compact`] that helps.
 //!
 //! Read `specs/Engines.antt` first, then `operator_kind.rt`, `opening.rt`, `specs/Batches.antt` with `batches.rt` and
 //! `writing.rt`, `specs/Recording.antt` with `log_records.rt`, and `reading.rt`, `snapshots.rt`, `compacting.rt`. Each method is
@@ -29,8 +30,10 @@ mod write_error;
 mod writing;
 
 pub use engine::Engine;
-pub use laws::{batches_are_walked, recorded_batch_is_recovered};
-pub use opening::OpenedEngine;
+pub use laws::{
+    batches_are_walked, full_engines_have_something_to_compact, recorded_batch_is_recovered,
+};
+pub use opening::{GREATEST_TRIGGER, OpenedEngine};
 pub use operator_kind::OperatorKind;
 pub use report::EngineReport;
 pub use uc_batch::{BatchError, Ended, Op};

@@ -1,25 +1,47 @@
 //! What a program appends to its write-ahead log.
-ghost use Rattle.std.specs.Prelude.{◌≡◌, IfOk, IfErr};
+ghost use Rattle.std.specs.Prelude.{◌≡◌, IfOk, IfErr, OnOk};
 ghost use Rattle.uc_batch.specs.Batch.{batch_of};
 ghost use Rattle.uc_logrec.specs.Log.{payload_text};
-ghost use Rattle.uc_engine.specs.Batches.{IsNotRead, next_batch};
-ghost use Rattle.uc_engine.specs.Recording.{IsRead, IsRecorded};
+ghost use Rattle.uc_engine.specs.Batches.{IsNotFed, IsNotTaken, IsTaken, next_batch};
+ghost use Rattle.uc_engine.specs.Recording.{IsRecorded};
 
-use crate::batches::{is_unnumbered, with_sequence};
+use crate::batches::{is_unnumbered, with_sequence, writes_of};
 use crate::engine::Engine;
 use crate::write_error::WriteError;
 use std::alloc::Global;
-use uc_batch::BatchWrites;
 use uc_logrec::payload_bytes;
+use uc_version::Version;
 
-/// The record of a batch whose sequence is above the last one.
-fn record_of(alloc: Global, length: u64, batch: &[u8], last: u64) -> Result<Vec<u8>, WriteError>
-    ensures read { IfOk result (λ _. IsRead (batch_of last batch.now)) }
-    ensures text { IfOk result (λ bytes. bytes.items ≡ payload_text length batch.now) }
-    ensures err { IfErr result (IsNotRead (batch_of last batch.now)) }
+/// Whether a version takes a batch whose sequence is above its last one, but for want of memory. It changes nothing.
+fn judge(alloc: Global, version: &Version, batch: &[u8]) -> Result<(), WriteError>
+    ensures ok { OnOk result (IsTaken version.now (batch_of version.now.last batch.now)) }
+    ensures err { IfErr result (IsNotTaken version.now (batch_of version.now.last batch.now)) }
 {
-    let _writes = BatchWrites::read(batch, last)?;
-    Ok(payload_bytes(alloc, length, batch)?)
+    let writes = match writes_of(alloc, batch, version.last()) {
+        Ok(writes) => writes,
+        Err(error) => return Err(error),
+    };
+    match version.feed_refusal(writes.list()) {
+        None => Ok(()),
+        Some(error) => Err(WriteError::NotFed(error)),
+    }
+}
+
+/// The record of a batch whose sequence is above the last one, if the version takes the batch.
+fn record_of(
+    alloc: Global,
+    length: u64,
+    version: &Version,
+    batch: &[u8],
+) -> Result<Vec<u8>, WriteError>
+    ensures taken { IfOk result (λ _. IsTaken version.now (batch_of version.now.last batch.now)) }
+    ensures text { IfOk result (λ bytes. bytes.items ≡ payload_text length batch.now) }
+    ensures err { IfErr result (IsNotTaken version.now (batch_of version.now.last batch.now)) }
+{
+    match judge(alloc, version, batch) {
+        Ok(()) => Ok(payload_bytes(alloc, length, batch)?),
+        Err(error) => Err(error),
+    }
 }
 
 impl Engine {
@@ -27,8 +49,9 @@ impl Engine {
     /// append them, and then [`feed`](Engine::feed) the batch. An engine that opens from that log has the batch's writes, with
     /// the same sequences. So each batch that is fed has to be recorded.
     ///
-    /// It is refused if the bytes aren't a batch, if its sequence is neither 0 nor above the last one, and if too few sequences
-    /// are left. It costs a look at each record of the batch, and up to two copies of its bytes.
+    /// It is refused as [`feed`](Engine::feed) refuses the batch. Fed next, a batch that has a record is refused for want of
+    /// memory alone: feed it again then, or cut the log where the record begins. It costs a copy of each text, and up to two
+    /// copies of the batch.
     pub fn log_record(
         &self,
         alloc: Global,
@@ -36,15 +59,16 @@ impl Engine {
         batch: &[u8],
     ) -> Result<Vec<u8>, WriteError>
         ensures ok { IfOk result (λ bytes. IsRecorded self.now.owner.version.last length batch.now bytes.items) }
-        ensures err { IfErr result (IsNotRead (next_batch self.now.owner.version.last batch.now)) }
+        ensures taken { IfOk result (λ _.
+            IsTaken self.now.owner.version (next_batch self.now.owner.version.last batch.now)) }
+        ensures err { IfErr result (λ error. IsNotFed self.now.owner.version batch.now error) }
     {
         let version = self.version();
         version.recall();
-        let last = version.last();
         if !is_unnumbered(batch) {
-            return record_of(alloc, length, batch, last);
+            return record_of(alloc, length, version, batch);
         }
-        let numbered = with_sequence(alloc, batch, last + 1)?;
-        record_of(alloc, length, numbered.as_slice(), last)
+        let numbered = with_sequence(alloc, batch, version.last() + 1)?;
+        record_of(alloc, length, version, numbered.as_slice())
     }
 }

@@ -79,11 +79,16 @@ fn refuses_options(alloc: Global, options: Options) -> bool {
 
 #[test]
 fn bad_options_are_refused(rt: HostRuntime) -> Result<(), Fail> {
-    let options = Options {
+    let low = Options {
         trigger: 0,
         ..small()
     };
-    assert!(rt; refuses_options(rt.alloc(), options));
+    assert!(rt; refuses_options(rt.alloc(), low));
+    let high = Options {
+        trigger: 256,
+        ..small()
+    };
+    assert!(rt; refuses_options(rt.alloc(), high));
     Ok(())
 }
 

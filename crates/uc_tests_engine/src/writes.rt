@@ -1,5 +1,5 @@
 //! Single operations.
-use crate::given::{empty, has, has_none, small};
+use crate::given::{batch, empty, has, has_none, small};
 use crate::worked::{MERGED, Merged};
 use std::alloc::Global;
 use std::test::Fail;
@@ -65,22 +65,46 @@ fn writes_end_at_the_greatest_sequence(rt: HostRuntime) -> Result<(), Fail> {
     Ok(())
 }
 
-/// Fills each slot with a run, and writes once more.
-fn is_full(alloc: Global, engine: &mut Engine) -> Result<bool, Fail> {
+/// Fills each slot with a run.
+fn fill(alloc: Global, engine: &mut Engine) -> bool {
     for _ in 0..256 {
         if engine.put(alloc, b"k", b"v") != Ok(()) {
-            return Ok(false);
+            return false;
         }
     }
-    let refused = Err(WriteError::NotFed(FeedError::TooManyRuns));
-    Ok(engine.put(alloc, b"k", b"w") == refused && has(alloc, engine, b"k", b"v")?)
+    true
 }
 
+/// Whether a full store takes no write, and no batch into its log either.
+fn is_full(alloc: Global, engine: &mut Engine) -> Result<bool, Fail> {
+    let put = engine.put(alloc, b"k", b"w");
+    let record = engine.log_record(alloc, 0, &batch(alloc, 0, 1, b"\x00\x01k")?);
+    let full = WriteError::NotFed(FeedError::TooManyRuns);
+    Ok(put == Err(full) && record == Err(full) && has(alloc, engine, b"k", b"v")?)
+}
+
+/// Whether it does behind a compaction.
+fn takes_again(alloc: Global, engine: &mut Engine) -> Result<bool, Fail> {
+    let compacted = engine.compact_once(alloc) == Ok(true);
+    let record = engine.log_record(alloc, 0, &batch(alloc, 0, 1, b"\x00\x01k")?);
+    Ok(compacted && record.is_ok() && engine.delete(alloc, b"k") == Ok(()))
+}
+
+/// Fills a store, with the greatest trigger that an engine has.
 #[test]
 fn a_store_has_so_many_runs(rt: HostRuntime) -> Result<(), Fail> {
     let alloc = rt.alloc();
-    let mut engine = empty(alloc, OperatorKind::Append, small())?;
+    let options = Options {
+        trigger: 255,
+        percent: u32::MAX,
+        least: 300,
+        ..small()
+    };
+    let mut engine = empty(alloc, OperatorKind::Append, options)?;
+    assert!(rt; fill(alloc, &mut engine));
     let is_full = is_full(alloc, &mut engine)?;
     assert!(rt; is_full);
+    let takes_again = takes_again(alloc, &mut engine)?;
+    assert!(rt; takes_again);
     Ok(())
 }
