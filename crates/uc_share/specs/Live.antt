@@ -1,5 +1,5 @@
 -- Writes that are fed to a shared store, and snapshots that come and go.
-use Rattle.std.specs.Prelude.{◌≡◌, ◌≢◌, ℕ, Some, List, Contains}
+use Rattle.std.specs.Prelude.{◌≡◌, ◌⊎◌, ℕ, Some, None, List, Contains}
 use Rattle.uc_bytes.specs.declared.write.Write.{Write}
 use Rattle.uc_version_state.specs.Versions.{Stored}
 use Rattle.uc_version_state.specs.Feeds.{feed_refusal}
@@ -8,9 +8,11 @@ use Rattle.uc_version_state.specs.declared.feed_error.FeedError.TheVariants as f
 use Rattle.uc_version_state.specs.declared.release_error.ReleaseError.{ReleaseError}
 use Rattle.uc_version_state.specs.declared.release_error.ReleaseError.TheVariants.{NotKept, Memory}
 
--- why writes aren't fed, if this is the version that the caller has seen then. Want of memory may be told of any
+-- Why writes aren't fed, if this is the version that the caller has seen then. Want of memory is told only if nothing else is
+-- against them. So they weren't fed: they would be at or below its last sequence.
 abbrev pub IsFeedRefused : Stored → List Write → FeedError → Type 0
-IsFeedRefused present ws error = error ≢ feed_error.Memory → feed_refusal present ws ≡ Some error
+IsFeedRefused present ws error =
+    (feed_refusal present ws ≡ Some error) ⊎ ((feed_refusal present ws ≡ None) × (error ≡ feed_error.Memory))
 
 -- Why a sequence isn't released, if this is the version that the caller has seen then. Want of memory is told only of a keep.
 abbrev pub IsReleaseRefused : Stored → ℕ → ReleaseError → Type 0

@@ -26,11 +26,11 @@ impl<O: Operator, N: Name, W: Wait + Drop> Store<O, N, W> {
     /// event too.
     ///
     /// It is refused if the first write isn't above the last sequence, then if a run would have no slot, then if no id is left
-    /// for one. The version that the reader then has seen shows it. Want of memory may be told in place of another refusal.
+    /// for one, and then for want of memory. The version that the reader then has seen shows it: nothing was fed.
     ///
     /// It looks at a pin first, so most refusals are told before anything is flushed. The writes are flushed before the lock is
     /// taken, and no text is looked at behind it. It waits for others that publish, and for readers that still look at the version
-    /// before. It costs a copy of each text and a sort of what is fed.
+    /// before. It costs two copies of each text and a sort of what is fed.
     pub fn feed(
         &self,
         rt: &impl Wait,
@@ -44,7 +44,7 @@ impl<O: Operator, N: Name, W: Wait + Drop> Store<O, N, W> {
         ensures count { IfOk result (λ count. count ≡ length (memtables N.base.limit writes.now.list)) }
         ensures refused { IfErr result (IsFeedRefused (fold after N.base reader.new) writes.now.list) }
     {
-        let runs = runs_to_feed(alloc, writes, reader)?;
+        let runs = runs_to_feed(rt, alloc, writes, reader)?;
         let count = runs.len() as u64;
         let mut desk = self.desk.lock(rt);
         desk.feed(rt, alloc, writes, runs, reader)?;
@@ -98,6 +98,7 @@ fn recall_limit<O: Operator, N: Name>(pin: &Pin<O, N>)
 
 /// The runs of the memtables that writes fill, the oldest first, unless the version that is shown refuses the writes.
 fn runs_to_feed<O: Operator, N: Name>(
+    rt: &impl Wait,
     alloc: Global,
     writes: &Writes,
     reader: &mut Reader<O, N>,
@@ -107,7 +108,7 @@ fn runs_to_feed<O: Operator, N: Name>(
     ensures runs { IfOk result (λ runs. runs.items ≡ map flushed (memtables N.base.limit writes.now.list)) }
     ensures refused { IfErr result (IsFeedRefused (fold after N.base reader.new) writes.now.list) }
 {
-    let pin = reader.pin()?;
+    let pin = reader.pin_at_last(rt);
     recall_limit(&pin);
     pin.version().recall();
     if let Some(error) = pin.version().feed_refusal(writes.list()) {

@@ -119,6 +119,21 @@ impl<O: Operator, N: Name> Reader<O, N> {
         Ok(pin)
     }
 
+    /// Pins what is shown now, as [`pin`](Reader::pin) does. A refused pin is tried again.
+    pub(crate) fn pin_at_last(&mut self, rt: &impl Wait) -> Pin<O, N>
+        ensures seen { IsPrefix self.old self.new }
+        ensures legal { MayFollow O.meaning N.base self.new }
+        ensures pinned { result ≡ moment N.book (fold after N.base self.new) self.new }
+    {
+        self.recall();
+        for _ in rt.forever() {
+            if let Ok(pin) = self.pin() {
+                return pin;
+            }
+        }
+        unreachable!()
+    }
+
     /// Pins until it has seen `shown`, the front of what is shown. Nothing else is shown meanwhile if the caller has what shows
     /// it, so that the first turn is the last; a refused pin is tried again.
     pub fn sees(&mut self, rt: &impl Wait, shown: &Front<N>)

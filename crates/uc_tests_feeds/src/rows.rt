@@ -102,7 +102,7 @@ fn a_store_is_fed_kept_and_released(rt: HostRuntime) -> Result<(), Fail> {
     Ok(())
 }
 
-/// Of a store of a put and two merges.
+/// Of a store of a put and two merges, which also keeps 0. That stays a keep: no call releases another than its own.
 static REFUSED_AND_KEPT: [Step; 14] = [
     // Writes at and behind the last sequence are refused, and none are an event that changes nothing else.
     Step::Feed(&[Change::Put(3, b"d")], Err(FeedError::Back(3))),
@@ -113,7 +113,7 @@ static REFUSED_AND_KEPT: [Step; 14] = [
     Step::Shows(Wanted {
         ids: &[3, 2, 1],
         slots: &[2, 1, 0],
-        keeps: &[3],
+        keeps: &[0, 3],
         last: 3,
         events: 0,
     }),
@@ -121,7 +121,7 @@ static REFUSED_AND_KEPT: [Step; 14] = [
     Step::Shows(Wanted {
         ids: &[3, 2, 1],
         slots: &[2, 1, 0],
-        keeps: &[3],
+        keeps: &[0, 3],
         last: 3,
         events: 1,
     }),
@@ -132,7 +132,7 @@ static REFUSED_AND_KEPT: [Step; 14] = [
     Step::Shows(Wanted {
         ids: &[4, 3, 2, 1],
         slots: &[3, 2, 1, 0],
-        keeps: &[3, 4],
+        keeps: &[0, 3, 4],
         last: 4,
         events: 4,
     }),
@@ -148,7 +148,7 @@ static REFUSED_AND_KEPT: [Step; 14] = [
     Step::Shows(Wanted {
         ids: &[5, 4, 3, 2, 1],
         slots: &[4, 3, 2, 1, 0],
-        keeps: &[3, 6],
+        keeps: &[0, 3, 6],
         last: 6,
         events: 7,
     }),
@@ -170,7 +170,7 @@ pub(crate) fn put_and_merges<O: Operator>(
 #[test]
 fn what_is_old_is_refused_and_what_is_kept_stays(rt: HostRuntime) -> Result<(), Fail> {
     let alloc = rt.alloc();
-    let opening = put_and_merges(alloc, &[])?;
+    let opening = put_and_merges(alloc, &[0])?;
     let steps = &REFUSED_AND_KEPT;
     let right = opened_come_so::<Append<0x2C>, Brand, _>(&rt, &rt, alloc, opening, steps)?;
     assert!(rt; right);
