@@ -7,6 +7,7 @@ use std::marker::Sync;
 use std::sync::Wait;
 use std::test::Fail;
 use std::thread::Threads;
+use uc_bytes::OpRef;
 use uc_tool_io::Done;
 
 /// Queries about the three changes.
@@ -39,11 +40,11 @@ fn prints_later(
     is(run, text, done)
 }
 
-/// Whether this many writes were fed.
-fn has_fed(run: Option<Run>, fed: u64) -> bool {
+/// Whether this many writes were fed, and this many weren't.
+fn has_fed(run: Option<Run>, (fed, left): (u64, u64)) -> bool {
     match run {
         None => false,
-        Some(run) => run.beside.fed == fed,
+        Some(run) => run.beside.fed == fed && run.beside.left == left,
     }
 }
 
@@ -54,8 +55,27 @@ fn later_writes_are_fed(rt: HostRuntime) -> Result<(), Fail> {
     let input = input_of(alloc, HEAD, &log_of_refs(alloc, &three())?)?;
     for (later, fed) in [(0, 0), (1, 1), (3, 3), (7, 3), (u64::MAX, 3)] {
         let run = run_later::<Texts>(&rt, alloc, &small_runs(), &input, (2, 1, 1), later);
-        assert!(rt; has_fed(run, fed));
+        assert!(rt; has_fed(run, (fed, 0)));
     }
+    Ok(())
+}
+
+/// The log of so many puts.
+fn puts(alloc: Global, count: usize) -> Result<Vec<u8>, Fail> {
+    let mut changes = Vec::new(alloc);
+    for _ in 0..count {
+        changes.push(OpRef::put(b"k", b"a"))?;
+    }
+    log_of_refs(alloc, &changes)
+}
+
+/// The opening and each write have a slot, and nobody compacts: no more are fed than there are slots, and the rest is counted.
+#[test]
+fn later_writes_that_find_no_slot_are_counted(rt: HostRuntime) -> Result<(), Fail> {
+    let alloc = rt.alloc();
+    let input = input_of(alloc, b"get 6b last\nlog\n", &puts(alloc, 300)?)?;
+    let run = run_later::<Texts>(&rt, alloc, &small_runs(), &input, (1, 1, 0), 299);
+    assert!(rt; has_fed(run, (255, 44)));
     Ok(())
 }
 

@@ -3,3 +3,4 @@ pub mod Opened
 pub mod Whole
 pub mod Later
 pub mod Fronts
+mod Fed

@@ -54,7 +54,7 @@ struct Told {
 impl Told {
     /// A reason, if there is one, where nothing was done.
     fn reason_alone(reason: Option<Reason>) -> Told
-        ensures { result ≡ record { reason = reason; beside = record { installs = 0; fed = 0 } } }
+        ensures { result ≡ record { reason = reason; beside = record { installs = 0; fed = 0; left = 0 } } }
     {
         Told {
             reason,
@@ -64,7 +64,7 @@ impl Told {
 
     /// No reason, and nothing was done.
     fn nothing() -> Told
-        ensures { result ≡ record { reason = None; beside = record { installs = 0; fed = 0 } } }
+        ensures { result ≡ record { reason = None; beside = record { installs = 0; fed = 0; left = 0 } } }
     {
         Told::reason_alone(None)
     }

@@ -19,16 +19,19 @@ pub struct Beside {
     pub installs: u64,
     /// How many writes were fed to it.
     pub fed: u64,
+    /// How many weren't, since the store refused one, or memory was refused.
+    pub left: u64,
 }
 
 impl Beside {
     /// Nothing was done.
     pub(crate) fn nothing() -> Beside
-        ensures { result ≡ record { installs = 0; fed = 0 } }
+        ensures { result ≡ record { installs = 0; fed = 0; left = 0 } }
     {
         Beside {
             installs: 0,
             fed: 0,
+            left: 0,
         }
     }
 }
@@ -61,15 +64,22 @@ where
         return Beside {
             installs: all_installs(rt, alloc, store, gate, &mut helpers.crew),
             fed: 0,
+            left: 0,
         };
     };
+    let Feeder { mut reader, writes } = feeder;
+    let count = writes.len() as u64;
     let mut crew = mem::replace(&mut helpers.crew, Vec::new(alloc));
     let (fed, installs) = join(
         rt,
-        move || -> u64 { feed_all(rt, alloc, store, feeder) },
+        move || -> u64 { feed_all(rt, alloc, store, &mut reader, writes) },
         move || -> u64
             requires { All (λ x. x.seat.table ≡ store.now.table) crew.items }
         { all_installs(rt, alloc, store, gate, &mut crew) },
     );
-    Beside { installs, fed }
+    Beside {
+        installs,
+        fed,
+        left: count.saturating_sub(fed),
+    }
 }

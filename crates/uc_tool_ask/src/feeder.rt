@@ -1,5 +1,9 @@
 //! [`Feeder`]: a thread that feeds a log's last writes to a store while queries are answered.
-ghost use Rattle.std.specs.Prelude.{◌≤◌, vec_len};
+ghost use Rattle.std.specs.Prelude.{◌≡◌, ◌≤◌, ◌∷◌, [], true, take, vec_len};
+ghost use mathlib.Core.List.{IsPrefix};
+ghost use Rattle.uc_version_state.specs.declared.event.Event.TheVariants.{Flushed};
+ghost use Rattle.uc_share.specs.Installing.{EndsWith};
+ghost use Rattle.uc_tool_ask.specs.Feeding.{AreFed};
 
 use std::alloc::Global;
 use std::sync::Wait;
@@ -30,14 +34,17 @@ pub(crate) fn feeder_of<O: Operator, N: Name>(
     Some(Feeder { reader, writes })
 }
 
-/// Feeds one write, and says whether the store took it.
+/// Feeds one write, and says whether the store took it: then its event is the last that the reader has seen.
 fn feed_one<O: Operator, N: Name, W: Wait + Drop>(
     rt: &impl Wait,
     alloc: Global,
     store: &Store<O, N, W>,
     reader: &mut Reader<O, N>,
     write: Write,
-) -> bool {
+) -> bool
+    ensures seen { IsPrefix reader.old reader.new }
+    ensures fed { result ≡ true → EndsWith reader.old (Flushed (write ∷ [])) reader.new }
+{
     let mut list = Vec::new(alloc);
     if list.push(write).is_err() {
         return false;
@@ -48,19 +55,21 @@ fn feed_one<O: Operator, N: Name, W: Wait + Drop>(
     }
 }
 
-/// Feeds a feeder's writes one by one, until one is refused, and says how many were fed.
+/// Feeds writes one by one, until one is refused, and says how many were fed: the events of just these are among those that the
+/// reader then has seen more.
 pub(crate) fn feed_all<O: Operator, N: Name, W: Wait + Drop>(
     rt: &impl Wait,
     alloc: Global,
     store: &Store<O, N, W>,
-    feeder: Feeder<O, N>,
+    reader: &mut Reader<O, N>,
+    writes: Vec<Write>,
 ) -> u64
-    ensures { result ≤ vec_len feeder.writes }
+    ensures count { result ≤ vec_len writes }
+    ensures fed { AreFed (take result writes.items) reader.old reader.new }
 {
-    let Feeder { mut reader, writes } = feeder;
     let mut fed = 0_u64;
     for write in writes {
-        if !feed_one(rt, alloc, store, &mut reader, write) {
+        if !feed_one(rt, alloc, store, reader, write) {
             return fed;
         }
         fed += 1;

@@ -46,9 +46,18 @@ fn play_script<R: Read, W: Write>(
     }
 }
 
+/// Says on standard error how many of the writes that come later weren't fed, if any weren't.
+fn tell_left(rt: &impl Eprint, left: u64) {
+    if left > 0 {
+        let _ = eprintln!(rt;
+            "warning: {left} of the later writes weren't fed: the store took no more"
+        );
+    }
+}
+
 /// Answers queries over a log under the operator that the words name.
 fn ask_log<R: Read, W: Write>(
-    rt: &(impl Threads + Wait + Sync),
+    rt: &(impl Eprint + Threads + Wait + Sync),
     alloc: Global,
     matches: &ArgMatches<'_>,
     reader: &mut R,
@@ -65,7 +74,7 @@ fn ask_log<R: Read, W: Write>(
     if !is_plan(workers, piece, compactors) {
         return Outcome::without_reason(Done::Refused);
     }
-    let (outcome, _beside) = match uc_command::operator_name(matches) {
+    let (outcome, beside) = match uc_command::operator_name(matches) {
         Some(OperatorName::Counter) => ask::<Counter, R, W>(
             rt, alloc, reader, writer, &options, workers, piece, compactors, later,
         ),
@@ -81,6 +90,7 @@ fn ask_log<R: Read, W: Write>(
         // The parser lets no other name through.
         None => return Outcome::without_reason(Done::Refused),
     };
+    tell_left(rt, beside.left);
     outcome
 }
 
@@ -124,7 +134,7 @@ fn explain(rt: &(impl Print + Eprint), error: &Error) -> Done {
 
 /// Runs the subcommand that the words name.
 fn run_subcommand<R: Read, W: Write>(
-    rt: &(impl Threads + Wait + Sync),
+    rt: &(impl Eprint + Threads + Wait + Sync),
     alloc: Global,
     matches: &ArgMatches<'_>,
     reader: &mut R,
@@ -150,7 +160,7 @@ fn let_go<W: Write + Drop>(writer: BufWriter<W>, done: Done) {
 
 /// Runs it through a buffer in front of a writer.
 fn run_buffered<R: Read, W: Write + Drop>(
-    rt: &(impl Threads + Wait + Sync),
+    rt: &(impl Eprint + Threads + Wait + Sync),
     alloc: Global,
     matches: &ArgMatches<'_>,
     reader: &mut R,

@@ -112,7 +112,7 @@ impl Write for Sink {
 
 /// Dumps a log without records through a buffer.
 fn dump_into(
-    rt: &(impl Threads + Wait + Sync),
+    rt: &(impl Eprint + Threads + Wait + Sync),
     alloc: Global,
     sink: &mut Sink,
 ) -> Result<Done, Fail> {
@@ -155,7 +155,7 @@ static PLAYED: [(&str, &[u8]); 4] = [
 
 /// Plays the script under an operator.
 fn played(
-    rt: &(impl Threads + Wait + Sync),
+    rt: &(impl Eprint + Threads + Wait + Sync),
     alloc: Global,
     operator: &str,
 ) -> Result<Vec<u8>, Fail> {
