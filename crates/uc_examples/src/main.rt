@@ -1,8 +1,11 @@
 //! Runs every example as a user does, and compares what it prints with the file beside it.
 //!
 //! The folder that it runs in is `data`, to which `examples` at the top of the repository leads. It prints how many
-//! examples it ran, and stops at the first that prints something else.
+//! examples it ran, and stops at the first that prints something else. Then it runs the subcommands over inputs at their limit
+//! (`limits.rt`).
 #![tactic(auto)]
+
+mod limits;
 
 use anyhow::{Result, ensure};
 use std::alloc::Global;
@@ -146,5 +149,7 @@ fn main(rt: HostRuntime) -> Result<()> {
     check_ask(&rt)?;
     check_report(&rt)?;
     println!(rt; "{logs} logs, 5 scripts, queries and a report print what stands beside them")?;
+    limits::check_limits(&rt)?;
+    println!(rt; "64 MiB are read, and a byte more isn't")?;
     Ok(())
 }

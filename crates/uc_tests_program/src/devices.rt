@@ -125,21 +125,6 @@ pub(crate) fn source_of(left: &'static [u8], step: usize, good: usize) -> Source
     }
 }
 
-/// Gives so many bytes, at most `step` at a time, which nobody keeps: each is what stood in the buffer.
-#[derive(Drop)]
-struct Untouched {
-    left: usize,
-    step: usize,
-}
-
-impl Read for Untouched {
-    fn read(&mut self, buf: &mut [u8]) -> io::Result<usize> {
-        let count = buf.len().min(self.left).min(self.step);
-        self.left -= count;
-        Ok(count)
-    }
-}
-
 /// How a writer fails.
 #[derive(Clone, Copy, PartialEq, Eq)]
 pub(crate) enum Failure {
@@ -263,49 +248,6 @@ fn reads_that_fail(rt: HostRuntime) {
         }
     }
     assert_eq!(rt; Done::Device.status(), 5);
-}
-
-/// What the programs print of 64 MiB of zero bytes: as a script they are one line, which is at fault, and as a
-/// log they hold nothing.
-const LONGEST: [(Program, &[u8], Done); 3] = [
-    (Program::Play, b"fault line 1\n", Done::Refused),
-    (Program::Dump, b"clean\n", Done::Fine),
-    (Program::Ask, b"fault line 1\n", Done::Refused),
-];
-
-#[test]
-fn inputs_at_the_limit(rt: HostRuntime) {
-    for (program, printed, ended) in LONGEST {
-        let mut reader = Untouched {
-            left: 67_108_864,
-            step: 65_536,
-        };
-        reads(&rt, rt.alloc(), program, &mut reader, (printed, ended));
-    }
-}
-
-/// An input that comes byte by byte is read whole too. Two MiB take forty seconds of `rt try`, and 0.02 as built.
-#[test]
-fn input_byte_by_byte(rt: HostRuntime) {
-    let mut reader = Untouched {
-        left: 2_097_152,
-        step: 1,
-    };
-    let told = (b"clean\n".as_slice(), Done::Fine);
-    reads(&rt, rt.alloc(), Program::Dump, &mut reader, told);
-}
-
-/// An input of a byte more isn't judged.
-#[test]
-fn inputs_above_the_limit(rt: HostRuntime) {
-    for program in [Program::Play, Program::Dump, Program::Report, Program::Ask] {
-        let told = (b"input too long\n".as_slice(), Done::Device);
-        let mut reader = Untouched {
-            left: 67_108_865,
-            step: 65_536,
-        };
-        reads(&rt, rt.alloc(), program, &mut reader, told);
-    }
 }
 
 /// Runs a program into a writer, and asserts what went out of its text, how the run ends and how often it was flushed.
