@@ -1,252 +1,212 @@
-//! Batches that are accepted, refused and cut: read alone, as the payload of a log, and dumped.
-use crate::known::{BATCH, FIRST, Payload, are_told, is_left, is_refused};
-use std::alloc::Global;
-use std::process::Abort;
-use std::test::Fail;
-use uc_batch::{BatchError, read_batch};
-use uc_logrec::{Ending, LogWriter};
+//! Batches: read alone and as the payload of a log, cut, and written.
+use crate::log_lines::{all_bytes, batch_of};
+use crate::reading::Reading;
+use crate::rows::{Digits, Rows};
+use crate::spelled::spelled;
+use crate::words::{Style, batch_words, push_write, text_of};
+use crate::write_ways::write_lines;
+use std::alloc::{AllocError, Global};
+use testkit_data::{Arguments, Case, CaseError};
+use uc_batch::{BatchError, BatchWrites, Ended, Write, read_batch};
+use uc_bytes::WriteRef;
+use uc_logrec::LogWriter;
 
-/// The greatest sequence that a write may have.
-const MAX: u64 = (1 << 56) - 1;
+/// The sequence and the count that arguments say.
+fn header_in(arguments: &Arguments<'_>) -> Result<(u64, u32), CaseError> {
+    let sequence = arguments.number("sequence")?;
+    match u32::try_from(arguments.number("count")?) {
+        Ok(count) => Ok((sequence, count)),
+        Err(_) => Err(CaseError::NotANumber("count")),
+    }
+}
 
-/// The head of a batch: sequence 1, count 1.
-const ONE: &[u8] = b"\x01\x00\x00\x00\x00\x00\x00\x00\x01\x00\x00\x00";
-
-/// Sequence 1, count 2.
-const TWO: &[u8] = b"\x01\x00\x00\x00\x00\x00\x00\x00\x02\x00\x00\x00";
-
-/// Sequence 0, count 1.
-const LOWEST: &[u8] = b"\x00\x00\x00\x00\x00\x00\x00\x00\x01\x00\x00\x00";
-
-/// Sequence 2^56, count 1.
-const BEYOND: &[u8] = b"\x00\x00\x00\x00\x00\x00\x00\x01\x01\x00\x00\x00";
-
-/// The greatest sequence, 2^56 - 1, count 1.
-const HIGHEST: &[u8] = b"\xff\xff\xff\xff\xff\xff\xff\x00\x01\x00\x00\x00";
-
-/// The greatest sequence, count 2.
-const HIGHEST_TWO: &[u8] = b"\xff\xff\xff\xff\xff\xff\xff\x00\x02\x00\x00\x00";
-
-/// A batch, by its head and its records.
-type Batch = (&'static [u8], &'static [u8]);
-
-/// Why a batch is refused, and how a dump says it. Offsets count from the batch's start, whose records begin
-/// at 12.
-type Refusal = (BatchError, &'static str);
-
-const REFUSED: [(Batch, Refusal); 13] = [
-    (
-        (ONE, b"\x05\x01\x01a\x011"),
-        (BatchError::OtherFamily(1), "other family 1"),
-    ),
-    (
-        (ONE, b"\x01\xff\xff\xff\xff\x1f"),
-        (BatchError::BadVarint(13), "bad varint 13"),
-    ),
-    ((ONE, b"\x01\x01a"), (BatchError::Cut(12), "cut 12")),
-    ((ONE, b"\x09"), (BatchError::BadTag(9, 12), "bad tag 9 12")),
-    (
-        (ONE, b"\x01\x01a\x011\x09"),
-        (BatchError::BadTag(9, 17), "bad tag 9 17"),
-    ),
-    (
-        (ONE, b"\x01\x01a\x011\x00"),
-        (BatchError::Cut(17), "cut 17"),
-    ),
-    ((ONE, b""), (BatchError::WrongCount, "wrong count")),
-    (
-        (ONE, b"\x01\x01a\x011\x01\x01a\x011"),
-        (BatchError::WrongCount, "wrong count"),
-    ),
-    (
-        (ONE, b"\x03\x02ab"),
-        (BatchError::WrongCount, "wrong count"),
-    ),
-    (
-        (TWO, b"\x01\x01a\x011"),
-        (BatchError::WrongCount, "wrong count"),
-    ),
-    (
-        (LOWEST, b"\x01\x01a\x011"),
-        (BatchError::SequenceBack(0), "sequence back 0"),
-    ),
-    (
-        (HIGHEST_TWO, b"\x01\x01a\x011"),
-        (BatchError::SequenceTooLarge, "sequence too large"),
-    ),
-    (
-        (BEYOND, b"\x01\x01a\x011"),
-        (BatchError::SequenceTooLarge, "sequence too large"),
-    ),
-];
-
-/// Batches that all make the same change.
-const ACCEPTED: [Batch; 6] = [
-    (ONE, b"\x01\x01a\x011"),
-    (ONE, b"\x0d\x03\x02ab\x01\x01a\x011"),
-    (ONE, b"\x05\x00\x01a\x011"),
-    (ONE, b"\x01\x81\x00a\x011"),
-    (ONE, b"\x01\x01a\x011\x03\x00"),
-    (ONE, b"\x01\x01a\x011\x0d"),
-];
-
-fn bytes(alloc: Global, (head, records): Batch) -> Result<Vec<u8>, Fail> {
-    let mut bytes = Vec::from_slice(alloc, head)?;
-    bytes.extend_from_slice(records)?;
+/// The bytes of a batch: the header that the arguments say, if they say one, and the records of the input.
+fn bytes_in(alloc: Global, case: &Case<'_>) -> Result<Vec<u8>, CaseError> {
+    if !case.arguments.has("sequence") {
+        return all_bytes(alloc, &case.input);
+    }
+    let (sequence, count) = header_in(&case.arguments)?;
+    let records = all_bytes(alloc, &case.input)?;
+    let mut bytes = Vec::from_slice(alloc, &sequence.to_le_bytes())?;
+    bytes.extend_from_slice(&count.to_le_bytes())?;
+    bytes.extend_from_slice(&records)?;
     Ok(bytes)
 }
 
+/// The writes of a batch as lines of text, or why it is refused.
+type Said = Result<Vec<u8>, BatchError>;
+
+/// The lines of writes.
+fn lines_of(alloc: Global, writes: &[Write]) -> Result<Vec<u8>, AllocError> {
+    let mut lines = Vec::new(alloc);
+    for write in writes {
+        push_write(&mut lines, alloc, Style::Spelled, &WriteRef::of(write))?;
+    }
+    Ok(lines)
+}
+
+/// What a batch says, read with borrowed texts.
+fn borrowed(alloc: Global, bytes: &[u8], last: u64) -> Said {
+    let mut lines = Vec::new(alloc);
+    for write in BatchWrites::read(bytes, last)? {
+        push_write(&mut lines, alloc, Style::Spelled, &write)?;
+    }
+    Ok(lines)
+}
+
+/// What a batch says, read with owned texts.
+fn owned(alloc: Global, bytes: &[u8], last: u64) -> Said {
+    Ok(lines_of(alloc, &read_batch(alloc, bytes, last)?)?)
+}
+
 /// The log of one payload.
-fn log_of(alloc: Global, payload: &[u8]) -> Result<Vec<u8>, Fail> {
+fn log_of(alloc: Global, payload: &[u8]) -> Result<Vec<u8>, AllocError> {
     let mut writer = LogWriter::new(alloc);
     writer.add(payload)?;
     Ok(writer.finish())
 }
 
-/// Asserts that a batch is refused, alone and as the payload of a log.
-fn refuses(
-    rt: &impl Abort,
-    alloc: Global,
-    batch: &[u8],
-    (fault, words): (BatchError, &str),
-) -> Result<(), Fail> {
-    assert_eq!(rt; read_batch(alloc, batch, 0).err(), Some(fault));
-    let log = log_of(alloc, batch)?;
-    is_refused(rt, alloc, &log, &[], (1, fault, words))
-}
-
-#[test]
-fn batches_that_are_refused(rt: HostRuntime) -> Result<(), Fail> {
-    for (batch, refusal) in REFUSED {
-        let batch = bytes(rt.alloc(), batch)?;
-        refuses(&rt, rt.alloc(), &batch, refusal)?;
+/// How far a log is read whose only payload is a batch that says this.
+fn ended_of(said: &Said) -> Ended {
+    match said {
+        Ok(_) => Ended::Clean,
+        Err(fault) => Ended::BatchFault(1, *fault),
     }
-    Ok(())
 }
 
-/// Asserts what a batch says after a last sequence.
-fn says(rt: &impl Abort, alloc: Global, last: u64, payload: Payload<'_>) -> Result<(), Fail> {
-    let writes = read_batch(alloc, payload.bytes, last)?;
-    are_told(rt, alloc, &writes, payload.lines)
-}
-
-/// Asserts what a batch says, alone and as the payload of a log.
-fn is_read(rt: &impl Abort, alloc: Global, payload: Payload<'_>) -> Result<(), Fail> {
-    says(rt, alloc, 0, payload)?;
-    let log = log_of(alloc, payload.bytes)?;
-    is_left(rt, alloc, &log, &[payload], Ending::Clean)
-}
-
-#[test]
-fn batches_that_are_accepted(rt: HostRuntime) -> Result<(), Fail> {
-    for batch in ACCEPTED {
-        let batch = bytes(rt.alloc(), batch)?;
-        let payload = Payload {
-            bytes: &batch,
-            ..FIRST
-        };
-        is_read(&rt, rt.alloc(), payload)?;
+/// Whether writes are those of a batch that says this.
+fn are_said(lines: &[u8], said: &Said) -> bool {
+    match said {
+        Ok(want) => lines == want.as_slice(),
+        Err(_) => lines.is_empty(),
     }
-    Ok(())
 }
 
-/// A batch that is cut is too short for its header, has no record, or ends inside its only one.
-#[test]
-fn a_batch_cut_at_each_byte(rt: HostRuntime) -> Result<(), Fail> {
-    for len in 0..BATCH.len() {
-        let refusal = match len {
-            0..=11 => (BatchError::TooShort, "too short"),
-            12 => (BatchError::WrongCount, "wrong count"),
-            _ => (BatchError::Cut(12), "cut 12"),
-        };
-        refuses(&rt, rt.alloc(), &BATCH[..len], refusal)?;
+/// Whether the log of this one payload says what the batch does.
+fn is_same_in_log(alloc: Global, bytes: &[u8], said: &Said) -> Result<bool, CaseError> {
+    let log = log_of(alloc, bytes)?;
+    let lines = write_lines(alloc, &log)?;
+    let reading = Reading::of(alloc, &log)?;
+    Ok(reading.is_of_one(bytes, ended_of(said)) && are_said(&lines, said))
+}
+
+/// What a batch says after a last sequence: with owned and with borrowed texts the same, and also in a log, if there was
+/// no sequence before.
+fn judged(alloc: Global, bytes: &[u8], last: u64) -> Result<Said, CaseError> {
+    let said = owned(alloc, bytes, last);
+    if borrowed(alloc, bytes, last) != said {
+        return Err(CaseError::Said("borrowed the batch has other writes"));
     }
-    is_read(&rt, rt.alloc(), FIRST)
+    if last == 0 && !is_same_in_log(alloc, bytes, &said)? {
+        return Err(CaseError::Said("in a log the batch has other writes"));
+    }
+    Ok(said)
 }
 
-/// A batch of every kind of record, counted or not, with and without a family, and with numbers spelled longer than
-/// needed.
-const KINDS: &[u8; 65] = b"\x01\x00\x00\x00\x00\x00\x00\x00\x0a\x00\x00\x00\
-    \x00\x01a\
-    \x07\x01b\
-    \x01\x01c\x01d\
-    \x02\x81\x00e\x00\
-    \x03\x02fg\
-    \x0d\
-    \x0f\x01h\x01i\
-    \x04\x00\x01j\
-    \x05\x00\x01k\x01l\
-    \x06\x80\x00\x01m\x01n\
-    \x08\x00\x01o\
-    \x0e\x00\x01p\x01q";
-
-/// Where the records of that batch begin.
-const STARTS: [usize; 12] = [12, 15, 18, 23, 28, 32, 33, 38, 42, 48, 55, 59];
-
-const KINDS_PAYLOAD: Payload<'static> = Payload {
-    start: 0,
-    end: 72,
-    bytes: KINDS,
-    lines: "1 delete 61\n2 delete 62\n3 put 63 64\n4 merge 65 .\n5 range 68 69\n6 delete 6a\n\
-                7 put 6b 6c\n8 merge 6d 6e\n9 delete 6f\n10 range 70 71\n",
-};
-
-/// Where the last record begins in the batch cut to `len` bytes.
-fn last_start(len: usize) -> usize {
-    let mut last = 12;
-    for start in STARTS {
-        if start <= len {
-            last = start;
+/// What a batch says after a last sequence, as text.
+fn said(alloc: Global, bytes: &[u8], last: u64) -> Result<String, CaseError> {
+    match judged(alloc, bytes, last)? {
+        Ok(lines) if lines.is_empty() => Ok(String::from_str(alloc, "no writes\n")?),
+        Ok(lines) => Ok(text_of(alloc, &lines)?),
+        Err(fault) => {
+            let words = batch_words(alloc, fault)?;
+            Ok(format!(in alloc; "refused: {words}\n")?)
         }
     }
-    last
 }
 
-/// A batch that is cut lacks records, or ends inside its last one.
-#[test]
-fn a_batch_of_every_kind_cut_at_each_byte(rt: HostRuntime) -> Result<(), Fail> {
-    let alloc = rt.alloc();
-    for len in 12..KINDS.len() {
-        let start = last_start(len);
-        let words = format!(in alloc; "cut {start}")?;
-        let refusal = if start == len {
-            (BatchError::WrongCount, "wrong count")
-        } else {
-            (BatchError::Cut(start as u64), words.as_str())
-        };
-        refuses(&rt, alloc, &KINDS[..len], refusal)?;
+/// What a batch says, or why it is refused.
+pub fn read(alloc: Global, case: &Case<'_>) -> Result<String, CaseError> {
+    let last = case.arguments.number_or("last", 0)?;
+    said(alloc, &bytes_in(alloc, case)?, last)
+}
+
+/// What a first batch says, as one line.
+fn said_in_line(alloc: Global, bytes: &[u8]) -> Result<String, CaseError> {
+    Ok(one_line(alloc, said(alloc, bytes, 0)?.as_str())?)
+}
+
+/// Lines as one.
+fn one_line(alloc: Global, lines: &str) -> Result<String, AllocError> {
+    let mut line = String::new(alloc);
+    for part in lines.lines() {
+        if !line.is_empty() {
+            line.push_str(", ")?;
+        }
+        line.push_str(part)?;
     }
-    is_read(&rt, alloc, KINDS_PAYLOAD)
+    Ok(line)
 }
 
-/// A batch without records.
-const NO_WRITES: Payload<'static> = Payload {
-    bytes: &[0; 12],
-    lines: "",
-    ..FIRST
-};
-
-/// A batch must be above the last sequence used, unless it has no records.
-#[test]
-fn batches_behind_others(rt: HostRuntime) -> Result<(), Fail> {
-    let alloc = rt.alloc();
-    for last in [1, MAX] {
-        let back = Some(BatchError::SequenceBack(last));
-        assert_eq!(rt; read_batch(alloc, &BATCH, last).err(), back);
-        says(&rt, alloc, last, NO_WRITES)?;
+/// Adds what a batch says that is cut to each length.
+fn push_cuts(rows: &mut Rows, alloc: Global, bytes: &[u8]) -> Result<(), CaseError> {
+    for length in 0..=bytes.len() {
+        let line = said_in_line(alloc, bytes.get(..length).unwrap_or(&[]))?;
+        rows.push(length as u64, line)?;
     }
-    is_read(&rt, alloc, NO_WRITES)
+    Ok(())
 }
 
-/// A batch at the greatest sequence.
-#[test]
-fn the_highest_batch(rt: HostRuntime) -> Result<(), Fail> {
-    let batch = bytes(rt.alloc(), (HIGHEST, b"\x01\x01a\x011"))?;
-    let highest = Payload {
-        bytes: &batch,
-        lines: "72057594037927935 put 61 31\n",
-        ..FIRST
-    };
-    says(&rt, rt.alloc(), MAX - 1, highest)?;
-    is_read(&rt, rt.alloc(), highest)
+/// What a batch says that is cut to each length.
+pub fn cut(alloc: Global, case: &Case<'_>) -> Result<String, CaseError> {
+    let bytes = bytes_in(alloc, case)?;
+    let mut rows = Rows::new(alloc, Digits::Decimal);
+    push_cuts(&mut rows, alloc, &bytes)?;
+    Ok(rows.finish()?)
+}
+
+/// What a batch says whose last byte is this one. If that is no tag, it isn't named.
+fn said_at_end(alloc: Global, bytes: &[u8], byte: u8) -> Result<String, CaseError> {
+    let place = bytes.len().saturating_sub(1) as u64;
+    if owned(alloc, bytes, 0) == Err(BatchError::BadTag(byte, place)) {
+        return Ok(String::from_str(alloc, "refused: bad tag")?);
+    }
+    said_in_line(alloc, bytes)
+}
+
+/// Adds what a batch says with each byte behind it.
+fn push_ends(rows: &mut Rows, alloc: Global, bytes: &mut Vec<u8>) -> Result<(), CaseError> {
+    let length = bytes.len();
+    for byte in 0..=255u8 {
+        bytes.truncate(length);
+        bytes.push(byte)?;
+        rows.push(u64::from(byte), said_at_end(alloc, bytes, byte)?)?;
+    }
+    Ok(())
+}
+
+/// What a batch says with each byte behind it in turn.
+pub fn end_in_each(alloc: Global, case: &Case<'_>) -> Result<String, CaseError> {
+    let mut bytes = bytes_in(alloc, case)?;
+    let mut rows = Rows::new(alloc, Digits::Byte);
+    push_ends(&mut rows, alloc, &mut bytes)?;
+    Ok(rows.finish()?)
+}
+
+/// Changes with commas between them.
+fn ops_in(alloc: Global, lines: &[&str]) -> Result<String, AllocError> {
+    let mut ops = String::new(alloc);
+    for line in lines {
+        ops.push_str(line)?;
+        ops.push(',')?;
+    }
+    Ok(ops)
+}
+
+/// The bytes of a batch, and what it says.
+fn spelled_and_said(alloc: Global, bytes: &[u8]) -> Result<String, CaseError> {
+    let mut lines = spelled(alloc, bytes)?;
+    lines.push('\n')?;
+    lines.push_str(said(alloc, bytes, 0)?.as_str())?;
+    Ok(lines)
+}
+
+/// The bytes of a batch that is written for changes, and what it says.
+pub fn written(alloc: Global, case: &Case<'_>) -> Result<String, CaseError> {
+    let sequence = case.arguments.number("sequence")?;
+    let ops = ops_in(alloc, &case.input)?;
+    match batch_of(alloc, sequence, ops.as_str())? {
+        Some(bytes) => spelled_and_said(alloc, &bytes),
+        None => Ok(String::from_str(alloc, "they don't fit\n")?),
+    }
 }

@@ -1,163 +1,196 @@
-//! A small log that is cut at each byte, and of which each byte is changed.
-use crate::known::{BATCH_LOG, FIRST, Payload, cut_at, front, gives, is_left};
-use std::test::Fail;
-use uc_logrec::{Ending, LogFault};
+//! Logs that are cut, and logs with a byte changed: what is left of them.
+use crate::payload_ways::{Payloads, payloads_at_once};
+use crate::reading::Reading;
+use crate::rows::{Digits, Rows};
+use std::alloc::{AllocError, Global};
+use testkit_data::{Arguments, Case, CaseError};
 
-/// A FULL record, a payload in four records (its second MIDDLE has no data), and a FULL record after an empty FIRST, as
-/// old writers left it at the end of a block.
-const LOG: &[u8; 105] = b"\xe9\x9f\x78\x19\x11\x00\x01\
-    \x01\x00\x00\x00\x00\x00\x00\x00\x01\x00\x00\x00\x01\x01a\x011\
-    \xe0\xe3\xa6\xa8\x05\x00\x02\x02\x00\x00\x00\x00\
-    \x33\x6d\xcd\xe3\x00\x00\x03\
-    \x0c\x13\xa0\x17\x0e\x00\x03\x00\x00\x00\x02\x00\x00\x00\x02\x01b\x03xyz\
-    \xbb\x8f\x2d\xa8\x03\x00\x04\x00\x01c\
-    \x64\x51\xd0\xe9\x00\x00\x02\
-    \x87\x9c\xcf\xfc\x11\x00\x01\
-    \x05\x00\x00\x00\x00\x00\x00\x00\x01\x00\x00\x00\x0f\x01d\x01e";
+/// The numbers that arguments ask for: those behind `at`, or all from `from` to `to`, by default up to `most`.
+fn places(alloc: Global, arguments: &Arguments<'_>, most: u64) -> Result<Vec<u64>, CaseError> {
+    if arguments.has("at") {
+        return arguments.numbers(alloc, "at");
+    }
+    let from = arguments.number_or("from", 0)?;
+    let to = arguments.number_or("to", most)?.min(most);
+    let mut places = Vec::new(alloc);
+    for place in from..to.saturating_add(1) {
+        places.push(place)?;
+    }
+    Ok(places)
+}
 
-const PAYLOADS: [Payload<'static>; 3] = [
-    FIRST,
-    Payload {
-        start: 24,
-        end: 74,
-        bytes: b"\x02\x00\x00\x00\x00\x00\x00\x00\x02\x00\x00\x00\x02\x01b\x03xyz\x00\x01c",
-        lines: "2 merge 62 78797a\n3 delete 63\n",
-    },
-    Payload {
-        start: 74,
-        end: 105,
-        bytes: b"\x05\x00\x00\x00\x00\x00\x00\x00\x01\x00\x00\x00\x0f\x01d\x01e",
-        lines: "5 range 64 65\n",
-    },
-];
+/// Flips bits of a byte, if it is there.
+fn flip_bits(log: &mut [u8], place: u64, mask: u8) {
+    if let Some(byte) = log.get_mut(place as usize) {
+        *byte ^= mask;
+    }
+}
 
-/// A record of the log.
+/// A log whose bytes are changed, and what it holds without a change.
+#[derive(Drop)]
+struct Damaged {
+    whole: Reading,
+    log: Vec<u8>,
+}
+
+impl Damaged {
+    /// A log before any change.
+    fn new(alloc: Global, log: &[u8]) -> Result<Damaged, CaseError> {
+        Ok(Damaged {
+            whole: Reading::of(alloc, log)?,
+            log: Vec::from_slice(alloc, log)?,
+        })
+    }
+
+    /// What is left if it is cut.
+    fn left_of(&self, alloc: Global, length: u64) -> Result<String, CaseError> {
+        let front = self.log.get(..length as usize).unwrap_or(&self.log);
+        self.whole.left(alloc, front)
+    }
+
+    /// What is left with these bits flipped, which are then flipped back.
+    fn left_with(&mut self, alloc: Global, place: u64, mask: u8) -> Result<String, CaseError> {
+        flip_bits(&mut self.log, place, mask);
+        let left = self.whole.left(alloc, &self.log);
+        flip_bits(&mut self.log, place, mask);
+        left
+    }
+
+    /// The payloads that are left with these bits flipped, which are then flipped back. If it is one bit, each way of reading
+    /// the log has to find them.
+    fn payloads_with(&mut self, alloc: Global, place: u64, mask: u8) -> Result<String, CaseError> {
+        flip_bits(&mut self.log, place, mask);
+        let left = if mask.is_power_of_two() {
+            payloads_by_each_way(alloc, &self.log, &self.whole)
+        } else {
+            payloads_left(alloc, &payloads_at_once(alloc, &self.log)?, &self.whole)
+        };
+        flip_bits(&mut self.log, place, mask);
+        left
+    }
+}
+
+/// Payloads that are left, if they are the first of those before.
+fn payloads_left(alloc: Global, left: &Payloads, whole: &Reading) -> Result<String, CaseError> {
+    if !left.begin(&whole.payloads) {
+        return Ok(String::from_str(alloc, "others than before")?);
+    }
+    Ok(left.summary(alloc)?)
+}
+
+/// The same, found by each way of reading.
+fn payloads_by_each_way(alloc: Global, log: &[u8], whole: &Reading) -> Result<String, CaseError> {
+    let left = Reading::of(alloc, log)?;
+    if !left.begins(whole) {
+        return Ok(String::from_str(alloc, "others than before")?);
+    }
+    payloads_left(alloc, &left.payloads, whole)
+}
+
+/// Rows as one line: the outcome alone if it is the only one.
+fn one_line(alloc: Global, rows: &str) -> Result<String, AllocError> {
+    let mut line = String::new(alloc);
+    if rows.lines().count() == 1 {
+        let (_, outcome) = rows.split_once(": ").unwrap_or(("", rows));
+        line.push_str(outcome.trim_ascii_end())?;
+        return Ok(line);
+    }
+    for row in rows.lines() {
+        if !line.is_empty() {
+            line.push_str(" | ")?;
+        }
+        line.push_str(row)?;
+    }
+    Ok(line)
+}
+
+/// Adds what is left with each other byte at a place.
+fn push_each(
+    rows: &mut Rows,
+    damaged: &mut Damaged,
+    alloc: Global,
+    place: u64,
+) -> Result<(), CaseError> {
+    let before = damaged.log.get(place as usize).copied().unwrap_or(0);
+    for byte in 0..=255u8 {
+        if byte != before {
+            let left = damaged.payloads_with(alloc, place, byte ^ before)?;
+            rows.push(u64::from(byte), left)?;
+        }
+    }
+    Ok(())
+}
+
+/// The payloads that are left with each other byte at a place.
+fn payloads_with_each(
+    alloc: Global,
+    damaged: &mut Damaged,
+    place: u64,
+) -> Result<String, CaseError> {
+    let mut rows = Rows::new(alloc, Digits::Byte);
+    push_each(&mut rows, damaged, alloc, place)?;
+    Ok(one_line(alloc, rows.finish()?.as_str())?)
+}
+
+/// What is done to a log.
 #[derive(Clone, Copy)]
-struct Record {
-    start: u64,
-    /// How many bytes of data it has.
-    len: u16,
-    /// Where its payload begins.
-    payload: u64,
+enum Damage {
+    Cut,
+    /// The bits of a byte that are flipped.
+    Flip(u8),
+    /// A byte becomes each other one.
+    Change,
 }
 
-const RECORDS: [Record; 7] = [
-    Record {
-        start: 0,
-        len: 17,
-        payload: 0,
-    },
-    Record {
-        start: 24,
-        len: 5,
-        payload: 24,
-    },
-    Record {
-        start: 36,
-        len: 0,
-        payload: 24,
-    },
-    Record {
-        start: 43,
-        len: 14,
-        payload: 24,
-    },
-    Record {
-        start: 64,
-        len: 3,
-        payload: 24,
-    },
-    Record {
-        start: 74,
-        len: 0,
-        payload: 74,
-    },
-    Record {
-        start: 81,
-        len: 17,
-        payload: 74,
-    },
-];
+/// What a case does to the log.
+fn damage_of(case: &Case<'_>) -> Result<Damage, CaseError> {
+    match case.command {
+        "cut" => Ok(Damage::Cut),
+        "flip" => match u8::try_from(case.arguments.number("mask")?) {
+            Ok(mask) => Ok(Damage::Flip(mask)),
+            Err(_) => Err(CaseError::NotANumber("mask")),
+        },
+        _ => Ok(Damage::Change),
+    }
+}
 
-#[test]
-fn the_log_cut_at_each_byte(rt: HostRuntime) -> Result<(), Fail> {
-    for len in 0..=LOG.len() {
-        let left = front(&PAYLOADS, len as u64);
-        let ending = cut_at(&PAYLOADS, len as u64);
-        is_left(&rt, rt.alloc(), &LOG[..len], left, ending)?;
+/// What is left after damage at a place.
+fn left_at(
+    alloc: Global,
+    damaged: &mut Damaged,
+    damage: Damage,
+    place: u64,
+) -> Result<String, CaseError> {
+    match damage {
+        Damage::Cut => damaged.left_of(alloc, place),
+        Damage::Flip(mask) => damaged.left_with(alloc, place, mask),
+        Damage::Change => payloads_with_each(alloc, damaged, place),
+    }
+}
+
+/// Adds what is left after damage at each place.
+fn push_left(
+    rows: &mut Rows,
+    alloc: Global,
+    damaged: &mut Damaged,
+    (damage, places): (Damage, &[u64]),
+) -> Result<(), CaseError> {
+    for place in places {
+        rows.push(*place, left_at(alloc, damaged, damage, *place)?)?;
     }
     Ok(())
 }
 
-/// The record that a byte of the log belongs to.
-fn record_at(place: u64) -> Record {
-    let mut found = RECORDS[0];
-    for record in RECORDS {
-        if record.start <= place {
-            found = record;
-        }
-    }
-    found
-}
-
-/// How the log ends after a byte was changed: a length that passes the block's end is bad, one that passes the log's
-/// end is torn, and the checksum shows any other change.
-fn changed_at(record: Record, place: u64, mask: u8) -> Ending {
-    let mask = u16::from(mask);
-    let len = match place.saturating_sub(record.start) {
-        4 => record.len ^ mask,
-        5 => record.len ^ (mask << 8),
-        _ => record.len,
+/// What is left of a log after the damage that a case does to it, at each place in turn: a byte's, or a length.
+pub fn left(alloc: Global, log: &[u8], case: &Case<'_>) -> Result<String, CaseError> {
+    let damage = damage_of(case)?;
+    let last = match damage {
+        Damage::Cut => log.len(),
+        Damage::Flip(_) | Damage::Change => log.len().saturating_sub(1),
     };
-    let end = record
-        .start
-        .saturating_add(7)
-        .saturating_add(u64::from(len));
-    if end > 32_768 {
-        Ending::Fault(LogFault::BadLength, record.start)
-    } else if end > LOG.len() as u64 {
-        Ending::Torn(record.payload)
-    } else {
-        Ending::Fault(LogFault::BadChecksum, record.start)
-    }
-}
-
-/// Each byte takes each other value in turn. The writes and the dump are checked if one bit is flipped.
-#[test]
-fn each_byte_of_the_log_changed(rt: HostRuntime) -> Result<(), Fail> {
-    let alloc = rt.alloc();
-    let mut log = *LOG;
-    for place in 0..LOG.len() {
-        let record = record_at(place as u64);
-        let left = front(&PAYLOADS, record.start);
-        for mask in 1..=255u8 {
-            log[place] = LOG[place] ^ mask;
-            let ending = changed_at(record, place as u64, mask);
-            if mask.is_power_of_two() {
-                is_left(&rt, alloc, &log, left, ending)?;
-            } else {
-                gives(&rt, alloc, &log, left, ending)?;
-            }
-        }
-        log[place] = LOG[place];
-    }
-    Ok(())
-}
-
-/// The log of one batch, with a changed byte: its length is at the bytes 4 and 5.
-#[test]
-fn a_byte_of_one_batch_changed(rt: HostRuntime) -> Result<(), Fail> {
-    for place in 0..BATCH_LOG.len() {
-        for mask in [0x01, 0x03, 0x80] {
-            let mut log = BATCH_LOG;
-            log[place] = BATCH_LOG[place] ^ mask;
-            let ending = match (mask, place) {
-                (0x01, 5) | (0x03, 4 | 5) | (0x80, 4) => Ending::Torn(0),
-                (0x80, 5) => Ending::Fault(LogFault::BadLength, 0),
-                _ => Ending::Fault(LogFault::BadChecksum, 0),
-            };
-            is_left(&rt, rt.alloc(), &log, &[], ending)?;
-        }
-    }
-    Ok(())
+    let places = places(alloc, &case.arguments, last as u64)?;
+    let mut damaged = Damaged::new(alloc, log)?;
+    let mut rows = Rows::new(alloc, Digits::Decimal);
+    push_left(&mut rows, alloc, &mut damaged, (damage, &places))?;
+    Ok(rows.finish()?)
 }

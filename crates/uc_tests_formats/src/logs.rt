@@ -1,162 +1,109 @@
-//! Logs, from batches to bytes and back to writes.
-use crate::known::{BATCH, BATCH_LOG, FIRST, Payload, gives, is_left, is_refused, is_written};
-use std::alloc::Global;
-use std::process::Abort;
-use std::test::Fail;
-use uc_batch::{BatchError, fits_batch, write_batch};
-use uc_bytes::{Bytes, Op};
-use uc_logrec::{Ending, LogFault, crc32c, mask, unmask};
+//! Logs that are written, walked through and dumped.
+use crate::log_lines::{all_bytes, payloads_in, push_lines, written};
+use crate::reading::Reading;
+use crate::rows::{Digits, Rows};
+use crate::words::ended_words;
+use crate::write_ways::dumped;
+use std::alloc::{AllocError, Global};
+use std::fmt::Write;
+use testkit_data::{Case, CaseError};
+use uc_batch::Ended;
+use uc_logrec::{Next, next_payload, payload_bytes};
 
-/// Texts and their checksums; the last is the type of a record and its data.
-const CHECKSUMS: [(&[u8], u32); 4] = [
-    (b"123456789", 0xe306_9283),
-    (&[0; 32], 0x8a91_36aa),
-    (&[0xff; 32], 0x62a8_ab43),
-    (
-        b"\x01\x01\x00\x00\x00\x00\x00\x00\x00\x01\x00\x00\x00\x01\x01a\x011",
-        0xda88_bb7a,
-    ),
-];
-
-/// Checksums, and how they are stored.
-const MASKED: [(u32, u32); 2] = [(0xe306_9283, 0xc78a_b0e5), (0xda88_bb7a, 0x1978_9fe9)];
-
-#[test]
-fn checksums(rt: HostRuntime) {
-    for (text, checksum) in CHECKSUMS {
-        assert_eq!(rt; crc32c(text), checksum);
-    }
-    for (checksum, stored) in MASKED {
-        assert_eq!(rt; mask(checksum), stored);
-        assert_eq!(rt; unmask(stored), checksum);
-    }
-}
-
-#[test]
-fn a_batch_in_a_log(rt: HostRuntime) -> Result<(), Fail> {
-    let alloc = rt.alloc();
-    let key = Bytes::from_slice(alloc, b"a")?;
-    let ops = [Op::Put(key, Bytes::from_slice(alloc, b"1")?)];
-    assert!(rt; fits_batch(1, &ops));
-    let batch = write_batch(alloc, 1, &ops)?;
-    assert_eq!(rt; batch.as_slice(), BATCH.as_slice());
-    is_written(&rt, alloc, &[FIRST], &BATCH_LOG)
-}
-
-/// A part of a log, by a letter: `b` the log of a batch, `f` FIRST, `m` MIDDLE, `l` LAST and `u` FULL without
-/// data, `o` a record of the type 49 whose checksum fits, and a digit for a byte.
-fn part(letter: u8) -> &'static [u8] {
-    match letter {
-        b'b' => &BATCH_LOG,
-        b'f' => b"\x64\x51\xd0\xe9\x00\x00\x02",
-        b'm' => b"\x33\x6d\xcd\xe3\x00\x00\x03",
-        b'l' => b"\xa7\x16\x20\x2b\x00\x00\x04",
-        b'u' => b"\x05\x2b\x28\x43\x00\x00\x01",
-        b'o' => b"\xe5\xb0\x8a\xc7\x08\x00123456789",
-        b'0' => b"\x00",
-        _ => b"\x01",
-    }
-}
-
-/// The parts one after the other.
-fn log_of(alloc: Global, letters: &str) -> Result<Vec<u8>, Fail> {
+/// What a dump prints of the log of these lines, and the status that it ends with.
+pub fn dump(alloc: Global, case: &Case<'_>) -> Result<String, CaseError> {
     let mut log = Vec::new(alloc);
-    for letter in letters.as_bytes() {
-        log.extend_from_slice(part(*letter))?;
-    }
-    Ok(log)
+    push_lines(&mut log, alloc, &case.input)?;
+    let (printed, done) = dumped(alloc, &log);
+    let status = done.status();
+    let Ok(printed) = str::from_utf8(&printed) else {
+        return Err(CaseError::Said("a dump isn't text"));
+    };
+    Ok(format!(in alloc; "{printed}status {status}\n")?)
 }
 
-/// A log, by its parts, and how it ends.
-type Row = (&'static str, Ending);
+/// The line of a step through a log: the length of the payload at an offset, or how the log ends, and the offset
+/// behind it.
+fn step(alloc: Global, log: &[u8], offset: u64) -> Result<String, AllocError> {
+    let mut joined = Vec::from_slice(alloc, b"of an earlier log")?;
+    let (next, behind) = next_payload(log, offset, &mut joined)?;
+    let length = match next {
+        Next::Whole(payload) => payload.len(),
+        Next::Joined => joined.len(),
+        Next::Ended(ending) => {
+            let words = ended_words(alloc, Ended::from(ending))?;
+            return format!(in alloc; "{offset}: {words}, then {behind}\n");
+        }
+    };
+    format!(in alloc; "{offset}: {length} bytes, then {behind}\n")
+}
 
-/// Logs that hold no payload.
-const WITHOUT_PAYLOAD: [Row; 7] = [
-    ("", Ending::Clean),
-    ("f", Ending::Torn(0)),
-    ("l", Ending::Fault(LogFault::LastAlone, 0)),
-    ("m", Ending::Fault(LogFault::MiddleAlone, 0)),
-    ("fmu", Ending::Fault(LogFault::FullInside, 14)),
-    ("fmf", Ending::Fault(LogFault::FirstInside, 14)),
-    ("o", Ending::Fault(LogFault::UnsupportedType, 0)),
-];
+/// Steps through a log from given offsets.
+pub fn walk(alloc: Global, log: &[u8], case: &Case<'_>) -> Result<String, CaseError> {
+    let mut lines = String::new(alloc);
+    for offset in &case.arguments.numbers(alloc, "from")? {
+        lines.push_str(step(alloc, log, *offset)?.as_str())?;
+    }
+    Ok(lines)
+}
 
-/// Logs that hold one payload, which is empty.
-const EMPTY_PAYLOAD: [Row; 6] = [
-    ("u", Ending::Clean),
-    ("fu", Ending::Clean),
-    ("ffl", Ending::Clean),
-    ("fml", Ending::Clean),
-    ("um", Ending::Fault(LogFault::MiddleAlone, 7)),
-    ("uf0000000", Ending::Torn(7)),
-];
-
-/// Logs that hold one batch.
-const ONE_BATCH: [Row; 12] = [
-    ("b", Ending::Clean),
-    ("b0", Ending::Clean),
-    ("b00000", Ending::Clean),
-    ("b1", Ending::Torn(24)),
-    ("bf0000000", Ending::Torn(24)),
-    ("bo", Ending::Fault(LogFault::UnsupportedType, 24)),
-    ("bm", Ending::Fault(LogFault::MiddleAlone, 24)),
-    ("bl", Ending::Fault(LogFault::LastAlone, 24)),
-    ("bfmu", Ending::Fault(LogFault::FullInside, 38)),
-    ("bfmf", Ending::Fault(LogFault::FirstInside, 38)),
-    ("b0000001", Ending::Fault(LogFault::BadChecksum, 24)),
-    ("b0000000u", Ending::Fault(LogFault::BadChecksum, 24)),
-];
-
-/// Asserts what is left of a log, by its parts.
-fn stands(
-    rt: &impl Abort,
+/// Appends how many bytes a payload takes behind a log of each length.
+fn push_taken(
+    lines: &mut String,
     alloc: Global,
-    (letters, ending): Row,
-    left: &[Payload<'_>],
-) -> Result<(), Fail> {
-    let log = log_of(alloc, letters)?;
-    is_left(rt, alloc, &log, left, ending)
-}
-
-#[test]
-fn logs_without_payload(rt: HostRuntime) -> Result<(), Fail> {
-    for row in WITHOUT_PAYLOAD {
-        stands(&rt, rt.alloc(), row, &[])?;
+    payload: &[u8],
+    lengths: &[u64],
+) -> Result<(), AllocError> {
+    for length in lengths {
+        let taken = payload_bytes(alloc, *length, payload)?.len();
+        writeln!(lines, "{length}: {taken}")?;
     }
     Ok(())
 }
 
-/// A batch is read, whatever follows it.
-#[test]
-fn logs_of_one_batch(rt: HostRuntime) -> Result<(), Fail> {
-    for row in ONE_BATCH {
-        stands(&rt, rt.alloc(), row, &[FIRST])?;
+/// How many bytes a payload takes behind logs of given lengths.
+pub fn taken(alloc: Global, case: &Case<'_>) -> Result<String, CaseError> {
+    let lengths = case.arguments.numbers(alloc, "behind")?;
+    let payload = all_bytes(alloc, &case.input)?;
+    let mut lines = String::new(alloc);
+    push_taken(&mut lines, alloc, &payload, &lengths)?;
+    Ok(lines)
+}
+
+/// How many bytes a log has besides some, and what it holds.
+fn size_row(alloc: Global, log: &[u8], size: u64) -> Result<String, CaseError> {
+    let others = (log.len() as u64).saturating_sub(size);
+    let payloads = Reading::of(alloc, log)?.payloads.summary(alloc)?;
+    Ok(format!(in alloc; "{others} bytes more, {payloads}")?)
+}
+
+/// The row of a log whose first payload has this size.
+fn row_with(alloc: Global, payloads: &mut Vec<Vec<u8>>, size: u64) -> Result<String, CaseError> {
+    if let Some(first) = payloads.first_mut() {
+        *first = vec![in alloc; 0; size as usize]?;
+    }
+    size_row(alloc, &written(alloc, payloads)?, size)
+}
+
+/// Adds the row of each size.
+fn push_sizes(
+    rows: &mut Rows,
+    alloc: Global,
+    payloads: &mut Vec<Vec<u8>>,
+    (from, to): (u64, u64),
+) -> Result<(), CaseError> {
+    for size in from..to.saturating_add(1) {
+        rows.push(size, row_with(alloc, payloads, size)?)?;
     }
     Ok(())
 }
 
-/// A batch can't come a second time.
-#[test]
-fn a_batch_that_goes_back(rt: HostRuntime) -> Result<(), Fail> {
-    let log = log_of(rt.alloc(), "bb")?;
-    let refusal = (2, BatchError::SequenceBack(1), "sequence back 1");
-    is_refused(&rt, rt.alloc(), &log, &[FIRST], refusal)
-}
-
-/// An empty payload is too short for a batch: it is named before any later fault of the log, and before a
-/// torn end.
-#[test]
-fn payloads_that_are_no_batch(rt: HostRuntime) -> Result<(), Fail> {
-    let alloc = rt.alloc();
-    let empty = [Payload {
-        bytes: b"",
-        ..FIRST
-    }];
-    let short = (1, BatchError::TooShort, "too short");
-    for (letters, ending) in EMPTY_PAYLOAD {
-        let log = log_of(alloc, letters)?;
-        gives(&rt, alloc, &log, &empty, ending)?;
-        is_refused(&rt, alloc, &log, &[], short)?;
-    }
-    Ok(())
+/// How many bytes the log of payloads has besides the first one, whose size is each in turn, and what it holds.
+pub fn sizes(alloc: Global, case: &Case<'_>) -> Result<String, CaseError> {
+    let range = (case.arguments.number("from")?, case.arguments.number("to")?);
+    let mut payloads = payloads_in(alloc, &case.input)?;
+    payloads.insert(0, Vec::new(alloc))?;
+    let mut rows = Rows::new(alloc, Digits::Decimal);
+    push_sizes(&mut rows, alloc, &mut payloads, range)?;
+    Ok(rows.finish()?)
 }

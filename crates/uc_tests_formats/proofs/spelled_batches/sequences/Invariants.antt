@@ -1,4 +1,0 @@
-use Rattle.uc_tests_formats.proofs.spelled_batches.sequences.Given as goal
-
-abbrev pub decreases-loop-batches : goal.decreases-loop-batches
-decreases-loop-batches l = l.batches.left
