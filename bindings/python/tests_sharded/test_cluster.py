@@ -3,6 +3,7 @@
 SEED is the seed of what is drawn, WRITES how many writes each of two stores gets, and KILLS how many workers are killed.
 """
 
+import json
 import os
 import random
 import resource
@@ -13,13 +14,16 @@ import sys
 import tempfile
 import threading
 import unittest
+from contextlib import contextmanager
 from itertools import takewhile
 from pathlib import Path
+from unittest import mock
 
 import drawn
 import writer
 from cluster import Cluster
 from ucstore import Merge, NoStore, NotProtected, Operator, Put
+from ucstore._shard import sealed
 from ucstore.sharded import AnotherWriter, BadManifest, LogDamaged, NoWorkers, Scan, ShardedError, ShardedStore
 
 SEED = int(os.environ.get("SEED", "1"))
@@ -48,6 +52,16 @@ def limit_files(size):
     limits = resource.getrlimit(resource.RLIMIT_FSIZE)
     resource.setrlimit(resource.RLIMIT_FSIZE, (size, limits[1]))
     return limits
+
+
+@contextmanager
+def limited_files(size):
+    """Limits the files of this process, which only the sequencer's log comes to."""
+    limits = limit_files(size)
+    try:
+        yield
+    finally:
+        limit_files(limits[0])
 
 
 class OnCluster(unittest.TestCase):
@@ -147,6 +161,35 @@ class Calls(OnCluster):
             store.snapshot()
         self.assertEqual(self.rows(self.open()), {b"a": b"1"})
 
+    def test_wrong_arguments_are_refused_at_once(self):
+        store = self.create()
+        store.write([Put(b"a", b"1")])
+        with store.snapshot() as snapshot, mock.patch.object(store, "_ask", side_effect=AssertionError("a shard was asked")):
+            for error, call in (
+                (ValueError, lambda: snapshot.answers([b"a", Scan(limit=-1)])), (ValueError, lambda: snapshot.scan(limit=-1)),
+                (TypeError, lambda: snapshot.answers(["a"])), (TypeError, lambda: snapshot.answers([(b"a", b"b")])),
+                (TypeError, lambda: snapshot.answers([Scan("a")])), (TypeError, lambda: snapshot.scan(b"a", 7)),
+                (TypeError, lambda: snapshot.get("a")), (TypeError, lambda: snapshot.get(Scan())),
+                (TypeError, lambda: store.write([Put("a", b"1")])),
+            ):
+                with self.assertRaises(error):
+                    call()
+            store._snapshots.clear()
+
+    def test_an_error_of_a_shard_is_told_and_loses_no_worker(self):
+        store = self.create(patience=2.0)
+        store.write([Put(b"%d" % number, b"v") for number in range(100)])
+        futures = dict(store._futures)
+        with store.snapshot() as snapshot:
+            for error, method, argument in (
+                (ValueError, "answers", b"?"), (EOFError, "answers", b""), (AttributeError, "no such method", b""),
+            ):
+                with self.subTest(error=error), self.assertRaises(error):
+                    store._ask(method, {0: (argument, snapshot.sequence)})
+            self.assertEqual(snapshot.get(b"7"), b"v")
+        store.write([Put(b"7", b"w")])
+        self.assertEqual(store._futures, futures)
+
     def test_a_scan_has_many_pages(self):
         store = self.create()
         rows = {b"%06d" % number: b"v" * (number % 50) for number in range(9000)}
@@ -164,6 +207,28 @@ class Calls(OnCluster):
             ShardedStore.create(self.client, work / "other", 4, Operator.APPEND, splits=[b"a"])
         self.assertFalse((work / "other").exists())
 
+    def test_nothing_is_left_of_a_store_that_cant_be_opened(self):
+        with self.connect() as client:
+            cluster.kill_workers()
+            with self.assertRaises(NoWorkers):
+                self.create(client, patience=0.5)
+            self.assertFalse(self.folder.exists())
+            with self.with_library("/nowhere.so"), self.assertRaisesRegex(OSError, "/nowhere.so"):
+                self.create(client)
+            self.assertFalse(self.folder.exists())
+            cluster.fill()
+            cluster.wait(client)
+            self.create(client)
+
+    @contextmanager
+    def with_library(self, path):
+        """Has workers without the library."""
+        with mock.patch.dict(os.environ, {"UCSTORE_LIBRARY": path}):
+            cluster.fill()
+        cluster.wait(self.client)
+        yield
+        cluster.kill_workers()
+
 
 class Refused(OnCluster):
     def test_damage_names_its_shard_and_file(self):
@@ -176,22 +241,45 @@ class Refused(OnCluster):
             with self.assertRaisesRegex(LogDamaged, f"shard 2: {path} can be read up to byte 0 of the {len(log)} "):
                 self.open()
         path.write_bytes(log + b"torn")
-        self.assertEqual(len(self.rows(self.open())), 100)
-        self.assertEqual(path.read_bytes(), log)
+        with self.open() as store:
+            self.assertEqual(len(self.rows(store)), 100)
+            store.write([Put(b"%d" % number, b"w") for number in range(100)])
+        self.assertTrue(path.read_bytes().startswith(log) and b"torn" not in path.read_bytes())
+        self.assertEqual(self.rows(self.open()), {b"%d" % number: b"w" for number in range(100)})
+
+    def test_a_lost_acknowledgement_is_no_crash(self):
+        path = self.folder / "sequencer.log"
+        with self.create() as store:
+            for number in range(3):
+                store.write([Put(b"%d" % key, b"%d" % number) for key in range(100)])
+        log, shards = path.read_bytes(), {shard: shard.read_bytes() for shard in self.folder.glob("shard-*.log")}
+        size = len(log) // 4
+        for damaged, wrong in (
+            (log[:-1] + bytes([log[-1] ^ 1]), f"sequencer.log is damaged at byte {3 * size}"),
+            (log[:2 * size], "a batch from sequence 201 on: 200 was acknowledged, and sequencer.log ends at 100"),
+            (log[:2 * size + 5], "a batch from sequence 201 on: 200 was acknowledged, and sequencer.log ends at 100"),
+        ):
+            path.write_bytes(damaged)
+            with self.subTest(wrong=wrong), self.assertRaisesRegex(LogDamaged, wrong):
+                self.open()
+            self.assertEqual({shard: shard.read_bytes() for shard in shards}, shards)
+        path.write_bytes(log)
+        self.assertEqual(self.rows(self.open()), {b"%d" % key: b"2" for key in range(100)})
 
     def test_a_manifest_of_another_shape(self):
         self.create().close()
         path = self.folder / "manifest.json"
-        text = path.read_text()
-        for old, new, wrong in (
-            ('"shards": 4', '"shards": 5', "shard-4.log isn't there"),
-            ('"shards": 4', '"shards": 3', None),
-            ('"format": 1', '"format": 2', "its format is 2"),
-            ("crc32", "sha1", "neither by crc32 nor by split points"),
+        shape = json.loads(path.read_text())
+        shape.pop("sha256")
+        for changes, wrong in (
+            ({"shards": 5}, "shard-4.log isn't there"),
+            ({"shards": 3}, None),
+            ({"format": 3}, "its format is 3"),
+            ({"placement": "sha1"}, "neither by crc32 nor by split points"),
         ):
-            path.write_text(text.replace(old, new))
+            path.write_bytes(sealed({**shape, **changes}))
             refused = (BadManifest, wrong) if wrong else (LogDamaged, "sequencer.log is damaged at byte 0")
-            with self.subTest(new=new), self.assertRaisesRegex(*refused):
+            with self.subTest(changes=changes), self.assertRaisesRegex(*refused):
                 self.open()
 
 
@@ -234,6 +322,23 @@ class Killed(OnCluster):
         store.write([Put(b"0", b"3")])
         store.close()
         self.assertEqual(self.rows(self.open()), {**dict(first), b"0": b"3"})
+
+    def test_a_full_device_of_the_sequencer_closes_the_store(self):
+        batch = [Put(b"%d" % number, b"1") for number in range(100)]
+        for room in (0, 5):
+            with self.subTest(room=room):
+                store = self.open() if room else self.create()
+                store.write(batch)
+                snapshot = store.snapshot()
+                size = (self.folder / "sequencer.log").stat().st_size
+                with limited_files(size + room), self.assertRaisesRegex(OSError, "File too large"):
+                    store.write([Put(b"0", b"2")])
+                for call in (lambda: store.last, store.snapshot, store.report, lambda: store.write(batch), snapshot.scan):
+                    with self.assertRaisesRegex(NoStore, "the store is closed"):
+                        call()
+                store.close()
+                with self.open(self.connect(), patience=10.0) as again:
+                    self.assertEqual(self.rows(again), {put.key: put.value for put in batch})
 
     def test_a_writer_is_killed(self):
         self.create().close()
@@ -289,8 +394,34 @@ class Writers(OnCluster):
         store.close()
         self.assertEqual(self.rows(self.open(client)), {b"a": b"1"})
 
+    def test_a_writer_with_another_path_or_scheduler_is_refused(self):
+        store = self.create()
+        store.write([Put(b"a", b"1")])
+        link = work / "link"
+        link.symlink_to(self.folder)
+        self.addCleanup(link.unlink)
+        folder = work / "other scheduler"
+        folder.mkdir()
+        other = Cluster(folder, 1, SEED)
+        self.addCleanup(other.close)
+        other.start()
+        with other.client() as client:
+            other.wait(client)
+            for which, path in (
+                (self.client, link), (self.client, self.folder / ".." / self.folder.name), (client, self.folder), (client, link),
+            ):
+                with self.assertRaisesRegex(AnotherWriter, f"another writer has {path} open"):
+                    ShardedStore.open(which, path, patience=0.3)
+                store.write([Merge(b"a", b"2")])
+            self.assertEqual(self.rows(store), {b"a": b"1,2,2,2,2"})
+            store.close()
+            with ShardedStore.open(client, link, patience=10.0) as store:
+                self.assertEqual(self.rows(store), {b"a": b"1,2,2,2,2"})
+
     def test_a_writer_that_was_thought_dead_writes_no_more(self):
         old = self.create(patience=1.0)
+        # As on another machine, whose file system has no locks that both see.
+        old._claim.release()
         old.write([Put(b"a", b"1")])
         snapshot = old.snapshot()
         # A scheduler that is started again knows nothing of the first writer, nor do its workers.

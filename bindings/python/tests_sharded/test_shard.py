@@ -1,19 +1,30 @@
 """A shard, the sequencer's log and the manifest, without Dask."""
 
 import errno
+import importlib.metadata
+import json
+import os
 import random
+import resource
 import shutil
+import signal
+import struct
+import subprocess
+import sys
 import tempfile
 import unittest
 import uuid
+from contextlib import contextmanager, suppress
 from pathlib import Path
 from unittest import mock
 
 import drawn
 from ucstore import Delete, DeleteRange, Merge, Operator, Options, Put, Store, batch_bytes
 from ucstore._shard import (
-    AnotherWriter, BadManifest, LogDamaged, Manifest, Sequencer, Shard, ShardedError, Writer, batch_of, dumps, packed,
+    AnotherWriter, BadManifest, Claim, LogDamaged, Manifest, Refusal, Sequencer, Shard, ShardedError, Writer, batch_of, dumps,
+    last_numbers, packed, sealed, unsealed,
 )
+from ucstore.sharded import Scan
 
 
 def part(*operations):
@@ -28,6 +39,39 @@ def new_epoch(folder):
     return epoch
 
 
+def make(manifest, folder):
+    """Makes the files of an empty store, which no writer has then."""
+    with manifest.created(folder) as claim:
+        claim.release()
+
+
+def flips(text):
+    """The text with each of its bits flipped in turn, and the place of the bit's byte."""
+    for place in range(len(text)):
+        for bit in range(8):
+            yield place, text[:place] + bytes([text[place] ^ 1 << bit]) + text[place + 1:]
+
+
+@contextmanager
+def files_of_at_most(size):
+    """Lets no file of this process grow above so many bytes, as if its device were full."""
+    soft, hard = resource.getrlimit(resource.RLIMIT_FSIZE)
+    handler = signal.signal(signal.SIGXFSZ, signal.SIG_IGN)
+    resource.setrlimit(resource.RLIMIT_FSIZE, (size, hard))
+    try:
+        yield
+    finally:
+        resource.setrlimit(resource.RLIMIT_FSIZE, (soft, hard))
+        signal.signal(signal.SIGXFSZ, handler)
+
+
+def can_build():
+    """Whether there is a setuptools that reads pyproject.toml."""
+    with suppress(importlib.metadata.PackageNotFoundError):
+        return int(importlib.metadata.version("setuptools").partition(".")[0]) >= 61
+    return False
+
+
 class Folder(unittest.TestCase):
     """Tests in an empty folder."""
 
@@ -38,12 +82,12 @@ class Folder(unittest.TestCase):
 
 class Manifests(Folder):
     def shape(self, **changes):
-        shape = {"format": 1, "shards": 3, "placement": "crc32", "operator": "TAIL", "options": Options()._asdict()}
+        shape = {"format": 2, "shards": 3, "placement": "crc32", "operator": "TAIL", "options": Options()._asdict()}
         return {**shape, **changes}
 
     def test_each_wrong_shape_is_named(self):
         for wrong, changes in (
-            ("its format is 2", {"format": 2}),
+            ("its format is 3, and only 2 is known", {"format": 3}),
             ("0 isn't a number of shards", {"shards": 0}),
             ("'3' isn't a number of shards", {"shards": "3"}),
             ("there is no operator 'SUM'", {"operator": "SUM"}),
@@ -66,11 +110,11 @@ class Manifests(Folder):
 
     def test_a_file_that_is_missing_or_wrong_is_named(self):
         manifest = Manifest(2, (b"m",), Operator.APPEND, Options(trigger=9))
-        manifest.create(self.folder)
+        make(manifest, self.folder)
         self.assertEqual(Manifest.read(self.folder), manifest)
         with self.assertRaisesRegex(BadManifest, "isn't empty"):
-            manifest.create(self.folder)
-        for name in ("shard-1.log", "epoch", "sequencer.log"):
+            make(manifest, self.folder)
+        for name in ("shard-1.log", "epoch", "sequencer.log", "lock"):
             (self.folder / name).rename(self.folder / "moved")
             with self.assertRaisesRegex(BadManifest, f"manifest.json is refused: .*{name} isn't there"):
                 Manifest.read(self.folder)
@@ -81,6 +125,73 @@ class Manifests(Folder):
         (self.folder / "manifest.json").unlink()
         with self.assertRaisesRegex(BadManifest, "manifest.json is refused: .*No such file"):
             Manifest.read(self.folder)
+
+    def test_each_flipped_bit_is_refused(self):
+        make(Manifest(3, (b"key-3", b"key-6"), Operator.APPEND, Options()), self.folder)
+        path = self.folder / "manifest.json"
+        for place, text in flips(path.read_bytes()):
+            with self.subTest(place=place), self.assertRaises((BadManifest, ValueError)):
+                unsealed(text)
+        path.write_bytes(path.read_bytes().replace(b"6b65792d33", b"6b65792d32"))
+        with self.assertRaisesRegex(BadManifest, f"^{path} is refused: it doesn't have its checksum"):
+            Manifest.read(self.folder)
+
+    def test_a_text_of_another_format_or_without_a_checksum_is_refused(self):
+        make(Manifest(3, None, Operator.TAIL, Options()), self.folder)
+        path, shape = self.folder / "manifest.json", self.shape()
+        for text, wrong in (
+            (json.dumps({**shape, "format": 1}), "its format is 1, and only 2 is known"),
+            (sealed({**shape, "format": 3}).decode(), "its format is 3, and only 2 is known"),
+            (json.dumps(shape), "it doesn't have its checksum"),
+            (sealed(shape).decode().replace('"shards": 3', '"shards": 2'), "it doesn't have its checksum"),
+            ("[]", "it isn't an object"),
+        ):
+            path.write_text(text)
+            with self.subTest(wrong=wrong), self.assertRaisesRegex(BadManifest, f"^{path} is refused: {wrong}"):
+                Manifest.read(self.folder)
+        path.write_bytes(sealed(shape))
+        self.assertEqual(Manifest.read(self.folder).shards, 3)
+
+    def test_wrong_arguments_are_named(self):
+        folder = self.folder / "store"
+        for wrong, arguments in (
+            ("an operator is one like Operator.APPEND, not 'APPEND'", (2, None, "APPEND", Options())),
+            ("an operator is one like Operator.APPEND, not 0", (2, None, 0, Options())),
+            ("options are Options, not None", (2, None, Operator.TAIL, None)),
+            ("a split point is bytes, not 'm'", (2, ("m",), Operator.TAIL, Options())),
+            ("a split point is bytes, not 109", (2, tuple(b"m"), Operator.TAIL, Options())),
+        ):
+            with self.subTest(wrong=wrong), self.assertRaisesRegex(TypeError, wrong):
+                make(Manifest(*arguments), folder)
+            self.assertFalse(folder.exists())
+
+    def test_what_was_made_is_removed_upon_an_error(self):
+        manifest, outer = Manifest(2, None, Operator.APPEND, Options()), self.folder / "outer"
+        with self.assertRaises(KeyboardInterrupt), manifest.created(outer / "inner"):
+            self.assertEqual(Manifest.read(outer / "inner"), manifest)
+            raise KeyboardInterrupt
+        self.assertFalse(outer.exists())
+        with self.assertRaises(OSError), mock.patch("os.replace", side_effect=OSError(errno.ENOSPC, "no space")):
+            make(manifest, outer)
+        self.assertFalse(outer.exists())
+        with self.assertRaises(OSError), mock.patch("fcntl.flock", side_effect=OSError(errno.ENOLCK, "no locks")):
+            make(manifest, outer)
+        self.assertFalse(outer.exists())
+        # A folder that was there stays, and so do files that others made.
+        with self.assertRaises(KeyError), manifest.created(self.folder):
+            raise KeyError
+        self.assertEqual(list(self.folder.iterdir()), [])
+        (self.folder / "theirs").touch()
+        with self.assertRaisesRegex(BadManifest, "isn't empty"):
+            make(manifest, self.folder)
+        self.assertEqual([path.name for path in self.folder.iterdir()], ["theirs"])
+
+    def test_what_another_machine_has_opened_stays(self):
+        manifest, folder = Manifest(2, None, Operator.APPEND, Options()), self.folder / "store"
+        with self.assertRaises(AnotherWriter), manifest.created(folder):
+            new_epoch(folder)
+            raise AnotherWriter
+        self.assertEqual(Manifest.read(folder), manifest)
 
     def test_a_key_has_its_place(self):
         by_hash = Manifest(4, None, Operator.APPEND, Options())
@@ -118,7 +229,7 @@ class Sequencers(Folder):
     def setUp(self):
         super().setUp()
         self.manifest = Manifest(2, None, Operator.APPEND, Options())
-        self.manifest.create(self.folder)
+        make(self.manifest, self.folder)
         self.path = self.folder / "sequencer.log"
         self.epoch = new_epoch(self.folder)
 
@@ -138,15 +249,45 @@ class Sequencers(Folder):
             self.path.write_bytes(text[:len(text) - cut])
             found = self.opened()
             self.assertEqual((found.last, found.lengths), (5, [0, 70]) if cut else (9, [40, 70]))
-        self.path.write_bytes(text[:-1] + b"\0")
+        # A file may have got its length, but not what is in it.
+        self.path.write_bytes(text[:-size] + bytes(size))
         self.assertEqual(self.opened().last, 5)
-        for place in range(2 * size):
-            self.path.write_bytes(text[:place] + bytes([text[place] ^ 1]) + text[place + 1:])
+        for place, damaged in flips(text):
+            self.path.write_bytes(damaged)
             with self.assertRaisesRegex(LogDamaged, f"sequencer.log is damaged at byte {place // size * size}"):
+                last_numbers(self.path, 3)
+        for damaged in (bytes(size), text[:size - 1], text[:size] + bytes(size + 1), text[:size] + bytes(2 * size)):
+            self.path.write_bytes(damaged)
+            with self.assertRaisesRegex(LogDamaged, "sequencer.log is damaged at byte"):
                 self.opened()
         self.path.write_bytes(b"")
         with self.assertRaisesRegex(LogDamaged, "damaged at byte 0"):
             self.opened()
+
+    def test_a_full_device_acknowledges_nothing(self):
+        sequencer = self.opened()
+        sequencer.append(5, {1: 70})
+        size = self.path.stat().st_size
+        for room in (0, 1, 27):
+            with self.subTest(room=room):
+                with files_of_at_most(size + room), self.assertRaises(OSError):
+                    sequencer.append(9, {0: 40})
+                self.assertEqual((sequencer.last, sequencer.lengths), (5, [0, 70]))
+                # There is room again, but nothing is written at the end.
+                sequencer.close()
+                self.assertEqual(self.path.stat().st_size, size + room)
+                sequencer = self.opened()
+                self.assertEqual((sequencer.last, sequencer.lengths), (5, [0, 70]))
+                size = self.path.stat().st_size
+
+    def test_a_device_that_fails_acknowledges_nothing(self):
+        for call in ("os.fsync", "ucstore._shard.Writer.check"):
+            sequencer = self.opened()
+            before = sequencer.last, sequencer.lengths
+            with mock.patch(call, side_effect=OSError(errno.EIO, "broken")), self.assertRaisesRegex(OSError, "broken"):
+                sequencer.append(before[0] + 1, {0: 40})
+            self.assertEqual((sequencer.last, sequencer.lengths), before)
+            sequencer.close()
 
     def test_an_older_writer_acknowledges_nothing(self):
         old = self.opened()
@@ -160,16 +301,93 @@ class Sequencers(Folder):
         self.assertEqual((found.last, found.lengths), (7, [0, 90]))
 
 
+class Claims(Folder):
+    """A program that is another writer says that it has the folder, and waits to be killed."""
+
+    other = """
+import sys, time
+from pathlib import Path
+from ucstore._shard import Claim
+claim = Claim(Path(sys.argv[1]), 0)
+print(flush=True)
+time.sleep(100)
+"""
+
+    def setUp(self):
+        super().setUp()
+        self.store = self.folder / "store"
+        make(Manifest(2, None, Operator.APPEND, Options()), self.store)
+
+    def test_one_writer_has_a_folder_by_whatever_name(self):
+        claim = Claim(self.store, 0)
+        (self.folder / "link").symlink_to(self.store)
+        for path in (self.store, self.folder / "link", self.store / ".." / "store"):
+            with self.subTest(path=path), self.assertRaisesRegex(AnotherWriter, "another writer has .* open"):
+                Claim(path, 0)
+        claim.release()
+        claim.release()
+        Claim(self.folder / "link", 0).release()
+
+    def test_a_process_that_is_killed_has_nothing(self):
+        with subprocess.Popen([sys.executable, "-c", self.other, str(self.store)], stdout=subprocess.PIPE) as process:
+            process.stdout.readline()
+            with self.assertRaises(AnotherWriter):
+                Claim(self.store, 0)
+            process.kill()
+        Claim(self.store, 0).release()
+
+    def test_a_forked_child_neither_ends_nor_keeps_a_claim(self):
+        claim = Claim(self.store, 0)
+        told, tell = os.pipe()
+        child = os.fork()
+        if child == 0:
+            os.close(tell)
+            os.read(told, 1)
+            claim.release()
+            os.read(told, 1)
+            os._exit(0)
+        os.close(told)
+        os.write(tell, b"release")
+        with self.assertRaises(AnotherWriter):
+            Claim(self.store, 0.2)
+        claim.release()
+        Claim(self.store, 0).release()
+        os.close(tell)
+        os.waitpid(child, 0)
+
+    def test_the_lock_of_a_file_that_was_removed_is_none(self):
+        """The store's creator fails, and removes its files, while another waits for the lock."""
+        lock = self.store / "lock"
+
+        def replaced(*_):
+            lock.rename(self.store / "old")
+            lock.touch()
+            return True
+
+        def removed(*_):
+            lock.unlink()
+            return True
+
+        for meanwhile, refusal in ((replaced, AnotherWriter), (removed, FileNotFoundError)):
+            with mock.patch("ucstore._shard.locked", meanwhile), self.assertRaises(refusal):
+                Claim(self.store, 0)
+
+    def test_a_folder_that_is_no_store_is_left_as_it_is(self):
+        with self.assertRaises(FileNotFoundError):
+            Claim(self.folder, 0)
+        self.assertEqual([path.name for path in self.folder.iterdir()], ["store"])
+
+
 class Shards(Folder):
     def setUp(self):
         super().setUp()
-        Manifest(4, None, Operator.APPEND, drawn.OPTIONS).create(self.folder)
+        make(Manifest(4, None, Operator.APPEND, drawn.OPTIONS), self.folder)
         self.path = self.folder / "shard-3.log"
         self.epoch = new_epoch(self.folder)
 
-    def opened(self, length=0, keeps=(), options=drawn.OPTIONS):
+    def opened(self, length=0, keeps=(), options=drawn.OPTIONS, last=1000):
         manifest = Manifest(4, None, Operator.APPEND, options)
-        return Shard.start(Writer(self.folder, manifest, self.epoch, True, 0.1), 3, length, keeps)
+        return Shard.start(Writer(self.folder, manifest, self.epoch, True, 0.1), 3, length, last, keeps)
 
     def test_a_log_is_cut_at_each_of_its_last_hundred_bytes(self):
         shard = self.opened()
@@ -181,7 +399,7 @@ class Shards(Folder):
         self.assertGreater(len(log) - acknowledged, 100)
         for cut in range(101):
             self.path.write_bytes(log[:len(log) - cut])
-            shard = self.opened(acknowledged)
+            shard = self.opened(acknowledged, last=9)
             self.assertEqual(shard.get_last(b"a"), b"1" * 80 + b"," + b"3" * 30)
             self.assertEqual(shard.last, 5)
             self.assertEqual(shard.apply(acknowledged, 10, part(Put(b"a", b"6"))), self.path.stat().st_size)
@@ -219,9 +437,63 @@ class Shards(Folder):
         # The error is kept, and with it the shard.
         with full, self.assertRaisesRegex(ShardedError, f"shard 3: {self.path}: no space") as raised:
             shard.apply(length, 2, part(Put(b"a", b"2")))
-        self.assertEqual(self.opened(length).get_last(b"a"), b"1")
-        self.assertEqual(self.path.stat().st_size, length)
+        shard = self.opened(length)
+        self.assertEqual(shard.get_last(b"a"), b"1")
+        self.assertGreater(self.path.stat().st_size, length)
+        self.assertEqual(shard.apply(length, 2, part(Put(b"a", b"3"))), self.path.stat().st_size)
         del raised
+
+    def test_a_batch_behind_one_that_isnt_acknowledged_is_damage(self):
+        shard = self.opened()
+        first = shard.apply(0, 1, part(Put(b"a", b"1"), Put(b"b", b"2")))
+        second = shard.apply(first, 5, part(Put(b"a", b"3")))
+        shard.apply(second, 9, part(Put(b"a", b"4")))
+        del shard
+        log = self.path.read_bytes()
+        for length, last, begun in ((0, 0, 5), (first, 4, 9), (first, 3, 5), (second, 7, 9)):
+            lost = f"shard 3: .* a batch from sequence {begun} on: {begun - 1} was acknowledged, and .* ends at {last}$"
+            with self.subTest(length=length), self.assertRaisesRegex(LogDamaged, lost):
+                self.opened(length, last=last)
+            self.assertEqual(self.path.read_bytes(), log)
+        # One batch may be under way when a writer ends.
+        self.assertEqual(self.opened(second, last=8).get_last(b"a"), b"3")
+        self.path.write_bytes(log[:-1])
+        self.assertEqual(self.opened(first, last=4).get_last(b"a"), b"1")
+        # An older one that failed stays in a log that no later batch touched.
+        self.assertEqual(self.opened(first, last=20).get_last(b"a"), b"1")
+
+    def test_a_log_is_cut_by_the_first_batch(self):
+        shard = self.opened()
+        length = shard.apply(0, 1, part(Put(b"a", b"1")))
+        shard.apply(length, 2, part(Put(b"a", b"2" * 1000)))
+        del shard
+        log = self.path.read_bytes()
+        shard = self.opened(length)
+        self.assertEqual(self.path.read_bytes(), log)
+        end = shard.apply(length, 2, part(Put(b"a", b"3")))
+        self.assertEqual(self.path.stat().st_size, end)
+        del shard
+        self.assertEqual(self.opened(end).get_last(b"a"), b"3")
+
+    def test_an_error_of_a_call_is_its_answer(self):
+        shard = self.opened()
+        length = shard.call("apply", 0, 1, part(Put(b"a", b"1")))
+        at = shard.call("keep")
+        wrong_limit, wrong_text = dumps([(0, (b"", None, -1))]), dumps([(0, ("a", None, 1))])
+        for kind, call in (
+            (ValueError, ("answers", wrong_limit, at)), (TypeError, ("answers", wrong_text, at)),
+            (struct.error, ("apply", length, -1, part(Put(b"a", b"2")))), (LookupError, ("release", at + 1)),
+        ):
+            answer = shard.call(*call)
+            self.assertIsInstance(answer, Refusal)
+            with self.subTest(kind=kind), self.assertRaises(kind):
+                raise answer.error.with_traceback(None)
+            answer = shard.call(*call)
+        self.assertEqual(shard.get_last(b"a"), b"1")
+        # The error is kept, but neither the shard nor its log's lock.
+        del shard
+        self.assertIsNone(answer.error.__traceback__)
+        self.opened(length)
 
     def test_one_process_has_the_log_open(self):
         shard = self.opened()
@@ -279,6 +551,29 @@ class Shards(Folder):
             self.assertEqual(shard.report().snapshots, 0)
             single.close()
             del shard
+
+
+class Queries(unittest.TestCase):
+    def test_wrong_ones_are_refused(self):
+        for error, wrong, query in (
+            (ValueError, "from 0 to", Scan(limit=-1)), (ValueError, "from 0 to", Scan(limit=1 << 70)),
+            (TypeError, "float", Scan(limit=1.5)), (TypeError, "str", Scan(limit="1")),
+            (TypeError, "a text is bytes, not str", Scan("a")), (TypeError, "a text is bytes, not int", Scan(b"", 7)),
+        ):
+            with self.subTest(query=query), self.assertRaisesRegex(error, wrong):
+                query._checked()
+        for query in (Scan(), Scan(b"a", b"b", 0), Scan(b"a", None, 1 << 40)):
+            self.assertEqual(query._checked(), query)
+
+
+class Package(Folder):
+    @unittest.skipUnless(can_build(), "there is no setuptools that reads pyproject.toml")
+    def test_what_is_installed_has_types(self):
+        source, built = self.folder / "source", self.folder / "built"
+        shutil.copytree(Path(__file__).resolve().parents[1], source)
+        command = [sys.executable, "-c", "import setuptools; setuptools.setup()", "--quiet", "build", "--build-lib", str(built)]
+        subprocess.run(command, cwd=source, check=True, stderr=subprocess.DEVNULL)
+        self.assertTrue((built / "ucstore" / "py.typed").exists())
 
 
 if __name__ == "__main__":

@@ -8,11 +8,13 @@ import marshal
 import os
 import struct
 import time
+import uuid
 import weakref
 from bisect import bisect_left, bisect_right
 from collections import Counter, defaultdict
 from contextlib import contextmanager, suppress
 from functools import lru_cache
+from hashlib import sha256
 from itertools import chain, groupby, islice
 from pathlib import Path
 from typing import Any, BinaryIO, Callable, Iterator, Mapping, NamedTuple, Sequence
@@ -20,6 +22,9 @@ from zlib import crc32
 
 from . import _TAGS, Delete, DeleteRange, End, Operation, Operator, Options, Store
 from . import TooManyRuns, UcstoreError, batch_bytes, log_writes
+
+# The format of a store's files. It grows when they change their meaning.
+FORMAT = 2
 
 # How many rows a page of a scan has at most, and from how many bytes on it is full.
 PAGE_ROWS, PAGE_BYTES = 1000, 1 << 20
@@ -72,9 +77,21 @@ def polls(patience: float) -> Iterator[None]:
         yield
 
 
+def locked(file: BinaryIO, patience: float) -> bool:
+    """Whether this process got a file's lock within so many seconds."""
+    for _ in polls(patience):
+        with suppress(BlockingIOError):
+            fcntl.flock(file, fcntl.LOCK_EX | fcntl.LOCK_NB)
+            return True
+    return False
+
+
 def append(file: BinaryIO, text: bytes, sync: bool = True) -> None:
     """Writes to a file, and waits for its device."""
-    file.write(text)
+    rest = memoryview(text)
+    # A file without a buffer may take a part.
+    while rest:
+        rest = rest[file.write(rest) :]
     file.flush()
     if sync:
         os.fsync(file.fileno())
@@ -83,9 +100,10 @@ def append(file: BinaryIO, text: bytes, sync: bool = True) -> None:
 def replace(path: Path, text: bytes) -> None:
     """Writes a file, so that a crash leaves the old one or the new one."""
     new = path.with_suffix(".new")
-    with open(new, "wb") as file:
-        append(file, text)
-    os.replace(new, path)
+    with undoing(new.unlink, True):
+        with open(new, "wb") as file:
+            append(file, text)
+        os.replace(new, path)
     folder = os.open(path.parent, os.O_RDONLY)
     os.fsync(folder)
     os.close(folder)
@@ -129,6 +147,66 @@ def batch_of(part: bytes, first: int) -> bytes:
     return struct.pack("<QI", first, count) + b"".join(bodies)
 
 
+def _remove_folders(folders: Sequence[Path]) -> None:
+    """Removes folders that are empty. The inner ones come first."""
+    for folder in folders:
+        with suppress(OSError):
+            folder.rmdir()
+
+
+def _checksum(shape: Mapping[str, Any]) -> str:
+    """The checksum of all that JSON says, however it is laid out."""
+    return sha256(json.dumps(shape, sort_keys=True).encode()).hexdigest()
+
+
+def sealed(shape: Mapping[str, Any]) -> bytes:
+    """The text of a manifest's file: JSON with a checksum of all that it says."""
+    return json.dumps({**shape, "sha256": _checksum(shape)}, indent=1).encode()
+
+
+def unsealed(text: bytes) -> dict[str, Any]:
+    """What a manifest's file says. Raises `BadManifest` and `ValueError` if it was changed."""
+    shape = json.loads(text)
+    if not isinstance(shape, dict):
+        raise BadManifest("it isn't an object")
+    if shape.get("format") != FORMAT:
+        raise BadManifest(f"its format is {shape.get('format')!r}, and only {FORMAT} is known")
+    if shape.pop("sha256", None) != _checksum(shape):
+        raise BadManifest("it doesn't have its checksum: it is damaged, or was changed")
+    return shape
+
+
+class Claim:
+    """What the one writer of a folder has: the lock of a file in it, and a name for its epoch."""
+
+    def __init__(self, folder: Path, patience: float) -> None:
+        """Waits for the lock, so many seconds. Raises `AnotherWriter` and `OSError`."""
+        self.epoch, path = uuid.uuid4().hex, folder / "lock"
+        self._process, self._file = os.getpid(), open(path, "r+b")
+        with undoing(self._file.close):
+            is_mine = locked(self._file, patience)
+            # Its creator may have removed the file meanwhile, and another may have made a new one.
+            if not (is_mine and os.path.samestat(os.fstat(self._file.fileno()), path.stat())):
+                raise AnotherWriter(f"another writer has {folder} open")
+
+    @classmethod
+    def create(cls, folder: Path) -> Claim:
+        """Makes the file. Of those who try at once, one does. The others raise `BadManifest`."""
+        lock = folder / "lock"
+        with refusing(BadManifest, f"{folder} isn't empty", FileExistsError):
+            lock.touch(exist_ok=False)
+        with undoing(lock.unlink, True):
+            return cls(folder, 0)
+
+    def release(self) -> None:
+        """Lets others have the folder. A second call does nothing."""
+        # A forked child shares the lock: it doesn't end it, and ending it here ends it there too.
+        if not self._file.closed and self._process == os.getpid():
+            with suppress(OSError):
+                fcntl.flock(self._file, fcntl.LOCK_UN)
+        self._file.close()
+
+
 class Manifest(NamedTuple):
     """How many shards there are, between which keys if not by hash, and how they are opened."""
 
@@ -137,20 +215,55 @@ class Manifest(NamedTuple):
     operator: Operator
     options: Options
 
-    def create(self, folder: Path) -> None:
-        """Makes the files of an empty store. Raises `BadManifest` if there are any files."""
+    @contextmanager
+    def created(self, folder: Path) -> Iterator[Claim]:
+        """Makes the files of an empty store, and removes them upon an error of the `with` block.
+
+        Raises `BadManifest` if there are any files, and `TypeError` if the manifest has no text.
+        """
+        self.of(self._shape())
+        missing = [path for path in (folder, *folder.parents) if not path.exists()]
+        with undoing(_remove_folders, missing):
+            folder.mkdir(parents=True, exist_ok=True)
+            if any(folder.iterdir()):
+                raise BadManifest(f"{folder} isn't empty")
+            claim = Claim.create(folder)
+            with undoing(claim.release), undoing(self._remove_files, folder, claim):
+                self._make_files(folder)
+                yield claim
+
+    def _shape(self) -> dict[str, Any]:
+        """The manifest as JSON spells it. Raises `TypeError` for what it can't spell."""
+        if not isinstance(self.operator, Operator):
+            raise TypeError(f"an operator is one like Operator.APPEND, not {self.operator!r}")
+        if not isinstance(self.options, Options):
+            raise TypeError(f"options are Options, not {self.options!r}")
+        for split in self.splits or ():
+            if not isinstance(split, bytes):
+                raise TypeError(f"a split point is bytes, not {split!r}")
         placement = "crc32" if self.splits is None else [split.hex() for split in self.splits]
-        shape = {"format": 1, "shards": self.shards, "placement": placement}
-        shape.update(operator=self.operator.name, options=self.options._asdict())
-        self.of(shape)
-        folder.mkdir(parents=True, exist_ok=True)
-        if any(folder.iterdir()):
-            raise BadManifest(f"{folder} isn't empty")
+        shape = {"format": FORMAT, "shards": self.shards, "placement": placement}
+        return {**shape, "operator": self.operator.name, "options": self.options._asdict()}
+
+    def _files(self) -> list[str]:
+        """The names of a store's files. Without the first one there is no store."""
+        logs = (f"shard-{number}.log" for number in range(self.shards))
+        return ["manifest.json", "lock", "epoch", "sequencer.log", *logs]
+
+    def _make_files(self, folder: Path) -> None:
         for number in range(self.shards):
             (folder / f"shard-{number}.log").touch()
         replace(folder / "sequencer.log", _record([0] * (self.shards + 1)))
         replace(folder / "epoch", b"")
-        replace(folder / "manifest.json", json.dumps(shape, indent=1).encode())
+        replace(folder / "manifest.json", sealed(self._shape()))
+
+    def _remove_files(self, folder: Path, claim: Claim) -> None:
+        """Removes the files that were made, unless a writer of another machine has them."""
+        with suppress(OSError):
+            epoch = folder / "epoch"
+            if not epoch.exists() or epoch.read_text() in ("", claim.epoch):
+                for name in self._files():
+                    (folder / name).unlink(True)
 
     @classmethod
     def of(cls, shape: Any) -> Manifest:
@@ -159,8 +272,8 @@ class Manifest(NamedTuple):
         if not isinstance(shape, dict) or sorted(shape) != names:
             raise BadManifest(f"it isn't an object of {', '.join(names)}")
         version, operator, options, placement, shards = map(shape.get, names)
-        if version != 1:
-            raise BadManifest(f"its format is {version!r}, and only 1 is known")
+        if version != FORMAT:
+            raise BadManifest(f"its format is {version!r}, and only {FORMAT} is known")
         if type(shards) is not int or shards < 1:
             raise BadManifest(f"{shards!r} isn't a number of shards")
         if operator not in list(Operator.__members__):
@@ -183,9 +296,8 @@ class Manifest(NamedTuple):
         """The manifest of a folder that has all files."""
         path = folder / "manifest.json"
         with refusing(BadManifest, f"{path} is refused", OSError, ValueError, BadManifest):
-            manifest = cls.of(json.loads(path.read_text()))
-            logs = (f"shard-{number}.log" for number in range(manifest.shards))
-            for needed in ("sequencer.log", "epoch", *logs):
+            manifest = cls.of(unsealed(path.read_bytes()))
+            for needed in manifest._files():
                 if not (folder / needed).exists():
                     raise BadManifest(f"{folder / needed} isn't there")
         return manifest
@@ -244,48 +356,76 @@ def _record(numbers: Sequence[int]) -> bytes:
     return body + crc32(body).to_bytes(4, "little")
 
 
+def last_numbers(path: Path, count: int) -> Sequence[int]:
+    """The numbers of the last record of a sequencer's log. Raises `LogDamaged`.
+
+    A crash leaves less than a record at the end, or zeros in its place: this is passed over. Any
+    other record was whole, and may have been acknowledged. So it must have its checksum.
+    """
+    text, size = path.read_bytes(), 8 * count + 4
+    numbers: Sequence[int] = ()
+    for place in range(0, len(text), size):
+        record = text[place : place + size]
+        if numbers and place + size >= len(text) and (len(record) < size or not any(record)):
+            break
+        body, checksum = record[:-4], record[-4:]
+        if len(record) < size or crc32(body).to_bytes(4, "little") != checksum:
+            raise LogDamaged(f"{path} is damaged at byte {place}")
+        numbers = struct.unpack(f"<{count}Q", body)
+    if not numbers:
+        raise LogDamaged(f"{path} is damaged at byte 0")
+    return numbers
+
+
 class Sequencer:
     """The log of how far all shards are. What it doesn't have wasn't acknowledged."""
 
     def __init__(self, writer: Writer) -> None:
         """Begins an epoch: older writers are refused. Raises `LogDamaged` and `OSError`."""
         replace(writer.folder / "epoch", writer.epoch.encode())
-        path, count = writer.folder / "sequencer.log", writer.manifest.shards + 1
-        text, size = path.read_bytes(), 8 * count + 4
-        records = [text[place : place + size] for place in range(0, len(text) - size + 1, size)]
-        found = [struct.unpack(f"<{count}Q", record[:-4]) for record in records]
-        good = [_record(numbers) == record for numbers, record in zip(found, records)]
-        # A crash may have left a part of a record behind the last one.
-        if not any(good) or not all(good[:-1]):
-            damage = size * good.index(False) if good else 0
-            raise LogDamaged(f"{path} is damaged at byte {damage}")
-        self.last, *self.lengths = found[-1 if good[-1] else -2]
+        path = writer.folder / "sequencer.log"
+        self.last, *self.lengths = last_numbers(path, writer.manifest.shards + 1)
         # A writer that was thought dead goes on with the old file, which nobody reads.
         replace(path, _record([self.last, *self.lengths]))
-        self._writer, self._file = writer, open(path, "ab")
+        # Without a buffer nothing of a record that failed is written later.
+        self._writer, self._file = writer, open(path, "ab", buffering=0)
 
     def append(self, last: int, lengths: Mapping[int, int]) -> None:
         """Acknowledges a batch. Raises `AnotherWriter` and `OSError`, and isn't used then."""
-        self.last = last
-        for number, length in lengths.items():
-            self.lengths[number] = length
-        append(self._file, _record([last, *self.lengths]), self._writer.sync)
+        reached = [lengths.get(number, length) for number, length in enumerate(self.lengths)]
+        append(self._file, _record([last, *reached]), self._writer.sync)
         # A newer writer begins an epoch, and then reads the log: it has this record, or is seen.
         self._writer.check()
+        # Readers see a batch once it can't be lost any more.
+        self.last, self.lengths = last, reached
 
     def close(self) -> None:
-        """Closes the file."""
-        self._file.close()
+        """Closes the file. What was acknowledged is in it, so that an error says nothing."""
+        with suppress(OSError):
+            self._file.close()
+
+
+class Refusal(NamedTuple):
+    """The error that a call of a shard raised, as its answer.
+
+    If it were raised, Dask would keep it, and with it the shard and its log's lock. Nor could it be
+    told from the errors that Dask raises for a lost worker.
+    """
+
+    error: Exception
 
 
 class Shard(Store):
     """A store beside its log, which one process at a time has open."""
 
     @classmethod
-    def start(cls, writer: Writer, number: int, length: int, keeps: Sequence[int]) -> Shard:
+    def start(
+        cls, writer: Writer, number: int, length: int, last: int, keeps: Sequence[int]
+    ) -> Shard:
         """Opens a shard whose log has a length, and had others at the snapshots that are alive.
 
-        Raises `OutOfMemory`, `LogDamaged`, `AnotherWriter`, and `ShardedError` for a file's error.
+        `last` is the last sequence that was acknowledged, of all shards. Raises `OutOfMemory`,
+        `LogDamaged`, `AnotherWriter`, and `ShardedError` for a file's error.
         """
         path, manifest = writer.folder / f"shard-{number}.log", writer.manifest
         whose = f"shard {number}: {path}"
@@ -293,7 +433,7 @@ class Shard(Store):
             file = open(path, "r+b")
             # Dask may keep an error, and with it the file and its lock.
             with undoing(file.close):
-                log = _read_log(file, whose, writer, length)
+                log = _read_log(file, whose, writer, length, last)
                 # As the oldest snapshot was, or less if that would be too many runs at once.
                 opened, shard = min(keeps, default=length), None
                 while shard is None:
@@ -303,6 +443,7 @@ class Shard(Store):
                         opened //= 2
                 shard._feed_rest(log, opened, Counter(keeps))
         shard._writer, shard._whose, shard._file, shard._length = writer, whose, file, length
+        shard._is_cut = False
         # Dask closes nothing: it drops an actor.
         weakref.finalize(shard, file.close)
         return shard
@@ -324,6 +465,13 @@ class Shard(Store):
         while self.compact():
             pass
 
+    def call(self, method: str, *arguments: Any) -> Any:
+        """What a method answers, or a `Refusal` with what it raises."""
+        try:
+            return getattr(self, method)(*arguments)
+        except Exception as error:
+            return Refusal(error.with_traceback(None))
+
     def apply(self, length: int, first: int, part: bytes) -> int:
         """Appends a part to the log, feeds it, and returns how long the log is then.
 
@@ -334,11 +482,22 @@ class Shard(Store):
                 batch = batch_of(part, first)
                 record = self._log_record(length, batch)
                 self._writer.check()
+                self._cut()
                 append(self._file, record, self._writer.sync)
                 self._feed(batch)
                 self._settle()
             self._length += len(record)
         return self._length
+
+    def _cut(self) -> None:
+        """Cuts off what is behind the acknowledged batches, before the first one is appended.
+
+        Until then no shard loses anything, so that one shard's refusal keeps them all as they are.
+        """
+        if not self._is_cut:
+            self._file.truncate(self._length)
+            self._file.seek(self._length)
+            self._is_cut = True
 
     def answers(self, queries: bytes, at: int) -> bytes:
         """The answers at a snapshot to keys, and to scans of a limit, with their places, packed."""
@@ -361,13 +520,9 @@ class Shard(Store):
         return dumps((rows, False))
 
 
-def _read_log(file: BinaryIO, whose: str, writer: Writer, length: int) -> bytes:
-    """What was acknowledged of a log. A batch that not all shards finished is cut off."""
-    for _ in polls(writer.patience):
-        with suppress(BlockingIOError):
-            fcntl.flock(file, fcntl.LOCK_EX | fcntl.LOCK_NB)
-            break
-    else:
+def _read_log(file: BinaryIO, whose: str, writer: Writer, length: int, last: int) -> bytes:
+    """What was acknowledged of a log. Raises `LogDamaged` if that isn't all of it."""
+    if not locked(file, writer.patience):
         raise ShardedError(f"{whose} is open in another process")
     writer.check()
     log = file.read(length)
@@ -375,5 +530,23 @@ def _read_log(file: BinaryIO, whose: str, writer: Writer, length: int) -> bytes:
     if ended.end != End.CLEAN or offset != length:
         read = f"{whose} can be read up to byte {offset} of the {length} that were acknowledged"
         raise LogDamaged(f"{read}: {ended}")
-    file.truncate(length)
+    _check_rest(log, file.read(), whose, last)
     return log
+
+
+def _check_rest(log: bytes, rest: bytes, whose: str, last: int) -> None:
+    """Raises `LogDamaged` if the rest of a log shows that the sequencer's log lacks a batch.
+
+    All parts of a batch begin at the sequence behind the last one that was acknowledged. So a batch
+    that begins later was written behind another whose acknowledgement is lost.
+    """
+    if not rest:
+        return
+    writes = log_writes(log + rest)
+    while writes.ended is None and writes.offset < len(log):
+        writes._fetch()
+    for _, batch in groupby(writes, lambda _: writes.offset):
+        first = next(batch).sequence
+        if first > last + 1:
+            lost = f"{first - 1} was acknowledged, and sequencer.log ends at {last}"
+            raise LogDamaged(f"{whose} has a batch from sequence {first} on: {lost}")

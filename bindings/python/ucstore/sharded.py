@@ -3,27 +3,30 @@
 A key belongs to the shard `zlib.crc32(key) % shards`, or to the one between whose split points it
 lies. Each shard is a `Store` beside its log. The logs lie in one folder, which the client and all
 workers reach under the same path. A batch is there on all shards or on none: when all have it in
-their logs, the writer appends to `sequencer.log` how long these are. What is behind is cut off.
+their logs, the writer appends to `sequencer.log` how long these are. What is behind isn't there,
+and the next batch cuts it off.
 """
 
 from __future__ import annotations
 
 import heapq
 import marshal
+import os
+import sys
 import threading
-import uuid
 from collections import defaultdict
 from contextlib import AbstractContextManager, suppress
 from itertools import islice
+from operator import index
 from pathlib import Path
 from typing import Any, Iterable, Iterator, Mapping, NamedTuple, Sequence
 
 from distributed import CancelledError, Client, Future, KilledWorker
 from distributed import TimeoutError as TimedOut
 
-from . import NoStore, NotProtected, Operation, Operator, Options, Report, UcstoreError
-from ._shard import AnotherWriter, BadManifest, LogDamaged, Manifest, Sequencer, Shard
-from ._shard import ShardedError, Writer, dumps, polls, undoing
+from . import NoStore, NotProtected, Operation, Operator, Options, Report, _bytes_of
+from ._shard import AnotherWriter, BadManifest, Claim, LogDamaged, Manifest, Refusal, Sequencer
+from ._shard import Shard, ShardedError, Writer, dumps, polls, undoing
 
 try:
     from tqdm import tqdm
@@ -36,6 +39,9 @@ __all__ += ["ShardedError", "ShardedSnapshot", "ShardedStore"]
 # Seconds between two looks at a shard that doesn't answer, and how often it is opened for a call.
 _POLL, _TRIES = 0.2, 10
 
+# What Dask says of an actor whose worker is gone.
+_LOST = "Worker holding Actor was lost"
+
 
 class NoWorkers(ShardedError):
     """No worker is left on which a shard could be opened."""
@@ -47,6 +53,29 @@ class Scan(NamedTuple):
     low: bytes = b""
     high: bytes | None = None
     limit: int | None = None
+
+    def _checked(self) -> Scan:
+        """The same query. Raises `TypeError` and `ValueError` if it isn't one."""
+        high = None if self.high is None else _bytes_of(self.high)
+        limit = None if self.limit is None else index(self.limit)
+        if limit is not None and not 0 <= limit <= sys.maxsize:
+            raise ValueError(f"a limit is None or from 0 to {sys.maxsize}, not {limit}")
+        return Scan(_bytes_of(self.low), high, limit)
+
+
+def _checked(query: bytes | Scan) -> bytes | Scan:
+    """A query. Raises `TypeError` and `ValueError` for another thing: no shard is asked that."""
+    return query._checked() if isinstance(query, Scan) else _bytes_of(query)
+
+
+def _is_lost(future: Any, error: Exception) -> bool:
+    """Whether an error of a call, or of an opening, says that the shard's worker was lost."""
+    # Dask has no class for the error of an actor that was lost.
+    if isinstance(error, (CancelledError, KilledWorker, TimedOut)) or _LOST in str(error):
+        return True
+    # A call's own errors are answers, and an opening's are those of its task.
+    is_own = isinstance(future, Future) and future.status == "error"
+    return not is_own and isinstance(error, (OSError, ValueError))
 
 
 class ShardedStore(AbstractContextManager):
@@ -67,12 +96,14 @@ class ShardedStore(AbstractContextManager):
     ) -> ShardedStore:
         """Makes an empty store in a folder that is empty or isn't there.
 
-        Its keys are placed by hash, or by `splits`, which lie between shards. Raises `BadManifest`,
-        and what `open` does.
+        Its keys are placed by hash, or by `splits`, which lie between shards. If it can't be opened
+        then, nothing is left of it. Raises `BadManifest`, `TypeError` for a wrong argument, and
+        what `open` does.
         """
-        points = None if splits is None else tuple(splits)
-        Manifest(shards, points, operator, options).create(Path(path).absolute())
-        return cls(client, path, sync, patience)
+        points, folder = None if splits is None else tuple(splits), Path(path).absolute()
+        manifest = Manifest(shards, points, operator, options)
+        with manifest.created(folder) as claim:
+            return cls(client, folder, manifest, claim, sync, patience)
 
     @classmethod
     def open(
@@ -87,20 +118,34 @@ class ShardedStore(AbstractContextManager):
         Raises what `Store.open` does, `BadManifest`, `AnotherWriter`, `LogDamaged`, `NoWorkers`,
         and `ShardedError` and `OSError` for a file's error.
         """
-        return cls(client, path, sync, patience)
+        folder = Path(path).absolute()
+        manifest, claim = Manifest.read(folder), Claim(folder, patience)
+        with undoing(claim.release):
+            return cls(client, folder, manifest, claim, sync, patience)
 
-    def __init__(self, client: Client, path: str | Path, sync: bool, patience: float) -> None:
-        self._client, self._patience, self._folder = client, patience, Path(path).absolute()
-        self._manifest = Manifest.read(self._folder)
-        self._writer = Writer(self._folder, self._manifest, uuid.uuid4().hex, sync, patience)
+    def __init__(
+        self,
+        client: Client,
+        folder: Path,
+        manifest: Manifest,
+        claim: Claim,
+        sync: bool,
+        patience: float,
+    ) -> None:
+        """`create` and `open` call it. The claim is theirs until all is open."""
+        self._client, self._patience, self._folder = client, patience, folder
+        self._manifest, self._claim = manifest, claim
+        self._writer = Writer(folder, manifest, claim.epoch, sync, patience)
         self._guard = threading.RLock()
         self._snapshots: set[ShardedSnapshot] = set()
         self._futures: dict[int, Future] = {}
         self._actors: dict[int, Any] = {}
         self._log: Sequencer | None = None
-        # Dask's lock has its owner's client, so that it can be taken from one that is gone.
-        self._lock, self._owner = f"ucstore {self._folder}", f"{client.id} {self._writer.epoch}"
-        with undoing(self.close):
+        # The claim keeps out other processes of this machine, and Dask's lock other clients. This
+        # one has its owner's client, so that it can be taken from one that is gone.
+        self._lock = f"ucstore {os.path.realpath(folder)}"
+        self._owner = f"{client.id} {claim.epoch}"
+        with undoing(self._let_go):
             self._find_workers()
             self._log = Sequencer(self._writer)
             self.report()
@@ -108,15 +153,22 @@ class ShardedStore(AbstractContextManager):
     def close(self) -> None:
         """Closes the store, and ends its snapshots. A second call does nothing."""
         with self._guard:
-            self._forget(range(self._manifest.shards))
-            self._snapshots.clear()
-            if self._log is not None:
-                self._log.close()
-                self._log = None
-            with suppress(ValueError, OSError, TimedOut):
-                if self._client.status == "running":
-                    release = self._client.scheduler.lock_release
-                    self._client.sync(release, name=self._lock, id=self._owner)
+            try:
+                self._let_go()
+            finally:
+                self._claim.release()
+
+    def _let_go(self) -> None:
+        """Lets go of all but the claim. The store is closed first, whatever the rest comes to."""
+        log, self._log = self._log, None
+        self._snapshots.clear()
+        if log is not None:
+            log.close()
+        self._forget(range(self._manifest.shards))
+        with suppress(ValueError, OSError, TimedOut):
+            if self._client.status == "running":
+                release = self._client.scheduler.lock_release
+                self._client.sync(release, name=self._lock, id=self._owner)
 
     def __exit__(self, *_: Any) -> None:
         self.close()
@@ -136,8 +188,8 @@ class ShardedStore(AbstractContextManager):
         """Writes a batch, and returns its last sequence once all shards have it in their logs.
 
         Raises what `Store.feed` does, `NoWorkers`, `AnotherWriter`, and `ShardedError` for a file's
-        error: then the batch isn't there. If the sequencer's log has an error, that isn't known:
-        the store is closed, and opening it tells.
+        error: then the batch isn't there. An `OSError` is one of the sequencer's log: then that
+        isn't known. The store is closed, and opening it tells.
         """
         batch = list(operations)
         parts = self._manifest.parts(batch)
@@ -179,7 +231,7 @@ class ShardedStore(AbstractContextManager):
             self._open(asked)
             for number in asked:
                 with suppress(KeyError, ValueError):
-                    begun[number] = getattr(self._actors[number], method)(*calls[number])
+                    begun[number] = self._actors[number].call(method, *calls[number])
             answers.update(self._ended(begun, ()))
             if len(answers) == len(calls):
                 return {number: answers[number] for number in calls}
@@ -194,9 +246,10 @@ class ShardedStore(AbstractContextManager):
             # The scheduler takes the worker that has the fewest actors, if it is told some.
             how = {"workers": workers, "allow_other_workers": True, "actor": True, "pure": False}
             for number in closed:
-                length = self._acknowledged().lengths[number]
+                log = self._acknowledged()
                 keeps = [snapshot.lengths[number] for snapshot in self._snapshots]
-                start = (Shard.start, self._writer, number, length, keeps)
+                reached = (log.lengths[number], log.last, keeps)
+                start = (Shard.start, self._writer, number, *reached)
                 begun[number] = self._futures[number] = self._client.submit(*start, **how)
             actors = self._ended(begun, workers)
             bar = {"desc": "opening shards", "delay": 1.0, "leave": False, "disable": None}
@@ -210,11 +263,17 @@ class ShardedStore(AbstractContextManager):
         errors: list[Exception] = []
         for number, future in begun.items():
             try:
-                yield number, self._wait(number, future, workers)
-            except (UcstoreError, MemoryError) as error:
-                errors.append(error)
-            except (CancelledError, KilledWorker, OSError, TimedOut, ValueError):
-                self._forget([number])
+                answer = self._wait(number, future, workers)
+            except Exception as error:
+                if _is_lost(future, error):
+                    self._forget([number])
+                else:
+                    errors.append(error)
+            else:
+                if isinstance(answer, Refusal):
+                    errors.append(answer.error)
+                else:
+                    yield number, answer
         if errors:
             raise errors[0]
 
@@ -304,16 +363,20 @@ class ShardedSnapshot(AbstractContextManager):
             return self._store._ask(method, at)
 
     def get(self, key: bytes) -> bytes | None:
-        """The value under a key, or None. Raises `NotProtected`, `OutOfMemory` and `NoWorkers`."""
-        return self.answers([key])[0]
+        """The value under a key, or None.
+
+        Raises `NotProtected`, `OutOfMemory`, `NoWorkers`, and `TypeError` for what isn't bytes.
+        """
+        return self.answers([_bytes_of(key)])[0]
 
     def scan(
         self, low: bytes = b"", high: bytes | None = None, limit: int | None = None
     ) -> Iterator[tuple[bytes, bytes]]:
-        """The rows that a `Scan` asks for, in the order of their keys. Raises what `get` does.
+        """The rows that a `Scan` asks for, in the order of their keys. Raises what `answers` does.
 
         They are fetched in pages of at most 1,000 rows from each shard, and of a MiB or one row.
         """
+        low, high, limit = Scan(low, high, limit)._checked()
         pages = self._ask("page", dict.fromkeys(self._manifest.touched(low, high), (low, high)))
         rows = (self._rows(number, page, high) for number, page in pages.items())
         return islice(heapq.merge(*rows), limit)
@@ -331,9 +394,10 @@ class ShardedSnapshot(AbstractContextManager):
     def answers(self, queries: Iterable[bytes | Scan]) -> list[Any]:
         """The answers to queries, in their order: a key's value or None, and the rows of a `Scan`.
 
-        Each shard is asked once, for all that it has to answer. Raises what `get` does.
+        Each shard is asked once, for all that it has to answer. Raises what `get` does, and
+        `ValueError` for a wrong limit.
         """
-        asked, manifest = list(queries), self._manifest
+        asked, manifest = list(map(_checked, queries)), self._manifest
         parts: dict[int, list] = defaultdict(list)
         for place, query in enumerate(asked):
             is_scan = isinstance(query, Scan)
