@@ -8,11 +8,12 @@
 #include <stdio.h>
 #include <stdlib.h>
 #include <string.h>
+#include <sys/stat.h>
 #include <ucstore.h>
 #include <unistd.h>
 
 /* A line is shorter, so that a word's length is one byte of a batch. */
-enum { LINE = 128, MOST_LOG = 1 << 26, ROOM = 1 << 16 };
+enum { LINE = 128, ROOM = 1 << 16 };
 
 static struct ucstore store;
 static FILE *file;
@@ -31,6 +32,25 @@ static uint64_t number(const uint8_t *text) {
         value = value << 8 | text[place];
     }
     return value;
+}
+
+/* All bytes of the log's file, which the caller frees. A file that can't be read to its end is no log. */
+static uint8_t *read_log(size_t *log_length) {
+    struct stat found;
+    size_t have = 0;
+    uint8_t *log;
+    expect(fstat(fileno(file), &found) == 0 && (uint64_t)found.st_size < SIZE_MAX, "can't tell the log's size");
+    *log_length = (size_t)found.st_size;
+    log = (uint8_t *)malloc(*log_length + 1);
+    expect(log != NULL, "there is no memory for the log");
+    rewind(file);
+    while (have < *log_length) {
+        size_t count = fread(log + have, 1, *log_length - have, file);
+        expect(count > 0, "can't read the log");
+        have += count;
+    }
+    expect(getc(file) == EOF && !ferror(file), "can't read the log");
+    return log;
 }
 
 /* Where the log goes on: behind its last whole batch. */
@@ -53,11 +73,10 @@ static void open_store(const char *name) {
     struct ucstore_options options;
     struct ucstore_ended ended;
     size_t log_length;
-    uint8_t *log = (uint8_t *)malloc(MOST_LOG);
+    uint8_t *log;
     file = fopen(name, "a+b");
-    expect(file != NULL && log != NULL, "can't open the log");
-    rewind(file);
-    log_length = fread(log, 1, MOST_LOG, file);
+    expect(file != NULL, "can't open the log");
+    log = read_log(&log_length);
     ucstore_options(&options);
     expect(ucstore_open(&store, UCSTORE_COUNTER, &options, log, log_length, &ended) == UCSTORE_OK, "can't open the store");
     expect(ended.kind == UCSTORE_CLEAN || ended.kind == UCSTORE_TORN, "the log is damaged");
@@ -66,7 +85,9 @@ static void open_store(const char *name) {
     free(log);
 }
 
-/* Writes a batch to the log's file, waits for its device, and feeds the store. */
+/* Writes a batch to the log's file, waits for its device, and feeds the store. If the feed is refused, the program ends:
+ * the log has the batch, and the next start reads it. A program that goes on has to cut the record off first, since a
+ * second one gets the same sequence, and a log is read up to there. */
 static void write_batch(const uint8_t *batch, size_t batch_length) {
     static uint8_t record[ROOM];
     size_t size = 0;
