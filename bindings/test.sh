@@ -4,7 +4,8 @@
 #     bindings/test.sh [PART..]
 #
 # The parts are pages, c, sanitizers, valgrind, refused, rust and python, or all where none is named. They need cc and c++,
-# valgrind, cargo, and a python3 with pip, setuptools and wheel; no network. CC, CXX and PYTHON name others.
+# binutils, pkg-config, valgrind, cargo, and a python3 with pip, setuptools and wheel; no network. CC, CXX and PYTHON name
+# others. `needs` alone says what of that is missing, before anything is built.
 #
 # Each language runs its examples, and drawn calls beside a plain dictionary: OPERATIONS (50000) for each of the four operators
 # in C. `refused` refuses each allocation of CALLS (1000) drawn calls. SEED (1) is the seed of what C draws.
@@ -24,6 +25,16 @@ wrapped=-Wl,--wrap=malloc,--wrap=realloc,--wrap=free
 fail() {
     echo "bindings: $*" >&2
     exit 1
+}
+
+# Says which tools are missing, all at once.
+check_needs() {
+    local tool missing=()
+    for tool in "${cc[0]}" "${cxx[0]}" ld objcopy ar nm pkg-config valgrind cargo; do
+        command -v "$tool" > /dev/null || missing+=("$tool")
+    done
+    (find_python) > /dev/null 2>&1 || missing+=("a python3 with pip, setuptools and wheel")
+    [ ${#missing[@]} -eq 0 ] || fail "missing: $(printf '%s; ' "${missing[@]}" | sed 's/; $//')"
 }
 
 install_all() {
@@ -81,6 +92,20 @@ run_example() {
     expect 'example, again' $'a 3\nb 3' "$("$work/example" "$log" < /dev/null)"
 }
 
+# A long log stays whole, and goes on at its end.
+run_long_example() {
+    local log=$work/long.log size
+    python3 "$here/c/long_log.py" 65 > "$log"
+    size=$(stat -c %s "$log")
+    [ "$size" -eq $((65 << 20)) ] || fail "the long log has $size bytes"
+    expect 'example, long log' 'a 65' "$("$work/example" "$log" < /dev/null)"
+    expect 'example, long log behind a read' "$size" "$(stat -c %s "$log")"
+    expect 'example, long log and a word' $'a 66\nb 1' "$(echo a b | "$work/example" "$log")"
+    [ "$(stat -c %s "$log")" -gt "$size" ] || fail "the example doesn't add to a long log"
+    expect 'example, long log again' $'a 66\nb 1' "$("$work/example" "$log" < /dev/null)"
+    rm "$log"
+}
+
 # Formats the manual, where there is groff, without a word of fault.
 try_manual() {
     if ! command -v groff > /dev/null; then return; fi
@@ -109,6 +134,7 @@ try_c() {
     expect first.c "$first" "$("$work/first")"
     expect 'first.c, as C++' "$first" "$("$work/first_cpp")"
     run_example
+    run_long_example
     "$work/test" "$operations" "$seed"
     "$work/test_cpp" $((operations / 10)) $((seed + 1))
     try_manual
@@ -170,6 +196,8 @@ try_python() {
     (cd "$work" && "$python" "$here/python/tests/test_ucstore.py" --quiet)
 }
 
+check_needs
+if [ "${*-}" = needs ]; then exit; fi
 if [ $# -eq 0 ]; then set -- pages c sanitizers valgrind refused rust python; fi
 install_all
 for part; do
