@@ -25,7 +25,7 @@ def next_step(number, step):
 
 ROW_HEIGHT = 17
 LEAST_SHOWN = 0.04
-NAME_AT, BASELINE_AT, AXIS_FROM, AXIS_TO, TEXT_AT = 12, 280, 388, 650, 660
+NAME_AT, BASELINE_AT, AXIS_FROM, AXIS_TO, TEXT_AT = 12, 278, 392, 650, 660
 
 # Baselines that have a shorter name here.
 SHORT_NAMES = {"RocksDB+filter": "RocksDB, filter", "RocksDB+flush": "RocksDB, flushed"}
@@ -49,16 +49,16 @@ def draw_ratio(drawing, scale, y, rows, ratios):
     """A row's ratios between the least and the most, and its goal as a vertical mark."""
     is_missed = any(row["met"] is False for row in rows)
     colour, shape = (MISSED_COLOUR, "diamond") if is_missed else (OURS_COLOUR, "circle")
-    least, most = max(min(ratios), LEAST_SHOWN), max(ratios)
+    least, most, is_beyond = max(min(ratios), LEAST_SHOWN), max(ratios), min(ratios) < LEAST_SHOWN
     goals = {slowness(row["goal"]["bound"], row) for row in rows if row["goal"]}
     for goal in goals:
         drawing.line(scale(goal), y - 6, scale(goal), y + 6, stroke=DARK, width=2.5)
-    if most < LEAST_SHOWN:
+    if is_beyond:
         at = AXIS_FROM + 2
         drawing.path([(at, y), (at + 9, y - 5), (at + 9, y + 5)], colour, 1.0, "solid", colour)
-    else:
-        drawing.line(scale(least), y, scale(most), y, stroke=colour, width=3.0)
-        for ratio in dict.fromkeys((least, most)):
+    if most >= LEAST_SHOWN:
+        drawing.line(AXIS_FROM + 10 if is_beyond else scale(least), y, scale(most), y, stroke=colour, width=3.0)
+        for ratio in dict.fromkeys((most,) if is_beyond else (least, most)):
             drawing.mark(shape, scale(ratio), y, colour, 4.0)
     words = list(dict.fromkeys((ratio_word(min(ratios)), ratio_word(most))))
     drawing.text(TEXT_AT, y + 4, " to ".join(words), fill=colour)
@@ -255,15 +255,15 @@ def feed_rows(results, baseline):
 
 
 def draw_feeds(results):
-    top, bottom, left, right = 60, 330, 78, 786
-    drawing = Drawing(800, 384, "What a write costs by the writes of a feed")
-    drawing.legend(78, 20, "circle", OURS_COLOUR, "solid", "ours, each feed a run")
-    drawing.legend(252, 20, "square", OTHER_COLOUR, "dashed", "RocksDB, a flush behind each batch")
-    drawing.legend(508, 20, "diamond", OTHER_COLOUR, "dotted", "RocksDB, none")
-    drawing.legend(648, 20, "triangle", RUST_COLOUR, "dotted", "BTreeMap")
+    top, bottom, left, right = 66, 350, 78, 786
+    drawing = Drawing(800, 404, "What a write costs by the writes of a feed")
+    drawing.legend(78, 44, "circle", OURS_COLOUR, "solid", "ours, each feed a run")
+    drawing.legend(262, 44, "square", OTHER_COLOUR, "dashed", "RocksDB, a flush behind each batch")
+    drawing.legend(530, 44, "diamond", OTHER_COLOUR, "dotted", "RocksDB, none")
+    drawing.legend(672, 44, "triangle", RUST_COLOUR, "dotted", "BTreeMap")
     drawing.text(18, (top + bottom) / 2, "nanoseconds a write, logarithmic", "middle", turned=True)
-    x, y = Scale(1, 10000, left + 30, right - 30, True), Scale(200, 1000000, bottom, top, True)
-    ticks = (1000, 10000, 100000, 1000000)
+    x, y = Scale(1, 10000, left + 30, right - 30, True), Scale(100, 1000000, bottom, top, True)
+    ticks = (100, 1000, 10000, 100000, 1000000)
     drawing.across(x, FEEDS, top, bottom, [f"{size:,}" for size in FEEDS])
     drawing.along(y, ticks, left, right, [f"{tick:,}" for tick in ticks])
     drawing.frame(left, top, right, bottom)

@@ -19,6 +19,8 @@ SERIES = (
     (2, "2 workers", "diamond", RUST_COLOUR, "dashed"),
     (4, "4 workers", "circle", OURS_COLOUR, "solid"),
 )
+# Where each stands in the legend.
+LEGEND = (258, 432, 552, 678)
 
 
 def rates(rows, work, workers):
@@ -49,8 +51,8 @@ def draw_panel(drawing, title, left, right, rows, work):
 def main():
     rows = read(HERE / "results.json")["rows"]
     drawing = Drawing(800, 384, "Shards by the size of a batch")
-    for place, (_, name, *style) in enumerate(SERIES):
-        drawing.legend(250 + 140 * place, 20, *style, name)
+    for at, (_, name, *style) in zip(LEGEND, SERIES):
+        drawing.legend(at, 20, *style, name)
     drawing.text(18, 207, "thousands a second", "middle", turned=True)
     draw_panel(drawing, "writes", 66, 410, rows, "writes")
     draw_panel(drawing, "lookups", 456, 786, rows, "lookups")
