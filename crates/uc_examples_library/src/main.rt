@@ -1,4 +1,4 @@
-//! Counts visits on, from the log on standard input: in a store of one owner, and in one that threads share. The README shows both.
+//! Counts visits on, from the log on standard input: in a store of one owner, which the README shows, and in one that threads share.
 #![tactic(auto)]
 
 mod one_owner;

@@ -43,7 +43,7 @@ impl<O: Operator> Owned<O> {
     ///
     /// It is refused if the first write isn't above the last sequence, then if a run would have no slot, then if no id is
     /// left for one, and then for want of memory. The store is as it was then, and nothing is flushed but for the last.
-    /// It costs a copy of each text and a sort of what is fed. It copies no run that is there.
+    /// It costs two copies of each text and a sort of what is fed. It copies no run that is there.
     pub fn feed(&mut self, alloc: Global, writes: &Writes) -> Result<u64, FeedError>
         ensures ok { IfOk result (λ count.
             (feed_refusal self.old.version writes.now.list ≡ None)

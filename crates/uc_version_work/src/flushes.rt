@@ -45,7 +45,7 @@ fn flush_writes_by<F: Flusher>(
 }
 
 /// The runs of the memtables that writes fill, the oldest first. A memtable is flushed from `limit` bytes on, and what is
-/// left at the end too. It costs a copy of each text, and a sort of each memtable.
+/// left at the end too. It costs two copies of each text, and a sort of each memtable.
 pub fn flush_writes(alloc: Global, limit: u64, writes: &[Write]) -> Result<Vec<Run>, AllocError>
     requires limit { 1 ≤ limit }
     requires rising { IsRising 0 writes.now }
