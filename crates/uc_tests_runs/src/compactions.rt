@@ -1,447 +1,183 @@
-//! Runs of a few writes, compacted.
-use crate::given::{Given, run_of, runs_of};
-use std::alloc::Global;
+//! Compactions of the runs of a case, and what the plain writes of these say.
+use crate::built::run_of_lines;
+use crate::keys::{push_keys_of, writes_of};
+use crate::printed::run_lines;
+use crate::ways::{are_plain, demand};
+use std::alloc::{AllocError, Global};
 use std::sync::Arc;
-use std::test::Fail;
-use std::thread::Threads;
-use uc_compact::{Compacted, compact, inputs_stand};
+use testkit_data::{Case, CaseError};
+use uc_bytes::Write;
+use uc_compact::{Alone, Compacted, compact_by, inputs_stand};
+use uc_model::value_at;
 use uc_oper::{Append, Counter, Operator};
 use uc_run::Run;
-use uc_run_entry::WhatRef;
 
-pub(crate) const ONE: &[u8] = &[1, 0, 0, 0, 0, 0, 0, 0];
+/// The line before the lines of each run.
+const RUN: &str = "run";
 
-const FOUR: &[u8] = &[4, 0, 0, 0, 0, 0, 0, 0];
+/// The runs of lines, in their order.
+pub fn runs_of(alloc: Global, lines: &[&str]) -> Result<Vec<Arc<Run>>, CaseError> {
+    let mut runs = Vec::new(alloc);
+    for lines in lines.split(|line| *line == RUN).skip(1) {
+        runs.push(Arc::new(alloc, run_of_lines(alloc, lines)?)?)?;
+    }
+    Ok(runs)
+}
 
-const FIVE: &[u8] = &[5, 0, 0, 0, 0, 0, 0, 0];
+/// The plain writes of runs, of which the newest is the first.
+fn plain_writes(alloc: Global, runs: &[Arc<Run>]) -> Result<Vec<Write>, AllocError> {
+    let mut writes = Vec::new(alloc);
+    for run in runs.iter().rev() {
+        writes.append(&mut writes_of(alloc, run)?)?;
+    }
+    Ok(writes)
+}
 
-const SEVEN: &[u8] = &[7, 0, 0, 0, 0, 0, 0, 0];
+/// The keys of runs, and those beside them.
+fn keys_in(alloc: Global, runs: &[Arc<Run>]) -> Result<Vec<Vec<u8>>, AllocError> {
+    let mut keys = Vec::new(alloc);
+    for run in runs {
+        push_keys_of(&mut keys, alloc, run)?;
+    }
+    Ok(keys)
+}
 
-const TEN: &[u8] = &[10, 0, 0, 0, 0, 0, 0, 0];
-
-const ELEVEN: &[u8] = &[11, 0, 0, 0, 0, 0, 0, 0];
-
-const TWELVE: &[u8] = &[12, 0, 0, 0, 0, 0, 0, 0];
-
-/// The output of a compaction of runs that may be compacted together.
-pub(crate) fn output<O: Operator + Sync>(
-    rt: &(impl Threads + Sync),
+/// Whether a lookup in a run that nothing lies below gives the value that the plain writes do.
+fn gives_value<O: Operator>(
     alloc: Global,
-    runs: &[Arc<Run>],
-    keeps: &[u64],
+    run: &Run,
+    writes: &[Write],
+    (key, at): (&[u8], u64),
+) -> Result<bool, AllocError> {
+    let want = value_at::<O>(alloc, writes, key, at)?;
+    Ok(run.effect::<O>(alloc, key, at)?.apply::<O>(alloc, None)? == want)
+}
+
+/// Whether it does so at each sequence.
+fn gives_value_at<O: Operator>(
+    alloc: Global,
+    run: &Run,
+    writes: &[Write],
+    (key, sequences): (&[u8], &[u64]),
+) -> Result<bool, AllocError> {
+    for at in sequences {
+        if !gives_value::<O>(alloc, run, writes, (key, *at))? {
+            return Ok(false);
+        }
+    }
+    Ok(true)
+}
+
+/// Whether it does so of each key.
+fn gives_values<O: Operator>(
+    alloc: Global,
+    run: &Run,
+    writes: &[Write],
+    (keys, sequences): (&[Vec<u8>], &[u64]),
+) -> Result<bool, AllocError> {
+    for key in keys {
+        if !gives_value_at::<O>(alloc, run, writes, (key, sequences))? {
+            return Ok(false);
+        }
+    }
+    Ok(true)
+}
+
+/// What a case asks: its keeps, and whether the oldest run is among its runs.
+#[derive(Drop)]
+struct Asked {
+    keeps: Vec<u64>,
     oldest: bool,
-) -> Result<Compacted<O>, Fail> {
-    if inputs_stand(runs, keeps) {
-        Ok(compact::<O>(rt, alloc, runs, keeps, oldest)?)
+}
+
+/// What a case asks.
+fn asked_by(alloc: Global, case: &Case<'_>) -> Result<Asked, CaseError> {
+    let oldest = case.arguments.has("oldest");
+    let keeps = if case.arguments.has("keeps") {
+        case.arguments.numbers(alloc, "keeps")?
     } else {
-        Err(Fail::new("the runs don't stand"))
+        Vec::new(alloc)
+    };
+    Ok(Asked { keeps, oldest })
+}
+
+/// Whether a compaction says what it was asked.
+fn is_asked<O: Operator>(made: &Compacted<O>, runs: &[Arc<Run>], asked: &Asked) -> bool {
+    made.inputs().len() == runs.len()
+        && made.keeps() == asked.keeps.as_slice()
+        && made.oldest() == asked.oldest
+}
+
+/// Whether a run reads as those that it was made of: at each keep, and at the greatest sequence. With the oldest run only the
+/// values count.
+fn reads_alike<O: Operator>(
+    alloc: Global,
+    made: &Run,
+    runs: &[Arc<Run>],
+    asked: &Asked,
+) -> Result<bool, AllocError> {
+    let writes = plain_writes(alloc, runs)?;
+    let keys = keys_in(alloc, runs)?;
+    let mut sequences = asked.keeps.clone()?;
+    sequences.push(made.high_seq())?;
+    let places = (keys.as_slice(), sequences.as_slice());
+    if asked.oldest {
+        gives_values::<O>(alloc, made, &writes, places)
+    } else {
+        are_plain::<O>(alloc, made, &writes, places)
     }
 }
 
-/// A compaction of a test: its runs, its keeps, whether the oldest run is among them, and the expected run.
-#[derive(Clone, Copy)]
-struct Case {
-    runs: &'static [Given],
-    keeps: &'static [u64],
-    oldest: bool,
-    wanted: Given,
-}
-
-/// Whether a compaction was of this number of runs with these keeps, and returned this run.
-fn is_wanted<O: Operator>(
-    made: &Compacted<O>,
-    runs: usize,
-    keeps: &[u64],
-    oldest: bool,
-    wanted: &Run,
-) -> bool {
-    made.recall_standing();
-    made.stands_for_inputs();
-    made.output().same(wanted)
-        && made.inputs().len() == runs
-        && made.keeps() == keeps
-        && made.oldest() == oldest
-}
-
-/// Whether a compaction of these runs returns the expected run.
-pub(crate) fn gives<O: Operator + Sync>(
-    rt: &(impl Threads + Sync),
+/// The compaction of runs that stand.
+fn made_of<O: Operator>(
     alloc: Global,
     runs: &[Arc<Run>],
-    keeps: &[u64],
-    oldest: bool,
-    wanted: &Given,
-) -> Result<bool, Fail> {
-    let wanted = run_of(alloc, wanted)?;
-    let made = output::<O>(rt, alloc, runs, keeps, oldest)?;
-    Ok(is_wanted(&made, runs.len(), keeps, oldest, &wanted))
+    asked: &Asked,
+) -> Result<Compacted<O>, CaseError> {
+    if inputs_stand(runs, &asked.keeps) {
+        let made = compact_by::<O, _>(&Alone, alloc, runs, &asked.keeps, asked.oldest)?;
+        Ok(made)
+    } else {
+        Err(CaseError::Said("they can't be compacted together"))
+    }
 }
 
-/// Whether a compaction of a test returns the expected run.
-fn passes<O: Operator + Sync>(
-    rt: &(impl Threads + Sync),
+/// Demands of the run that was made of others what each run is demanded, and that it reads as they do.
+fn demand_of_made<O: Operator>(
     alloc: Global,
-    case: &Case,
-) -> Result<bool, Fail> {
-    let runs = runs_of(alloc, case.runs)?;
-    gives::<O>(rt, alloc, &runs, case.keeps, case.oldest, &case.wanted)
-}
-
-/// Appends, which join with a comma.
-static APPENDS: [Case; 4] = [
-    // Two operands are joined; the put is in an older run.
-    Case {
-        runs: &[
-            Given {
-                low: 3,
-                high: 3,
-                points: &[(b"k", 3, WhatRef::Merge(b"c"))],
-                ranges: &[],
-            },
-            Given {
-                low: 2,
-                high: 2,
-                points: &[(b"k", 2, WhatRef::Merge(b"b"))],
-                ranges: &[],
-            },
-        ],
-        keeps: &[3],
-        oldest: false,
-        wanted: Given {
-            low: 2,
-            high: 3,
-            points: &[(b"k", 3, WhatRef::Merge(b"b,c"))],
-            ranges: &[],
-        },
-    },
-    // With the oldest run a delete leaves nothing, and the run keeps its place.
-    Case {
-        runs: &[
-            Given {
-                low: 2,
-                high: 2,
-                points: &[(b"k", 2, WhatRef::Delete)],
-                ranges: &[],
-            },
-            Given {
-                low: 1,
-                high: 1,
-                points: &[(b"k", 1, WhatRef::Put(b"1"))],
-                ranges: &[],
-            },
-        ],
-        keeps: &[2],
-        oldest: true,
-        wanted: Given {
-            low: 1,
-            high: 2,
-            points: &[],
-            ranges: &[],
-        },
-    },
-    // A delete below a range deletion of its stripe is left out ...
-    Case {
-        runs: &[
-            Given {
-                low: 5,
-                high: 5,
-                points: &[],
-                ranges: &[(b"a", b"z", &[5])],
-            },
-            Given {
-                low: 4,
-                high: 4,
-                points: &[(b"k", 4, WhatRef::Delete)],
-                ranges: &[],
-            },
-        ],
-        keeps: &[],
-        oldest: false,
-        wanted: Given {
-            low: 4,
-            high: 5,
-            points: &[],
-            ranges: &[(b"a", b"z", &[5])],
-        },
-    },
-    // ... and one above it stays.
-    Case {
-        runs: &[
-            Given {
-                low: 5,
-                high: 5,
-                points: &[(b"k", 5, WhatRef::Delete)],
-                ranges: &[],
-            },
-            Given {
-                low: 4,
-                high: 4,
-                points: &[],
-                ranges: &[(b"a", b"z", &[4])],
-            },
-        ],
-        keeps: &[],
-        oldest: false,
-        wanted: Given {
-            low: 4,
-            high: 5,
-            points: &[(b"k", 5, WhatRef::Delete)],
-            ranges: &[(b"a", b"z", &[4])],
-        },
-    },
-];
-
-/// Counters, which add up.
-static COUNTERS: [Case; 5] = [
-    // A lone operand stays as it is.
-    Case {
-        runs: &[
-            Given {
-                low: 3,
-                high: 3,
-                points: &[(b"l", 3, WhatRef::Put(b"\x00"))],
-                ranges: &[],
-            },
-            Given {
-                low: 2,
-                high: 2,
-                points: &[(b"k", 2, WhatRef::Merge(b"\x01\x02\x03"))],
-                ranges: &[],
-            },
-        ],
-        keeps: &[3],
-        oldest: false,
-        wanted: Given {
-            low: 2,
-            high: 3,
-            points: &[
-                (b"k", 2, WhatRef::Merge(b"\x01\x02\x03")),
-                (b"l", 3, WhatRef::Put(b"\x00")),
-            ],
-            ranges: &[],
-        },
-    },
-    // Operands on both sides of a keep stay two ...
-    Case {
-        runs: &[
-            Given {
-                low: 3,
-                high: 3,
-                points: &[(b"k", 3, WhatRef::Merge(SEVEN))],
-                ranges: &[],
-            },
-            Given {
-                low: 2,
-                high: 2,
-                points: &[(b"k", 2, WhatRef::Merge(FIVE))],
-                ranges: &[],
-            },
-        ],
-        keeps: &[2, 3],
-        oldest: false,
-        wanted: Given {
-            low: 2,
-            high: 3,
-            points: &[
-                (b"k", 3, WhatRef::Merge(SEVEN)),
-                (b"k", 2, WhatRef::Merge(FIVE)),
-            ],
-            ranges: &[],
-        },
-    },
-    // ... and without it they are one.
-    Case {
-        runs: &[
-            Given {
-                low: 3,
-                high: 3,
-                points: &[(b"k", 3, WhatRef::Merge(SEVEN))],
-                ranges: &[],
-            },
-            Given {
-                low: 2,
-                high: 2,
-                points: &[(b"k", 2, WhatRef::Merge(FIVE))],
-                ranges: &[],
-            },
-        ],
-        keeps: &[3],
-        oldest: false,
-        wanted: Given {
-            low: 2,
-            high: 3,
-            points: &[(b"k", 3, WhatRef::Merge(TWELVE))],
-            ranges: &[],
-        },
-    },
-    // A range deletion between two snapshots stays if older runs lie below ...
-    Case {
-        runs: &[
-            Given {
-                low: 3,
-                high: 3,
-                points: &[],
-                ranges: &[(b"j", b"l", &[3])],
-            },
-            Given {
-                low: 2,
-                high: 2,
-                points: &[(b"k", 2, WhatRef::Merge(ONE))],
-                ranges: &[],
-            },
-        ],
-        keeps: &[2, 4],
-        oldest: false,
-        wanted: Given {
-            low: 2,
-            high: 3,
-            points: &[(b"k", 2, WhatRef::Merge(ONE))],
-            ranges: &[(b"j", b"l", &[3])],
-        },
-    },
-    // ... and with the oldest run the merges become values.
-    Case {
-        runs: &[
-            Given {
-                low: 4,
-                high: 4,
-                points: &[(b"k", 4, WhatRef::Merge(FOUR))],
-                ranges: &[],
-            },
-            Given {
-                low: 2,
-                high: 3,
-                points: &[(b"k", 2, WhatRef::Merge(ONE))],
-                ranges: &[(b"j", b"l", &[3])],
-            },
-            Given {
-                low: 1,
-                high: 1,
-                points: &[(b"k", 1, WhatRef::Put(TEN))],
-                ranges: &[],
-            },
-        ],
-        keeps: &[2, 4],
-        oldest: true,
-        wanted: Given {
-            low: 1,
-            high: 4,
-            points: &[
-                (b"k", 4, WhatRef::Put(FOUR)),
-                (b"k", 2, WhatRef::Put(ELEVEN)),
-            ],
-            ranges: &[(b"j", b"l", &[3])],
-        },
-    },
-];
-
-#[test]
-fn appends_are_joined_within_stripes(rt: HostRuntime) -> Result<(), Fail> {
-    for case in &APPENDS {
-        assert!(rt; passes::<Append<0x2C>>(&rt, rt.alloc(), case)?);
+    made: &Run,
+    runs: &[Arc<Run>],
+    asked: &Asked,
+) -> Result<(), CaseError> {
+    demand(alloc, made, &writes_of(alloc, made)?)?;
+    if reads_alike::<O>(alloc, made, runs, asked)? {
+        Ok(())
+    } else {
+        Err(CaseError::Said("it reads other than its inputs"))
     }
-    Ok(())
 }
 
-#[test]
-fn counters_add_up_within_stripes(rt: HostRuntime) -> Result<(), Fail> {
-    for case in &COUNTERS {
-        assert!(rt; passes::<Counter>(&rt, rt.alloc(), case)?);
+/// The lines of the run that runs become.
+fn compacted<O: Operator>(
+    alloc: Global,
+    runs: &[Arc<Run>],
+    asked: &Asked,
+) -> Result<String, CaseError> {
+    let made = made_of::<O>(alloc, runs, asked)?;
+    if !is_asked(&made, runs, asked) {
+        return Err(CaseError::Said("it was asked otherwise"));
     }
-    Ok(())
+    let output = made.into_output();
+    demand_of_made::<O>(alloc, &output, runs, asked)?;
+    Ok(run_lines(alloc, &output, false)?)
 }
 
-/// A delete of a key and a range deletion over it, both in one stripe, and the size of the output.
-static DELETES: [(Case, u64); 2] = [
-    // The range deletion is newer, and hides the delete.
-    (
-        Case {
-            runs: &[
-                Given {
-                    low: 3,
-                    high: 3,
-                    points: &[],
-                    ranges: &[(b"k", b"l", &[3])],
-                },
-                Given {
-                    low: 2,
-                    high: 2,
-                    points: &[(b"k", 2, WhatRef::Delete)],
-                    ranges: &[],
-                },
-            ],
-            keeps: &[3],
-            oldest: false,
-            wanted: Given {
-                low: 2,
-                high: 3,
-                points: &[],
-                ranges: &[(b"k", b"l", &[3])],
-            },
-        },
-        10,
-    ),
-    // The delete is newer, and stays with the range deletion.
-    (
-        Case {
-            runs: &[
-                Given {
-                    low: 3,
-                    high: 3,
-                    points: &[(b"k", 3, WhatRef::Delete)],
-                    ranges: &[],
-                },
-                Given {
-                    low: 2,
-                    high: 2,
-                    points: &[],
-                    ranges: &[(b"k", b"l", &[2])],
-                },
-            ],
-            keeps: &[3],
-            oldest: false,
-            wanted: Given {
-                low: 2,
-                high: 3,
-                points: &[(b"k", 3, WhatRef::Delete)],
-                ranges: &[(b"k", b"l", &[2])],
-            },
-        },
-        19,
-    ),
-];
-
-/// The size of a run of a test.
-fn size_of_run(alloc: Global, given: &Given) -> Result<u64, Fail> {
-    Ok(run_of(alloc, given)?.size())
-}
-
-#[test]
-fn deletes_beside_range_deletions(rt: HostRuntime) -> Result<(), Fail> {
-    let alloc = rt.alloc();
-    for (case, size) in &DELETES {
-        assert!(rt; passes::<Append<0x2C>>(&rt, alloc, case)?);
-        assert_eq!(rt; size_of_run(alloc, &case.wanted)?, *size);
+/// Compacts runs as a case asks.
+pub fn compact(alloc: Global, runs: &[Arc<Run>], case: &Case<'_>) -> Result<String, CaseError> {
+    let asked = asked_by(alloc, case)?;
+    if case.arguments.has("counter") {
+        compacted::<Counter>(alloc, runs, &asked)
+    } else {
+        compacted::<Append<44>>(alloc, runs, &asked)
     }
-    Ok(())
-}
-
-/// Whether runs of a test may be compacted together, as they are or reversed.
-fn stand(alloc: Global, runs: &[Given], turned: bool, keeps: &[u64]) -> Result<bool, Fail> {
-    let mut runs = runs_of(alloc, runs)?;
-    if turned {
-        runs.reverse();
-    }
-    Ok(inputs_stand(&runs, keeps))
-}
-
-#[test]
-fn inputs_stand_newest_first(rt: HostRuntime) -> Result<(), Fail> {
-    let alloc = rt.alloc();
-    let runs = COUNTERS[1].runs;
-    assert!(rt; stand(alloc, runs, false, &[1, 2])?);
-    assert!(rt; !stand(alloc, runs, false, &[2, 2])?);
-    assert!(rt; !stand(alloc, &[], false, &[])?);
-    assert!(rt; !stand(alloc, runs, true, &[])?);
-    Ok(())
 }

@@ -1,4 +1,4 @@
-//! What the tests check of a run: a point at a place, and what a key has at a sequence.
+//! What the tests check of a run: what a key has at a sequence.
 use std::alloc::{AllocError, Global};
 use std::process::Abort;
 use std::test::Fail;
@@ -6,12 +6,6 @@ use uc_bytes::Write;
 use uc_model::effect_at;
 use uc_oper::{Append, Effect, Operator};
 use uc_run::Run;
-use uc_run_entry::WhatRef;
-
-/// Whether the point at a place puts this value to a key, with this sequence.
-pub(crate) fn puts_at(run: &Run, place: u64, key: &[u8], seq: u64, value: &[u8]) -> bool {
-    run.point(place) == Some((key, seq, WhatRef::Put(value)))
-}
 
 /// Whether an effect sets this value, or no value.
 fn sets(effect: &Effect, value: Option<&[u8]>) -> bool {

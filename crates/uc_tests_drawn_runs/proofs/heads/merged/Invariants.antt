@@ -1,5 +1,5 @@
 use Rattle.std.proofs.Common.{◌≡◌, length}
-use Rattle.uc_tests_runs.proofs.heads.merged.Given as goal
+use Rattle.uc_tests_drawn_runs.proofs.heads.merged.Given as goal
 
 -- there is a next key for each walk
 abbrev pub invariant-loop : goal.invariant-loop
