@@ -13,6 +13,9 @@ set -euo pipefail
 here=$(cd "$(dirname "${BASH_SOURCE[0]}")" && pwd)
 work=$(mktemp -d)
 trap 'rm -rf "$work"' EXIT
+# cargo is often where rustup puts it, and in no PATH but that of a login shell.
+export HOME=${HOME:-$(getent passwd "$(id -u)" | cut -d: -f6)}
+export PATH=$PATH:${CARGO_HOME:-$HOME/.cargo}/bin
 operations=${OPERATIONS:-50000}
 calls=${CALLS:-1000}
 seed=${SEED:-1}
