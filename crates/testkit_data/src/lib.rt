@@ -18,7 +18,7 @@
 //! that prints something else where it is and how the lines differ. [`rewritten`] is the file as it would be right: a new
 //! case is written without its last part, which is then read in the difference.
 //!
-//! It knows no store.
+//! It knows no store. Its cases stand in `uc_tests_scripts/data/cases.txt`.
 #![tactic(auto)]
 
 mod arguments;
@@ -29,8 +29,6 @@ mod difference;
 mod file_error;
 mod folder;
 mod playing;
-#[cfg(test)]
-mod tests;
 
 pub use arguments::Arguments;
 pub use case::Case;
