@@ -1,4 +1,5 @@
 //! Random spans compared with plain lists.
+use crate::given::{newest_of, next_random};
 use std::alloc::{AllocError, Global};
 use std::sync::Arc;
 use std::test::Fail;
@@ -9,14 +10,8 @@ const MOST_SEQS: u64 = 9;
 
 /// The next random number below a bound that isn't 0.
 fn random_below(state: &mut u64, bound: u64) -> u64 {
-    *state = state
-        .wrapping_mul(6_364_136_223_846_793_005)
-        .wrapping_add(1_442_695_040_888_963_407);
-    if bound == 0 {
-        0
-    } else {
-        (*state >> 33) % bound
-    }
+    let number = next_random(state);
+    if bound == 0 { 0 } else { number % bound }
 }
 
 /// A span over some of `fragments` fragments, or `None` if there are none.
@@ -48,14 +43,21 @@ fn random_spans(
     Ok(spans)
 }
 
+/// Whether a span with this sequence is over a fragment.
+fn is_over(spans: &[Span], seq: u64, fragment: usize) -> bool {
+    for span in spans {
+        if span.seq == seq && span.first <= fragment && fragment < span.end {
+            return true;
+        }
+    }
+    false
+}
+
 /// The sequences of a fragment, the newest first, found by a look at all spans for each sequence.
 fn plain_seqs(alloc: Global, spans: &[Span], fragment: usize) -> Result<Vec<u64>, AllocError> {
     let mut seqs = Vec::new(alloc);
     for seq in (0..MOST_SEQS).rev() {
-        if spans.iter().any(|span| span.seq == seq
-            && span.first <= fragment
-            && fragment < span.end)
-        {
+        if is_over(spans, seq, fragment) {
             seqs.push(seq)?;
         }
     }
@@ -68,8 +70,7 @@ fn find_as(seqs: &Seqs, plain: &[u64]) -> bool {
         return false;
     }
     for at in 0..MOST_SEQS + 1 {
-        let first = plain.iter().copied().find(|seq| *seq <= at);
-        if seqs.newest_at_or_below(at) != first {
+        if seqs.newest_at_or_below(at) != newest_of(plain, at) {
             return false;
         }
     }
@@ -99,6 +100,19 @@ fn both_are(alloc: Global, own: &Seqs, shared: &Seqs, plain: &[u64]) -> Result<b
     )
 }
 
+/// Whether a fragment of some spans finds what a plain list does.
+fn finds_as(spans: &Spans, fragment: usize, plain: &[u64]) -> bool {
+    if fragment >= spans.fragments() {
+        return false;
+    }
+    for at in 0..MOST_SEQS + 1 {
+        if spans.newest_at_or_below(fragment, at) != newest_of(plain, at) {
+            return false;
+        }
+    }
+    true
+}
+
 /// Whether a fragment of some spans answers as a plain list does.
 fn answers_as(
     alloc: Global,
@@ -106,19 +120,11 @@ fn answers_as(
     fragment: usize,
     plain: &[u64],
 ) -> Result<bool, AllocError> {
-    if fragment >= spans.fragments() {
+    if fragment >= spans.fragments() || spans.count(fragment) != plain.len() as u64 {
         return Ok(false);
     }
-    for at in 0..MOST_SEQS + 1 {
-        let first = plain.iter().copied().find(|seq| *seq <= at);
-        if spans.newest_at_or_below(fragment, at) != first {
-            return Ok(false);
-        }
-    }
-    Ok(
-        spans.count(fragment) == plain.len() as u64
-            && spans.seqs(fragment).to_vec(alloc)?.as_slice() == plain,
-    )
+    let is_same = spans.seqs(fragment).to_vec(alloc)?.as_slice() == plain;
+    Ok(is_same && finds_as(spans, fragment, plain))
 }
 
 /// How many sequences the fragments of spans have together, each asked as a share of them.

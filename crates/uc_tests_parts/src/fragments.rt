@@ -1,5 +1,5 @@
 //! The fragments of some ranges, and the laws.
-use crate::given::next_random;
+use crate::given::{newest_of, next_random};
 use std::alloc::{AllocError, Global};
 use std::process::Abort;
 use std::test::Fail;
@@ -132,157 +132,97 @@ fn ranges_are_cut_into_fragments(rt: HostRuntime) -> Result<(), Fail> {
 }
 
 /// Ends of random ranges, and keys to look for.
-static KEYS: [&[u8]; 8] = [b"", b"a", b"aa", b"ab", b"b", b"b\x00", b"c", b"\xff"];
-
-/// Ends of many random ranges.
-static MANY_KEYS: [&[u8]; 12] = [
+static KEYS: [&[u8]; 12] = [
     b"", b"a", b"aa", b"ab", b"b", b"b\x00", b"c", b"ca", b"d", b"da", b"e", b"\xff",
 ];
 
-/// Sequences of random ranges are below this.
-const MOST_SEQS: u64 = 5;
+/// The most random ranges, and their greatest sequence.
+const MOST: u64 = 40;
+
+/// Sequences of ranges that don't rise are below this.
+const LEAST: u64 = 5;
 
 /// A random key.
 fn random_key(state: &mut u64) -> &'static [u8] {
-    KEYS[(next_random(state) % 8) as usize]
+    KEYS[(next_random(state) % 12) as usize]
 }
 
-/// The sequences of the ranges over a key, found by a look at all of them for each sequence.
-fn seqs_of_ranges(alloc: Global, ranges: &[Range<'_>], key: &[u8]) -> Result<Vec<u64>, AllocError> {
+/// Random ranges, of which most have keys. If they rise, each has a sequence of its own above those before it; else some have equal sequences.
+fn random_ranges(
+    alloc: Global,
+    state: &mut u64,
+    count: u64,
+    rise: bool,
+) -> Result<Vec<Range<'static>>, AllocError> {
+    let mut ranges = Vec::new(alloc);
+    for place in 1..=count {
+        let (begin, one, other) = (random_key(state), random_key(state), random_key(state));
+        let end = if one < other { other } else { one };
+        let seq = if rise {
+            place
+        } else {
+            next_random(state) % LEAST
+        };
+        ranges.push(Range::new(begin, end, seq))?;
+    }
+    Ok(ranges)
+}
+
+/// Whether a range with this sequence is over a key.
+fn is_under(ranges: &[Range<'_>], seq: u64, key: &[u8]) -> bool {
+    for range in ranges {
+        if range.seq() == seq && range.begin() <= key && key < range.end() {
+            return true;
+        }
+    }
+    false
+}
+
+/// The sequences of the ranges over a key, the newest first, found by a look at all of them for each sequence.
+fn plain_over(alloc: Global, ranges: &[Range<'_>], key: &[u8]) -> Result<Vec<u64>, AllocError> {
     let mut seqs = Vec::new(alloc);
-    for seq in (0..MOST_SEQS).rev() {
-        if ranges.iter().any(|range| range.seq() == seq
-            && range.begin() <= key
-            && key < range.end())
-        {
+    let most = (ranges.len() as u64).max(LEAST);
+    for seq in (0..=most).rev() {
+        if is_under(ranges, seq, key) {
             seqs.push(seq)?;
         }
     }
     Ok(seqs)
 }
 
-/// The sequences of the fragments over a key.
-fn seqs_of_fragments(
-    alloc: Global,
-    fragments: &[Fragment],
-    key: &[u8],
-) -> Result<Vec<u64>, AllocError> {
-    let mut seqs = Vec::new(alloc);
-    for fragment in fragments {
-        if fragment.begin.as_slice() <= key && key < fragment.end.as_slice() {
-            seqs.extend_from_slice(&fragment.seqs.to_vec(alloc)?)?;
-        }
+/// Whether a fragment has these sequences, and returns the newest of them for each number.
+fn find_all(alloc: Global, fragment: &Fragment, seqs: &[u64]) -> Result<bool, AllocError> {
+    if !fragment.seqs.are_falling() || fragment.seqs.len() != seqs.len() as u64 {
+        return Ok(false);
     }
-    Ok(seqs)
-}
-
-/// Random ranges, some with equal sequences.
-fn few_ranges(
-    alloc: Global,
-    state: &mut u64,
-    count: u64,
-) -> Result<Vec<Range<'static>>, AllocError> {
-    let mut ranges = Vec::new(alloc);
-    for _ in 0..count {
-        let begin = random_key(state);
-        let end = random_key(state);
-        ranges.push(Range::new(begin, end, next_random(state) % MOST_SEQS))?;
-    }
-    Ok(ranges)
-}
-
-/// Whether fragments have over a key the sequences that ranges have.
-fn cover_same(
-    alloc: Global,
-    ranges: &[Range<'_>],
-    fragments: &[Fragment],
-    key: &[u8],
-) -> Result<bool, AllocError> {
-    let expected = seqs_of_ranges(alloc, ranges, key)?;
-    Ok(seqs_of_fragments(alloc, fragments, key)? == expected)
-}
-
-/// Whether the fragments of ranges cover each key as they do.
-fn are_covered(alloc: Global, ranges: &[Range<'_>]) -> Result<bool, AllocError> {
-    let fragments = cut_ranges(alloc, ranges)?;
-    for key in &KEYS {
-        if !cover_same(alloc, ranges, fragments.as_slice(), key)? {
+    for at in 0..=MOST + 1 {
+        if fragment.seqs.newest_at_or_below(at) != newest_of(seqs, at) {
             return Ok(false);
         }
     }
-    Ok(true)
+    Ok(fragment.seqs.to_vec(alloc)?.as_slice() == seqs)
 }
 
-/// Whether the fragments of random ranges cover each key as they do.
-fn few_are_covered(alloc: Global, state: &mut u64, count: u64) -> Result<bool, AllocError> {
-    are_covered(alloc, &few_ranges(alloc, state, count)?)
-}
-
-#[test]
-fn random_ranges_cover_what_their_fragments_cover(rt: HostRuntime) -> Result<(), Fail> {
-    let alloc = rt.alloc();
-    let mut state = 1;
-    for round in 0..200 {
-        assert!(rt;
-            few_are_covered(alloc, &mut state, round % 9)?,
-            "in round {round}"
-        );
-    }
-    Ok(())
-}
-
-/// Random ranges, each with a sequence of its own, above those before it.
-fn random_ranges(
-    alloc: Global,
-    state: &mut u64,
-    count: u64,
-) -> Result<Vec<Range<'static>>, AllocError> {
-    let mut ranges = Vec::new(alloc);
-    for seq in 1..=count {
-        let begin = MANY_KEYS[(next_random(state) % 12) as usize];
-        let end = MANY_KEYS[(next_random(state) % 12) as usize];
-        ranges.push(Range::new(begin, end, seq))?;
-    }
-    Ok(ranges)
-}
-
-/// The sequences of the ranges over a key, the newest first, of ranges whose sequences rise.
-fn rising_over(alloc: Global, ranges: &[Range<'_>], key: &[u8]) -> Result<Vec<u64>, AllocError> {
-    let mut seqs = Vec::new(alloc);
-    for range in ranges.iter().rev() {
-        if range.begin() <= key && key < range.end() {
-            seqs.push(range.seq())?;
-        }
-    }
-    Ok(seqs)
-}
-
-/// The first of falling sequences at or below a number, found by a look at all of them.
-fn first_by(seqs: &[u64], at: u64) -> Option<u64> {
-    seqs.iter().copied().find(|seq| *seq <= at)
-}
-
-/// Whether the fragments have these sequences over a key, and return the newest of them for each number.
+/// Whether one fragment is over a key and has these sequences, or none is and there are none.
 fn are_over(
     alloc: Global,
     fragments: &[Fragment],
     key: &[u8],
     seqs: &[u64],
 ) -> Result<bool, AllocError> {
-    let Some(fragment) = fragments.iter().find(|fragment| fragment.begin.as_slice() <= key
-        && key < fragment.end.as_slice())
-    else {
-        return Ok(seqs.is_empty());
-    };
-    Ok(
-        fragment.seqs.len() == seqs.len() as u64
-            && fragment.seqs.are_falling()
-            && fragment.seqs.to_vec(alloc)?.as_slice() == seqs
-            && (0..42).all(|at| fragment.seqs.newest_at_or_below(at) == first_by(seqs, at)),
-    )
+    let mut count = 0u64;
+    for fragment in fragments {
+        if fragment.begin.as_slice() <= key && key < fragment.end.as_slice() {
+            if !find_all(alloc, fragment, seqs)? {
+                return Ok(false);
+            }
+            count = count.saturating_add(1);
+        }
+    }
+    Ok(count == u64::from(!seqs.is_empty()))
 }
 
-/// Whether fragments have over a key the sequences of ranges that rise. Raises `longest` to their number.
+/// Whether fragments have over a key the sequences of ranges. Raises `longest` to their number.
 fn is_over(
     alloc: Global,
     ranges: &[Range<'_>],
@@ -290,7 +230,7 @@ fn is_over(
     key: &[u8],
     longest: &mut usize,
 ) -> Result<bool, AllocError> {
-    let seqs = rising_over(alloc, ranges, key)?;
+    let seqs = plain_over(alloc, ranges, key)?;
     *longest = (*longest).max(seqs.len());
     are_over(alloc, fragments, key, &seqs)
 }
@@ -304,14 +244,14 @@ fn is_cut_to(
     Ok(fragments.same(&cut_ranges(alloc, ranges)?))
 }
 
-/// Whether ranges that rise are cut into the same fragments twice, which have their sequences over each key.
-fn share_spans(
+/// Whether ranges are cut into the same fragments twice, which have their sequences over each key.
+fn are_covered(
     alloc: Global,
     ranges: &[Range<'_>],
     longest: &mut usize,
 ) -> Result<bool, AllocError> {
     let fragments = cut_ranges(alloc, ranges)?;
-    for key in &MANY_KEYS {
+    for key in &KEYS {
         if !is_over(alloc, ranges, fragments.as_slice(), key, longest)? {
             return Ok(false);
         }
@@ -320,22 +260,23 @@ fn share_spans(
 }
 
 /// Whether random ranges are cut that way.
-fn many_share_spans(
+fn random_are_covered(
     alloc: Global,
     state: &mut u64,
-    count: u64,
+    (count, rise): (u64, bool),
     longest: &mut usize,
 ) -> Result<bool, AllocError> {
-    share_spans(alloc, &random_ranges(alloc, state, count)?, longest)
+    are_covered(alloc, &random_ranges(alloc, state, count, rise)?, longest)
 }
 
 #[test]
-fn many_ranges_that_overlap_share_spans(rt: HostRuntime) -> Result<(), Fail> {
+fn random_ranges_cover_what_their_fragments_cover(rt: HostRuntime) -> Result<(), Fail> {
     let alloc = rt.alloc();
     let mut state = 30;
     let mut longest = 0;
-    for round in 0..20_000 {
-        assert!(rt; many_share_spans(alloc, &mut state, round % 41, &mut longest)?);
+    for round in 0..4_000 {
+        let how = (round % (MOST + 1), round % 3 > 0);
+        assert!(rt; random_are_covered(alloc, &mut state, how, &mut longest)?);
     }
     assert!(rt; longest > 20);
     Ok(())
@@ -382,7 +323,7 @@ fn fragments_differ_by_an_end_or_a_sequence(rt: HostRuntime) -> Result<(), Fail>
     let alloc = rt.alloc();
     let mut state = 31;
     assert!(rt; do_ends_differ(alloc)?);
-    let ranges = random_ranges(alloc, &mut state, 40)?;
+    let ranges = random_ranges(alloc, &mut state, MOST, true)?;
     wants_same(&rt, alloc, &ranges, &cut_ranges(alloc, &ranges)?)
 }
 

@@ -1,4 +1,4 @@
-//! What several of the tests make: points that own their texts, and random numbers.
+//! What several of the tests make: points that own their texts, random numbers, and lookups in plain lists.
 use std::alloc::{AllocError, Global};
 use uc_bytes::Bytes;
 use uc_run_entry::{Entry, WhatRef};
@@ -21,4 +21,14 @@ pub(crate) fn next_random(state: &mut u64) -> u64 {
         .wrapping_mul(6_364_136_223_846_793_005)
         .wrapping_add(1_442_695_040_888_963_407);
     *state >> 33
+}
+
+/// The first of falling sequences at or below a number, found by a look at all of them.
+pub(crate) fn newest_of(seqs: &[u64], at: u64) -> Option<u64> {
+    for seq in seqs {
+        if *seq <= at {
+            return Some(*seq);
+        }
+    }
+    None
 }

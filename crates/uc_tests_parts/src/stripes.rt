@@ -1,4 +1,5 @@
 //! What is kept of one key's points and of one fragment's sequences, and the laws, called.
+use crate::given::newest_of;
 use std::alloc::{AllocError, Global};
 use std::test::Fail;
 use std::thread::Threads;
@@ -350,7 +351,7 @@ fn find_as(first: &Seqs, second: &Seqs, wanted: &[u64]) -> bool {
     let lists = [first, second];
     let over = Over::new(&lists);
     for at in 0..12 {
-        if over.newest_at_or_below(at) != wanted.iter().copied().find(|seq| *seq <= at) {
+        if over.newest_at_or_below(at) != newest_of(wanted, at) {
             return false;
         }
     }
