@@ -147,7 +147,7 @@ fn random_key(state: &mut u64) -> &'static [u8] {
     KEYS[(next_random(state) % 12) as usize]
 }
 
-/// Random ranges, of which most have keys. If they rise, each has a sequence of its own above those before it; else some have equal sequences.
+/// Random ranges, most of them with keys. If they rise, each has a sequence above those before; else some have equal ones.
 fn random_ranges(
     alloc: Global,
     state: &mut u64,

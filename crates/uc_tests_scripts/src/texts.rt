@@ -2,7 +2,7 @@
 use std::alloc::Global;
 use testkit_data::CaseError;
 
-/// The texts that stand for the bytes behind a `\`, and how many characters spell them.
+/// Appends the byte that is spelled behind a `\`, and returns how many characters spell it.
 fn push_escape(alloc: Global, text: &mut Vec<u8>, piece: &str) -> Result<usize, CaseError> {
     if piece.starts_with('n') {
         text.push(b'\n')?;
