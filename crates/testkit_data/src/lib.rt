@@ -18,7 +18,9 @@
 //! that prints something else where it is and how the lines differ. [`rewritten`] is the file as it would be right: a new
 //! case is written without its last part, which is then read in the difference.
 //!
-//! It knows no store. Its cases stand in `uc_tests_scripts/data/cases.txt`.
+//! It knows no store.
+//!
+//! Tests: `uc_tests_scripts`.
 #![tactic(auto)]
 
 mod arguments;

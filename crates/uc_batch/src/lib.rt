@@ -9,6 +9,8 @@
 //! store opens from a log without holding all of it beside the store. Read `pieces.rt`, then `piece_reader.rt`.
 //!
 //! An `Err(AllocError)`, or a variant `Memory`, comes only if an allocation fails.
+//!
+//! Tests: `uc_tests_formats`.
 #![tactic(auto)]
 
 mod batch_reader;

@@ -8,6 +8,8 @@
 //! texts. Read `op.rt` first.
 //!
 //! An `Err(AllocError)` comes only if an allocation fails.
+//!
+//! Tests: `uc_tests_base`.
 #![tactic(auto)]
 
 mod bytes;

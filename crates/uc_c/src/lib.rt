@@ -19,6 +19,8 @@
 //!
 //! Read `status.rt` and `specs/Replies.antt` first, for what the functions answer, then `opening.rt`, `writing.rt`,
 //! `snapshots.rt`, `reading.rt`, `scanning.rt`, `compacting.rt`, `c_report.rt` and, with `specs/LogWalk.antt`, `logs.rt`.
+//!
+//! Tests: its own.
 #![tactic(auto)]
 
 mod c_ended;

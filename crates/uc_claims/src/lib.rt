@@ -9,6 +9,8 @@
 //! Read `rule.rt` first, for the rule and the kinds of step that keep it, then `table.rt`.
 //!
 //! An `Err(AllocError)` comes only if an allocation fails.
+//!
+//! Tests: `uc_tests_base`.
 #![tactic(auto)]
 
 mod busy;

@@ -6,6 +6,8 @@
 //! Read `command.rt`, then `plan.rt`. `tests.rt` has what lines set, and which are refused.
 //!
 //! An `Err(AllocError)` comes only if an allocation fails.
+//!
+//! Tests: its own.
 #![tactic(auto)]
 
 mod command;

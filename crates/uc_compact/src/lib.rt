@@ -13,6 +13,8 @@
 //! the newest run first. Read `specs/Groups.antt` first.
 //!
 //! An `Err(AllocError)` comes only if an allocation fails.
+//!
+//! Tests: `uc_tests_parts`, `uc_tests_runs`, `uc_tests_drawn_runs`.
 #![tactic(auto)]
 
 mod checking;

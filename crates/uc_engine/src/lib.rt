@@ -13,6 +13,8 @@
 //! a match over the operators, and what it calls is generic in the operator.
 //!
 //! An `Err(AllocError)`, or a variant `Memory`, comes only if an allocation fails.
+//!
+//! Tests: `uc_tests_engine`.
 #![tactic(auto)]
 
 mod batches;

@@ -6,6 +6,8 @@
 //! effects on one key, and [`Sums`] adds totals. Read `joins.rt` first, then `folding.rt`.
 //!
 //! An `Err(AllocError)` comes only if an allocation fails.
+//!
+//! Tests: `uc_tests_base`.
 #![tactic(auto)]
 
 mod effects;

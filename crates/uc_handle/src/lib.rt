@@ -5,6 +5,8 @@
 //! No export has a pointer in its contract, and none has a proof of its own that speaks of memory.
 //!
 //! Read `handle.rt` first, then `loose.rt`, a box as its address.
+//!
+//! Tests: `uc_c`.
 #![tactic(auto)]
 
 mod handle;

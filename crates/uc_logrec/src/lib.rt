@@ -22,6 +22,8 @@
 //! that the division of `specs/` is division. The checksum never allocates or fails.
 //!
 //! An `Err(AllocError)` comes only if an allocation fails.
+//!
+//! Tests: `uc_tests_formats`.
 #![tactic(auto)]
 
 mod checksum;

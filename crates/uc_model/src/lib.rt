@@ -4,6 +4,8 @@
 //! compaction: any other way to keep the writes must answer as this crate does. Read `specs/Meaning.antt` first.
 //!
 //! An `Err(AllocError)` comes only if an allocation fails.
+//!
+//! Tests: `uc_tests_base`.
 #![tactic(auto)]
 
 mod laws;

@@ -5,6 +5,8 @@
 //! Read `operator.rt` first, then `effect.rt`.
 //!
 //! An `Err(AllocError)` comes only if an allocation fails.
+//!
+//! Tests: `uc_tests_base`.
 #![tactic(auto)]
 
 mod append;

@@ -10,6 +10,8 @@
 //! list [`RunLine::fields`]. Read `specs/Reports.antt` first, then `run_line.rt` and `reports.rt`.
 //!
 //! An `Err(AllocError)` or `Memory` comes only if an allocation fails.
+//!
+//! Tests: `uc_tests_versions`, `uc_tests_store`.
 #![tactic(auto)]
 
 mod ask_turn;

@@ -9,6 +9,8 @@
 //! scans `specs/Ahead.antt`, `specs/Walks.antt`, `walkers.rt`, `cursors.rt`, `dead_keys.rt` and `scan.rt`.
 //!
 //! An `Err(AllocError)` comes only if an allocation fails.
+//!
+//! Tests: its own, `uc_tests_base`, `uc_tests_answers`.
 #![tactic(auto)]
 
 mod answer;

@@ -11,6 +11,8 @@
 //! a reader gives it.
 //!
 //! An `Err(AllocError)`, or an error `Memory`, comes only if an allocation fails.
+//!
+//! Tests: `uc_tests_answers`, `uc_tests_feeds`.
 #![tactic(auto)]
 
 mod answers;

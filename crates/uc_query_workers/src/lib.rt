@@ -15,6 +15,8 @@
 //! and the kinds of step that keep it; read it before `counter.rt`.
 //!
 //! An `Err(AllocError)`, or a variant `Memory`, comes only if an allocation fails.
+//!
+//! Tests: `uc_tests_store`, `uc_tests_answers`.
 #![tactic(auto)]
 
 mod answered;

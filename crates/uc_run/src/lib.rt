@@ -12,6 +12,8 @@
 //! This crate re-exports the public items of `uc_run_entry` that runs are made of.
 //!
 //! An `Err(AllocError)` comes only if an allocation fails.
+//!
+//! Tests: `uc_tests_runs`, `uc_tests_drawn_runs`.
 #![tactic(auto)]
 
 mod common_front;

@@ -17,6 +17,8 @@
 //! `specs/Spans.antt` defines the lists; read `spans.rt` first.
 //!
 //! An `Err(AllocError)` comes only if an allocation fails.
+//!
+//! Tests: `uc_tests_parts`, `uc_tests_runs`.
 #![tactic(auto)]
 
 mod ahead;

@@ -24,6 +24,8 @@
 //! one line.
 //!
 //! An `Err(AllocError)`, or a variant `Memory`, comes only if an allocation fails.
+//!
+//! Tests: `uc_tests_scripts`.
 #![tactic(auto)]
 
 mod call;

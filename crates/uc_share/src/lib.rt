@@ -27,6 +27,8 @@
 //! to add to it, and a [`Name`] says which store it is. What is shown to readers is a version with the history that leads to it
 //! (`Shown`); a [`Reader`] pins it, and a `Publisher` shows the next one. Read `specs/Fronts.antt` first, then `rule.rt`,
 //! `front.rt`, `book.rt`, `reader.rt` and `publisher.rt`.
+//!
+//! Tests: `uc_tests_share`, `uc_tests_feeds`.
 #![tactic(auto)]
 
 mod book;

@@ -12,6 +12,8 @@
 //! Read `specs/Ask.antt` first, then `ask_run.rt`, `answers.rt`, `compactor.rt` and `feeder.rt`. Tests hold compactors up by a
 //! [`TurnGate`](uc_share::TurnGate). Recovering, refusing and the lines of answers stand in `uc_tool_opening`, batches in
 //! `uc_query_shared`, and the store with a compactor's turn in `uc_share`.
+//!
+//! Tests: `uc_tests_tool`.
 #![tactic(auto)]
 
 mod answers;

@@ -24,6 +24,8 @@
 //! reader that is seen by what is ahead: the record that holds of it is `DumpsOn` in `proofs/Dumps.antt`.
 //!
 //! It stands on the formats alone, and not on the store, so that what prints logs doesn't wait for it.
+//!
+//! Tests: `uc_tests_formats`, `uc_tests_program`, `uc_tests_tool`.
 #![tactic(auto)]
 
 mod done;

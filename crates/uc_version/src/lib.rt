@@ -7,6 +7,8 @@
 //! of both.
 //!
 //! An `Err(AllocError)`, or a variant `Memory`, comes only if an allocation fails.
+//!
+//! Tests: `uc_tests_versions`, `uc_tests_store`.
 #![tactic(auto)]
 
 mod at_once;

@@ -14,6 +14,8 @@
 //! and others feed, keep and release between them. `step_laws.rt` has the law that no checked compactor is ever displaced.
 //!
 //! An `Err(AllocError)` comes only if an allocation fails.
+//!
+//! Tests: `uc_tests_versions`.
 #![tactic(auto)]
 
 mod candidate;

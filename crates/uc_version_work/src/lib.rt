@@ -24,6 +24,8 @@
 //! `stretches.rt` and `refusal.rt`. `specs/Ranges.antt` says which stretches may be claimed at all, and `candidates.rt` picks one.
 //!
 //! An `Err(AllocError)`, or a variant `Memory`, comes only if an allocation fails.
+//!
+//! Tests: `uc_tests_versions`.
 #![tactic(auto)]
 
 mod candidates;
