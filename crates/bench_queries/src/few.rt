@@ -9,7 +9,7 @@ use anyhow::Result;
 use std::alloc::{AllocError, Global};
 use uc_bytes::{OpRef, WriteRef};
 use uc_query_read::Query;
-use uc_version::{Opener, Options, Version};
+use uc_version::{Alone, Opener, Options, Version};
 
 const WRITES: u64 = 1000;
 
@@ -52,7 +52,7 @@ fn inserted(alloc: Global, writes: u64, options: Options) -> Result<Opener, Allo
         let end = key_of(alloc, number.saturating_add(SPAN))?;
         let value = numbers.next().to_le_bytes();
         let op = op_of(numbers.below(100), key.as_slice(), end.as_slice(), &value);
-        opener.insert(alloc, &WriteRef::new(before + 1, op))?;
+        opener.insert(&Alone, alloc, &WriteRef::new(before + 1, op))?;
     }
     Ok(opener)
 }

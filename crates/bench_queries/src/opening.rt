@@ -3,11 +3,11 @@ use anyhow::{Result, ensure};
 use std::alloc::{AllocError, Global};
 use uc_batch::Ended;
 use uc_version::{Opener, Options, Version};
-use uc_version_work::{Recovered, recover};
+use uc_version_work::{Alone, Recovered, recover};
 
 /// Recovers a log, which is freed before anything else is done, and how far it was read.
 fn recovered(alloc: Global, log: Vec<u8>, options: Options) -> Result<Recovered, AllocError> {
-    recover(alloc, &log, options)
+    recover(&Alone, alloc, &log, options)
 }
 
 /// The version that a store opens with from a log that ends clean.
@@ -19,7 +19,7 @@ pub fn opened(alloc: Global, log: Vec<u8>, options: Options) -> Result<Version> 
 
 /// The version of what was inserted.
 pub(crate) fn finished(alloc: Global, opener: Opener) -> Result<Version> {
-    Ok(opener.finish(alloc, &[])?)
+    Ok(opener.finish(&Alone, alloc, &[])?)
 }
 
 /// How many runs a version has, and how many points they have together.

@@ -9,7 +9,7 @@ use std::thread::Threads;
 use uc_batch::Writes;
 use uc_compact::Compacted;
 use uc_run::Run;
-use uc_store::open_log;
+use uc_store::{Alone, open_log};
 use uc_version::{
     CompactError, InstallError, OpenError, Owned, OwnedClaim, Stretch, Version, open_version,
 };
@@ -67,7 +67,7 @@ struct OpensLog {
 
 impl Probe for OpensLog {
     fn call(&mut self, alloc: Global) -> Outcome {
-        match open_log::<Texts>(alloc, &self.log, &KEEPS, small_runs()) {
+        match open_log::<Texts, _>(&Alone, alloc, &self.log, &KEEPS, small_runs()) {
             Ok(opened) => Outcome::of(same_version(opened.store.version(), &self.wanted)),
             Err(OpenError::Memory) => Outcome::Memory,
             Err(_) => Outcome::Wrong,

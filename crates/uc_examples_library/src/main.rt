@@ -8,16 +8,16 @@ mod visits;
 use anyhow::Result;
 use std::io::Read;
 use std::marker::Brand;
-use uc_store::{Options, open_log, open_shared};
+use uc_store::{Alone, Options, open_log, open_shared};
 
 fn main(rt: HostRuntime) -> Result<()> {
     let alloc = rt.alloc();
     let mut log = Vec::new(alloc);
     rt.stdin().read_to_end(&mut log)?;
-    let mut opened = open_log(alloc, &log, &[], Options::usual())?;
+    let mut opened = open_log(&Alone, alloc, &log, &[], Options::usual())?;
     let (before, now) = one_owner::count(&rt, alloc, &mut opened.store)?;
     println!(rt; "{before} visits at the snapshot, {now} now")?;
-    let opened = open_shared(alloc, &log, &[], Options::usual(), 4, 1)?;
+    let opened = open_shared(&Alone, alloc, &log, &[], Options::usual(), 4, 1)?;
     let before = threads::count::<Brand, _>(&rt, alloc, opened.opening)?;
     println!(rt; "{before} visits at the snapshot, with 50 batches fed meanwhile")?;
     Ok(())

@@ -18,7 +18,7 @@ use uc_batch::Writes;
 use uc_oper::Operator;
 use uc_run::Run;
 use uc_version_state::{FeedError, ReleaseError};
-use uc_version_work::flush_writes;
+use uc_version_work::{Alone, flush_writes};
 
 impl<O: Operator, N: Name, W: Wait + Drop> Store<O, N, W> {
     /// Feeds writes: they fill memtables, and each becomes a run before all others, for all readers at once. Returns how many
@@ -114,5 +114,5 @@ fn runs_to_feed<O: Operator, N: Name>(
     if let Some(error) = pin.version().feed_refusal(writes.list()) {
         return Err(error);
     }
-    Ok(flush_writes(alloc, pin.version().limit(), writes.list())?)
+    Ok(flush_writes(&Alone, alloc, pin.version().limit(), writes.list())?)
 }

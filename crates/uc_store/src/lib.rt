@@ -1,12 +1,12 @@
 //! The store for programs: one crate to name.
 //!
-//! [`open_log`] opens a store from the bytes of a write-ahead log, and says how far the log could be read;
-//! [`open_log_in_threads`] gives the same sooner, and [`open_pieces_in_threads`] lets go of the log meanwhile. [`get`] looks a key
+//! [`open_log`] opens a store from the bytes of a write-ahead log, and says how far the log could be read; [`open_pieces`] lets go of
+//! the log meanwhile. Both take [`Workers`] first: [`Alone`], or [`InThreads`], which opens it sooner. [`get`] looks a key
 //! up at a sequence that a snapshot protects, [`answer_one`] answers any query and [`answer_plain`] a batch of them by many
 //! workers. [`feed_batch`] writes, and [`get_last`] and [`answer_last`] read at the last sequence. [`Owned`] takes snapshots, and
 //! picks what to compact; [`report`] says what a store holds.
 //!
-//! [`open_shared`] opens a [`Store`] that threads share, and [`open_shared_in_threads`] does so sooner. [`feed_shared_batch`]
+//! [`open_shared`] opens a [`Store`] that threads share. [`feed_shared_batch`]
 //! writes to it, [`Store::keep`] and [`Store::release`] take and release snapshots, and [`Store::turn`] compacts for a
 //! [`Compactor`]. A [`Reader`] pins versions without waiting, and [`answer_all`] answers a batch by workers that have a reader
 //! each.
@@ -29,8 +29,8 @@ pub use batches::feed_batch;
 pub use compactors::next_compactor;
 pub use feed_batch_error::FeedBatchError;
 pub use last_reads::{answer_last, get_last};
-pub use opened_log::{OpenedLog, open_log, open_log_in_threads, open_pieces_in_threads};
-pub use opened_shared::{OpenedShared, open_shared, open_shared_in_threads};
+pub use opened_log::{OpenedLog, open_log, open_pieces};
+pub use opened_shared::{OpenedShared, open_shared};
 pub use shared_batches::feed_shared_batch;
 pub use uc_batch::{Ended, Op, Pieces, Writes};
 pub use uc_bytes::{Bytes, Write};
@@ -41,7 +41,7 @@ pub use uc_share::{
     Compactor, Held, MOST_READERS, MOST_SEATS, Name, Opening, Pin, Reader, Seat, Store, Turn,
 };
 pub use uc_version::{
-    Alone, By, ClaimError, CompactError, FeedError, InstallError, Merger, Options, Owned,
-    OwnedClaim, Placed, ReleaseError, Stretch, Version,
+    Alone, By, ClaimError, CompactError, FeedError, InThreads, InstallError, Merger, Options,
+    Owned, OwnedClaim, Placed, ReleaseError, Stretch, Version, Workers,
 };
 pub use uc_version_work::OpenError;

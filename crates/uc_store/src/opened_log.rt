@@ -1,4 +1,4 @@
-//! [`open_log`] and its forms for threads: a store opened from a write-ahead log.
+//! [`open_log`] and [`open_pieces`]: a store opened from a write-ahead log.
 ghost use Rattle.std.specs.Prelude.{◌≡◌, ◌≢◌, None, Some, true, IfOk, IfErr};
 ghost use Rattle.uc_batch.specs.Log.{log_writes};
 ghost use Rattle.uc_version_state.specs.Options.{are_good};
@@ -8,14 +8,10 @@ ghost use Rattle.uc_version_work.specs.declared.open_error.OpenError.TheVariants
 ghost use Rattle.uc_version.specs.Owners.{unclaimed};
 
 use std::alloc::{AllocError, Global};
-use std::marker::Sync;
-use std::thread::Threads;
 use uc_batch::{Ended, Pieces};
 use uc_oper::Operator;
 use uc_version::{Options, Owned, Version};
-use uc_version_work::{
-    OpenError, Recovered, recover, recover_in_threads, recover_pieces_in_threads,
-};
+use uc_version_work::{OpenError, Recovered, Workers, recover, recover_pieces};
 
 /// A store that was opened from a log, and how far the log could be read.
 #[derive(Drop)]
@@ -45,12 +41,17 @@ fn store_of<O: Operator>(
 /// the writes before the log's first fault, and `ended` says whether there was one. Reads are made at the sequences `keeps`,
 /// in any order, and at the last one. It is refused for the first of these: an option out of its range, a sequence of `keeps`
 /// above the last one, more runs than slots; and for want of memory. It goes once over the log.
-pub fn open_log<O: Operator>(
+///
+/// These workers flush full memtables. What it gives is the same for all workers, and so is what it refuses. If threads flush, it
+/// holds up to six more memtables meanwhile.
+pub fn open_log<O: Operator, W: Workers>(
+    workers: &W,
     alloc: Global,
     log: &[u8],
     keeps: &[u64],
     options: Options,
 ) -> Result<OpenedLog<O>, OpenError>
+    requires { W.can_work }
     ensures store { let opening : Opening =
         record { writes = (log_writes log.now).list; keeps = keeps.now; options = options } in
         IfOk result (λ opened_log. opened_log.store ≡ unclaimed (opened opening) options) }
@@ -62,45 +63,21 @@ pub fn open_log<O: Operator>(
         record { writes = (log_writes log.now).list; keeps = keeps.now; options = options } in
         IfErr result (λ error. error ≢ Memory → opening_refusal opening ≡ Some error) }
 {
-    let Recovered { opener, ended } = recover(alloc, log, options)?;
-    let version = opener.finish(alloc, keeps)?;
+    let Recovered { opener, ended } = recover(workers, alloc, log, options)?;
+    let version = opener.finish(workers, alloc, keeps)?;
     Ok(store_of(alloc, version, ended, options)?)
 }
 
-/// As [`open_log`], with full memtables flushed in threads. What it gives is the same, and so is what it refuses. It holds up to
-/// six more memtables meanwhile.
-pub fn open_log_in_threads<O: Operator>(
-    rt: &(impl Threads + Sync),
-    alloc: Global,
-    log: &[u8],
-    keeps: &[u64],
-    options: Options,
-) -> Result<OpenedLog<O>, OpenError>
-    ensures store { let opening : Opening =
-        record { writes = (log_writes log.now).list; keeps = keeps.now; options = options } in
-        IfOk result (λ opened_log. opened_log.store ≡ unclaimed (opened opening) options) }
-    ensures ended { IfOk result (λ opened_log. opened_log.ended ≡ (log_writes log.now).ended) }
-    ensures may { let opening : Opening =
-        record { writes = (log_writes log.now).list; keeps = keeps.now; options = options } in
-        IfOk result (λ _. opening_refusal opening ≡ None) }
-    ensures err { let opening : Opening =
-        record { writes = (log_writes log.now).list; keeps = keeps.now; options = options } in
-        IfErr result (λ error. error ≢ Memory → opening_refusal opening ≡ Some error) }
-{
-    let Recovered { opener, ended } = recover_in_threads(rt, alloc, log, options)?;
-    let version = opener.finish_in_threads(rt, alloc, keeps)?;
-    Ok(store_of(alloc, version, ended, options)?)
-}
-
-/// As [`open_log_in_threads`], of a log in pieces, as a program reads them from a file or a pipe. Each piece is let go of when its
+/// As [`open_log`], of a log in pieces, as a program reads them from a file or a pipe. Each piece is let go of when its
 /// writes are in the store, so the whole log never stands beside the whole store.
-pub fn open_pieces_in_threads<O: Operator>(
-    rt: &(impl Threads + Sync),
+pub fn open_pieces<O: Operator, W: Workers>(
+    workers: &W,
     alloc: Global,
     log: Pieces,
     keeps: &[u64],
     options: Options,
 ) -> Result<OpenedLog<O>, OpenError>
+    requires { W.can_work }
     ensures store { let opening : Opening =
         record { writes = (log_writes log).list; keeps = keeps.now; options = options } in
         IfOk result (λ opened_log. opened_log.store ≡ unclaimed (opened opening) options) }
@@ -112,7 +89,7 @@ pub fn open_pieces_in_threads<O: Operator>(
         record { writes = (log_writes log).list; keeps = keeps.now; options = options } in
         IfErr result (λ error. error ≢ Memory → opening_refusal opening ≡ Some error) }
 {
-    let Recovered { opener, ended } = recover_pieces_in_threads(rt, alloc, log, options)?;
-    let version = opener.finish_in_threads(rt, alloc, keeps)?;
+    let Recovered { opener, ended } = recover_pieces(workers, alloc, log, options)?;
+    let version = opener.finish(workers, alloc, keeps)?;
     Ok(store_of(alloc, version, ended, options)?)
 }

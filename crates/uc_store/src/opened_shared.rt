@@ -1,4 +1,4 @@
-//! [`open_shared`] and [`open_shared_in_threads`]: a store that threads share, opened from a write-ahead log.
+//! [`open_shared`]: a store that threads share, opened from a write-ahead log.
 ghost use Rattle.std.specs.Prelude.{◌≡◌, ◌≢◌, None, Some, IfOk, IfErr};
 ghost use Rattle.uc_batch.specs.Log.{log_writes};
 ghost use Rattle.uc_version_state.specs.Openings.{Opening as OpeningOf};
@@ -7,15 +7,11 @@ ghost use Rattle.uc_version_work.specs.declared.open_error.OpenError.TheVariants
 ghost use Rattle.uc_share.specs.Stores.{IsOpenedSo, beginning, shared_refusal};
 
 use std::alloc::Global;
-use std::marker::Sync;
-use std::thread::Threads;
 use uc_batch::Ended;
 use uc_oper::Operator;
 use uc_share::{Opening, are_counts};
 use uc_version::Options;
-use uc_version_work::{
-    OpenError, Recovered, no_refusal_is_leave_to_open, recover, recover_in_threads,
-};
+use uc_version_work::{OpenError, Recovered, Workers, no_refusal_is_leave_to_open, recover};
 
 /// A store for threads that was opened from a log and has no name yet, and how far the log could be read.
 #[derive(Drop)]
@@ -29,8 +25,9 @@ pub struct OpenedShared<O: Operator> {
 /// Opens a store that threads share from the bytes of a write-ahead log, as [`open_log`](crate::open_log) opens one for one owner:
 /// for 1 to 128 `readers`, and up to 64 `seats`, one for each compactor. It is refused for the first of these: a number of readers
 /// or seats out of its range, an option out of its range, a sequence of `keeps` above the last one, more runs than slots; and for
-/// want of memory. It goes once over the log.
-pub fn open_shared<O: Operator>(
+/// want of memory. It goes once over the log, and these workers flush full memtables.
+pub fn open_shared<O: Operator, W: Workers>(
+    workers: &W,
     alloc: Global,
     log: &[u8],
     keeps: &[u64],
@@ -38,6 +35,7 @@ pub fn open_shared<O: Operator>(
     readers: usize,
     seats: usize,
 ) -> Result<OpenedShared<O>, OpenError>
+    requires { W.can_work }
     ensures opening { let o : OpeningOf =
         record { writes = (log_writes log.now).list; keeps = keeps.now; options = options } in
         IfOk result (λ opened. (shared_refusal o readers seats ≡ None) × IsOpenedSo opened.opening o readers seats) }
@@ -54,43 +52,8 @@ pub fn open_shared<O: Operator>(
     if !are_counts(readers, seats) {
         return Err(OpenError::BadCount);
     }
-    let Recovered { opener, ended } = recover(alloc, log, options)?;
-    let version = opener.finish(alloc, keeps)?;
-    match Opening::of(alloc, version, options, readers, seats) {
-        Err((_version, error)) => Err(error),
-        Ok(opening) => Ok(OpenedShared { opening, ended }),
-    }
-}
-
-/// As [`open_shared`], with full memtables flushed in threads. What it gives is the same, and so is what it refuses. It holds up
-/// to six more memtables meanwhile.
-pub fn open_shared_in_threads<O: Operator>(
-    rt: &(impl Threads + Sync),
-    alloc: Global,
-    log: &[u8],
-    keeps: &[u64],
-    options: Options,
-    readers: usize,
-    seats: usize,
-) -> Result<OpenedShared<O>, OpenError>
-    ensures opening { let o : OpeningOf =
-        record { writes = (log_writes log.now).list; keeps = keeps.now; options = options } in
-        IfOk result (λ opened. (shared_refusal o readers seats ≡ None) × IsOpenedSo opened.opening o readers seats) }
-    ensures legal { let o : OpeningOf =
-        record { writes = (log_writes log.now).list; keeps = keeps.now; options = options } in
-        IfOk result (λ opened.
-        IsLegal O.meaning (beginning o) × (version_after (beginning o) ≡ opened.opening.version)) }
-    ensures ended { IfOk result (λ opened. opened.ended ≡ (log_writes log.now).ended) }
-    ensures err { let o : OpeningOf =
-        record { writes = (log_writes log.now).list; keeps = keeps.now; options = options } in
-        IfErr result (λ error. error ≢ Memory → shared_refusal o readers seats ≡ Some error) }
-{
-    no_refusal_is_leave_to_open();
-    if !are_counts(readers, seats) {
-        return Err(OpenError::BadCount);
-    }
-    let Recovered { opener, ended } = recover_in_threads(rt, alloc, log, options)?;
-    let version = opener.finish_in_threads(rt, alloc, keeps)?;
+    let Recovered { opener, ended } = recover(workers, alloc, log, options)?;
+    let version = opener.finish(workers, alloc, keeps)?;
     match Opening::of(alloc, version, options, readers, seats) {
         Err((_version, error)) => Err(error),
         Ok(opening) => Ok(OpenedShared { opening, ended }),

@@ -5,8 +5,8 @@ use uc_batch::{fits_batch, write_batch};
 use uc_bytes::MAX_SEQUENCE;
 use uc_logrec::LogWriter;
 use uc_store::{
-    Answer, Append, Bytes, FeedBatchError, Op, Options, Owned, Query, answer_last, feed_batch, get,
-    get_last, open_log,
+    Alone, Answer, Append, Bytes, FeedBatchError, Op, Options, Owned, Query, answer_last,
+    feed_batch, get, get_last, open_log,
 };
 
 /// Merges join texts by commas.
@@ -24,7 +24,7 @@ pub(crate) fn merges(alloc: Global, operands: &[&[u8]]) -> Result<Vec<Op>, Fail>
 
 /// A store that opens from a log.
 pub(crate) fn opened(alloc: Global, log: &[u8]) -> Result<Owned<Texts>, Fail> {
-    match open_log(alloc, log, &[], Options::usual()) {
+    match open_log(&Alone, alloc, log, &[], Options::usual()) {
         Ok(opened) => Ok(opened.store),
         Err(_) => Err("the store doesn't open")?,
     }

@@ -7,8 +7,7 @@ use std::thread::Threads;
 use uc_batch::{fits_batch, write_batch};
 use uc_logrec::LogWriter;
 use uc_store::{
-    Op, Options, Owned, Pieces, feed_batch, get, open_log, open_log_in_threads,
-    open_pieces_in_threads,
+    Alone, InThreads, Op, Options, Owned, Pieces, feed_batch, get, open_log, open_pieces,
 };
 
 /// Every sequence of the five batches, and the one before them.
@@ -51,7 +50,7 @@ fn written(alloc: Global, store: &mut Owned<Texts>) -> Result<Vec<u8>, Fail> {
 
 /// The store that a log opens, with a snapshot at every sequence.
 fn recovered(alloc: Global, log: &[u8]) -> Result<Owned<Texts>, Fail> {
-    match open_log(alloc, log, &KEEPS, Options::usual()) {
+    match open_log(&Alone, alloc, log, &KEEPS, Options::usual()) {
         Ok(opened) => Ok(opened.store),
         Err(_) => Err("the store doesn't open")?,
     }
@@ -67,7 +66,7 @@ fn recovered_in_threads(
         memtable: 1,
         ..Options::usual()
     };
-    match open_log_in_threads(rt, alloc, log, &KEEPS, options) {
+    match open_log(&InThreads(rt), alloc, log, &KEEPS, options) {
         Ok(opened) => Ok(opened.store),
         Err(_) => Err("the store doesn't open")?,
     }
@@ -85,7 +84,7 @@ fn recovered_in_pieces(
     };
     let mut pieces = Pieces::new(alloc);
     pieces.push_bytes(alloc, log)?;
-    match open_pieces_in_threads(rt, alloc, pieces, &KEEPS, options) {
+    match open_pieces(&InThreads(rt), alloc, pieces, &KEEPS, options) {
         Ok(opened) => Ok(opened.store),
         Err(_) => Err("the store doesn't open")?,
     }

@@ -9,13 +9,13 @@ use std::test::Fail;
 use std::thread::Threads;
 use uc_bytes::MAX_SEQUENCE;
 use uc_store::{
-    Compactor, FeedBatchError, Name, OpenError, Opening, Options, Reader, Store, Turn,
-    feed_shared_batch, get, next_compactor, open_shared, open_shared_in_threads,
+    Alone, Compactor, FeedBatchError, InThreads, Name, OpenError, Opening, Options, Reader, Store,
+    Turn, feed_shared_batch, get, next_compactor, open_shared,
 };
 
 /// A store that opens from a log, for two readers and one seat.
 fn opened(alloc: Global, log: &[u8]) -> Result<Opening<Texts>, Fail> {
-    match open_shared(alloc, log, &[], Options::usual(), 2, 1) {
+    match open_shared(&Alone, alloc, log, &[], Options::usual(), 2, 1) {
         Ok(opened) => Ok(opened.opening),
         Err(_) => Err("the store doesn't open")?,
     }
@@ -27,7 +27,7 @@ fn opened_in_threads(
     alloc: Global,
     log: &[u8],
 ) -> Result<Opening<Texts>, Fail> {
-    match open_shared_in_threads(rt, alloc, log, &[], Options::usual(), 2, 1) {
+    match open_shared(&InThreads(rt), alloc, log, &[], Options::usual(), 2, 1) {
         Ok(opened) => Ok(opened.opening),
         Err(_) => Err("the store doesn't open")?,
     }
@@ -148,7 +148,7 @@ fn shared_batches_end_at_the_greatest_sequence(rt: HostRuntime) -> Result<(), Fa
 
 /// Why a store of no writes isn't opened.
 fn refusal(alloc: Global, keeps: &[u64], readers: usize) -> Option<OpenError> {
-    open_shared::<Texts>(alloc, &[], keeps, Options::usual(), readers, 1).err()
+    open_shared::<Texts, _>(&Alone, alloc, &[], keeps, Options::usual(), readers, 1).err()
 }
 
 /// Why a store of no writes isn't opened in threads.
@@ -157,7 +157,7 @@ fn refusal_in_threads(
     alloc: Global,
     keeps: &[u64],
 ) -> Option<OpenError> {
-    open_shared_in_threads::<Texts>(rt, alloc, &[], keeps, Options::usual(), 1, 1).err()
+    open_shared::<Texts, _>(&InThreads(rt), alloc, &[], keeps, Options::usual(), 1, 1).err()
 }
 
 #[test]

@@ -6,7 +6,7 @@ use std::marker::Sync;
 use std::process::Abort;
 use std::test::Fail;
 use std::thread::Threads;
-use uc_version::FeedError;
+use uc_version::{FeedError, InThreads};
 use uc_version_state::GREATEST_FIRST_ID;
 
 /// How many runs there are, the id of the first, the first sequence that is fed, how many writes are, what comes of it,
@@ -103,7 +103,7 @@ fn feeds_row_in_threads(
 ) -> Result<bool, Fail> {
     let (_, first_id, first, count, wanted, after) = *row;
     let writes = numbered(alloc, first, &merges(alloc, count)?)?;
-    let outcome = store.feed_in_threads(rt, alloc, &writes);
+    let outcome = store.feed_by(&InThreads(rt), alloc, &writes);
     let next_id = first_id.wrapping_add(after as u64);
     Ok(outcome == wanted && is_at(store, after, last_of(row), next_id))
 }

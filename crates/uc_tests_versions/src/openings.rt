@@ -6,7 +6,7 @@ use uc_batch::Writes;
 use uc_bytes::{MAX_SEQUENCE, OpRef, WriteRef};
 use uc_run::Run;
 use uc_version_state::{Options, Version};
-use uc_version_work::{OpenError, Opener, no_refusal_is_leave_to_open, open_version};
+use uc_version_work::{Alone, OpenError, Opener, no_refusal_is_leave_to_open, open_version};
 
 /// The outcome of an opening: the number of runs, the id of the newest, and the keeps.
 #[derive(Clone, Copy)]
@@ -226,10 +226,10 @@ fn put_one_by_one(rt: &impl Abort, alloc: Global, case: &Case) -> Result<Version
     for seq in 1..=case.puts {
         assert!(rt; opener.last() < seq);
         assert!(rt; seq <= MAX_SEQUENCE);
-        opener.insert(alloc, &WriteRef::new(seq, OpRef::put(b"k", b"1")))?;
+        opener.insert(&Alone, alloc, &WriteRef::new(seq, OpRef::put(b"k", b"1")))?;
     }
     assert_eq!(rt; opener.last(), case.puts);
-    opener.finish(alloc, case.keeps)
+    opener.finish(&Alone, alloc, case.keeps)
 }
 
 #[test]
@@ -294,8 +294,12 @@ fn a_range_without_keys_becomes_a_run(rt: HostRuntime) -> Result<(), Fail> {
     let alloc = rt.alloc();
     let mut opener = Opener::new(alloc, Options::usual());
     assert!(rt; opener.last() < 5);
-    opener.insert(alloc, &WriteRef::new(5, OpRef::delete_range(b"b", b"a")))?;
-    wants_one_empty_run(&rt, &opener.finish(alloc, &[])?);
+    opener.insert(
+        &Alone,
+        alloc,
+        &WriteRef::new(5, OpRef::delete_range(b"b", b"a")),
+    )?;
+    wants_one_empty_run(&rt, &opener.finish(&Alone, alloc, &[])?);
     Ok(())
 }
 

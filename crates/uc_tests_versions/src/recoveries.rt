@@ -6,7 +6,7 @@ use uc_batch::{Ended, fits_batch, write_batch};
 use uc_bytes::OpRef;
 use uc_logrec::LogWriter;
 use uc_version_state::{Options, Version};
-use uc_version_work::{Recovered, recover};
+use uc_version_work::{Alone, Recovered, recover};
 
 /// The batch of one change at a sequence.
 pub(crate) fn batch_of(alloc: Global, seq: u64, change: &OpRef<'_>) -> Result<Vec<u8>, Fail> {
@@ -35,8 +35,8 @@ fn recovered(alloc: Global, log: &[u8], memtable: u64) -> Result<(Version, Ended
         memtable,
         ..Options::usual()
     };
-    let Recovered { opener, ended } = recover(alloc, log, options)?;
-    match opener.finish(alloc, &[]) {
+    let Recovered { opener, ended } = recover(&Alone, alloc, log, options)?;
+    match opener.finish(&Alone, alloc, &[]) {
         Ok(version) => Ok((version, ended)),
         Err(_) => Err("the store doesn't open")?,
     }

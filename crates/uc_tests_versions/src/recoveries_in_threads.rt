@@ -9,8 +9,7 @@ use uc_bytes::{Op, OpRef, WriteRef};
 use uc_logrec::LogWriter;
 use uc_version_state::{Options, Placed, Version};
 use uc_version_work::{
-    OpenError, Opener, Recovered, recover, recover_first_in_threads, recover_in_threads,
-    recover_pieces_in_threads,
+    Alone, InThreads, OpenError, Opener, Recovered, recover, recover_first, recover_pieces,
 };
 
 /// A log of changes of every kind, some bytes of which are cut off its end, and what it opens.
@@ -242,13 +241,16 @@ fn recovered_by(
     by: By,
 ) -> Result<Recovered, AllocError> {
     match by {
-        By::One => recover(alloc, log, options),
-        By::Threads => recover_in_threads(rt, alloc, log, options),
-        By::ThreadsInPieces => {
-            recover_pieces_in_threads(rt, alloc, pieces_of(alloc, log)?, options)
-        }
+        By::One => recover(&Alone, alloc, log, options),
+        By::Threads => recover(&InThreads(rt), alloc, log, options),
+        By::ThreadsInPieces => recover_pieces(
+            &InThreads(rt),
+            alloc,
+            pieces_of(alloc, log)?,
+            options,
+        ),
         By::ThreadsOverFirst => {
-            let (recovered, _) = recover_first_in_threads(rt, alloc, log, options, u64::MAX)?;
+            let (recovered, _) = recover_first(&InThreads(rt), alloc, log, options, u64::MAX)?;
             Ok(recovered)
         }
     }
@@ -262,9 +264,9 @@ fn finished_by(
     by: By,
 ) -> Result<Version, OpenError> {
     match by {
-        By::One => opener.finish(alloc, &[2, 1]),
+        By::One => opener.finish(&Alone, alloc, &[2, 1]),
         By::Threads | By::ThreadsInPieces | By::ThreadsOverFirst => {
-            opener.finish_in_threads(rt, alloc, &[2, 1])
+            opener.finish(&InThreads(rt), alloc, &[2, 1])
         }
     }
 }
@@ -405,7 +407,7 @@ fn insert_sixteenth(alloc: Global, opener: &mut Opener) -> Result<(), OpenError>
     if opener.last() != 15 {
         return Err(OpenError::SnapshotAhead(15));
     }
-    opener.insert(alloc, &WriteRef::new(16, change_at(16)))?;
+    opener.insert(&Alone, alloc, &WriteRef::new(16, change_at(16)))?;
     Ok(())
 }
 

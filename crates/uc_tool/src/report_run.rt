@@ -25,7 +25,7 @@ use uc_tool_opening::{
 };
 use uc_version::Owned;
 use uc_version_state::{Options, Version};
-use uc_version_work::{OpenError, Opener, Recovered, recover_pieces_in_threads};
+use uc_version_work::{InThreads, OpenError, Opener, Recovered, recover_pieces};
 
 /// Prints what a version holds.
 fn print_report<W: Write>(
@@ -82,7 +82,7 @@ fn print_opened<O: Operator + Sync, W: Write>(
         let opening : Opening = record { writes = writes; keeps = []; options = options.now } in
         OnOk result.0 (TellsOpening (opening_cause opening) result.1) }
 {
-    match opener.finish_in_threads(rt, alloc, &[]) {
+    match opener.finish(&InThreads(rt), alloc, &[]) {
         Ok(version) => {
             let outcome = print_reports::<O, W>(rt, alloc, version, options, writer);
             (outcome, None)
@@ -109,7 +109,8 @@ fn run<O: Operator + Sync, W: Write>(
     ensures told { IsReason (cause_of options.now log) result.1 }
     ensures opening { OnOk result.0 (TellsOpening (cause_of options.now log) result.1) }
 {
-    let Ok(Recovered { opener, ended }) = recover_pieces_in_threads(rt, alloc, log, *options) else {
+    let Ok(Recovered { opener, ended }) = recover_pieces(&InThreads(rt), alloc, log, *options)
+    else {
         return (Err(RunError::Memory), None);
     };
     match ended {

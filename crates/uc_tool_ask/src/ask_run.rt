@@ -37,7 +37,7 @@ use uc_tool_opening::{
     Outcome, Reason, print_bad_log, print_fault, print_refused_opening, reason_of_line,
     reason_of_opening,
 };
-use uc_version_work::{OpenError, Opener, Recovered, no_refusal_is_leave_to_open};
+use uc_version_work::{InThreads, OpenError, Opener, Recovered, no_refusal_is_leave_to_open};
 
 /// How a run ended, and what was done to the store meanwhile.
 type Asked = (Result<Done, RunError>, Beside);
@@ -219,7 +219,7 @@ fn print_opened<O: Operator + Send + Sync, G: TurnGate, R: Threads + Wait + Sync
 {
     // A law of the layer below, which does nothing when it runs: what isn't refused may open.
     no_refusal_is_leave_to_open();
-    match opener.finish_in_threads(rt, alloc, keeps) {
+    match opener.finish(&InThreads(rt), alloc, keeps) {
         Ok(version) => {
             let readers = plan.workers + plan.compactors + feeders_of(&behind);
             let Ok(opening) = Opening::of(alloc, version, *options, readers, plan.compactors) else {

@@ -10,9 +10,7 @@ use std::marker::Sync;
 use std::thread::Threads;
 use uc_batch::{Pieces, Write};
 use uc_version_state::Options;
-use uc_version_work::{
-    Recovered, count_writes, recover_first_in_threads, recover_pieces_in_threads,
-};
+use uc_version_work::{InThreads, Recovered, count_writes, recover_first, recover_pieces};
 
 /// A store that is being opened from a log without its last writes, how far the log was read, and these writes. If nothing
 /// comes later it goes once over the log, and lets go of each piece that it has read. Else it makes one piece of the log, and
@@ -32,11 +30,11 @@ pub(crate) fn recover_part(
         found.1.items ≡ drop (length all - later) all) }
 {
     if later == 0 {
-        let recovered = recover_pieces_in_threads(rt, alloc, log, options)?;
+        let recovered = recover_pieces(&InThreads(rt), alloc, log, options)?;
         return Ok((recovered, Vec::new(alloc)));
     }
     let bytes = log.into_vec(alloc)?;
     let counted = count_writes(alloc, &bytes)?;
     let most = counted.count.saturating_sub(later);
-    recover_first_in_threads(rt, alloc, &bytes, options, most)
+    recover_first(&InThreads(rt), alloc, &bytes, options, most)
 }

@@ -20,7 +20,7 @@ use uc_bytes::Op;
 use uc_logrec::{LogWriter, written_log_is_read};
 use uc_script::{Keeps, Ops};
 use uc_version_state::{Options, Version};
-use uc_version_work::{OpenError, Opener, Recovered, recover_pieces_in_threads};
+use uc_version_work::{InThreads, OpenError, Opener, Recovered, recover_pieces};
 
 /// Writes the operations as a log, a batch for each, numbered from `first` on.
 fn write_log(alloc: Global, first: u64, ops: &[Op]) -> Result<Vec<u8>, AllocError>
@@ -70,7 +70,7 @@ fn opener_of(
     written_log_is_read();
     written_batch_is_read();
     let log = in_pieces(alloc, log_of(alloc, 1, ops)?)?;
-    let Recovered { opener, .. } = recover_pieces_in_threads(rt, alloc, log, options)?;
+    let Recovered { opener, .. } = recover_pieces(&InThreads(rt), alloc, log, options)?;
     Ok(opener)
 }
 
@@ -89,7 +89,7 @@ pub fn open_ops(
     ensures err { let opening : Opening = record { writes = numbered 1 ops; keeps = keeps; options = options } in
         IfErr result (λ error. error ≢ Memory → opening_refusal opening ≡ Some error) }
 {
-    opener_of(rt, alloc, ops, options)?.finish_in_threads(rt, alloc, keeps.as_slice())
+    opener_of(rt, alloc, ops, options)?.finish(&InThreads(rt), alloc, keeps.as_slice())
 }
 
 /// Operations as writes, numbered from `first` on, by way of a log of them. What they are made from is let go of.

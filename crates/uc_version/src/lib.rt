@@ -39,7 +39,7 @@ pub use uc_version_state::{
     Candidate, Event, FeedError, Install, Options, Placed, Refusal, ReleaseError, Stretch, Version,
 };
 pub use uc_version_work::{
-    ClaimError, InstallError, OpenError, Opener, are_inputs, compact_stretch, compact_stretch_by,
-    error_of, install_of, install_refusal, open_version, pick, present_refusal, run_ids, runs_of,
-    slots_of, stretch_runs, what_fits_may_be_installed,
+    ClaimError, InThreads, InstallError, OpenError, Opener, Workers, are_inputs, compact_stretch,
+    compact_stretch_by, error_of, install_of, install_refusal, open_version, pick, present_refusal,
+    run_ids, runs_of, slots_of, stretch_runs, what_fits_may_be_installed,
 };

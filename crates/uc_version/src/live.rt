@@ -9,15 +9,13 @@ ghost use Rattle.uc_version_state.specs.declared.release_error.ReleaseError.TheV
 use crate::claims::move_down;
 use crate::owned::Owned;
 use std::alloc::{AllocError, Global};
-use std::marker::Sync;
-use std::thread::Threads;
 use uc_batch::Writes;
 use uc_bytes::Write;
 use uc_oper::Operator;
 use uc_version_state::{
     FeedError, ReleaseError, Version, feeds_and_keeps_give_versions, no_refusal_is_leave_to_feed,
 };
-use uc_version_work::{fed_version, fed_version_in_threads};
+use uc_version_work::{Alone, Workers, fed_version};
 
 impl<O: Operator> Owned<O> {
     /// Shows the version after writes were fed. Returns how many runs there are more.
@@ -54,23 +52,18 @@ impl<O: Operator> Owned<O> {
             × ((feed_refusal self.old.version writes.now.list ≡ Some error)
             ⊎ ((feed_refusal self.old.version writes.now.list ≡ None) × (error ≡ Memory)))) }
     {
-        no_refusal_is_leave_to_feed();
-        let list = writes.list();
-        if let Some(error) = self.version.feed_refusal(list) {
-            return Err(error);
-        }
-        let next = fed_version(alloc, &self.version, list)?;
-        Ok(self.show_fed(list, next))
+        self.feed_by(&Alone, alloc, writes)
     }
 
-    /// As [`feed`](Owned::feed), with full memtables flushed side by side, in threads. What it gives is the same, and so is what it
-    /// refuses. It pays if the writes fill several memtables, of which it holds up to four meanwhile.
-    pub fn feed_in_threads(
+    /// Feeds writes as [`feed`](Owned::feed) does, and these workers flush their memtables. What it gives is the same, and so is what
+    /// it refuses. Threads pay if the writes fill several memtables, of which they hold up to four meanwhile.
+    pub fn feed_by<W: Workers>(
         &mut self,
-        rt: &(impl Threads + Sync),
+        workers: &W,
         alloc: Global,
         writes: &Writes,
     ) -> Result<u64, FeedError>
+        requires { W.can_work }
         ensures ok { IfOk result (λ count.
             (feed_refusal self.old.version writes.now.list ≡ None)
             × (count ≡ length (memtables_in self.old.version writes.now.list))
@@ -85,7 +78,7 @@ impl<O: Operator> Owned<O> {
         if let Some(error) = self.version.feed_refusal(list) {
             return Err(error);
         }
-        let next = fed_version_in_threads(rt, alloc, &self.version, list)?;
+        let next = fed_version(workers, alloc, &self.version, list)?;
         Ok(self.show_fed(list, next))
     }
 

@@ -11,6 +11,7 @@ use crate::opener::Opener;
 use std::alloc::{AllocError, Global};
 use uc_batch::Writes;
 use uc_bytes::{Write, WriteRef};
+use uc_compact::Alone;
 use uc_version_state::{Options, Version};
 
 /// A store that is being opened, after these writes.
@@ -20,7 +21,7 @@ fn opener_after(alloc: Global, options: Options, writes: &[Write]) -> Result<Ope
 {
     let mut opener = Opener::new(alloc, options);
     for write in writes {
-        opener.insert(alloc, &WriteRef::of(write))?;
+        opener.insert(&Alone, alloc, &WriteRef::of(write))?;
     }
     Ok(opener)
 }
@@ -37,5 +38,5 @@ pub fn open_version(
     ensures err { let opening : Opening = record { writes = writes.now.list; keeps = keeps.now; options = options.now } in
         IfErr result (λ error. error ≢ Memory → opening_refusal opening ≡ Some error) }
 {
-    opener_after(alloc, *options, writes.list())?.finish(alloc, keeps)
+    opener_after(alloc, *options, writes.list())?.finish(&Alone, alloc, keeps)
 }

@@ -1,4 +1,4 @@
-//! [`fed_version`] and [`fed_version_in_threads`]: the version after writes that are fed, whose memtables are flushed.
+//! [`fed_version`]: the version after writes that are fed, whose memtables are flushed.
 ghost use Rattle.std.specs.Prelude.{◌≡◌, ◌≤◌, IfOk, map};
 ghost use Rattle.uc_batch.specs.Rising as rising;
 ghost use Rattle.uc_batch.specs.Rising.{IsRising};
@@ -6,11 +6,9 @@ ghost use Rattle.uc_run.specs.Flush.{flushed};
 ghost use Rattle.uc_version_state.specs.Flushes.{memtables as memtables_of};
 ghost use Rattle.uc_version_state.specs.Feeds.{MayFeed, fed, memtables_in};
 
-use crate::flusher::{Alone, Flusher, InThreads};
 use crate::memtables::Memtables;
+use crate::workers::Workers;
 use std::alloc::{AllocError, Global};
-use std::marker::Sync;
-use std::thread::Threads;
 use uc_bytes::{Write, WriteRef};
 use uc_run::Run;
 use uc_version_state::{Version, feeds_and_keeps_give_versions};
@@ -25,33 +23,24 @@ fn last_of(last: u64, writes: &[Write]) -> u64
     }
 }
 
-/// The runs of the memtables that writes fill, the oldest first, if this flusher flushes them.
-fn flush_writes_by<F: Flusher>(
-    flusher: &F,
+/// The runs of the memtables that writes fill, the oldest first. A memtable is flushed from `limit` bytes on, and what is
+/// left at the end too. It costs two copies of each text, and a sort of each memtable.
+pub fn flush_writes<W: Workers>(
+    workers: &W,
     alloc: Global,
     limit: u64,
     writes: &[Write],
 ) -> Result<Vec<Run>, AllocError>
-    requires can { F.can_flush }
+    requires can { W.can_work }
     requires limit { 1 ≤ limit }
     requires rising { IsRising 0 writes.now }
     ensures { IfOk result (λ runs. runs.items ≡ map flushed (memtables_of limit writes.now)) }
 {
     let mut memtables = Memtables::new(alloc);
     for write in writes {
-        memtables.insert(flusher, alloc, limit, &WriteRef::of(write))?;
+        memtables.insert(workers, alloc, limit, &WriteRef::of(write))?;
     }
-    memtables.into_runs(flusher, alloc)
-}
-
-/// The runs of the memtables that writes fill, the oldest first. A memtable is flushed from `limit` bytes on, and what is
-/// left at the end too. It costs two copies of each text, and a sort of each memtable.
-pub fn flush_writes(alloc: Global, limit: u64, writes: &[Write]) -> Result<Vec<Run>, AllocError>
-    requires limit { 1 ≤ limit }
-    requires rising { IsRising 0 writes.now }
-    ensures { IfOk result (λ runs. runs.items ≡ map flushed (memtables_of limit writes.now)) }
-{
-    flush_writes_by(&Alone, alloc, limit, writes)
+    memtables.into_runs(workers, alloc)
 }
 
 /// The version after writes were fed to it whose memtables these are, flushed, the oldest first: a new one that shares the
@@ -72,31 +61,19 @@ pub fn version_with_flushed(
 }
 
 /// The version after writes were fed to it, as a new one that shares the runs which were there. It costs a copy of each
-/// text and a sort of each memtable that the writes fill, and one look at the runs for their slots.
-pub fn fed_version(
+/// text and a sort of each memtable that the writes fill, and one look at the runs for their slots. Threads flush full memtables
+/// side by side, up to four of which it holds meanwhile.
+pub fn fed_version<W: Workers>(
+    workers: &W,
     alloc: Global,
     version: &Version,
     writes: &[Write],
 ) -> Result<Version, AllocError>
-    requires { MayFeed version.now writes.now }
+    requires can { W.can_work }
+    requires may { MayFeed version.now writes.now }
     ensures { IfOk result (λ next. next ≡ fed writes.now version.now) }
 {
     version.recall();
-    let runs = flush_writes(alloc, version.limit(), writes)?;
-    version_with_flushed(alloc, version, writes, runs)
-}
-
-/// As [`fed_version`], with full memtables flushed side by side, in threads. It holds up to four of them meanwhile.
-pub fn fed_version_in_threads(
-    rt: &(impl Threads + Sync),
-    alloc: Global,
-    version: &Version,
-    writes: &[Write],
-) -> Result<Version, AllocError>
-    requires { MayFeed version.now writes.now }
-    ensures { IfOk result (λ next. next ≡ fed writes.now version.now) }
-{
-    version.recall();
-    let runs = flush_writes_by(&InThreads::new(rt), alloc, version.limit(), writes)?;
+    let runs = flush_writes(workers, alloc, version.limit(), writes)?;
     version_with_flushed(alloc, version, writes, runs)
 }

@@ -8,7 +8,7 @@ use uc_run::{Memtable, Run};
 
 /// A memtable that takes no more writes and waits to be flushed. It isn't empty.
 #[derive(Debug, Drop)]
-pub(crate) struct FullMemtable {
+pub struct FullMemtable {
     memtable: Memtable,
 }
 

@@ -8,17 +8,18 @@
 //! refused opening. Read `specs/Refusal.antt` first, which says when a store isn't opened, then `specs/Progress.antt`
 //! and `opener.rt`. A store opens with `opened` of `uc_version_state`.
 //!
-//! Writes that are fed to a store later fill the same memtables: [`fed_version`], [`fed_version_in_threads`], or in two steps
-//! [`flush_writes`] and [`version_with_flushed`].
+//! Writes that are fed to a store later fill the same memtables: [`fed_version`], or in two steps [`flush_writes`] and
+//! [`version_with_flushed`].
 //!
 //! [`recover`] goes once through a write-ahead log and hands each write, borrowed from the log's bytes, to an opener.
 //! [`count_writes`] tells how many there are. Read `recovery.rt`.
 //!
-//! [`recover_in_threads`] lets full memtables wait, and flushes several at a time side by side while it reads on;
-//! [`Opener::finish_in_threads`] flushes those that are left. [`recover_pieces_in_threads`] does so over a log in pieces, and lets
-//! go of each when its batches were read. [`recover_first_in_threads`] takes the first writes alone, and hands those behind them
-//! out. A store that opens so is the same, whichever flush ends first.
-//! Read `flusher.rt`, and then `reading.rt`.
+//! [`recover_pieces`] does so over a log in pieces, and lets go of each when its batches were read. [`recover_first`] takes the first
+//! writes alone, and hands those behind them out.
+//!
+//! Each takes [`Workers`] first. [`Alone`] flushes a memtable as soon as it is full. [`InThreads`] lets a few wait, and flushes
+//! several side by side while the calling thread reads on. A store that opens so is the same, whichever flush ends first. Read
+//! `workers.rt`, and then `reading.rt`.
 //!
 //! A stretch of a version's runs is compacted, and the result is judged and installed. Read `specs/Compacting.antt` first, then
 //! `stretches.rt` and `refusal.rt`. `specs/Ranges.antt` says which stretches may be claimed at all, and `candidates.rt` picks one.
@@ -31,7 +32,6 @@
 mod candidates;
 mod claim_error;
 mod first_version;
-mod flusher;
 mod flushes;
 mod full_memtable;
 mod install_error;
@@ -48,20 +48,21 @@ mod recovery;
 mod refusal;
 mod runs;
 mod stretches;
+mod work;
+mod workers;
 
 pub use candidates::pick;
 pub use claim_error::ClaimError;
 pub use first_version::open_version;
-pub use flushes::{fed_version, fed_version_in_threads, flush_writes, version_with_flushed};
+pub use flushes::{fed_version, flush_writes, version_with_flushed};
 pub use install_error::InstallError;
 pub use install_laws::{own_compactions_stay_installable, what_fits_may_be_installed};
 pub use laws::no_refusal_is_leave_to_open;
 pub use open_error::OpenError;
 pub use opener::Opener;
-pub use recovery::{
-    Counted, Recovered, count_writes, recover, recover_first_in_threads, recover_in_threads,
-    recover_pieces_in_threads,
-};
+pub use recovery::{Counted, Recovered, count_writes, recover, recover_first, recover_pieces};
 pub use refusal::{are_inputs, error_of, install_refusal, present_refusal};
 pub use runs::{run_ids, runs_of, slots_of, stretch_runs};
 pub use stretches::{compact_stretch, compact_stretch_by, install_of};
+pub use uc_compact::Alone;
+pub use workers::{InThreads, Workers};

@@ -6,9 +6,9 @@ ghost use Rattle.uc_version_work.specs.Lending.{StandsAt};
 ghost use Rattle.uc_version_work.specs.Steps as steps;
 ghost use Rattle.uc_version_work.specs.Steps.{begun, with_write, held_with};
 
-use crate::flusher::Flusher;
 use crate::full_memtable::FullMemtable;
 use crate::lent_memtables::{LentMemtables, Loan};
+use crate::workers::Workers;
 use std::alloc::{AllocError, Global};
 use std::marker::Model;
 use std::mem;
@@ -16,7 +16,7 @@ use uc_bytes::WriteRef;
 use uc_claims::MOST_SLOTS;
 use uc_run::{Memtable, Run};
 
-/// The memtables of writes that come one after the other. A full one waits from the next write on, until a [`Flusher`] makes
+/// The memtables of writes that come one after the other. A full one waits from the next write on, until a [`Workers`] makes
 /// a run of it, or another thread does, to which it is lent. A contract sees the runs of all but the newest, and not which of
 /// these are made already.
 #[derive(Debug, Drop)]
@@ -77,50 +77,50 @@ fn take_back(full: &mut Vec<FullMemtable>, newest: &mut Memtable)
 
 /// Flushes the memtables that are lent, in place of those who have them. Whoever lent them still sees the same runs, whatever
 /// comes of it.
-fn flush_lent<F: Flusher>(
-    flusher: &F,
+fn flush_lent<W: Workers>(
+    workers: &W,
     alloc: Global,
     runs: &mut Vec<Run>,
     lent: &mut LentMemtables,
 ) -> Result<(), AllocError>
-    requires { F.can_flush }
+    requires { W.can_work }
     ensures same { runs.new.items ++ map flushed lent.new ≡ runs.old.items ++ map flushed lent.old }
     ensures none_lent { OnOk result (lent.new ≡ []) }
 {
-    let mut older = flusher.flush(alloc, lent.as_slice())?;
+    let mut older = workers.flush(alloc, lent.as_slice())?;
     runs.append(&mut older)?;
     *lent = LentMemtables::none();
     Ok(())
 }
 
 /// Flushes the memtables that wait behind older runs. An `Err` changes nothing.
-fn flush_onto<F: Flusher>(
-    flusher: &F,
+fn flush_onto<W: Workers>(
+    workers: &W,
     alloc: Global,
     runs: &mut Vec<Run>,
     full: &mut Vec<FullMemtable>,
 ) -> Result<(), AllocError>
-    requires { F.can_flush }
+    requires { W.can_work }
     ensures runs { OnOk result (runs.new.items ≡ runs.old.items ++ map flushed full.old.items) }
     ensures none_waits { OnOk result (full.new.items ≡ []) }
     ensures runs_kept { OnErr result (runs.new.items ≡ runs.old.items) }
     ensures full_kept { OnErr result (full.new.items ≡ full.old.items) }
 {
-    let mut newer = flusher.flush(alloc, full)?;
+    let mut newer = workers.flush(alloc, full)?;
     runs.append(&mut newer)?;
     full.clear();
     Ok(())
 }
 
 /// Flushes the memtables that are lent and those that wait behind older runs. An `Err` changes nothing of those that wait.
-fn flush_all<F: Flusher>(
-    flusher: &F,
+fn flush_all<W: Workers>(
+    workers: &W,
     alloc: Global,
     runs: &mut Vec<Run>,
     lent: &mut LentMemtables,
     full: &mut Vec<FullMemtable>,
 ) -> Result<(), AllocError>
-    requires { F.can_flush }
+    requires { W.can_work }
     ensures runs { OnOk result (runs.new.items ≡ (runs.old.items ++ map flushed lent.old) ++ map flushed full.old.items) }
     ensures none_lent { OnOk result (lent.new ≡ []) }
     ensures none_waits { OnOk result (full.new.items ≡ []) }
@@ -128,8 +128,8 @@ fn flush_all<F: Flusher>(
         (runs.new.items ++ map flushed lent.new ≡ runs.old.items ++ map flushed lent.old) }
     ensures full_kept { OnErr result (full.new.items ≡ full.old.items) }
 {
-    flush_lent(flusher, alloc, runs, lent)?;
-    flush_onto(flusher, alloc, runs, full)
+    flush_lent(workers, alloc, runs, lent)?;
+    flush_onto(workers, alloc, runs, full)
 }
 
 /// Lends those that wait, unless some are lent already: then these.
@@ -190,13 +190,13 @@ impl Memtables {
     }
 
     /// Lets the newest wait, and begins one with this write. If too many wait then, all are flushed. An `Err` changes nothing.
-    fn begin<F: Flusher>(
+    fn begin<W: Workers>(
         &mut self,
-        flusher: &F,
+        workers: &W,
         alloc: Global,
         write: &WriteRef<'_>,
     ) -> Result<(), AllocError>
-        requires can { F.can_flush }
+        requires can { W.can_work }
         requires some { self.old.newest ≢ [] }
         requires above { 0 < write.now.seq }
         requires below { write.now.seq < 2 ^ 56 }
@@ -204,11 +204,11 @@ impl Memtables {
         ensures err { OnErr result (self.new ≡ self.old) }
     {
         begin_next(alloc, &mut self.full, &mut self.newest, write)?;
-        if self.full.len() + self.lent.as_slice().len() <= flusher.most_waiting() {
+        if self.full.len() <= workers.most_waiting() {
             return Ok(());
         }
         if let Err(error) = flush_all(
-            flusher,
+            workers,
             alloc,
             &mut self.runs,
             &mut self.lent,
@@ -221,14 +221,14 @@ impl Memtables {
     }
 
     /// Inserts a write. An `Err` changes nothing.
-    pub(crate) fn insert<F: Flusher>(
+    pub(crate) fn insert<W: Workers>(
         &mut self,
-        flusher: &F,
+        workers: &W,
         alloc: Global,
         limit: u64,
         write: &WriteRef<'_>,
     ) -> Result<(), AllocError>
-        requires can { F.can_flush }
+        requires can { W.can_work }
         requires limit { 1 ≤ limit }
         requires above { last_of 0 self.old.newest < write.now.seq }
         requires below { write.now.seq < 2 ^ 56 }
@@ -236,19 +236,19 @@ impl Memtables {
         ensures err { OnErr result (self.new ≡ self.old) }
     {
         if self.is_full(limit) {
-            self.begin(flusher, alloc, write)
+            self.begin(workers, alloc, write)
         } else {
             self.newest.insert_ref(write)
         }
     }
 
     /// The runs of all, the oldest first.
-    pub(crate) fn into_runs<F: Flusher>(
+    pub(crate) fn into_runs<W: Workers>(
         self,
-        flusher: &F,
+        workers: &W,
         alloc: Global,
     ) -> Result<Vec<Run>, AllocError>
-        requires { F.can_flush }
+        requires { W.can_work }
         ensures { IfOk result (λ runs. runs.items ≡ steps.all_runs self) }
     {
         let Memtables {
@@ -260,7 +260,7 @@ impl Memtables {
         if !newest.is_empty() {
             full.push(FullMemtable::new(newest))?;
         }
-        flush_all(flusher, alloc, &mut runs, &mut lent, &mut full)?;
+        flush_all(workers, alloc, &mut runs, &mut lent, &mut full)?;
         Ok(runs)
     }
 
@@ -305,14 +305,14 @@ impl Memtables {
 
 /// Inserts a write. If the store would need more runs than slots, drops everything: the opening will be refused. An
 /// `Err` changes nothing.
-pub(crate) fn hold_write<F: Flusher>(
-    flusher: &F,
+pub(crate) fn hold_write<W: Workers>(
+    workers: &W,
     alloc: Global,
     limit: u64,
     held: &mut Option<Memtables>,
     write: &WriteRef<'_>,
 ) -> Result<(), AllocError>
-    requires can { F.can_flush }
+    requires can { W.can_work }
     requires limit { IfSome held.old (λ _. 1 ≤ limit) }
     requires above { IfSome held.old (λ memtables. last_of 0 memtables.newest < write.now.seq) }
     requires below { write.now.seq < 2 ^ 56 }
@@ -326,5 +326,5 @@ pub(crate) fn hold_write<F: Flusher>(
         *held = None;
         return Ok(());
     }
-    memtables.insert(flusher, alloc, limit, write)
+    memtables.insert(workers, alloc, limit, write)
 }

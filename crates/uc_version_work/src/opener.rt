@@ -13,15 +13,14 @@ ghost use Rattle.uc_version_work.specs.Refusal.{opening_refusal};
 ghost use Rattle.uc_version_work.specs.Steps as steps;
 ghost use Rattle.uc_version_work.specs.declared.open_error.OpenError.TheVariants.{Memory};
 
-use crate::flusher::{Alone, Flusher, InThreads};
 use crate::keeps::{first_ahead, kept};
 use crate::laws::no_refusal_is_leave_to_open;
 use crate::lent_memtables::{LentMemtables, Loan};
 use crate::memtables::{Memtables, hold_write};
 use crate::open_error::OpenError;
+use crate::workers::Workers;
 use std::alloc::{AllocError, Global};
-use std::marker::{Model, Sync};
-use std::thread::Threads;
+use std::marker::Model;
 use uc_bytes::WriteRef;
 use uc_run::Run;
 use uc_version_state::{Options, Version, opening_gives_a_version, placed_onto};
@@ -29,8 +28,8 @@ use uc_version_state::{Options, Version, opening_gives_a_version, placed_onto};
 /// A store that is being opened, by the writes of a log one after the other.
 ///
 /// It refuses nothing before [`finish`](Opener::finish), since a fault of the log comes before a refused opening. It
-/// holds the runs so far, one memtable and, if it is filled by [`recover_in_threads`](crate::recover_in_threads), a few more
-/// that wait or that other threads flush meanwhile; or nothing once the store can't open any more.
+/// holds the runs so far, one memtable and, if threads flush, a few more that wait or that are flushed meanwhile; or nothing once
+/// the store can't open any more.
 #[derive(Debug, Drop)]
 pub struct Opener {
     options: Options,
@@ -50,20 +49,20 @@ impl Model for Opener {
 }
 
 /// The version of memtables.
-fn version_of<F: Flusher>(
-    flusher: &F,
+fn version_of<W: Workers>(
+    workers: &W,
     alloc: Global,
     options: &Options,
     last: u64,
     memtables: Memtables,
     keeps: &[u64],
 ) -> Result<Version, AllocError>
-    requires can { F.can_flush }
+    requires can { W.can_work }
     requires version { IsVersion (steps.version_of options.now last memtables keeps.now) }
     ensures { IfOk result (λ version. version ≡ steps.version_of options.now last memtables keeps.now) }
 {
     let first_id = options.first_id;
-    let runs = memtables.into_runs(flusher, alloc)?;
+    let runs = memtables.into_runs(workers, alloc)?;
     let next_id = first_id + runs.len() as u64;
     let runs = placed_onto(alloc, first_id, Vec::new(alloc), runs)?;
     let keeps = kept(alloc, keeps, last)?;
@@ -112,14 +111,17 @@ impl Opener {
         self.last
     }
 
-    /// As [`insert`](Opener::insert), with full memtables flushed by `flusher`.
-    pub(crate) fn insert_by<F: Flusher>(
+    /// Takes the next write of the log. Its sequence is above all before it and at most
+    /// [`MAX_SEQUENCE`](uc_bytes::MAX_SEQUENCE). It costs a copy of the texts, amortized, and the flush of a memtable
+    /// if that is full, or of several if these workers flush several at once. An `Err` takes nothing. Runs that were made stay
+    /// where they stand, unless the store can't open any more.
+    pub fn insert<W: Workers>(
         &mut self,
-        flusher: &F,
+        workers: &W,
         alloc: Global,
         write: &WriteRef<'_>,
     ) -> Result<(), AllocError>
-        requires can { F.can_flush }
+        requires can { W.can_work }
         requires above { self.old.last < write.now.seq }
         requires below { write.now.seq < 2 ^ 56 }
         ensures ok { (options : OptionsOf) (writes : List WriteOf) → self.old ≡ progress_of options writes →
@@ -130,7 +132,7 @@ impl Opener {
         ensures err { OnErr result (self.new ≡ self.old) }
     {
         hold_write(
-            flusher,
+            workers,
             alloc,
             self.options.memtable,
             &mut self.memtables,
@@ -138,20 +140,6 @@ impl Opener {
         )?;
         self.last = write.seq();
         Ok(())
-    }
-
-    /// Takes the next write of the log. Its sequence is above all before it and at most
-    /// [`MAX_SEQUENCE`](uc_bytes::MAX_SEQUENCE). It costs a copy of the texts, amortized, and the flush of a memtable
-    /// if that is full. An `Err` takes nothing.
-    pub fn insert(&mut self, alloc: Global, write: &WriteRef<'_>) -> Result<(), AllocError>
-        requires above { self.old.last < write.now.seq }
-        requires below { write.now.seq < 2 ^ 56 }
-        ensures ok { (options : OptionsOf) (writes : List WriteOf) → self.old ≡ progress_of options writes →
-            OnOk result (self.new ≡ progress_of options (writes ++ write.now ∷ [])) }
-        ensures last { OnOk result (self.new.last ≡ write.now.seq) }
-        ensures err { OnErr result (self.new ≡ self.old) }
-    {
-        self.insert_by(&Alone, alloc, write)
     }
 
     /// How many full memtables wait, besides those that are lent. A contract doesn't see it.
@@ -193,14 +181,16 @@ impl Opener {
         }
     }
 
-    /// As [`finish`](Opener::finish), with full memtables flushed by `flusher`.
-    fn finish_by<F: Flusher>(
+    /// The version of the writes that came, which keeps these sequences and the last one. An `Err` names the first of
+    /// these: an option out of its range, a sequence above the last one, more memtables than slots. For k sequences it
+    /// takes k log k steps. These workers flush the memtables that are left.
+    pub fn finish<W: Workers>(
         self,
-        flusher: &F,
+        workers: &W,
         alloc: Global,
         keeps: &[u64],
     ) -> Result<Version, OpenError>
-        requires { F.can_flush }
+        requires { W.can_work }
         ensures ok { (options : OptionsOf) (writes : List WriteOf) → IsRising 0 writes → self ≡ progress_of options writes →
             let opening : OpeningOf = record { writes = writes; keeps = keeps.now; options = options } in
             IfOk result (λ version. (version ≡ opened opening) × (opening_refusal opening ≡ None)) }
@@ -228,45 +218,6 @@ impl Opener {
         let Some(memtables) = memtables else {
             return Err(OpenError::TooManyRuns);
         };
-        Ok(version_of(flusher, alloc, &options, last, memtables, keeps)?)
-    }
-
-    /// The version of the writes that came, which keeps these sequences and the last one. An `Err` names the first of
-    /// these: an option out of its range, a sequence above the last one, more memtables than slots. For k sequences it
-    /// takes k log k steps.
-    pub fn finish(self, alloc: Global, keeps: &[u64]) -> Result<Version, OpenError>
-        ensures ok { (options : OptionsOf) (writes : List WriteOf) → IsRising 0 writes → self ≡ progress_of options writes →
-            let opening : OpeningOf = record { writes = writes; keeps = keeps.now; options = options } in
-            IfOk result (λ version. (version ≡ opened opening) × (opening_refusal opening ≡ None)) }
-        ensures err { (options : OptionsOf) (writes : List WriteOf) → IsRising 0 writes → self ≡ progress_of options writes →
-            let opening : OpeningOf = record { writes = writes; keeps = keeps.now; options = options } in
-            IfErr result (λ error. error ≢ Memory → opening_refusal opening ≡ Some error) }
-        ensures memory { (options : OptionsOf) (writes : List WriteOf) → IsRising 0 writes →
-            self ≡ progress_of options writes →
-            let opening : OpeningOf = record { writes = writes; keeps = keeps.now; options = options } in
-            IfErr result (λ error. error ≡ Memory → opening_refusal opening ≡ None) }
-    {
-        self.finish_by(&Alone, alloc, keeps)
-    }
-
-    /// As [`finish`](Opener::finish), with the memtables that are left flushed side by side, in threads.
-    pub fn finish_in_threads(
-        self,
-        rt: &(impl Threads + Sync),
-        alloc: Global,
-        keeps: &[u64],
-    ) -> Result<Version, OpenError>
-        ensures ok { (options : OptionsOf) (writes : List WriteOf) → IsRising 0 writes → self ≡ progress_of options writes →
-            let opening : OpeningOf = record { writes = writes; keeps = keeps.now; options = options } in
-            IfOk result (λ version. (version ≡ opened opening) × (opening_refusal opening ≡ None)) }
-        ensures err { (options : OptionsOf) (writes : List WriteOf) → IsRising 0 writes → self ≡ progress_of options writes →
-            let opening : OpeningOf = record { writes = writes; keeps = keeps.now; options = options } in
-            IfErr result (λ error. error ≢ Memory → opening_refusal opening ≡ Some error) }
-        ensures memory { (options : OptionsOf) (writes : List WriteOf) → IsRising 0 writes →
-            self ≡ progress_of options writes →
-            let opening : OpeningOf = record { writes = writes; keeps = keeps.now; options = options } in
-            IfErr result (λ error. error ≡ Memory → opening_refusal opening ≡ None) }
-    {
-        self.finish_by(&InThreads::new(rt), alloc, keeps)
+        Ok(version_of(workers, alloc, &options, last, memtables, keeps)?)
     }
 }

@@ -1,6 +1,5 @@
-//! [`Reading`]: a log that is read into a store while threads flush the store's full memtables.
+//! [`Reading`]: a log that is read into a store, while threads may flush the store's full memtables.
 ghost use Rattle.std.specs.Prelude.{◌≡◌, ◌≤◌, ◌++◌, Some, ℕ, List, IfOk, OnOk, map};
-ghost use Rattle.std.specs.Thread.{IsSync};
 ghost use Rattle.uc_bytes.specs.declared.write.Write.{Write as WriteOf};
 ghost use Rattle.uc_batch.specs.declared.ended.Ended.{Ended as EndedOf};
 ghost use Rattle.uc_batch.specs.Position.{nothing_ahead};
@@ -12,25 +11,27 @@ ghost use Rattle.uc_version_work.specs.Lending.{StandsIn};
 ghost use Rattle.uc_version_work.specs.Progress.{progress_of};
 ghost use Rattle.uc_version_work.specs.Reading.{IsTaken, ReadsOn, unread};
 
-use crate::flusher::{Flusher, InThreads, ROUND, Work, flush_beside};
 use crate::full_memtable::FullMemtable;
 use crate::log_batches::LogBatches;
 use crate::opener::Opener;
+use crate::work::Work;
+use crate::workers::Workers;
 use std::alloc::{AllocError, Global};
-use std::marker::Sync;
-use std::thread::Threads;
 use uc_batch::{Advance, BatchWrites, Ended};
 use uc_run::Run;
 use uc_version_state::Options;
 
+/// How many full memtables make a round: others flush them, while the calling thread fills as many more.
+const ROUND: usize = 2;
+
 /// Takes the writes of a batch into a store that is being opened. The runs that it has stay where they stand.
-pub(crate) fn insert_batch<F: Flusher>(
-    flusher: &F,
+pub(crate) fn insert_batch<W: Workers>(
+    workers: &W,
     alloc: Global,
     opener: &mut Opener,
     writes: BatchWrites<'_>,
 ) -> Result<(), AllocError>
-    requires can { F.can_flush }
+    requires can { W.can_work }
     requires rising { IsRising opener.old.last writes }
     ensures taken { (options : OptionsOf) (before : List WriteOf) → opener.old ≡ progress_of options before →
         OnOk result (opener.new ≡ progress_of options (before ++ writes.entry)) }
@@ -39,7 +40,7 @@ pub(crate) fn insert_batch<F: Flusher>(
         OnOk result (StandsIn place part opener.new.held) }
 {
     for write in writes {
-        opener.insert_by(flusher, alloc, &write)?;
+        opener.insert(workers, alloc, &write)?;
     }
     Ok(())
 }
@@ -56,22 +57,23 @@ pub(crate) struct Reading<'a> {
     ghost at_end: { (e : EndedOf) → ended ≡ Some e → batches.ahead ≡ nothing_ahead e },
 }
 
-/// Reads batches until enough memtables wait for a round, or the log ends. It reads one at least.
-fn read_on<'a, R: Threads + Sync>(
-    rt: &R,
+/// Reads batches until enough memtables wait for a round, or the log ends. It reads one at least. If the calling thread works alone,
+/// none waits, and it reads all.
+fn read_on<'a, W: Workers>(
+    workers: &W,
     alloc: Global,
     mut batches: LogBatches<'a>,
     mut opener: Opener,
 ) -> Result<Reading<'a>, AllocError>
-    requires { opener.last ≡ batches.last }
+    requires can { W.can_work }
+    requires as_far { opener.last ≡ batches.last }
     ensures on { IfOk result (λ reading. ReadsOn batches.entry opener reading.batches reading.opener) }
     ensures fewer { IfOk result (λ reading. unread reading.ended reading.batches.left ≤ batches.entry.left) }
 {
     loop {
         match batches.advance()? {
             Advance::Batch => {
-                let flusher = InThreads::beside_rounds(rt);
-                insert_batch(&flusher, alloc, &mut opener, batches.writes())?;
+                insert_batch(workers, alloc, &mut opener, batches.writes())?;
             }
             Advance::Ended(ended) => {
                 return Ok(Reading {
@@ -91,33 +93,34 @@ fn read_on<'a, R: Threads + Sync>(
     }
 }
 
-/// Begins to read a log into a store, until there are enough memtables for a first round.
-pub(crate) fn begin_reading<'a>(
-    rt: &(impl Threads + Sync),
+/// Begins to read a log into a store, until there are enough memtables for a first round, or the log ends.
+pub(crate) fn begin_reading<'a, W: Workers>(
+    workers: &W,
     alloc: Global,
     batches: LogBatches<'a>,
     options: Options,
 ) -> Result<Reading<'a>, AllocError>
-    requires { batches.last ≡ 0 }
+    requires can { W.can_work }
+    requires start { batches.last ≡ 0 }
     ensures { IfOk result (λ reading. IsTaken options batches.entry.ahead reading.batches reading.opener) }
 {
     let opener = Opener::new(alloc, options);
-    read_on(rt, alloc, batches, opener)
+    read_on(workers, alloc, batches, opener)
 }
 
-/// A log that is to be read on while other threads flush.
+/// A log that is to be read on while others flush.
 #[derive(Drop)]
-struct ReadOn<'a, 'r, R: Threads + Sync> {
-    rt: &'r R,
+struct ReadOn<'a, 'w, W: Workers> {
+    workers: &'w W,
     alloc: Global,
     batches: LogBatches<'a>,
     opener: Opener,
 }
 
-impl<'a, 'r, R: Threads + Sync> Work for ReadOn<'a, 'r, R> {
+impl<'a, 'w, W: Workers> Work for ReadOn<'a, 'w, W> {
     type Output = Result<Reading<'a>, AllocError>;
 
-    ghost can_be_done = { λ work. IsSync R.row × (work.opener.last ≡ work.batches.last) };
+    ghost can_be_done = { λ work. W.can_work × (work.opener.last ≡ work.batches.last) };
 
     ghost gives = { λ work result. IfOk result (λ reading.
         ReadsOn work.batches work.opener reading.batches reading.opener
@@ -125,45 +128,47 @@ impl<'a, 'r, R: Threads + Sync> Work for ReadOn<'a, 'r, R> {
 
     fn run(self) -> Result<Reading<'a>, AllocError> {
         let ReadOn {
-            rt,
+            workers,
             alloc,
             batches,
             opener,
         } = self;
-        read_on(rt, alloc, batches, opener)
+        read_on(workers, alloc, batches, opener)
     }
 }
 
-/// The runs of memtables that other threads make, and how far this one read on meanwhile.
-fn flush_beside_reading<'a, R: Threads + Sync>(
-    rt: &R,
+/// The runs of memtables that these workers make, and how far this thread read on meanwhile.
+fn flush_beside_reading<'a, W: Workers>(
+    workers: &W,
     alloc: Global,
     memtables: &[FullMemtable],
     batches: LogBatches<'a>,
     opener: Opener,
 ) -> Result<(Vec<Run>, Reading<'a>), AllocError>
-    requires { opener.last ≡ batches.last }
+    requires can { W.can_work }
+    requires as_far { opener.last ≡ batches.last }
     ensures runs { IfOk result (λ done. done.0.items ≡ map flushed memtables.now) }
     ensures on { IfOk result (λ done. ReadsOn batches.entry opener done.1.batches done.1.opener) }
     ensures fewer { IfOk result (λ done. unread done.1.ended done.1.batches.left ≤ batches.entry.left) }
 {
     let work = ReadOn {
-        rt,
+        workers,
         alloc,
         batches,
         opener,
     };
-    let (runs, reading) = flush_beside(rt, alloc, memtables, work);
+    let (runs, reading) = workers.flush_beside(alloc, memtables, work);
     let runs = runs?;
     Ok((runs, reading?))
 }
 
-/// A round: threads flush the memtables that wait, and this one reads on until as many wait again, or the log ends.
-pub(crate) fn flush_and_read_on<'a>(
-    rt: &(impl Threads + Sync),
+/// A round: the memtables that wait are flushed, and this thread reads on beside until as many wait again, or the log ends.
+pub(crate) fn flush_and_read_on<'a, W: Workers>(
+    workers: &W,
     alloc: Global,
     reading: Reading<'a>,
 ) -> Result<Reading<'a>, AllocError>
+    requires { W.can_work }
     ensures on { IfOk result (λ next. ReadsOn reading.entry.batches reading.entry.opener next.batches next.opener) }
     ensures fewer { IfOk result (λ next. unread next.ended next.batches.left ≤ reading.entry.batches.left) }
 {
@@ -174,7 +179,7 @@ pub(crate) fn flush_and_read_on<'a>(
     } = reading;
     let (opener, loan) = opener.lend(alloc)?;
     let (runs, reading) = flush_beside_reading(
-        rt,
+        workers,
         alloc,
         loan.memtables.as_slice(),
         batches,

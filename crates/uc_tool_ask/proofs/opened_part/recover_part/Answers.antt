@@ -9,5 +9,5 @@ pub returns-clause-rising : goal.returns-clause-rising
 returns-clause-rising g c =
     let writes = (log_writes c.args.log).list in
     let same : c.deref-2.result.now ≡ c.args.log = c.deref-2.ensures.value ∙ c.in_ok-bytes.ensures in
-    let rising = subst (λ (log : List ℕ). IfOk c.recover_first_in_threads.result (λ _. IsRising 0 (log_writes log).list)) same c.recover_first_in_threads.ensures.rising in
-    first_rise (length writes - c.args.later) writes c.recover_first_in_threads.result rising
+    let rising = subst (λ (log : List ℕ). IfOk c.recover_first.result (λ _. IsRising 0 (log_writes log).list)) same c.recover_first.ensures.rising in
+    first_rise (length writes - c.args.later) writes c.recover_first.result rising

@@ -7,9 +7,9 @@ use Rattle.uc_version_work.proofs.reading.insert_batch.Goals as goal
 pub loop-write-preserved : goal.loop-write-preserved
 loop-write-preserved g c =
     let l = c.loop-write in
-    let inserted = c.in_ok-insert_by.ensures in
+    let inserted = c.in_ok-insert.ensures in
     record {
-      rising = rest_rises l.opener.last c.insert_by.new.self.last c.in-Some.write l.write-iterator c.next.new.self l.invariant.rising (search rules) inserted.last;
+      rising = rest_rises l.opener.last c.insert.new.self.last c.in-Some.write l.write-iterator c.next.new.self l.invariant.rising (search rules) inserted.last;
       progress = λ options before is. inserted.ok options (before ++ l.yielded) (l.invariant.progress options before is)
           ∙ ap (progress_of options) (append_assoc before l.yielded (c.in-Some.write ∷ []));
       last = inserted.last ∙ sym (last_grown c.args.opener.now.last l.yielded c.in-Some.write);

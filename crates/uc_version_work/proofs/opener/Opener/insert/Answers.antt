@@ -9,7 +9,7 @@ use Rattle.uc_version_work.specs.Steps.{held_with}
 use Rattle.uc_version_work.proofs.Grown.{state_grown}
 use Rattle.uc_version_work.proofs.Newest.{held_below}
 use Rattle.uc_version_work.proofs.Placed.{stands_with}
-use Rattle.uc_version_work.proofs.opener.Opener.insert_by.Goals as goal
+use Rattle.uc_version_work.proofs.opener.Opener.insert.Goals as goal
 
 pub hold_write-requires-clause-above : goal.hold_write-requires-clause-above
 hold_write-requires-clause-above g c =

@@ -7,7 +7,7 @@ use Rattle.uc_version_work.specs.Progress.{progress_of}
 use Rattle.uc_version_work.specs.HeldProgress.{progress}
 use Rattle.uc_version_work.proofs.Ended.{ends_opened}
 use Rattle.uc_version_work.proofs.Refused.{none_refused}
-use Rattle.uc_version_work.proofs.opener.Opener.finish_by.Goals as goal
+use Rattle.uc_version_work.proofs.opener.Opener.finish.Goals as goal
 
 pub version_of-requires-clause-version : goal.version_of-requires-clause-version
 version_of-requires-clause-version g c =

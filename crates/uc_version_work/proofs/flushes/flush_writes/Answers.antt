@@ -5,7 +5,7 @@ use Rattle.uc_run_entry.specs.Run.{Contents}
 use Rattle.uc_batch.specs.Rising.{last_of}
 use Rattle.uc_version_work.specs.Steps.{with_write}
 use Rattle.uc_version_work.proofs.Feeding.{above, below, one_fed, all_fed}
-use Rattle.uc_version_work.proofs.flushes.flush_writes_by.Goals as goal
+use Rattle.uc_version_work.proofs.flushes.flush_writes.Goals as goal
 
 pub insert-requires-clause-above : goal.insert-requires-clause-above
 insert-requires-clause-above g c =

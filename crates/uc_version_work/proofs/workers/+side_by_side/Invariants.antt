@@ -1,5 +1,5 @@
 use Rattle.std.proofs.Common.{length}
-use Rattle.uc_version_work.proofs.flusher.+side_by_side.Given as goal
+use Rattle.uc_version_work.proofs.workers.+side_by_side.Given as goal
 
 abbrev pub decreases-flush_side_by_side : goal.decreases-flush_side_by_side
 decreases-flush_side_by_side g l = length l.full.now

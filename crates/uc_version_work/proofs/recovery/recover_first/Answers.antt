@@ -3,7 +3,7 @@ use Rattle.uc_bytes.specs.declared.write.Write.{Write}
 use Rattle.uc_batch.specs.Log.{log_writes}
 use Rattle.uc_batch.proofs.Joined.{joins}
 use Rattle.uc_version_work.specs.Parting.{IsParted}
-use Rattle.uc_version_work.proofs.recovery.recover_first_in_threads.Goals as goal
+use Rattle.uc_version_work.proofs.recovery.recover_first.Goals as goal
 
 -- src/recovery.rt:157:5
 pub loop-batches-preserved : goal.loop-batches-preserved

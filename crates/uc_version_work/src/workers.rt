@@ -1,30 +1,45 @@
-//! [`Flusher`]: how full memtables are flushed, by one thread or by several.
+//! [`Workers`]: who does the work that threads can share.
 ghost use Rattle.std.specs.Prelude.{◌≡◌, ⊤, IfOk, map};
 ghost use Rattle.std.specs.Thread.{IsSync};
 ghost use Rattle.uc_run.specs.Flush.{flushed};
 
 use crate::full_memtable::FullMemtable;
+use crate::work::Work;
 use std::alloc::{AllocError, Global};
 use std::marker::Sync;
 use std::thread::{Threads, join};
+use uc_compact::Alone;
 use uc_run::Run;
 
-/// How many full memtables make a round: others flush them, while the calling thread fills as many more.
-pub(crate) const ROUND: usize = 2;
+/// How many full memtables threads flush at once, where the calling thread waits for them.
+const FLUSHED_AT_ONCE: usize = 4;
 
-/// How full memtables are flushed. What comes of them is the same whoever flushes them.
-pub(crate) trait Flusher {
-    /// What is asked of what a flusher is made of. One that starts threads shares it among them.
-    ghost can_flush: { Type 0 };
+/// Who does the work that threads can share: the calling thread [`Alone`], or it and threads that it starts and waits for
+/// ([`InThreads`]). What comes of the work is the same, whoever does it.
+pub trait Workers {
+    /// What is asked of who works. Threads share the runtime that starts them.
+    ghost can_work: { Type 0 };
 
-    /// How many full memtables may wait, those among them that others flush. One more, and all are flushed at once. A contract
-    /// doesn't see it.
+    /// How many full memtables may wait, besides those that are lent. One more, and all are flushed at once. A contract doesn't see
+    /// it.
     fn most_waiting(&self) -> usize;
 
     /// The runs of these memtables, in their order.
     fn flush(&self, alloc: Global, full: &[FullMemtable]) -> Result<Vec<Run>, AllocError>
-        requires { can_flush }
+        requires { can_work }
         ensures { IfOk result (λ runs. runs.items ≡ map flushed full.now) };
+
+    /// The runs of these memtables, and what comes of the work that the calling thread does beside.
+    fn flush_beside<W: Work<Output = T> + Drop, T>(
+        &self,
+        alloc: Global,
+        full: &[FullMemtable],
+        work: W,
+    ) -> (Result<Vec<Run>, AllocError>, T)
+        requires can { can_work }
+        requires work { W.can_be_done work }
+        ensures runs { IfOk result.0 (λ runs. runs.items ≡ map flushed full.now) }
+        ensures work { W.gives work result.1 };
 }
 
 /// The runs of some memtables, flushed one after the other.
@@ -68,26 +83,8 @@ fn flush_side_by_side<R: Threads + Sync>(
     Ok(runs)
 }
 
-/// What the calling thread does while others flush. `join` tells of a closure's result only what doesn't borrow, so the closure
-/// holds a value of a type parameter.
-pub(crate) trait Work {
-    /// What comes of it.
-    type Output;
-
-    /// What is asked before it is done.
-    ghost can_be_done: { Self → Type 0 };
-
-    /// What holds of what comes of it.
-    ghost gives: { Self → Self.Output → Type 0 };
-
-    /// Does the work.
-    fn run(self) -> Self::Output
-        requires { can_be_done self }
-        ensures { gives self result };
-}
-
 /// The runs of some memtables, flushed side by side by other threads, and what comes of the work that this one does meanwhile.
-pub(crate) fn flush_beside<R: Threads + Sync, W: Work<Output = T> + Drop, T>(
+fn side_by_side_beside<R: Threads + Sync, W: Work<Output = T> + Drop, T>(
     rt: &R,
     alloc: Global,
     full: &[FullMemtable],
@@ -110,12 +107,10 @@ pub(crate) fn flush_beside<R: Threads + Sync, W: Work<Output = T> + Drop, T>(
     )
 }
 
-/// Flushes alone: a memtable as soon as it is full, so none waits for others.
-pub(crate) struct Alone;
+impl Workers for Alone {
+    ghost can_work = { ⊤ };
 
-impl Flusher for Alone {
-    ghost can_flush = { ⊤ };
-
+    /// None: a memtable is flushed as soon as it is full.
     fn most_waiting(&self) -> usize {
         0
     }
@@ -123,38 +118,38 @@ impl Flusher for Alone {
     fn flush(&self, alloc: Global, full: &[FullMemtable]) -> Result<Vec<Run>, AllocError> {
         flush_in_turn(alloc, full)
     }
+
+    fn flush_beside<W: Work<Output = T> + Drop, T>(
+        &self,
+        alloc: Global,
+        full: &[FullMemtable],
+        work: W,
+    ) -> (Result<Vec<Run>, AllocError>, T) {
+        (flush_in_turn(alloc, full), work.run())
+    }
 }
 
-/// Flushes the memtables that wait side by side, in threads that it starts and waits for.
+/// The calling thread and threads of this runtime, which it starts and waits for. They flush four memtables at a time.
 #[derive(Drop)]
-pub(crate) struct InThreads<'a, R: Threads + Sync> {
-    rt: &'a R,
-    most_waiting: usize,
-}
+pub struct InThreads<'a, R: Threads + Sync>(pub &'a R);
 
-impl<'a, R: Threads + Sync> InThreads<'a, R> {
-    /// Threads of this runtime, which flush four memtables at a time.
-    pub(crate) fn new(rt: &'a R) -> InThreads<'a, R> {
-        let most_waiting = 3;
-        InThreads { rt, most_waiting }
-    }
-
-    /// Threads of this runtime, beside which others flush rounds. A round's memtables wait, as many that are filled meanwhile,
-    /// and as many again for batches that fill several at once.
-    pub(crate) fn beside_rounds(rt: &'a R) -> InThreads<'a, R> {
-        let most_waiting = 3 * ROUND;
-        InThreads { rt, most_waiting }
-    }
-}
-
-impl<'a, R: Threads + Sync> Flusher for InThreads<'a, R> {
-    ghost can_flush = { IsSync R.row };
+impl<'a, R: Threads + Sync> Workers for InThreads<'a, R> {
+    ghost can_work = { IsSync R.row };
 
     fn most_waiting(&self) -> usize {
-        self.most_waiting
+        FLUSHED_AT_ONCE - 1
     }
 
     fn flush(&self, alloc: Global, full: &[FullMemtable]) -> Result<Vec<Run>, AllocError> {
-        flush_side_by_side(self.rt, alloc, full)
+        flush_side_by_side(self.0, alloc, full)
+    }
+
+    fn flush_beside<W: Work<Output = T> + Drop, T>(
+        &self,
+        alloc: Global,
+        full: &[FullMemtable],
+        work: W,
+    ) -> (Result<Vec<Run>, AllocError>, T) {
+        side_by_side_beside(self.0, alloc, full, work)
     }
 }

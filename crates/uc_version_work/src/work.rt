@@ -1,0 +1,19 @@
+//! [`Work`]: what a thread does while others flush.
+
+/// What the calling thread does while others flush. `join` tells of a closure's result only what doesn't borrow, so the closure
+/// holds a value of a type parameter.
+pub trait Work {
+    /// What comes of it.
+    type Output;
+
+    /// What is asked before it is done.
+    ghost can_be_done: { Self → Type 0 };
+
+    /// What holds of what comes of it.
+    ghost gives: { Self → Self.Output → Type 0 };
+
+    /// Does the work.
+    fn run(self) -> Self::Output
+        requires { can_be_done self }
+        ensures { gives self result };
+}
