@@ -1,6 +1,6 @@
 //! Command lines: what their words set, and which are refused.
+use crate::ask_numbers::numbers_of;
 use crate::command::{Shown, operator_name, options, ucstore};
-use crate::plan::plan_of;
 use clap::error::ErrorKind;
 use std::alloc::{AllocError, Global};
 use std::process::Abort;
@@ -87,7 +87,7 @@ fn operators_and_usual_options(rt: HostRuntime) -> Result<(), Fail> {
 type Numbers = (usize, usize, usize, u64);
 
 /// What lines set of these.
-const PLANS: [(&str, Numbers); 4] = [
+const NUMBERS: [(&str, Numbers); 4] = [
     ("ucstore ask --operator counter", (4, 16, 0, 0)),
     (
         "ucstore ask --operator counter --workers 64 --piece 18446744073709551615 --compactors 16",
@@ -104,27 +104,27 @@ const PLANS: [(&str, Numbers); 4] = [
 ];
 
 /// What words set of these.
-fn plan_by(alloc: Global, shown: &Shown, words: &[&str]) -> Result<Numbers, Fail> {
+fn numbers_by(alloc: Global, shown: &Shown, words: &[&str]) -> Result<Numbers, Fail> {
     let matches = ucstore(alloc, shown)?.try_get_matches_from(words)?;
     match matches.subcommand() {
         Some((_, words)) => {
-            let plan = plan_of(words);
-            Ok((plan.workers, plan.piece, plan.compactors, plan.later))
+            let set = numbers_of(words);
+            Ok((set.workers, set.piece, set.compactors, set.later))
         }
         None => Err(Fail::from(AllocError)),
     }
 }
 
 /// How many the words of a line set.
-fn plan_by_line(alloc: Global, line: &str) -> Result<Numbers, Fail> {
-    plan_by(alloc, &Shown::new(alloc)?, &words_of(alloc, line)?)
+fn numbers_by_line(alloc: Global, line: &str) -> Result<Numbers, Fail> {
+    numbers_by(alloc, &Shown::new(alloc)?, &words_of(alloc, line)?)
 }
 
 /// Workers, pieces, compactors and later writes are set each by its own word, within the limits.
 #[test]
-fn plans_of_ask(rt: HostRuntime) -> Result<(), Fail> {
-    for (line, wanted) in PLANS {
-        assert_eq!(rt; plan_by_line(rt.alloc(), line)?, wanted, "{line}");
+fn numbers_of_ask(rt: HostRuntime) -> Result<(), Fail> {
+    for (line, wanted) in NUMBERS {
+        assert_eq!(rt; numbers_by_line(rt.alloc(), line)?, wanted, "{line}");
     }
     Ok(())
 }

@@ -15,7 +15,7 @@ use std::process::ExitCode;
 use std::rt::Env;
 use std::sync::Wait;
 use std::thread::Threads;
-use uc_command::{Plan, Shown};
+use uc_command::{AskNumbers, Shown};
 use uc_oper::{Append, Counter, Maximum, Tail};
 use uc_tool::{Done, OperatorName, Outcome, Refusal, ask, dump, is_plan, play, report_log};
 
@@ -64,12 +64,12 @@ fn ask_log<R: Read, W: Write>(
     writer: &mut W,
 ) -> Outcome {
     let options = uc_command::options(matches);
-    let Plan {
+    let AskNumbers {
         workers,
         piece,
         compactors,
         later,
-    } = uc_command::plan_of(matches);
+    } = uc_command::numbers_of(matches);
     // The parser lets no other numbers through.
     if !is_plan(workers, piece, compactors) {
         return Outcome::without_reason(Done::Refused);

@@ -1,9 +1,9 @@
-//! [`Plan`]: how many threads `ucstore ask` works by, and on what.
+//! [`AskNumbers`]: how many threads `ucstore ask` works by, and on what.
 use clap::ArgMatches;
 
 /// How many threads `ucstore ask` answers and compacts by, how it cuts the queries, and what it opens.
 #[derive(Clone, Copy, Debug, PartialEq, Eq)]
-pub struct Plan {
+pub struct AskNumbers {
     /// How many workers answer.
     pub workers: usize,
     /// How many queries a worker takes at a time.
@@ -19,9 +19,9 @@ fn count(matches: &ArgMatches<'_>, name: &str) -> usize {
     matches.get_one::<u64>(name).unwrap_or(0) as usize
 }
 
-/// The plan of `ucstore ask` that the words set.
-pub fn plan_of(matches: &ArgMatches<'_>) -> Plan {
-    Plan {
+/// The numbers that the words of `ucstore ask` set.
+pub fn numbers_of(matches: &ArgMatches<'_>) -> AskNumbers {
+    AskNumbers {
         workers: count(matches, "workers"),
         piece: count(matches, "piece"),
         compactors: count(matches, "compactors"),
