@@ -8,6 +8,7 @@ use crate::name::Name;
 use crate::reader::Reader;
 use crate::store::Store;
 use crate::turn::Turn;
+use crate::turn_gate::{TurnGate, Ungated};
 use std::alloc::Global;
 use std::marker::{Model, Sync};
 use std::sync::Wait;
@@ -81,11 +82,30 @@ impl<O: Operator + Sync, N: Name, W: Wait + Drop> Store<O, N, W> {
         ensures failed { IfSome compactor.old.seat (λ seat. IfErr result
             (FailedFor (turning self.now.options N.base seat compactor.old.seen compactor.new.seen))) }
     {
+        self.turn_through(rt, alloc, compactor, &Ungated)
+    }
+
+    /// Takes a turn as [`turn`](Store::turn) does, and calls a gate between the steps, by which tests hold the compactor up.
+    pub fn turn_through<G: TurnGate>(
+        &self,
+        rt: &(impl Threads + Wait + Sync),
+        alloc: Global,
+        compactor: &mut Compactor<O, N>,
+        gate: &G,
+    ) -> Result<Turn, InstallError>
+        ensures seat { compactor.new.seat ≡ compactor.old.seat }
+        ensures seen { IsPrefix compactor.old.seen compactor.new.seen }
+        ensures legal { MayFollow O.meaning N.base compactor.new.seen }
+        ensures came { IfSome compactor.old.seat (λ seat. IfOk result
+            (CameOf O.meaning (turning self.now.options N.base seat compactor.old.seen compactor.new.seen))) }
+        ensures failed { IfSome compactor.old.seat (λ seat. IfErr result
+            (FailedFor (turning self.now.options N.base seat compactor.old.seen compactor.new.seen))) }
+    {
         self.recall_table();
         let Some(seat) = compactor.seat.take() else {
             unreachable!()
         };
-        let (seat, came) = self.compact_once(rt, alloc, seat, &mut compactor.reader);
+        let (seat, came) = self.compact_once_through(rt, alloc, seat, &mut compactor.reader, gate);
         compactor.seat = Some(seat);
         came
     }

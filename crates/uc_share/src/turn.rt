@@ -67,7 +67,7 @@ impl<O: Operator + Sync, N: Name, W: Wait + Drop> Store<O, N, W> {
     }
 
     /// Takes a turn as [`compact_once`](Store::compact_once) does, and calls a gate between the steps.
-    pub fn compact_once_through<G: TurnGate>(
+    pub(crate) fn compact_once_through<G: TurnGate>(
         &self,
         rt: &(impl Threads + Wait + Sync),
         alloc: Global,

@@ -1,6 +1,6 @@
 //! `ask`: the queries in front of a log, answered beside compactors and a feeder.
 ghost use denote.Param.Send.{IsSync, IsSend};
-ghost use Rattle.std.specs.Prelude.{◌≡◌, ◌+◌, ◌≤◌, All, List, None, true, vec_len};
+ghost use Rattle.std.specs.Prelude.{◌≡◌, ◌+◌, ◌≤◌, List, None, true, vec_len};
 ghost use Rattle.uc_share.specs.Stores.{IsNamed};
 ghost use Rattle.std.specs.Prelude.{IfOk, OnOk, IfSome};
 ghost use Rattle.uc_batch.specs.Log.{log_writes};
@@ -18,12 +18,12 @@ ghost use Rattle.uc_tool_ask.specs.Plans.{IsPlan};
 
 use crate::answers::print_answers;
 use crate::beside::{Beside, Helpers, work_beside};
-use crate::compactor::Compactor;
+use crate::crew::crew_of;
 use crate::feeder::feeder_of;
 use crate::opened_part::recover_part;
 use crate::parted_input::{PartError, Parted, part_input};
 use crate::plan::Plan;
-use std::alloc::{AllocError, Global};
+use std::alloc::Global;
 use std::io::{Read, Write};
 use std::marker::{Brand, Send, Sync};
 use std::sync::Wait;
@@ -31,7 +31,7 @@ use std::thread::{Threads, join_mut};
 use uc_batch::{Ended, Pieces, Write as LogWrite};
 use uc_oper::Operator;
 use uc_script::Source;
-use uc_share::{Name, Opening, Options, Reader, Seat, Store, TurnGate, Ungated};
+use uc_share::{Name, Opening, Options, Reader, Store, TurnGate, Ungated};
 use uc_tool_io::{Done, RunError, run_over_input};
 use uc_tool_opening::{
     Outcome, Reason, print_bad_log, print_fault, print_refused_opening, reason_of_line,
@@ -73,28 +73,6 @@ impl Told {
 /// How a run ended, and what is told of it.
 type Worked = (Result<Done, RunError>, Told);
 
-/// A crew for the seats of a store, each with one of the readers. As many readers are left as there were more.
-fn crew_of<O: Operator, N: Name, W: Wait + Drop>(
-    alloc: Global,
-    store: &Store<O, N, W>,
-    readers: &mut Vec<Reader<O, N>>,
-    seats: Vec<Seat>,
-) -> Result<Vec<Compactor<O, N>>, AllocError>
-    requires tables { All (λ seat. seat.table ≡ store.now.table) seats.items }
-    requires enough { vec_len seats ≤ vec_len readers.old }
-    ensures crew { IfOk result (λ crew. All (λ x. x.seat.table ≡ store.now.table) crew.items) }
-    ensures left { OnOk result (vec_len readers.new + vec_len seats ≡ vec_len readers.old) }
-{
-    let mut crew = Vec::with_capacity(alloc, seats.len())?;
-    for seat in seats {
-        let Some(reader) = readers.pop() else {
-            unreachable!()
-        };
-        crew.push(Compactor { seat, reader })?;
-    }
-    Ok(crew)
-}
-
 /// Prints the answers to the queries of a head while a crew compacts and a feeder feeds, which have ended when it returns. They
 /// are moved to their thread: what is lent to both closures can be followed through one of them alone.
 fn answer_beside_crew<O, N, W, G, R, V>(
@@ -116,7 +94,6 @@ where
     G: TurnGate,
     R: Threads + Wait + Sync,
     V: Write,
-    requires crew { All (λ x. x.seat.table ≡ store.now.table) helpers.crew.items }
     requires readers { plan.workers ≤ vec_len readers.old }
     requires stay { N.keeps_stay ≡ true }
     ensures printed { ForEachHistory O.meaning N.base (λ h.
@@ -125,9 +102,7 @@ where
 {
     let (beside, printed) = join_mut(
         rt,
-        &mut move || -> Beside
-            requires { All (λ x. x.seat.table ≡ store.now.table) helpers.crew.items }
-        { work_beside(rt, alloc, store, gate, &mut helpers) },
+        &mut move || -> Beside { work_beside(rt, alloc, store, gate, &mut helpers) },
         &mut || -> Result<Done, RunError>
             requires { (plan.workers ≤ vec_len readers.now) × (N.keeps_stay ≡ true) }
         { print_answers(rt, alloc, head, last, plan, readers, writer) },

@@ -1,8 +1,8 @@
 //! [`Beside`]: what is done to a store while queries are answered.
 ghost use denote.Param.Send.{IsSync, IsSend};
-ghost use Rattle.std.specs.Prelude.{◌≡◌, All};
+ghost use Rattle.std.specs.Prelude.{◌≡◌};
 
-use crate::compactor::{Compactor, all_installs};
+use crate::crew::all_installs;
 use crate::feeder::{Feeder, feed_all};
 use std::alloc::Global;
 use std::marker::{Send, Sync};
@@ -10,7 +10,7 @@ use std::mem;
 use std::sync::Wait;
 use std::thread::{Threads, join};
 use uc_oper::Operator;
-use uc_share::{Name, Store, TurnGate};
+use uc_share::{Compactor, Name, Store, TurnGate};
 
 /// What was done to a store beside the answers.
 #[derive(Clone, Copy, Debug, PartialEq, Eq)]
@@ -58,7 +58,6 @@ where
     W: Wait + Drop + Send,
     G: TurnGate,
     R: Threads + Wait + Sync,
-    requires { All (λ x. x.seat.table ≡ store.now.table) helpers.old.crew.items }
 {
     let Some(feeder) = helpers.feeder.take() else {
         return Beside {
@@ -73,9 +72,7 @@ where
     let (fed, installs) = join(
         rt,
         move || -> u64 { feed_all(rt, alloc, store, &mut reader, writes) },
-        move || -> u64
-            requires { All (λ x. x.seat.table ≡ store.now.table) crew.items }
-        { all_installs(rt, alloc, store, gate, &mut crew) },
+        move || -> u64 { all_installs(rt, alloc, store, gate, &mut crew) },
     );
     Beside {
         installs,

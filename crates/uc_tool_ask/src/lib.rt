@@ -9,7 +9,7 @@
 //! The input is gathered in pieces. `parted_input.rt` parts it at the end of its head, and `opened_part.rt` opens the store
 //! from the log behind that.
 //!
-//! Read `specs/Ask.antt` first, then `ask_run.rt`, `answers.rt`, `compactor.rt` and `feeder.rt`. Tests hold compactors up by a
+//! Read `specs/Ask.antt` first, then `ask_run.rt`, `answers.rt`, `crew.rt` and `feeder.rt`. Tests hold compactors up by a
 //! [`TurnGate`](uc_share::TurnGate). Recovering, refusing and the lines of answers stand in `uc_tool_opening`, batches in
 //! `uc_query_shared`, and the store with a compactor's turn in `uc_share`.
 //!
@@ -19,7 +19,7 @@
 mod answers;
 mod ask_run;
 mod beside;
-mod compactor;
+mod crew;
 mod feeder;
 mod laws;
 mod opened_part;

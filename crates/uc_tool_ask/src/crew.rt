@@ -1,23 +1,37 @@
-//! [`Compactor`]: a thread that compacts what is picked, as long as anything is.
+//! A crew of compactors, which compact what is picked, as long as anything is.
 ghost use denote.Param.Send.{IsSync, IsSend};
-ghost use Rattle.std.specs.Prelude.{◌≡◌, All};
+ghost use Rattle.std.specs.Prelude.{◌≡◌, ◌+◌, ◌≤◌, All, OnOk, vec_len};
 
-use std::alloc::Global;
+use std::alloc::{AllocError, Global};
 use std::marker::{Send, Sync};
 use std::mem;
 use std::sync::Wait;
 use std::thread::{Threads, map_vec};
 use uc_oper::Operator;
-use uc_share::{Name, Reader, Seat, Store, Turn, TurnGate};
+use uc_share::{Compactor, Name, Reader, Seat, Store, Turn, TurnGate};
 
 /// How many turns a compactor has at the most.
 const TURNS: usize = 256;
 
-/// What a compactor has of a store: a seat for its claims, and a reader.
-#[derive(Drop)]
-pub(crate) struct Compactor<O: Operator, N: Name> {
-    pub(crate) seat: Seat,
-    pub(crate) reader: Reader<O, N>,
+/// A crew for the seats of a store, each with one of the readers. As many readers are left as there were more.
+pub(crate) fn crew_of<O: Operator, N: Name, W: Wait + Drop>(
+    alloc: Global,
+    store: &Store<O, N, W>,
+    readers: &mut Vec<Reader<O, N>>,
+    seats: Vec<Seat>,
+) -> Result<Vec<Compactor<O, N>>, AllocError>
+    requires tables { All (λ seat. seat.table ≡ store.now.table) seats.items }
+    requires enough { vec_len seats ≤ vec_len readers.old }
+    ensures { OnOk result (vec_len readers.new + vec_len seats ≡ vec_len readers.old) }
+{
+    let mut crew = Vec::with_capacity(alloc, seats.len())?;
+    for seat in seats {
+        let Some(reader) = readers.pop() else {
+            unreachable!()
+        };
+        crew.push(store.compactor(reader, seat))?;
+    }
+    Ok(crew)
 }
 
 /// How many compactions a compactor installs: it takes turns until nothing is picked, a compaction isn't installed, or its turns
@@ -27,19 +41,11 @@ fn installs_of<O: Operator + Sync, N: Name, W: Wait + Drop, G: TurnGate>(
     alloc: Global,
     store: &Store<O, N, W>,
     gate: &G,
-    compactor: Compactor<O, N>,
-) -> u64
-    requires { compactor.seat.table ≡ store.now.table }
-{
-    let Compactor {
-        mut seat,
-        mut reader,
-    } = compactor;
+    mut compactor: Compactor<O, N>,
+) -> u64 {
     let mut installs = 0_u64;
     for _ in 0..TURNS {
-        let (back, came) = store.compact_once_through(rt, alloc, seat, &mut reader, gate);
-        seat = back;
-        match came {
+        match store.turn_through(rt, alloc, &mut compactor, gate) {
             Ok(Turn::Installed) => installs = installs.saturating_add(1),
             Ok(Turn::Late(_)) => {}
             Ok(Turn::Idle) | Err(_) => return installs,
@@ -63,12 +69,11 @@ where
     W: Wait + Drop + Send,
     G: TurnGate,
     R: Threads + Wait + Sync,
-    requires { All (λ x. x.seat.table ≡ store.now.table) crew.old.items }
 {
     let crew = mem::replace(crew, Vec::new(alloc));
-    let work = |compactor: Compactor<O, N>| -> u64
-        requires { compactor.seat.table ≡ store.now.table }
-    { installs_of(rt, alloc, store, gate, compactor) };
+    let work = |compactor: Compactor<O, N>| -> u64 {
+        installs_of(rt, alloc, store, gate, compactor)
+    };
     match map_vec(rt, crew, &work) {
         Err(_) => 0,
         Ok(installs) => installs
