@@ -27,7 +27,7 @@ slot_kept text more s le =
     ap (λ (first : List ℕ). written s.seq s.kind first (take s.second (drop (s.start + s.first) (text ++ more)))) (part_kept text more s.start s.first (omega (arith, le)))
     ∙ ap (λ (second : List ℕ). written s.seq s.kind (take s.first (drop s.start text)) second) (part_kept text more (s.start + s.first) s.second le)
 
-slots_kept : (text more : List ℕ) (slots : List Slot) → LieWithin text slots → slot_writes (text ++ more) slots ≡ slot_writes text slots
+pub slots_kept : (text more : List ℕ) (slots : List Slot) → LieWithin text slots → slot_writes (text ++ more) slots ≡ slot_writes text slots
 slots_kept text more [] all = refl
 slots_kept text more (s ∷ slots) all =
     ap (λ (w : Write). w ∷ slot_writes (text ++ more) slots) (slot_kept text more s all.0)

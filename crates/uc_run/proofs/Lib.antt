@@ -1,4 +1,5 @@
 pub mod Inserted
+pub mod FirstSlots
 pub mod ByKey
 pub mod Parts
 pub mod Flushed

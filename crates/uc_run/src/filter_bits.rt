@@ -3,7 +3,7 @@ ghost use Rattle.std.specs.Prelude.{◌≡◌, ℕ, List, ◌-◌, ◌<◌, ◌�
 ghost use Rattle.uc_run.specs.Filters as filters;
 ghost use Rattle.uc_run.specs.Filters.{HasBits, Admits};
 
-use crate::key_hash::key_hash;
+use crate::hashing::key_hash;
 
 /// How many words each block has: one cache line.
 pub(crate) const BLOCK_WORDS: usize = 8;

@@ -1,19 +1,23 @@
 //! The points and range deletions of a memtable's slots, as a run needs them.
-ghost use Rattle.std.specs.Prelude.{◌≡◌, ℕ, ◌<◌, ◌^◌, List, length, IfOk};
+ghost use Rattle.std.specs.Prelude.{◌≡◌, ◌≢◌, [], ℕ, ◌<◌, ◌^◌, List, length, IfOk};
 ghost use Rattle.std.specs.List.{AllByRecursion};
 ghost use Rattle.uc_bytes.specs.Borrowed.{op_of};
+ghost use Rattle.uc_batch.specs.Rising.{IsRising};
 ghost use Rattle.uc_run.specs.Slots.{slot_write, slot_writes, LiesWithin, LieWithin};
 ghost use Rattle.uc_run.specs.Points.{HaveOwnSeqs};
 ghost use Rattle.uc_run.specs.Ranks.{points_of};
 ghost use Rattle.uc_run.specs.Flush as flush;
 
 use crate::entry_ref::EntryRef;
+use crate::laws::flushed_writes_are_a_run;
 use crate::make_small::make_small;
 use crate::ranked_point::{RankedPoint, pack_ranked, sort_by_key};
+use crate::run::Run;
 use crate::slot::Slot;
+use crate::slot_totals::last_seq;
 use std::alloc::{AllocError, Global};
-use uc_bytes::OpKind;
-use uc_run_entry::{Point, Range, WhatRef};
+use uc_bytes::{OpKind, OpRef, WriteRef};
+use uc_run_entry::{Point, Range, WhatRef, cut_ranges};
 
 /// The texts of a slot in the arena.
 fn texts_at<'a>(text: &'a [u8], slot: &Slot) -> (&'a [u8], &'a [u8])
@@ -23,6 +27,21 @@ fn texts_at<'a>(text: &'a [u8], slot: &Slot) -> (&'a [u8], &'a [u8])
 {
     let begin = slot.start + slot.first;
     (&text[slot.start..begin], &text[begin..begin + slot.second])
+}
+
+/// The write of a slot, whose texts lie in the arena.
+pub(crate) fn write_at<'a>(text: &'a [u8], slot: &Slot) -> WriteRef<'a>
+    requires { LiesWithin (length text.now) slot.now }
+    ensures { result ≡ slot_write text.now slot.now }
+{
+    let (first, second) = texts_at(text, slot);
+    let op = match slot.kind {
+        OpKind::Put => OpRef::put(first, second),
+        OpKind::Delete => OpRef::delete(first),
+        OpKind::Merge => OpRef::merge(first, second),
+        OpKind::DeleteRange => OpRef::delete_range(first, second),
+    };
+    WriteRef::new(slot.seq, op)
 }
 
 /// The point that a slot's write is, if it changes one key.
@@ -70,7 +89,7 @@ fn points_in<'a>(
 }
 
 /// The range deletions among the slots' writes, in their order. An `Err` loses them.
-pub(crate) fn ranges_in<'a>(
+fn ranges_in<'a>(
     alloc: Global,
     text: &'a [u8],
     slots: &[Slot],
@@ -89,11 +108,7 @@ pub(crate) fn ranges_in<'a>(
 
 /// The points among the slots' writes, by key, the newest of a key first. The texts are copied in this order. An `Err`
 /// loses them.
-pub(crate) fn points_by_key(
-    alloc: Global,
-    text: &[u8],
-    slots: &[Slot],
-) -> Result<Vec<Point>, AllocError>
+fn points_by_key(alloc: Global, text: &[u8], slots: &[Slot]) -> Result<Vec<Point>, AllocError>
     requires within { LieWithin text.now slots.now }
     requires own { HaveOwnSeqs (flush.points_in (slot_writes text.now slots.now)) }
     requires below { AllByRecursion (λ p. p.seq < 2 ^ 56)
@@ -108,11 +123,25 @@ pub(crate) fn points_by_key(
 }
 
 /// The sequence of the first slot, or 0 if there is none.
-pub(crate) fn first_seq(slots: &[Slot]) -> u64
+fn first_seq(slots: &[Slot]) -> u64
     ensures { (text : List ℕ) → result ≡ flush.first_of (slot_writes text slots.now) }
 {
     match slots.first() {
         None => 0,
         Some(slot) => slot.seq,
     }
+}
+
+/// The run of the slots' writes: the points in order of key, and the range deletions cut into fragments.
+pub(crate) fn run_of_slots(alloc: Global, text: &[u8], slots: &[Slot]) -> Result<Run, AllocError>
+    requires within { LieWithin text.now slots.now }
+    requires rising { IsRising 0 (slot_writes text.now slots.now) }
+    requires some { slot_writes text.now slots.now ≢ [] }
+    ensures { IfOk result (λ run. run ≡ flush.flushed (slot_writes text.now slots.now)) }
+{
+    flushed_writes_are_a_run();
+    let points = points_by_key(alloc, text, slots)?;
+    let ranges = ranges_in(alloc, text, slots)?;
+    let fragments = cut_ranges(alloc, &ranges)?;
+    Run::from_points(alloc, first_seq(slots), last_seq(slots), points, fragments)
 }

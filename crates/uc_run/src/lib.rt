@@ -23,8 +23,8 @@ mod fences;
 mod filter;
 mod filter_bits;
 mod flush;
+mod hashing;
 mod heads;
-mod key_hash;
 mod laws;
 mod lookup;
 mod make_small;
@@ -39,9 +39,11 @@ mod run_size;
 mod same;
 mod size;
 mod slot;
+mod slot_totals;
 mod texts;
 
 pub use cursor::Cursor;
+pub use hashing::key_hash;
 pub use heads::{Head, Heads, lesser};
 pub use laws::{
     flush_keeps_every_effect, flushed_writes_are_a_run, keys_at_places_are_next,

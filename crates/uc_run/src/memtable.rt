@@ -1,20 +1,20 @@
 //! [`Memtable`]: writes in one arena, in the order of their insertion.
-ghost use Rattle.std.specs.Prelude.{◌≡◌, ◌<◌, ◌^◌, ◌↔◌, ◌∷◌, ◌++◌, [], ◌≢◌, IsTrue, IfOk, IfErr, OnOk, OnErr};
+ghost use Rattle.std.specs.Prelude.{◌≡◌, ◌<◌, ◌≤◌, ◌^◌, ◌↔◌, ◌∷◌, ◌++◌, [], ◌≢◌, IsTrue, IfOk, IfErr, OnOk, OnErr, length, take};
+ghost use Rattle.std.specs.List.{slice_get};
 ghost use Rattle.uc_batch.specs.Rising.{last_of};
 ghost use Rattle.uc_run.specs.Flush.{flushed};
 ghost use Rattle.uc_run.specs.Size.{memtable_size};
 ghost use Rattle.uc_run.specs.Slots.{Grows};
 
-use crate::flush::{first_seq, points_by_key, ranges_in};
-use crate::laws::flushed_writes_are_a_run;
+use crate::flush::{run_of_slots, write_at};
 use crate::make_small::make_small;
 use crate::run::Run;
 use crate::size::op_size;
 use crate::slot::Slot;
+use crate::slot_totals::{last_seq, reach, size_of_slots};
 use std::alloc::{AllocError, Global};
 use std::marker::Model;
 use uc_bytes::{Write, WriteRef};
-use uc_run_entry::cut_ranges;
 
 /// The newest writes, before they become a run (RocksDB wiki, "MemTable"). A contract sees it as the list of the
 /// writes that were inserted, in order.
@@ -111,6 +111,22 @@ impl Memtable {
         self.slots.is_empty()
     }
 
+    /// How many writes it has.
+    pub fn len(&self) -> usize
+        ensures count { result ≡ length self.now }
+        ensures bound { result < 2 ^ 63 }
+    {
+        self.slots.len()
+    }
+
+    /// The write at a place, if there is one.
+    pub fn write(&self, place: usize) -> Option<WriteRef<'_>>
+        ensures { result ≡ slice_get self.now place }
+    {
+        let slot = self.slots.get(place)?;
+        Some(write_at(&self.text, slot))
+    }
+
     /// How many bytes its writes have: for each the lengths of its texts, and 8; nothing for a range whose begin isn't
     /// below its end. At most 2^64 - 1.
     pub fn size(&self) -> u64
@@ -150,18 +166,36 @@ impl Memtable {
         Ok(())
     }
 
-    /// The run of its writes: the points in order of key, and the range deletions cut into fragments. It costs a sort
-    /// of the points, a copy of their texts, and the fragments. The sort compares a number for each key, and texts only
-    /// where two numbers are equal.
+    /// Keeps the first writes, and forgets those behind them. It takes no memory, and looks at each write that it keeps.
+    pub fn truncate(&mut self, count: usize)
+        ensures { self.new ≡ take count self.old }
+    {
+        if count < self.slots.len() {
+            self.slots.truncate(count);
+            let end = reach(self.text.len(), &self.slots);
+            self.text.truncate(end);
+            self.size = size_of_slots(&self.text, &self.slots);
+            self.last = last_seq(&self.slots);
+        }
+    }
+
+    /// The run of its first writes: the points in order of key, and the range deletions cut into fragments. It costs a
+    /// sort of the points, a copy of their texts, and the fragments. The sort compares a number for each key, and texts
+    /// only where two numbers are equal.
+    pub fn run_of_first(&self, alloc: Global, count: usize) -> Result<Run, AllocError>
+        requires some { 0 < count }
+        requires within { count ≤ length self.now }
+        ensures { IfOk result (λ run. run ≡ flushed (take count self.now)) }
+    {
+        run_of_slots(alloc, &self.text, &self.slots[..count])
+    }
+
+    /// The run of all its writes, as [`run_of_first`](Memtable::run_of_first) makes it.
     pub fn to_run(&self, alloc: Global) -> Result<Run, AllocError>
         requires { self.now ≢ [] }
         ensures { IfOk result (λ run. run ≡ flushed self.now) }
     {
-        flushed_writes_are_a_run();
-        let points = points_by_key(alloc, &self.text, &self.slots)?;
-        let ranges = ranges_in(alloc, &self.text, &self.slots)?;
-        let fragments = cut_ranges(alloc, &ranges)?;
-        Run::from_points(alloc, first_seq(&self.slots), self.last, points, fragments)
+        self.run_of_first(alloc, self.slots.len())
     }
 
     /// The run of its writes, as [`to_run`](Memtable::to_run) makes it, in place of the memtable. An `Err` hands the

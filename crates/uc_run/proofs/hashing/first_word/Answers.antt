@@ -1,7 +1,7 @@
 use Rattle.std.proofs.Common.{rules, ◌≡◌, ◌∙◌, ap, take}
 use Rattle.uc_run.specs.KeyHash.{first_word}
 use Rattle.uc_run.proofs.Words.{first_word-take}
-use Rattle.uc_run.proofs.key_hash.first_word.Goals as goal
+use Rattle.uc_run.proofs.hashing.first_word.Goals as goal
 
 pub returns-in-Some : goal.returns-in-Some
 unfolding first_word

@@ -64,7 +64,7 @@ fn word_at(bytes: &[u8], place: usize) -> u64
 /// The hash of a key. Each word of eight bytes is folded into it, and at the end the last eight bytes, which may lie over
 /// the word before.
 #[inline]
-pub(crate) fn key_hash(key: &[u8]) -> u64
+pub fn key_hash(key: &[u8]) -> u64
     ensures { result ≡ hash.key_hash key.now }
 {
     let mut state = key.len() as u64;

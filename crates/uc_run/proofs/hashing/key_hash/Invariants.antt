@@ -1,6 +1,6 @@
 use Rattle.std.proofs.Common.{◌≡◌}
 use Rattle.uc_run.specs.KeyHash.{state_after}
-use Rattle.uc_run.proofs.key_hash.key_hash.Given as goal
+use Rattle.uc_run.proofs.hashing.key_hash.Given as goal
 
 -- the words so far are folded in
 abbrev pub invariant-loop-word : goal.invariant-loop-word

@@ -1,7 +1,7 @@
 use Rattle.std.proofs.Common.{◌≡◌, ◌+◌, ◌-◌, ◌/◌, suc, length, refl, sym, ap, ◌∙◌, arith, rules}
 use Rattle.std.specs.Int.RustNames.{bit_xor}
 use Rattle.uc_run.specs.KeyHash.{word_factor, last_factor, state_after, key_hash, folded_product, word_at}
-use Rattle.uc_run.proofs.key_hash.key_hash.Goals as goal
+use Rattle.uc_run.proofs.hashing.key_hash.Goals as goal
 
 pub loop-word-init : goal.loop-word-init
 unfolding state_after
