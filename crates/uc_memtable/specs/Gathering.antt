@@ -1,0 +1,8 @@
+-- What a memtable that takes writes holds.
+use Rattle.std.specs.Prelude.{List}
+use Rattle.uc_bytes.specs.declared.write.Write.{Write}
+
+-- the writes that reads see, and those behind them that were prepared and wait
+pub record Gathering : Type 0 where
+  pub shown : List Write
+  pub waiting : List Write

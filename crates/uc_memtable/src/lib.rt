@@ -1,0 +1,21 @@
+//! A memtable that is looked into while it takes writes.
+//!
+//! An [`ActiveMemtable`] takes writes in two steps. `prepare` reserves all memory and may fail; `commit` shows what was
+//! prepared and can't fail. A lookup by [`ActiveMemtable::effect`] finds what the shown writes do to a key. Read
+//! `specs/Gathering.antt` and `active_memtable.rt` first, then `sight.rt` and `lookup.rt`.
+//!
+//! The writes of a key are found by [`Chains`](chains::Chains): each write has a label, which is the hash of its key, and
+//! writes whose labels share a bucket are in one chain, from the newest on. `specs/Labels.antt` and `specs/Linked.antt`
+//! define them.
+//!
+//! An `Err(AllocError)` comes only if an allocation fails.
+#![tactic(auto)]
+
+mod active_memtable;
+mod chains;
+mod label;
+mod linking;
+mod lookup;
+mod sight;
+
+pub use active_memtable::ActiveMemtable;

@@ -1,0 +1,54 @@
+//! [`Sight`]: what a lookup sees of a memtable's writes.
+ghost use Rattle.std.specs.Prelude.{◌≡◌};
+ghost use Rattle.uc_model.specs.Meaning as meaning;
+
+use uc_bytes::{OpKind, OpRef, WriteRef};
+use uc_run::{Memtable, same_text, text_order};
+
+/// How a write bears on the older ones of its key.
+#[derive(Clone, Copy, Debug)]
+pub(crate) enum Bearing {
+    /// It merges into what they leave.
+    Merges,
+    /// Whatever they leave, it is gone.
+    Overwrites,
+}
+
+/// A lookup of a key at a sequence among the first writes of a memtable.
+#[derive(Drop)]
+pub(crate) struct Sight<'a> {
+    pub(crate) writes: &'a Memtable,
+    /// How many of the writes it may see.
+    pub(crate) shown: usize,
+    pub(crate) key: &'a [u8],
+    pub(crate) at: u64,
+}
+
+/// Whether a change touches a key: it names the key, or deletes a range that holds it.
+fn touches_key(op: &OpRef<'_>, key: &[u8]) -> bool
+    ensures { result ≡ meaning.touches_key key.now op.now }
+{
+    let (kind, first, second) = op.parts();
+    match kind {
+        OpKind::Put | OpKind::Delete | OpKind::Merge => same_text(first, key),
+        OpKind::DeleteRange => { text_order(first, key).is_le() && text_order(key, second).is_lt() }
+    }
+}
+
+impl<'a> Sight<'a> {
+    ghost use Rattle.uc_memtable.specs.Sights.{seen_by};
+
+    /// The write at a place, if the lookup sees it.
+    pub(crate) fn seen(&self, place: usize) -> Option<WriteRef<'a>>
+        ensures { result ≡ seen_by self.now place }
+    {
+        if self.shown <= place {
+            return None;
+        }
+        let write = self.writes.write(place)?;
+        if self.at < write.seq() || !touches_key(write.op(), self.key) {
+            return None;
+        }
+        Some(write)
+    }
+}
