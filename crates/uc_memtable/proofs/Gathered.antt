@@ -1,7 +1,9 @@
 -- Writes of which the first are shown, and one more of them.
 use Rattle.std.proofs.Common.{◌≡◌, ℕ, zero, suc, ◌+◌, ◌<◌, ◌≤◌, ◌^◌, Bool, true, false, cond, List, [], ◌∷◌, ◌++◌, length, take, drop, map, refl, ap, sym, ◌∙◌, arith}
-use Rattle.std.specs.Prelude.{count_by}
-use Rattle.std.proofs.lemmas.List.{take-append-drop, take-append-le, drop-append-le, take_all, drop_all, length-take-le, length_push, map_push, take-map, take-take}
+use Rattle.std.specs.Prelude.{count_by, ◌≢◌, ◌↔◌, IsTrue}
+use Rattle.std.proofs.Math.Dec.{ltb}
+use Rattle.std.proofs.lemmas.Bool.{ltb-true, ltb-false}
+use Rattle.std.proofs.lemmas.List.{take-append-drop, take-append-le, drop-append-le, take_all, drop_all, length-drop, length-take-le, length_push, map_push, take-map, take-take}
 use Rattle.std.proofs.lemmas.List.Sums.{sum_by_push}
 use Rattle.uc_bytes.specs.declared.write.Write.{Write}
 use Rattle.uc_batch.specs.Rising.{IsRising, last_of}
@@ -84,3 +86,19 @@ held_first writes labels shown size last ranges all held =
       ranges_counted = held.ranges_counted ∙ ap (count_by deletes_range) (sym again);
       all_counted = held.ranges_counted;
     }
+
+-- whether some wait is told by how many are shown
+module _ (n : ℕ) (ws waiting : List Write) (dropped : drop n ws ≡ waiting) where
+  some_wait : (b : Bool) → ltb n (length ws) ≡ b → waiting ≢ [] → b ≡ true
+  some_wait true e some = refl
+  some_wait false e some = absurd (some (sym dropped ∙ drop_all n ws (ltb-false n (length ws) e)))
+
+  none_wait : ltb n (length ws) ≡ true → waiting ≢ []
+  none_wait shown none =
+      let less = ltb-true n (length ws) shown in
+      let count = length-drop n ws in
+      let zero : length (drop n ws) ≡ 0 = ap (λ (us : List Write). length us) (dropped ∙ none) in
+      omega (arith, less, count, zero)
+
+  pub waits_if : IsTrue (ltb n (length ws)) ↔ (waiting ≢ [])
+  waits_if = (none_wait, some_wait (ltb n (length ws)) refl)

@@ -111,6 +111,28 @@ impl ActiveMemtable {
         self.writes.last()
     }
 
+    /// How many bytes all writes have, those that wait too.
+    pub fn size_of_all(&self) -> u64
+        ensures { result ≡ memtable_size (self.now.shown ++ self.now.waiting) }
+    {
+        self.writes.size()
+    }
+
+    /// Whether a write waits.
+    pub fn is_waiting(&self) -> bool
+        ensures { IsTrue result ↔ (self.now.waiting ≢ []) }
+    {
+        self.shown < self.writes.len()
+    }
+
+    /// The writes as a memtable, if none waits.
+    pub fn memtable(&self) -> &Memtable
+        requires { self.now.waiting ≡ [] }
+        ensures { result.now ≡ self.now.shown }
+    {
+        &self.writes
+    }
+
     /// How many of the shown writes are range deletions.
     pub fn ranges(&self) -> usize
         ensures { result ≡ count_by deletes_range self.now.shown }

@@ -8,6 +8,8 @@
 //! writes whose labels share a bucket are in one chain, from the newest on. `specs/Labels.antt` and `specs/Linked.antt`
 //! define them.
 //!
+//! Tests: `uc_tests_memtable`.
+//!
 //! An `Err(AllocError)` comes only if an allocation fails.
 #![tactic(auto)]
 

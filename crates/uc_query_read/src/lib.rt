@@ -6,7 +6,8 @@
 //! is found; by `answer_laws.rt` the reference finds that.
 //!
 //! [`answer_one`] returns the same answer from a version's runs. Read `answering.rt` first, then `lookup.rt`, and for
-//! scans `specs/Ahead.antt`, `specs/Walks.antt`, `walkers.rt`, `cursors.rt`, `dead_keys.rt` and `scan.rt`.
+//! scans `specs/Ahead.antt`, `specs/Walks.antt`, `walkers.rt`, `cursors.rt`, `dead_keys.rt` and `scan.rt`. `behind.rt` reads a
+//! version behind newer writes.
 //!
 //! An `Err(AllocError)` comes only if an allocation fails.
 //!
@@ -16,6 +17,7 @@
 mod answer;
 mod answer_laws;
 mod answering;
+mod behind;
 mod cursors;
 mod dead_keys;
 mod laws;
@@ -32,6 +34,7 @@ pub use answer_laws::{
     scan_keys_rise, scan_rows_are_determined, scan_rows_are_first, unprotected_is_refused,
 };
 pub use answering::{answer_one, get, get_last};
+pub use behind::{rows_at, rows_behind, value_behind};
 pub use laws::{histories_keep_answers, later_events_leave_answers_alone};
 pub use plain::answer_writes;
 pub use query::Query;

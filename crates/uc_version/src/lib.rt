@@ -2,7 +2,7 @@
 //!
 //! An [`Owned`] has a version, and the claims of those who compact stretches of its runs. Read `specs/Owners.antt`
 //! first, then `specs/Claiming.antt`, `specs/Installing.antt` and `owned.rt`; and `specs/AtOnce.antt` with
-//! `at_once.rt`, and `specs/Feeding.antt` with `live.rt`. Compactions of any version's runs, and their installs, are in
+//! `at_once.rt`, and `specs/Feeding.antt` with `live.rt` and `memtable_feed.rt`. Compactions of any version's runs, and their installs, are in
 //! `uc_version_work`, whoever claims them; versions are in `uc_version_state`. This crate re-exports the public items
 //! of both.
 //!
@@ -17,6 +17,7 @@ mod compact_error;
 mod held_stretch;
 mod laws;
 mod live;
+mod memtable_feed;
 mod opened_writes;
 mod owned;
 mod owned_claim;

@@ -17,9 +17,12 @@ of_each P xs all x has = All-contains P xs x (All-from_recursion P xs all) has
 held_mono : (a b most : ℕ) → a ≤ b → min a most ≤ min b most
 held_mono a b most le = le-min (let left = min-le_left a most in omega (arith, left, le)) (min-le_right a most)
 
--- a write more makes no memtable smaller
+-- more writes make no memtable smaller
+pub grows_by : (ws more : List Write) → memtable_size ws ≤ memtable_size (ws ++ more)
+grows_by ws more = held_mono (sum_by write_size ws) (sum_by write_size (ws ++ more)) (2 ^ 64 - 1) (let e = sum_by-append write_size ws more in omega (arith, e))
+
 grows : (ws : List Write) (w : Write) → memtable_size ws ≤ memtable_size (ws ++ w ∷ [])
-grows ws w = held_mono (sum_by write_size ws) (sum_by write_size (ws ++ w ∷ [])) (2 ^ 64 - 1) (let e = sum_by-append write_size ws (w ∷ []) in omega (arith, e))
+grows ws w = grows_by ws (w ∷ [])
 
 same_front : (ws vs : List Write) (w v : Write) → ws ++ w ∷ [] ≡ vs ++ v ∷ [] → ws ≡ vs
 same_front ws vs w v e =

@@ -19,6 +19,7 @@ pub mod Few
 pub mod Refused
 pub mod Changes
 pub mod Filling
+pub mod Small
 pub mod Kept
 pub mod Opened
 pub mod Along

@@ -37,6 +37,12 @@ pub fn memtables_are_filled_in_turn()
         Contains (memtables limit writes) part → part ≡ front ++ w ∷ [] → memtable_size front < limit }
 {}
 
+/// Writes that don't reach the limit together fill one memtable.
+pub fn small_writes_fill_one_memtable()
+    ensures { (limit : ℕ) (writes : List Write) → writes ≢ [] → memtable_size writes < limit →
+        memtables limit writes ≡ writes ∷ [] }
+{}
+
 /// A store opens with the given keeps and the last sequence, each once and in order.
 pub fn opened_keeps_are_those_given()
     ensures given { (o : Opening) (seq : ℕ) →

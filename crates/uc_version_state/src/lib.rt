@@ -54,7 +54,7 @@ pub use laws::{
     memtables_are_filled_in_turn, neighbours_stand_where_their_ids_say,
     no_refusal_is_leave_to_feed, no_writes_change_nothing, opened_keeps_are_those_given,
     opening_gives_a_version, opening_keeps_every_effect, runs_are_replaced_once,
-    runs_keep_their_contents, runs_stay_until_replaced,
+    runs_keep_their_contents, runs_stay_until_replaced, small_writes_fill_one_memtable,
 };
 pub use options::{GREATEST_FIRST_ID, Options};
 pub use pick_laws::{

@@ -9,7 +9,7 @@
 //! and `opener.rt`. A store opens with `opened` of `uc_version_state`.
 //!
 //! Writes that are fed to a store later fill the same memtables: [`fed_version`], or in two steps [`flush_writes`] and
-//! [`version_with_flushed`].
+//! [`version_with_flushed`]. [`version_with_memtable`] takes those of a memtable that is there.
 //!
 //! [`recover`] goes once through a write-ahead log and hands each write, borrowed from the log's bytes, to an opener.
 //! [`count_writes`] tells how many there are. Read `recovery.rt`.
@@ -40,6 +40,7 @@ mod keeps;
 mod laws;
 mod lent_memtables;
 mod log_batches;
+mod memtable_feed;
 mod memtables;
 mod open_error;
 mod opener;
@@ -58,6 +59,7 @@ pub use flushes::{fed_version, flush_writes, version_with_flushed};
 pub use install_error::InstallError;
 pub use install_laws::{own_compactions_stay_installable, what_fits_may_be_installed};
 pub use laws::no_refusal_is_leave_to_open;
+pub use memtable_feed::version_with_memtable;
 pub use open_error::OpenError;
 pub use opener::Opener;
 pub use recovery::{Counted, Recovered, count_writes, recover, recover_first, recover_pieces};

@@ -1,0 +1,88 @@
+//! Reads of a version behind writes that are newer than all its runs.
+ghost use Rattle.std.specs.Prelude.{◌≡◌, ◌∷◌, IfOk, map};
+ghost use Rattle.std.specs.Arc.{arc_value};
+ghost use Rattle.uc_oper.specs.Composition.{applied};
+ghost use Rattle.uc_model.specs.Meaning.{value_of};
+ghost use Rattle.uc_compact.specs.Inputs.{writes_of};
+ghost use Rattle.uc_query_read.specs.Answers as answers;
+ghost use Rattle.uc_query_read.specs.Answers.{named_keys};
+ghost use Rattle.uc_version_state.specs.Versions.{contents_of, writes_in};
+
+use crate::lookup::value_of_runs;
+use crate::rows::Rows;
+use crate::scan::rows_of_runs;
+use std::alloc::{AllocError, Global};
+use std::sync::Arc;
+use uc_bytes::Bytes;
+use uc_oper::{Effect, Operator};
+use uc_run::Run;
+use uc_version_state::{Placed, Version};
+
+/// The value that a newer effect makes of the one that a key has in a version at a sequence. If the effect sets the key, no run is
+/// looked into.
+pub fn value_behind<O: Operator>(
+    alloc: Global,
+    version: &Version,
+    key: &[u8],
+    at: u64,
+    newer: Effect,
+) -> Result<Option<Bytes>, AllocError>
+    ensures { IfOk result (λ value.
+        value ≡ applied O.meaning newer (value_of O.meaning (writes_in version.now) key.now at)) }
+{
+    if let Effect::Set(value) = newer {
+        return Ok(value);
+    }
+    let older = value_of_runs::<O>(alloc, version.runs(), key, at)?;
+    newer.apply::<O>(alloc, older)
+}
+
+/// The rows of a scan of a version at a sequence, whether or not it is protected: the first, at most `limit`, of the keys from `low`
+/// on, and below `high` if there is one, that have a value.
+pub fn rows_at<O: Operator>(
+    alloc: Global,
+    version: &Version,
+    low: &[u8],
+    high: &Option<Bytes>,
+    at: u64,
+    limit: u64,
+) -> Result<Rows, AllocError>
+    ensures { IfOk result (λ rows. rows ≡ answers.first_rows O.meaning (writes_in version.now) at limit
+        (named_keys (writes_in version.now) low.now high.now)) }
+{
+    rows_of_runs::<O>(alloc, version.runs(), low, high, at, limit)
+}
+
+/// A run before those of a version, which are shared. Its own place is of no account.
+fn runs_behind(alloc: Global, newer: Run, runs: &[Placed]) -> Result<Vec<Placed>, AllocError>
+    ensures { IfOk result (λ all. contents_of all.items ≡ newer ∷ contents_of runs.now) }
+{
+    let mut all = Vec::with_capacity(alloc, runs.len().saturating_add(1))?;
+    all.push(Placed {
+        id: 0,
+        slot: 0,
+        run: Arc::new(alloc, newer)?,
+    })?;
+    for placed in runs {
+        all.push(placed.shared()?)?;
+    }
+    Ok(all)
+}
+
+/// The rows of a scan, as [`rows_at`] gives them, of a version behind a run that is newer than all its runs. It copies no run.
+pub fn rows_behind<O: Operator>(
+    alloc: Global,
+    newer: Run,
+    version: &Version,
+    low: &[u8],
+    high: &Option<Bytes>,
+    at: u64,
+    limit: u64,
+) -> Result<Rows, AllocError>
+    ensures { IfOk result (λ rows.
+        rows ≡ answers.first_rows O.meaning (writes_of (newer ∷ contents_of version.now.runs)) at limit
+        (named_keys (writes_of (newer ∷ contents_of version.now.runs)) low.now high.now)) }
+{
+    let runs = runs_behind(alloc, newer, version.runs())?;
+    rows_of_runs::<O>(alloc, &runs, low, high, at, limit)
+}
