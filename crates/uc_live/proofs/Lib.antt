@@ -1,0 +1,13 @@
+pub mod Going
+pub mod Free
+pub mod Recorded
+pub mod Held
+pub mod Flush
+pub mod Compact
+pub mod Quiet
+pub mod Taken
+pub mod Behind
+pub mod Keeping
+pub mod Prepared
+pub mod Last
+pub mod LogTaken

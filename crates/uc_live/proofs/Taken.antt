@@ -1,0 +1,163 @@
+-- What a live store has taken, and what it answers.
+use Rattle.std.proofs.Common.{◌≡◌, ℕ, ◌≤◌, Bool, true, false, ◌&&◌, List, [], ◌∷◌, ◌++◌, fold, Option, ◌⊎◌, append_assoc, refl, sym, ap, ◌∙◌, subst, arith}
+use Rattle.std.specs.Prelude.{Contains, if◌then◌else◌, nat_le}
+use Rattle.std.specs.List.{flat_map}
+use Rattle.std.proofs.lemmas.Bool.{eq-eqb}
+use Rattle.std.proofs.lemmas.List.{append-nil}
+use Rattle.uc_bytes.specs.declared.write.Write.{Write}
+use Rattle.uc_oper.specs.Operation.{Operation}
+use Rattle.uc_oper.specs.Composition.{applied}
+use Rattle.uc_batch.specs.Rising.{last_of}
+use Rattle.uc_batch.proofs.Rises.{last_of-append}
+use Rattle.uc_model.specs.Meaning.{effect_on, value_of}
+use Rattle.uc_query_read.specs.Answers.{answer_of, first_rows, named_keys, Reads, is_protected}
+use Rattle.uc_query_read.specs.declared.query.Query.{Query}
+use Rattle.uc_query_read.specs.declared.query.Query.TheVariants.{Scan}
+use Rattle.uc_query_read.specs.Query.{at_of}
+use Rattle.uc_query_read.specs.declared.answer.Answer.{Answer}
+use Rattle.uc_query_read.specs.declared.answer.Answer.TheVariants.{Rows, NotProtected}
+use Rattle.uc_version_state.specs.Versions.{Stored, writes_in}
+use Rattle.uc_version_state.specs.Options as store
+use Rattle.uc_version_state.specs.Openings.{opened}
+use Rattle.uc_version_state.specs.Snapshots.{released}
+use Rattle.uc_version_state.specs.Histories.{History, IsLegal, MayFollow, after, version_after, writes_brought, writes_given}
+use Rattle.uc_version_state.specs.declared.event.Event.{Event}
+use Rattle.uc_version_state.specs.declared.event.Event.TheVariants.{Kept, Released}
+use Rattle.uc_live.specs.declared.live_options.LiveOptions.{LiveOptions}
+use Rattle.uc_version_state.specs.declared.options.TheConstants.{GREATEST_FIRST_ID}
+use Rattle.uc_live.specs.declared.live_options.TheConstants.{GREATEST_STOP}
+use Rattle.uc_live.specs.LiveOptions.{are_good, version_options}
+use Rattle.uc_live.specs.Lives as lives
+use Rattle.uc_live.specs.Lives.{Live, created, empty_opening}
+use Rattle.uc_live.specs.Going.{GoesOn}
+use Rattle.uc_live.specs.Snapshots.{TakesSnapshot, with_snapshot, without_one, is_among, without_snapshot}
+use Rattle.uc_live.specs.Coming.{HasTaken}
+use Rattle.uc_live.proofs.Going.{follow-append, after-append, brought-append}
+
+-- ---- a store that begins
+
+and_front : (a b : Bool) → (a && b) ≡ true → a ≡ true
+and_front true b h = refl
+and_front false b h = h
+
+others_good : (a b c d e f x : Bool) → ((a && b && c && d && e && f) && x) ≡ true → (true && b && c && d && e && f) ≡ true
+others_good true b c d e f x h = and_front (true && b && c && d && e && f) x h
+others_good false b c d e f x h = absurd cc
+
+pub version_options_good : (o : LiveOptions) → are_good o ≡ true → store.are_good (version_options o) ≡ true
+version_options_good o good =
+    let s = o.store in
+    others_good (nat_le 1 s.memtable) (nat_le 1 s.trigger) (nat_le 2 s.least) (nat_le s.least s.greatest) (nat_le 1 s.first_id) (nat_le s.first_id GREATEST_FIRST_ID)
+    (nat_le s.trigger o.stop_trigger && nat_le o.stop_trigger GREATEST_STOP) good
+
+pub created_taken : (m : Operation) (o : LiveOptions) → are_good o ≡ true → HasTaken m (created o) []
+created_taken m o good = record {
+  history = record { opening = empty_opening o; events = Released 0 ∷ [] };
+  legal = record {
+    opens = record { rising = tt; options_good = version_options_good o good; keeps_below = tt; few = omega arith };
+    follow = ((0, omega arith, refl), tt);
+  };
+  version = refl;
+  writes = refl;
+}
+
+module _ (m : Operation) where
+  -- ---- a store that goes on
+
+  -- events happened
+  taken_then : (old new : Live) (before ws : List Write) (events : List Event) → HasTaken m old before → MayFollow m old.version events → new.version ≡ fold after old.version events →
+      flat_map writes_brought events ++ new.gathered ≡ old.gathered ++ ws → HasTaken m new (before ++ ws)
+  taken_then old new before ws fs taken follow version writes =
+      let o = taken.history.opening in
+      let es = taken.history.events in
+      let given = flat_map writes_brought es in
+      let more = flat_map writes_brought fs in
+      record {
+        history = record { opening = o; events = es ++ fs };
+        legal = record {
+          opens = taken.legal.opens;
+          follow = follow-append m (opened o) es fs taken.legal.follow (subst (λ (v : Stored). MayFollow m v fs) taken.version follow);
+        };
+        version = version ∙ ap (λ (v : Stored). fold after v fs) taken.version ∙ sym (after-append (opened o) es fs);
+        writes =
+            ap (λ (us : List Write). (o.writes ++ us) ++ new.gathered) (brought-append es fs)
+            ∙ ap (λ (us : List Write). us ++ new.gathered) (sym (append_assoc o.writes given more))
+            ∙ append_assoc (o.writes ++ given) more new.gathered
+            ∙ ap (λ (us : List Write). (o.writes ++ given) ++ us) writes
+            ∙ sym (append_assoc (o.writes ++ given) old.gathered ws)
+            ∙ ap (λ (us : List Write). us ++ ws) taken.writes;
+      }
+
+  pub taken_on : (old new : Live) (before ws : List Write) → HasTaken m old before → GoesOn m old new ws → HasTaken m new (before ++ ws)
+  taken_on old new before ws taken on = taken_then old new before ws on.0.events taken on.0.follow on.0.version on.0.writes
+
+  -- no write came
+  same_writes : (l : Live) (ws : List Write) → HasTaken m l (ws ++ []) → HasTaken m l ws
+  same_writes l ws taken = subst (λ (us : List Write). HasTaken m l us) (append-nil ws) taken
+
+  pub taken_snapshot : (old new : Live) (before : List Write) (seq : ℕ) → HasTaken m old before → TakesSnapshot m old new seq → HasTaken m new before
+  taken_snapshot old new before seq taken takes =
+      let flushed = takes.flushed in
+      let until = same_writes flushed before (taken_on old flushed before [] taken takes.goes_on) in
+      let with = taken_then flushed (with_snapshot flushed) before [] (Kept ∷ []) until (tt, tt) refl (sym (append-nil flushed.gathered)) in
+      subst (λ (l : Live). HasTaken m l before) (sym takes.after) (same_writes (with_snapshot flushed) before with)
+
+  released_or_not : (l : Live) (before : List Write) (seq : ℕ) (rest : List ℕ) (b : Bool) → HasTaken m l before → Contains l.version.keeps seq →
+      HasTaken m (record l { version = if b then l.version else released seq l.version; snapshots = rest }) before
+  released_or_not l before seq rest true taken there =
+      record { history = taken.history; legal = taken.legal; version = taken.version; writes = taken.writes }
+  released_or_not l before seq rest false taken there =
+      let new = record l { version = released seq l.version; snapshots = rest } in
+      same_writes new before (taken_then l new before [] (Released seq ∷ []) taken (there, tt) refl (sym (append-nil l.gathered)))
+
+  pub taken_release : (l : Live) (before : List Write) (seq : ℕ) → HasTaken m l before → Contains l.version.keeps seq → HasTaken m (without_snapshot seq l) before
+  taken_release l before seq taken there =
+      let rest = without_one seq l.snapshots in
+      released_or_not l before seq rest (is_among seq rest) taken there
+
+  -- ---- what it answers
+
+  pub last_taken : (l : Live) (ws : List Write) → HasTaken m l ws → ((h : History) → IsLegal m h → last_of 0 (writes_given h) ≡ (version_after h).last) → lives.last l ≡ last_of 0 ws
+  last_taken l ws taken says =
+      let h = taken.history in
+      ap (λ (v : Stored). last_of v.last l.gathered) taken.version
+      ∙ ap (λ (n : ℕ). last_of n l.gathered) (sym (says h taken.legal))
+      ∙ sym (last_of-append 0 (writes_given h) l.gathered)
+      ∙ ap (λ (us : List Write). last_of 0 us) taken.writes
+
+  -- a key's value at a keep, or at the last sequence or above
+  pub value_taken : (l : Live) (ws : List Write) (key : List ℕ) (at : ℕ) → HasTaken m l ws → Contains l.version.keeps at ⊎ (l.version.last ≤ at) →
+      ((h : History) (key : List ℕ) (at : ℕ) → IsLegal m h → Contains (version_after h).keeps at ⊎ ((version_after h).last ≤ at) → value_of m (writes_in (version_after h)) key at ≡ value_of m (writes_given h) key at) →
+      ((older newer : List Write) (key : List ℕ) (at : ℕ) → value_of m (older ++ newer) key at ≡ applied m (effect_on m newer key at) (value_of m older key at)) →
+      value_of m (lives.writes_of l) key at ≡ value_of m ws key at
+  value_taken l ws key at taken read keep continues =
+      let h = taken.history in
+      let newer = l.gathered in
+      let read_there = subst (λ (v : Stored). Contains v.keeps at ⊎ (v.last ≤ at)) taken.version read in
+      ap (λ (v : Stored). value_of m (writes_in v ++ newer) key at) taken.version
+      ∙ continues (writes_in (version_after h)) newer key at
+      ∙ ap (λ (value : Option (List ℕ)). applied m (effect_on m newer key at) value) (keep h key at taken.legal read_there)
+      ∙ sym (continues (writes_given h) newer key at)
+      ∙ ap (λ (us : List Write). value_of m us key at) taken.writes
+
+  -- ---- rows without keeps
+
+  rows_in : Answer → List (List ℕ × List ℕ)
+  rows_in (Rows rows) = rows
+  rows_in answer = []
+
+  rows_answered : (xs ys : List (List ℕ × List ℕ)) (at : ℕ) (b : Bool) → b ≡ true → (if b then Rows xs else NotProtected at) ≡ (if b then Rows ys else NotProtected at) → xs ≡ ys
+  rows_answered xs ys at true is e = cc
+  rows_answered xs ys at false is e = absurd cc
+
+  alone : (at : ℕ) → is_protected (at ∷ []) at ≡ true
+  alone at = rw (eq-eqb at at refl) refl
+
+  -- if writes give each key one value at a sequence, a scan there has the same rows
+  pub rows_alike : (writes others : List Write) (low : List ℕ) (high : Option (List ℕ)) (at limit : ℕ) →
+      ((writes others : List Write) (keeps : List ℕ) (query : Query) → (Contains keeps (at_of query) → (key : List ℕ) → Reads query key → value_of m writes key (at_of query) ≡ value_of m others key (at_of query)) → answer_of m writes keeps query ≡ answer_of m others keeps query) →
+      ((key : List ℕ) → value_of m writes key at ≡ value_of m others key at) →
+      first_rows m writes at limit (named_keys writes low high) ≡ first_rows m others at limit (named_keys others low high)
+  rows_alike writes others low high at limit equal alike =
+      rows_answered (first_rows m writes at limit (named_keys writes low high)) (first_rows m others at limit (named_keys others low high)) at (is_protected (at ∷ []) at) (alone at)
+      (equal writes others (at ∷ []) (Scan low high at limit) (λ there key reads. alike key))

@@ -1,0 +1,9 @@
+pub mod LiveOptions
+pub mod Lives
+pub mod HeldLives
+pub mod Going
+pub mod Writing
+pub mod Compacting
+pub mod Snapshots
+pub mod Coming
+pub mod Recording

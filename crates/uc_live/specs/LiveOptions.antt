@@ -1,0 +1,14 @@
+-- Which options a live store opens with.
+use Rattle.std.specs.Prelude.{◌-◌, ◌^◌, ◌&&◌, Bool, nat_le}
+use Rattle.uc_version_state.specs.declared.options.Options.{Options}
+use Rattle.uc_version_state.specs.Options as store
+use Rattle.uc_live.specs.declared.live_options.LiveOptions.{LiveOptions}
+use Rattle.uc_live.specs.declared.live_options.TheConstants.{GREATEST_STOP}
+
+-- those of its runs are good, and writes stop at a number of runs that lies between the trigger and one below the slots
+abbrev pub are_good : LiveOptions → Bool
+are_good o = store.are_good o.store && (nat_le o.store.trigger o.stop_trigger && nat_le o.stop_trigger GREATEST_STOP)
+
+-- its version never cuts what it is fed: the live store says when a memtable is full
+abbrev pub version_options : LiveOptions → Options
+version_options o = record o.store { memtable = 2 ^ 64 - 1 }

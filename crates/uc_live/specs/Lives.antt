@@ -1,0 +1,42 @@
+-- A store that is written to: a version, and the writes that are gathered before it.
+use Rattle.std.specs.Prelude.{ℕ, List, [], ◌++◌}
+use Rattle.uc_bytes.specs.declared.write.Write.{Write}
+use Rattle.uc_batch.specs.Rising.{last_of}
+use Rattle.uc_version_state.specs.Versions.{Stored, writes_in}
+use Rattle.uc_version_state.specs.Openings.{Opening, opened}
+use Rattle.uc_version_state.specs.Snapshots.{released}
+use Rattle.uc_live.specs.declared.live_options.LiveOptions.{LiveOptions}
+use Rattle.uc_live.specs.LiveOptions.{version_options}
+
+-- a version; the writes that no run has yet, oldest first; those of a batch that is prepared, which no read sees; the sequence of
+-- each snapshot that was taken and not released, oldest first; and how it is kept
+pub record Live : Type 0 where
+  pub version : Stored
+  pub gathered : List Write
+  pub prepared : List Write
+  pub snapshots : List ℕ
+  pub options : LiveOptions
+
+-- its plain writes: those of its runs, and those that are gathered
+abbrev pub writes_of : Live → List Write
+writes_of l = writes_in l.version ++ l.gathered
+
+-- the last sequence
+abbrev pub last : Live → ℕ
+last l = last_of l.version.last l.gathered
+
+-- how the version of a store without writes opens
+abbrev pub empty_opening : LiveOptions → Opening
+empty_opening o = record { writes = []; keeps = []; options = version_options o }
+
+-- a store without writes and without snapshots
+abbrev pub created : LiveOptions → Live
+created o = record { version = released 0 (opened (empty_opening o)); gathered = []; prepared = []; snapshots = []; options = o }
+
+-- without the batch that is prepared
+abbrev pub unprepared : Live → Live
+unprepared l = record l { prepared = [] }
+
+-- with that batch taken
+abbrev pub committed : Live → Live
+committed l = record l { gathered = l.gathered ++ l.prepared; prepared = [] }

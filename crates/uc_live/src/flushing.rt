@@ -1,0 +1,80 @@
+//! What is gathered becomes a run.
+ghost use Rattle.std.specs.Prelude.{◌≡◌, ◌≢◌, ◌<◌, [], OnOk, IfErr, length};
+ghost use Rattle.uc_claims.specs.declared.table.TheConstants.{MOST_SLOTS};
+ghost use Rattle.uc_live.specs.Compacting.{HasNoRoom};
+ghost use Rattle.uc_live.specs.Going.{GoesOn};
+ghost use Rattle.uc_live.specs.Writing.{Prepares};
+
+use crate::live_store::LiveStore;
+use crate::room_error::RoomError;
+use std::alloc::Global;
+use uc_memtable::ActiveMemtable;
+use uc_oper::Operator;
+use uc_version::FeedError;
+use uc_version_state::{no_refusal_is_leave_to_feed, small_writes_fill_one_memtable};
+
+/// How many range deletions an active memtable takes: a lookup asks each of them.
+const MOST_RANGES: usize = 64;
+
+impl<O: Operator> LiveStore<O> {
+    /// Makes a run of what is gathered, and begins an active memtable. An `Err` changes nothing.
+    fn flush_active(&mut self, alloc: Global) -> Result<(), RoomError>
+        requires some { self.old.gathered ≢ [] }
+        requires none { self.old.prepared ≡ [] }
+        requires free { length self.old.version.runs < MOST_SLOTS }
+        ensures goes_on { OnOk result (GoesOn O.meaning self.old self.new []) }
+        ensures all { OnOk result (self.new.gathered ≡ []) }
+        ensures none { OnOk result (self.new.prepared ≡ []) }
+        ensures err { IfErr result (λ error. HasNoRoom error self.old.version × (self.new ≡ self.old)) }
+    {
+        self.owned.recall();
+        no_refusal_is_leave_to_feed();
+        small_writes_fill_one_memtable();
+        match self.owned.feed_memtable(alloc, self.active.memtable()) {
+            Ok(()) => {
+                self.active = ActiveMemtable::new(alloc);
+                Ok(())
+            }
+            Err(FeedError::IdsSpent) => Err(RoomError::IdsSpent),
+            Err(FeedError::Memory) => Err(RoomError::Memory),
+            Err(FeedError::Back(_)) => unreachable!(),
+            Err(FeedError::TooManyRuns) => unreachable!(),
+        }
+    }
+
+    /// Whether the active memtable takes no write more.
+    pub(crate) fn is_full(&self) -> bool {
+        self.active.size() >= self.options.store.memtable || self.active.ranges() >= MOST_RANGES
+    }
+
+    /// Makes a run of what is gathered. From `stop_trigger` runs on it compacts first, and if the options say so, it compacts behind that while
+    /// something is picked. A batch that is prepared is given up.
+    ///
+    /// It is refused if no id is left for a run, and for want of memory. What is gathered stays so then, and no read changes.
+    pub fn flush(&mut self, alloc: Global) -> Result<(), RoomError>
+        ensures prepares { Prepares O.meaning self.old self.new [] }
+        ensures all { OnOk result (self.new.gathered ≡ []) }
+        ensures err { IfErr result (λ error. HasNoRoom error self.new.version) }
+    {
+        self.active.give_up();
+        if self.active.is_empty() {
+            return Ok(());
+        }
+        self.make_slot(alloc)?;
+        self.flush_active(alloc)?;
+        if self.options.compacts_itself {
+            self.compact_while_picked(alloc);
+        }
+        Ok(())
+    }
+
+    /// Flushes if more than so many writes are gathered and no batch is prepared, so that a scan has no more to sort. Want of memory
+    /// or of ids leaves them gathered.
+    pub fn settle(&mut self, alloc: Global, most: usize)
+        ensures { Prepares O.meaning self.old self.new self.old.prepared }
+    {
+        if self.active.len() > most && !self.active.is_waiting() {
+            let _ = self.flush(alloc);
+        }
+    }
+}

@@ -1,0 +1,46 @@
+//! [`LiveOptions`]: how a live store is kept.
+ghost use Rattle.std.specs.Prelude.{◌≡◌, true};
+ghost use Rattle.uc_live.specs.LiveOptions as options;
+
+use uc_claims::MOST_SLOTS;
+use uc_version::Options;
+
+/// The greatest number of runs from which on writes stop: one slot stays free for a run.
+pub const GREATEST_STOP: u32 = MOST_SLOTS as u32 - 1;
+
+/// How a live store is kept.
+#[derive(Clone, Copy, Debug, PartialEq, Eq)]
+pub struct LiveOptions {
+    /// How its runs are compacted, and from how many bytes on the active memtable is full (`write_buffer_size`).
+    pub store: Options,
+    /// From how many runs on it compacts before it flushes (`level0_stop_writes_trigger`): no fewer than the store's `trigger`, and at most
+    /// [`GREATEST_STOP`].
+    pub stop_trigger: u32,
+    /// Whether it compacts behind each flush while runs are picked. Else its owner does, and the store only from `stop_trigger` runs on.
+    pub compacts_itself: bool,
+}
+
+impl LiveOptions {
+    /// The default options: those of [`Options::usual`], stops from 36 runs on, and a store that compacts by itself.
+    pub fn usual() -> LiveOptions
+        ensures store { result.store ≡
+            record { memtable = 4194304; trigger = 4; ratio = 1; percent = 200; least = 2; greatest = 4294967295; first_id = 1 } }
+        ensures stop { result.stop_trigger ≡ 36 }
+        ensures itself { result.compacts_itself ≡ true }
+    {
+        LiveOptions {
+            store: Options::usual(),
+            stop_trigger: 36,
+            compacts_itself: true,
+        }
+    }
+
+    /// Whether a store opens with them: each is in its range.
+    pub fn are_good(&self) -> bool
+        ensures { result ≡ options.are_good self.now }
+    {
+        self.store.are_good()
+            && self.store.trigger <= self.stop_trigger
+            && self.stop_trigger <= GREATEST_STOP
+    }
+}

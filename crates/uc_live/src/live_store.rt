@@ -1,0 +1,106 @@
+//! [`LiveStore`]: a store with one owner that gathers what is written to it.
+ghost use Rattle.std.specs.Prelude.{◌≡◌, ◌≢◌, [], true, false, IfOk, IfErr, length};
+ghost use Rattle.uc_live.specs.LiveOptions as live_options;
+ghost use Rattle.uc_live.specs.Lives as lives;
+ghost use Rattle.uc_live.specs.Lives.{created};
+ghost use Rattle.uc_live.specs.declared.open_error.LiveOpenError.TheVariants.{BadOption, NoRoom};
+ghost use Rattle.uc_live.specs.declared.room_error.RoomError.TheVariants.{Memory};
+
+use crate::live_options::LiveOptions;
+use crate::open_error::LiveOpenError;
+use std::alloc::Global;
+use std::marker::Model;
+use uc_memtable::ActiveMemtable;
+use uc_oper::Operator;
+use uc_version::{Owned, Version};
+use uc_version_state::{feeds_and_keeps_give_versions, opening_gives_a_version};
+
+/// A store with one owner that gathers what is written to it in an active memtable.
+pub struct LiveStore<O: Operator> {
+    pub(crate) owned: Owned<O>,
+    /// What is gathered, and what is prepared.
+    pub(crate) active: ActiveMemtable,
+    /// The sequence of each snapshot, the oldest first, as often as it was taken.
+    pub(crate) snapshots: Vec<u64>,
+    pub(crate) options: LiveOptions,
+}
+
+impl<O: Operator> Model for LiveStore<O> {
+    ghost use Rattle.uc_live.specs.Lives.{Live};
+    ghost use Rattle.uc_live.specs.HeldLives.{live, IsLive};
+
+    ghost Value = { Live };
+
+    ghost view = { live };
+
+    ghost invariant = { IsLive };
+}
+
+// A destructor of its own: where a value is dropped, the proof of a caller has one call, and not one for each field.
+impl<O: Operator> Drop for LiveStore<O> {
+    fn drop(self) {
+        let LiveStore {
+            owned: _,
+            active: _,
+            snapshots: _,
+            options: _,
+        } = self;
+    }
+}
+
+/// A version without writes and without keeps. It doesn't allocate.
+fn empty_version(alloc: Global, options: &LiveOptions) -> Version
+    requires { live_options.are_good options.now ≡ true }
+    ensures { result ≡ (created options.now).version }
+{
+    opening_gives_a_version();
+    feeds_and_keeps_give_versions();
+    let first_id = options.store.first_id;
+    Version::new(Vec::new(alloc), Vec::new(alloc), 0, first_id, u64::MAX)
+}
+
+impl<O: Operator> LiveStore<O> {
+    /// A store without writes and without snapshots. It is refused if an option is out of its range, and for want of memory.
+    pub fn create(alloc: Global, options: LiveOptions) -> Result<LiveStore<O>, LiveOpenError>
+        ensures store { IfOk result (λ store. store ≡ created options) }
+        ensures good { IfOk result (λ _. live_options.are_good options ≡ true) }
+        ensures err { IfErr result (λ error.
+            error ≢ NoRoom Memory → (error ≡ BadOption) × (live_options.are_good options ≡ false)) }
+    {
+        if !options.are_good() {
+            return Err(LiveOpenError::BadOption);
+        }
+        let version = empty_version(alloc, &options);
+        let owned = Owned::new(alloc, version, options.store)?;
+        Ok(LiveStore {
+            owned,
+            active: ActiveMemtable::new(alloc),
+            snapshots: Vec::new(alloc),
+            options,
+        })
+    }
+
+    /// What its runs hold. What is gathered isn't in it.
+    pub fn version(&self) -> &Version
+        ensures { result.now ≡ self.now.version }
+    {
+        self.owned.version()
+    }
+
+    /// The last sequence; 0 if nothing was written.
+    pub fn last(&self) -> u64
+        ensures { result ≡ lives.last self.now }
+    {
+        if self.active.is_empty() {
+            return self.owned.version().last();
+        }
+        self.active.last()
+    }
+
+    /// How many writes are gathered.
+    pub fn gathered(&self) -> usize
+        ensures { result ≡ length self.now.gathered }
+    {
+        self.active.len()
+    }
+}

@@ -1,0 +1,79 @@
+//! Reads, which only read.
+ghost use Rattle.std.specs.Prelude.{◌≡◌, IfOk, option_map};
+ghost use Rattle.uc_model.specs.Meaning.{value_of};
+ghost use Rattle.uc_query_read.specs.Answers.{answer_of, first_rows, named_keys};
+ghost use Rattle.uc_query_read.specs.declared.query.Query.TheVariants as queries;
+ghost use Rattle.uc_live.specs.Lives as lives;
+
+use crate::live_store::LiveStore;
+use std::alloc::{AllocError, Global};
+use uc_bytes::Bytes;
+use uc_model::{effect_continues_value, later_writes_change_nothing};
+use uc_oper::Operator;
+use uc_query_read::{
+    Answer, Query, Rows, answer_one, equal_values_give_equal_answers, get, rows_at, rows_behind,
+    value_behind,
+};
+use uc_run::flush_keeps_every_effect;
+
+impl<O: Operator> LiveStore<O> {
+    /// The value that a key has at the last sequence, if it has one. It asks the active memtable first, and then the runs, from the newest on,
+    /// up to the first that puts or deletes the key.
+    pub fn get(&self, alloc: Global, key: &[u8]) -> Result<Option<Bytes>, AllocError>
+        ensures { IfOk result (λ value.
+            value ≡ value_of O.meaning (lives.writes_of self.now) key.now (lives.last self.now)) }
+    {
+        effect_continues_value::<O>();
+        let last = self.last();
+        let newer = self.active.effect::<O>(alloc, key, last)?;
+        value_behind::<O>(alloc, self.owned.version(), key, last, newer)
+    }
+
+    /// Looks a key up at a sequence. The answer is a value, if the key has one, or `NotProtected` if no snapshot is at the
+    /// sequence. What is gathered lies behind each snapshot, so it asks the runs alone.
+    pub fn get_at(&self, alloc: Global, key: &[u8], at: u64) -> Result<Answer, AllocError>
+        ensures { IfOk result (λ answer.
+            answer ≡ answer_of O.meaning (lives.writes_of self.now) self.now.version.keeps (queries.Get key.now at)) }
+    {
+        later_writes_change_nothing::<O>();
+        equal_values_give_equal_answers::<O>();
+        self.owned.recall();
+        get::<O>(alloc, self.owned.version(), key, at)
+    }
+
+    /// The first rows, at most `limit`, of the keys from `low` to below `high`, or to the last one if `high` is `None`, at the last
+    /// sequence. It costs a sort of what is gathered, a search in each run, and then a step in each run for each key in the range up to the last
+    /// row's.
+    pub fn scan(
+        &self,
+        alloc: Global,
+        low: &[u8],
+        high: &Option<Bytes>,
+        limit: u64,
+    ) -> Result<Rows, AllocError>
+        ensures { IfOk result (λ rows. rows ≡ first_rows O.meaning (lives.writes_of self.now) (lives.last self.now) limit
+            (named_keys (lives.writes_of self.now) low.now high.now)) }
+    {
+        flush_keeps_every_effect::<O>();
+        equal_values_give_equal_answers::<O>();
+        effect_continues_value::<O>();
+        let version = self.owned.version();
+        if self.active.is_empty() {
+            return rows_at::<O>(alloc, version, low, high, version.last(), limit);
+        }
+        let newer = self.active.to_run(alloc)?;
+        rows_behind::<O>(alloc, newer, version, low, high, self.active.last(), limit)
+    }
+
+    /// The answer to a query at a snapshot, or `NotProtected` if no snapshot is at its sequence. What is gathered lies behind each snapshot,
+    /// so it asks the runs alone.
+    pub fn answer(&self, alloc: Global, query: &Query) -> Result<Answer, AllocError>
+        ensures { IfOk result (λ answer.
+            answer ≡ answer_of O.meaning (lives.writes_of self.now) self.now.version.keeps query.now) }
+    {
+        later_writes_change_nothing::<O>();
+        equal_values_give_equal_answers::<O>();
+        self.owned.recall();
+        answer_one::<O>(alloc, self.owned.version(), query)
+    }
+}
