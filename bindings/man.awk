@@ -1,7 +1,7 @@
 # Makes a manual page from what `ucstore --help` and its subcommands print. It reads their texts one behind the other, each
 # below a line `== NAME`: the program's name for the first, and a subcommand's for the others.
 #
-#     awk -v version='ucstore 0.1.0' -f man.awk
+#     awk -v version='ucstore 0.2.0' -f man.awk
 
 # A text as troff takes it.
 function plain(text) {

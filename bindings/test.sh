@@ -47,7 +47,8 @@ install_all() {
     export PKG_CONFIG_PATH=$work/usr/lib/pkgconfig LD_LIBRARY_PATH=$work/usr/lib
     read -ra flags <<< "$(pkg-config --cflags --libs ucstore)"
     read -ra static <<< "$(pkg-config --cflags ucstore) $work/usr/lib/libucstore.a"
-    grep -oE '\<ucstore_[a-z_]+\(' "$work/usr/include/ucstore.h" | tr -d '(' | sort -u > "$work/declared"
+    # The functions of the header's own are in no library.
+    sed '/^static inline/,/^}/d' "$work/usr/include/ucstore.h" | grep -oE '\<ucstore_[a-z_]+\(' | tr -d '(' | sort -u > "$work/declared"
     check_versions
     check_names -D "$work/usr/lib/libucstore.so"
     check_names -g "$work/usr/lib/libucstore.a"
@@ -191,7 +192,7 @@ try_python() {
     # Beside the module's source it would be what is imported.
     cp "$here/python/first.py" "$work/first.py"
     expect first.py "$first" "$("$python" "$work/first.py")"
-    library=$work/usr/lib/libucstore.so.1
+    library=$work/usr/lib/libucstore.so.2
     expect 'first.py, with UCSTORE_LIBRARY' "$first" \
         "$(env -u LD_LIBRARY_PATH UCSTORE_LIBRARY="$library" "$python" "$work/first.py")"
     cp "$library" "$(dirname "$("$python" -c 'import ucstore; print(ucstore.__file__)')")"

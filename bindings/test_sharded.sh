@@ -39,7 +39,7 @@ run() {
 python=$(find_python)
 if [ -z "${UCSTORE_LIBRARY:-}" ]; then
     PREFIX="$work/usr" "$here/../install" > "$work/installed"
-    export UCSTORE_LIBRARY=$work/usr/lib/libucstore.so.1
+    export UCSTORE_LIBRARY=$work/usr/lib/libucstore.so.2
 fi
 export PYTHONPATH=$here/python PYTHONDONTWRITEBYTECODE=1 TMPDIR=$work
 cd "$work"

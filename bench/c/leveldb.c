@@ -55,10 +55,6 @@ void write_batch(size_t batch) {
     expect_none(error);
 }
 
-void compact_behind(size_t batch) {
-    (void)batch;
-}
-
 /* There is no call that only waits: this compacts all. */
 void settle(void) {
     leveldb_compact_range(db, NULL, 0, NULL, 0);

@@ -130,10 +130,6 @@ void write_batch(size_t batch) {
     expect_none(error);
 }
 
-void compact_behind(size_t batch) {
-    (void)batch;
-}
-
 static bool is_busy(void) {
     static const char *const NAMES[] = {"rocksdb.num-running-flushes", "rocksdb.num-running-compactions",
                                         "rocksdb.mem-table-flush-pending"};

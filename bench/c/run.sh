@@ -11,14 +11,14 @@
 # (libleveldb-dev). The same work called from Rattle is crates/bench_engine/out/bench_engine (or RATTLE), which `rt run` in
 # crates/bench_engine builds. What isn't there is left out.
 #
-# WRITES writes (1300000) of 300,000 keys of 16 bytes are written in batches of 1,000. In `puts` all set numbers of 8 bytes; in
-# `counters` half of them merge some, which LevelDB can't do. Then nothing is left to be compacted, a snapshot is taken, and all
-# rows are read once. GETS keys (1000000) are looked up one by one, and SCANS scans (10000) read 1 to 50 rows each. All programs
-# must read the same.
+# WRITES writes (1300000) of 300,000 keys of 16 bytes are written in batches of 1,000, and by ours and RocksDB one by one too. In
+# `puts` all set numbers of 8 bytes; in `counters` half of them merge some, which LevelDB can't do. Then what is gathered is flushed,
+# nothing is left to be compacted, a snapshot is taken, and all rows are read once. GETS keys (1000000) are looked up one by one,
+# and SCANS scans (10000) read 1 to 50 rows each. All programs must read the same.
 #
-# Our store has no threads: each batch is a run at once, and the caller compacts what is picked until nothing is, behind each batch,
-# behind 64, or behind 240. The others write into memtables of 4 MiB, flush them, and compact by one thread beside the caller. So the
-# time of their writes has that of waiting for these threads, and the time of compacting is what is left then. In the end RocksDB
+# All gather writes in memtables of 4 MiB. Our store has no threads: a write that finds the memtable full flushes it, and compacts what
+# is picked, so the time of its writes has both. The others flush and compact by threads beside the caller. The time of their writes has
+# that of waiting for these threads. The time of compacting is what is left behind the last write. There RocksDB
 # waits, and LevelDB, which has no call for that, compacts everything. No store compresses, all have caches for all blocks and filters of 10 bits a key.
 # RocksDB picks by the rules of ours, in its memory environment and without a log. LevelDB always writes one, to files in /dev/shm.
 #
@@ -82,11 +82,11 @@ build_all() {
     fi
 }
 
-# What is measured side by side: a name for each row, the program, and behind how many batches the caller compacts.
+# What is measured side by side: a name for each row, the program, and how many writes a batch has.
 names=()
-declare -A programs everies
+declare -A programs sizes
 
-plan() { # NAME PROGRAM [EVERY]: adds a row, where the program is there
+plan() { # NAME PROGRAM SIZE: adds a row, where the program is there
     case $2 in
         ours) if [ "$ours" = none ]; then return; fi ;;
         rattle) if [ ! -x "$folder/rattle" ]; then return; fi ;;
@@ -95,13 +95,13 @@ plan() { # NAME PROGRAM [EVERY]: adds a row, where the program is there
     esac
     names+=("$1")
     programs[$1]=$2
-    everies[$1]=${3:-1}
+    sizes[$1]=$3
 }
 
 # Runs one row's program, and keeps its line.
 run_once() { # PART NAME
     rm -rf "$memory/store"
-    local words=("$1" "$writes" 1000 "${everies[$2]}" "$gets" "$scans")
+    local words=("$1" "$writes" "${sizes[$2]}" "$gets" "$scans")
     if [ "${programs[$2]}" != rattle ]; then words+=("$memory/store"); fi
     "$folder/${programs[$2]}" "${words[@]}" >> "$folder/row.$2" || fail "$2 fails"
 }
@@ -137,37 +137,37 @@ as_ms() { # NANOSECONDS
     awk -v time="$1" 'BEGIN { printf "%.0f", time / 1e6 }'
 }
 
+# A row beside RocksDB's of the same batches.
 print_row() { # NAME
-    local expression
+    local expression beside=RocksDB
+    if [ "${sizes[$1]}" -eq 1 ]; then beside='RocksDB, one by one'; fi
     printf '%-20s %5s' "$1" "$(median "$1" '$5')"
     for expression in '$1' '$2' '$1 + $2' '$3' '$4'; do printf ' %10s' "$(as_ms "$(median "$1" "$expression")")"; done
-    for expression in '$1 + $2' '$3' '$4'; do printf ' %10s' "$(over "$1" RocksDB "$expression")"; done
+    for expression in '$1 + $2' '$3' '$4'; do printf ' %10s' "$(over "$1" "$beside" "$expression")"; done
     printf '\n'
 }
 
-# Keeps the times of a row. Those of the others stand beside ours for each number of batches.
+# Keeps the times of a row. Its case has the part, and what a batch has.
 keep_row() { # PART NAME
-    local program=${2%%,*} every
-    for every in 1 64 240; do
-        case $2 in ours,* | Rattle,*) if [ "${everies[$2]}" -ne "$every" ]; then continue; fi ;; esac
-        keep_ms 'writes from C' "$1, compacted behind $every" "$program" "$(median "$2" '$1 + $2')"
-        keep_ms 'lookups from C' "$1, compacted behind $every" "$program" "$(median "$2" '$3')"
-        keep_ms 'scans from C' "$1, compacted behind $every" "$program" "$(median "$2" '$4')"
-    done
+    local program=${2%%,*} case="$1, batches of 1,000"
+    if [ "${sizes[$2]}" -eq 1 ]; then case="$1, one by one"; fi
+    keep_ms 'writes from C' "$case" "$program" "$(median "$2" '$1 + $2')"
+    keep_ms 'lookups from C' "$case" "$program" "$(median "$2" '$3')"
+    keep_ms 'scans from C' "$case" "$program" "$(median "$2" '$4')"
 }
 
 # Measures a part and prints its rows, in milliseconds. Debian's RocksDB has none.
 run_part() { # PART
     local name
-    plan 'ours, each' ours 1
-    plan 'ours, every 64th' ours 64
-    plan 'ours, every 240th' ours 240
-    plan 'Rattle, every 240th' rattle 240
-    plan RocksDB rocksdb
-    plan "Debian's" debian
-    if [ "$1" = puts ]; then plan LevelDB leveldb; fi
+    plan ours ours 1000
+    plan 'ours, one by one' ours 1
+    plan Rattle rattle 1000
+    plan RocksDB rocksdb 1000
+    plan 'RocksDB, one by one' rocksdb 1
+    plan "Debian's" debian 1000
+    if [ "$1" = puts ]; then plan LevelDB leveldb 1000; fi
     measure "$1"
-    echo "$1: $writes writes in batches of 1,000, $gets lookups, $scans scans; ms, and shares of RocksDB's"
+    echo "$1: $writes writes in batches of 1,000 or one by one, $gets lookups, $scans scans; ms, and shares of RocksDB's of such writes"
     printf '%-20s %5s %10s %10s %10s %10s %10s %10s %10s %10s\n' '' runs writes compacting together lookups scans '/ together' \
         '/ lookups' '/ scans'
     for name in "${names[@]}"; do
@@ -193,8 +193,8 @@ callbacks, memory environment, no log, no compression, a cache of blocks of 1 Gi
 say_rocksdb
 echo
 for work in 'writes from C' 'lookups from C' 'scans from C'; do
-    goal "$work" 'counters, compacted behind 240' RocksDB ms 'at most' 0.5
-    goal "$work" 'counters, compacted behind 240' Rattle ms 'at most' 1.05
+    goal "$work" 'counters, batches of 1,000' RocksDB ms 'at most' 0.5
+    goal "$work" 'counters, batches of 1,000' Rattle ms 'at most' 1.05
 done
 for part; do run_part "$part"; done
 say_machine

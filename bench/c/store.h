@@ -11,12 +11,12 @@
 
 enum { KEY = 16, NUMBER = 8 };
 
-/* How the store is opened and compacted. */
+/* How the store is opened and written. */
 struct settings {
     /* Whether the writes have merges, which add numbers. */
     bool merges;
-    /* Behind how many batches the caller compacts, if no thread of the store does. */
-    size_t every;
+    /* How many writes a batch has. */
+    size_t size;
     /* A folder in memory, for a store that has no environment in memory. */
     const char *folder;
 };
@@ -28,10 +28,7 @@ void add_write(size_t batch, bool merges, const uint8_t *key, const uint8_t *num
 
 void write_batch(size_t batch);
 
-/* What the caller does for compactions behind a batch. */
-void compact_behind(size_t batch);
-
-/* Waits until nothing is left to be compacted. */
+/* Flushes what is gathered, and waits until nothing is left to be compacted. */
 void settle(void);
 
 /* Takes the snapshot at which all is read. */

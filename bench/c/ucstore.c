@@ -1,4 +1,5 @@
-/* The store of this repository, by its C library. It has no threads: the caller compacts. */
+/* The store of this repository, by its C library. It has no threads: it compacts by itself, on the caller's. A batch of one
+ * write is one call for that, without the bytes of a batch. */
 #include "store.h"
 
 #include <string.h>
@@ -12,9 +13,16 @@ struct batch {
     size_t size, room;
 };
 
+struct write {
+    bool merges;
+    uint8_t key[KEY], number[NUMBER];
+};
+
 static struct ucstore store;
+/* One of them is there: `writes` if each batch has one write. */
 static struct batch *batches;
-static size_t batch_count, every;
+static struct write *writes;
+static size_t batch_count;
 static uint64_t snapshot;
 
 /* A key whose last byte is above all digits. */
@@ -26,12 +34,15 @@ static void expect_ok(int32_t status, const char *what) {
 
 void open_store(const struct settings *settings, size_t count) {
     struct ucstore_options options;
-    expect_ok(ucstore_options(&options), "there are no options");
+    expect_ok(ucstore_options_init(&options), "there are no options");
     expect_ok(ucstore_create(&store, UCSTORE_COUNTER, &options), "the store isn't created");
-    batches = (struct batch *)calloc(count, sizeof *batches);
-    expect(batches != NULL, "there is no memory for batches");
+    if (settings->size == 1) {
+        writes = (struct write *)calloc(count, sizeof *writes);
+    } else {
+        batches = (struct batch *)calloc(count, sizeof *batches);
+    }
+    expect(writes != NULL || batches != NULL, "there is no memory for batches");
     batch_count = count;
-    every = settings->every;
 }
 
 /* The header of a batch has 8 bytes for a sequence, where 0 stands for the next one, and 4 for the count. */
@@ -52,8 +63,13 @@ static void make_room(struct batch *batch) {
     }
 }
 
-void add_write(size_t place, bool merges, const uint8_t *key, const uint8_t *number) {
-    struct batch *batch = &batches[place];
+static void keep_write(struct write *write, bool merges, const uint8_t *key, const uint8_t *number) {
+    write->merges = merges;
+    memcpy(write->key, key, KEY);
+    memcpy(write->number, number, NUMBER);
+}
+
+static void add_record(struct batch *batch, bool merges, const uint8_t *key, const uint8_t *number) {
     uint8_t *record;
     make_room(batch);
     record = batch->bytes + batch->size;
@@ -66,31 +82,39 @@ void add_write(size_t place, bool merges, const uint8_t *key, const uint8_t *num
     count_up(batch->bytes + 8);
 }
 
+void add_write(size_t place, bool merges, const uint8_t *key, const uint8_t *number) {
+    if (writes != NULL) {
+        keep_write(&writes[place], merges, key, number);
+    } else {
+        add_record(&batches[place], merges, key, number);
+    }
+}
+
 void write_batch(size_t place) {
-    expect_ok(ucstore_feed(&store, batches[place].bytes, batches[place].size), "a batch isn't fed");
+    if (writes != NULL) {
+        const struct write *one = &writes[place];
+        expect_ok((one->merges ? ucstore_merge : ucstore_put)(&store, one->key, KEY, one->number, NUMBER), "nothing is written");
+    } else {
+        expect_ok(ucstore_write_bytes(&store, batches[place].bytes, batches[place].size), "a batch isn't written");
+    }
 }
 
 void settle(void) {
     bool compacted = true;
+    expect_ok(ucstore_flush(&store), "the store isn't flushed");
     while (compacted) {
         expect_ok(ucstore_compact(&store, &compacted), "the store isn't compacted");
     }
 }
 
-void compact_behind(size_t batch) {
-    if ((batch + 1) % every == 0) {
-        settle();
-    }
-}
-
 void take_snapshot(void) {
-    expect_ok(ucstore_keep(&store, &snapshot), "there is no snapshot");
+    expect_ok(ucstore_snapshot(&store, &snapshot), "there is no snapshot");
 }
 
 uint64_t get(const uint8_t *key, uint64_t sum) {
     uint8_t number[NUMBER];
     size_t size = 0;
-    int32_t status = ucstore_get(&store, key, KEY, snapshot, number, sizeof number, &size);
+    int32_t status = ucstore_get_at(&store, key, KEY, snapshot, number, sizeof number, &size);
     if (status == UCSTORE_NOT_FOUND) {
         return with_nothing(sum);
     }
@@ -115,8 +139,8 @@ uint64_t scan(const uint8_t *key, size_t limit, uint64_t sum) {
     memcpy(low, key, KEY);
     /* Only the first scan, which isn't measured, has more than a page. The next page begins behind the last key. */
     while (limit > 0 && rows == PAGE) {
-        expect_ok(ucstore_scan(&store, low, low_length, BEHIND_ALL, KEY, true, snapshot, limit < PAGE ? limit : PAGE, page,
-                               sizeof page, &size, &rows), "the keys aren't scanned");
+        expect_ok(ucstore_scan_at(&store, low, low_length, BEHIND_ALL, KEY, true, snapshot, limit < PAGE ? limit : PAGE, page,
+                                  sizeof page, &size, &rows), "the keys aren't scanned");
         expect(size <= sizeof page, "a page has no room for its rows");
         sum = with_rows(sum, page, rows, low);
         low[KEY] = 0;
@@ -127,15 +151,17 @@ uint64_t scan(const uint8_t *key, size_t limit, uint64_t sum) {
 }
 
 uint64_t count_runs(void) {
-    struct ucstore_report report;
+    struct ucstore_report report = {0};
+    report.size = sizeof report;
     expect_ok(ucstore_report(&store, &report), "there is no report");
     return report.runs;
 }
 
 void close_store(void) {
-    for (size_t place = 0; place < batch_count; place++) {
+    for (size_t place = 0; batches != NULL && place < batch_count; place++) {
         free(batches[place].bytes);
     }
     free(batches);
+    free(writes);
     expect_ok(ucstore_close(&store), "the store isn't closed");
 }

@@ -1,13 +1,13 @@
 /* What is done with each store, and how long it takes:
  *
- *     PROGRAM puts|counters WRITES SIZE EVERY GETS SCANS [FOLDER]
+ *     PROGRAM puts|counters WRITES SIZE GETS SCANS [FOLDER]
  *
- * WRITES writes of 300,000 keys are written in batches of SIZE. All of them put numbers, or half of them merge some. Behind
- * EVERY batches a store that has no threads of its own compacts until nothing is picked. Then all waits until nothing is
+ * WRITES writes of 300,000 keys are written in batches of SIZE. All of them put numbers, or half of them merge some. The
+ * store flushes and compacts meanwhile as it does by itself. Then what is gathered is flushed, all waits until nothing is
  * left to be compacted, a snapshot is taken, all rows are read once, and keys are looked up and scanned at it.
  *
- * It prints the nanoseconds of the writes, of compacting, of the lookups and of the scans, how many runs there are, and a
- * checksum of what was read. Writes and keys are made before any clock starts. */
+ * It prints the nanoseconds of the writes, of what was left then, of the lookups and of the scans, how many runs there are,
+ * and a checksum of what was read. Writes and keys are made before any clock starts. */
 #define _POSIX_C_SOURCE 200112L
 
 #include "store.h"
@@ -53,22 +53,12 @@ static void add_writes(bool merges, size_t writes, size_t size) {
     }
 }
 
-/* The time of the writes, and of what the caller compacts among them. */
-struct writing {
-    int64_t writing, compacting;
-};
-
-static struct writing write_all(size_t batches) {
-    struct writing spent = {0, 0};
+static int64_t time_writes(size_t batches) {
+    int64_t start = now();
     for (size_t batch = 0; batch < batches; batch++) {
-        int64_t start = now(), written;
         write_batch(batch);
-        written = now();
-        compact_behind(batch);
-        spent.writing += written - start;
-        spent.compacting += now() - written;
     }
-    return spent;
+    return now() - start;
 }
 
 static int64_t time_settling(void) {
@@ -119,25 +109,24 @@ int main(int count, char **words) {
     struct settings settings = {false, 0, NULL};
     size_t writes, size, batches;
     uint64_t sum = 0;
-    struct writing spent;
-    int64_t settling, gets, scans;
-    expect(count >= 7, "usage: PROGRAM puts|counters WRITES SIZE EVERY GETS SCANS [FOLDER]");
-    settings.merges = strcmp(words[1], "counters") == 0;
-    settings.every = number(words[4]);
-    settings.folder = count > 7 ? words[7] : NULL;
+    int64_t writing, settling, gets, scans;
+    expect(count >= 6, "usage: PROGRAM puts|counters WRITES SIZE GETS SCANS [FOLDER]");
     writes = number(words[2]);
     size = number(words[3]);
+    settings.merges = strcmp(words[1], "counters") == 0;
+    settings.size = size;
+    settings.folder = count > 6 ? words[6] : NULL;
     batches = (writes + size - 1) / size;
     open_store(&settings, batches);
     add_writes(settings.merges, writes, size);
-    spent = write_all(batches);
+    writing = time_writes(batches);
     settling = time_settling();
     take_snapshot();
     sum = scan((const uint8_t *)"account/00000000", (size_t)KEYS, sum);
-    gets = time_gets(number(words[5]), &sum);
-    scans = time_scans(number(words[6]), &sum);
-    printf("%" PRId64 " %" PRId64 " %" PRId64 " %" PRId64 " %" PRIu64 " %016" PRIx64 "\n", spent.writing,
-           spent.compacting + settling, gets, scans, count_runs(), sum);
+    gets = time_gets(number(words[4]), &sum);
+    scans = time_scans(number(words[5]), &sum);
+    printf("%" PRId64 " %" PRId64 " %" PRId64 " %" PRId64 " %" PRIu64 " %016" PRIx64 "\n", writing, settling, gets, scans,
+           count_runs(), sum);
     close_store();
     return 0;
 }

@@ -5,7 +5,7 @@
 #
 # Batches of 1,000, 10,000 and 100,000 writes are written, as many as BATCHES says for each (200 40 10), and as many batches of as many
 # keys are looked up at a snapshot behind them (sharded.py). Each batch is on the device of the logs, which lie in FOLDER (a temporary
-# one), before it is acknowledged. Both compact behind each feed. The scheduler and the workers are processes on the loopback address,
+# one), before it is acknowledged. Both compact by themselves. The scheduler and the workers are processes on the loopback address,
 # and new ones for each run. A worker has one shard. Batches and keys are made before any clock starts.
 #
 # It needs a python3 with distributed (Debian's python3-distributed): PYTHON may name one. OURS is the shared object, or ./install at

@@ -46,20 +46,18 @@ class Single:
         self.log = open(folder / "log", "wb")
 
     def write(self, operations: List[Operation]) -> None:
-        """Appends a batch to the log, waits for its device, feeds it, and compacts."""
-        record = self.store.log_record(self.length, operations)
+        """Appends a batch to the log, waits for its device, and writes it."""
+        record = self.store.prepare(self.length, operations)
         self.log.write(record)
         self.log.flush()
         os.fsync(self.log.fileno())
         self.length += len(record)
-        self.store.feed(operations)
-        while self.store.compact():
-            pass
+        self.store.commit()
 
     def reader(self) -> Callable[[List[bytes]], List[Optional[bytes]]]:
         """What answers a batch of keys at a snapshot."""
-        at = self.store.keep()
-        return lambda keys: [self.store.get(key, at) for key in keys]
+        at = self.store.take_snapshot()
+        return lambda keys: [self.store.get_at(key, at) for key in keys]
 
 
 class Sharded:

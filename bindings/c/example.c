@@ -57,7 +57,7 @@ static uint8_t *read_log(size_t *log_length) {
 static uint64_t end_of(const uint8_t *log, size_t log_length) {
     static uint8_t room[ROOM];
     struct ucstore_log_place place = {0, 0, 0};
-    struct ucstore_ended ended;
+    struct ucstore_ended ended = {0, 0, 0};
     int32_t status = UCSTORE_OK;
     while (status == UCSTORE_OK) {
         size_t size = 0;
@@ -71,13 +71,13 @@ static uint64_t end_of(const uint8_t *log, size_t log_length) {
 /* Opens the store from the log, and cuts off what was being written when it was stopped. */
 static void open_store(const char *name) {
     struct ucstore_options options;
-    struct ucstore_ended ended;
+    struct ucstore_ended ended = {0, 0, 0};
     size_t log_length;
     uint8_t *log;
     file = fopen(name, "a+b");
     expect(file != NULL, "can't open the log");
     log = read_log(&log_length);
-    ucstore_options(&options);
+    ucstore_options_init(&options);
     expect(ucstore_open(&store, UCSTORE_COUNTER, &options, log, log_length, &ended) == UCSTORE_OK, "can't open the store");
     expect(ended.kind == UCSTORE_CLEAN || ended.kind == UCSTORE_TORN, "the log is damaged");
     length = end_of(log, log_length);
@@ -85,21 +85,16 @@ static void open_store(const char *name) {
     free(log);
 }
 
-/* Writes a batch to the log's file, waits for its device, and feeds the store. If the feed is refused, the program ends:
- * the log has the batch, and the next start reads it. A program that goes on has to cut the record off first, since a
- * second one gets the same sequence, and a log is read up to there. */
+/* Writes a batch to the log's file, waits for its device, and takes it into the store. A program that goes on after a failed write has to
+ * cut the record off first, since a second one gets the same sequence, and a log is read up to there. */
 static void write_batch(const uint8_t *batch, size_t batch_length) {
     static uint8_t record[ROOM];
     size_t size = 0;
-    bool compacted = true;
-    expect(ucstore_log_record(&store, length, batch, batch_length, record, sizeof record, &size) == UCSTORE_OK,
-           "there is no record");
+    expect(ucstore_prepare(&store, batch, batch_length, length, record, sizeof record, &size) == UCSTORE_OK,
+           "the batch isn't taken");
     expect(fwrite(record, 1, size, file) == size && fflush(file) == 0 && fsync(fileno(file)) == 0, "can't write the log");
     length += size;
-    expect(ucstore_feed(&store, batch, batch_length) == UCSTORE_OK, "can't feed the store");
-    while (compacted) {
-        expect(ucstore_compact(&store, &compacted) == UCSTORE_OK, "can't compact the store");
-    }
+    ucstore_commit(&store);
 }
 
 /* Counts the words of a line. A batch has 8 bytes for a sequence, where 0 stands for the next one, 4 for the count, low
@@ -126,11 +121,10 @@ static void print_counts(void) {
     static uint8_t room[ROOM];
     uint8_t low[LINE + 1] = {0};
     size_t low_length = 0, size = 0;
-    uint64_t at = 0, rows = 1;
-    expect(ucstore_keep(&store, &at) == UCSTORE_OK, "there is no memory");
+    uint64_t rows = 1;
     while (rows > 0) {
         const uint8_t *row = room;
-        expect(ucstore_scan(&store, low, low_length, low, 0, false, at, 100, room, ROOM, &size, &rows) == UCSTORE_OK,
+        expect(ucstore_scan(&store, low, low_length, low, 0, false, 100, room, ROOM, &size, &rows) == UCSTORE_OK,
                "can't scan the store");
         for (uint64_t place = 0; place < rows; place++) {
             size_t word_length = (size_t)number(row);

@@ -78,9 +78,12 @@ static struct ucstore store;
 static uint8_t history[MOST_LOG];
 static size_t history_length;
 
-/* What a store holds: its numbers, and the rows at each snapshot. */
+/* The size of the record of what is prepared. */
+static size_t prepared;
+
+/* What reads see of a store: its last sequence, and the rows there and at each snapshot. */
 struct held {
-    struct ucstore_report report;
+    uint64_t last;
     uint64_t keeps[MOST_KEEPS];
     size_t keep_count, size;
     uint8_t rows[ROOM];
@@ -90,19 +93,19 @@ static void look(struct held *held) {
     static const uint8_t none[1] = {0};
     uint64_t count;
     size_t size;
-    CHECK(ucstore_report(&store, &held->report) == UCSTORE_OK);
-    CHECK(ucstore_keeps(&store, held->keeps, MOST_KEEPS, &held->keep_count) == UCSTORE_OK && held->keep_count <= MOST_KEEPS);
-    held->size = 0;
+    CHECK(ucstore_last(&store, &held->last) == UCSTORE_OK);
+    CHECK(ucstore_snapshots(&store, held->keeps, MOST_KEEPS, &held->keep_count) == UCSTORE_OK && held->keep_count <= MOST_KEEPS);
+    CHECK(ucstore_scan(&store, none, 0, none, 0, false, UINT64_MAX, held->rows, ROOM, &held->size, &count) == UCSTORE_OK);
     for (size_t place = 0; place < held->keep_count; place++) {
-        CHECK(ucstore_scan(&store, none, 0, none, 0, false, held->keeps[place], UINT64_MAX, held->rows + held->size,
-                           ROOM - held->size, &size, &count) == UCSTORE_OK);
+        CHECK(ucstore_scan_at(&store, none, 0, none, 0, false, held->keeps[place], UINT64_MAX, held->rows + held->size,
+                              ROOM - held->size, &size, &count) == UCSTORE_OK);
         held->size += size;
         CHECK(held->size <= ROOM);
     }
 }
 
 static bool is_same(const struct held *one, const struct held *other) {
-    return memcmp(&one->report, &other->report, sizeof one->report) == 0 && one->keep_count == other->keep_count
+    return one->last == other->last && one->keep_count == other->keep_count
         && memcmp(one->keeps, other->keeps, one->keep_count * sizeof one->keeps[0]) == 0 && one->size == other->size
         && memcmp(one->rows, other->rows, one->size) == 0;
 }
@@ -115,7 +118,7 @@ struct call {
     uint64_t at;
 };
 
-enum { PUT, DELETE, MERGE, DELETE_RANGE, FEED, KEEP, RELEASE, GET, GET_LAST, SCAN, COMPACT, RECORD, OPEN, NEXT, KINDS };
+enum { PUT, DELETE, MERGE, DELETE_RANGE, WRITE, PREPARE, FLUSH, SNAPSHOT, RELEASE, GET, GET_AT, SCAN, SCAN_AT, COMPACT, OPEN, NEXT, KINDS };
 
 static size_t draw_text(uint8_t *text, size_t most) {
     size_t length = 1 + (size_t)draw(most);
@@ -161,11 +164,11 @@ static struct call draw_call(const struct held *held) {
     struct call call;
     memset(&call, 0, sizeof call);
     call.kind = (int)draw(KINDS);
-    if (call.kind == KEEP && held->keep_count == MOST_KEEPS) {
+    if (call.kind == SNAPSHOT && held->keep_count == MOST_KEEPS) {
         call.kind = RELEASE;
     }
     call.key_length = draw_key(call.key);
-    call.value_length = call.kind == DELETE_RANGE || call.kind == SCAN ? draw_key(call.value) : draw_value(call.value);
+    call.value_length = call.kind == DELETE_RANGE || call.kind == SCAN || call.kind == SCAN_AT ? draw_key(call.value) : draw_value(call.value);
     draw_batch(&call);
     call.at = held->keep_count > 0 ? held->keeps[draw(held->keep_count)] : 0;
     return call;
@@ -175,10 +178,10 @@ static struct call draw_call(const struct held *held) {
 static int32_t open_log(void) {
     struct ucstore opened = {0};
     struct ucstore_options options;
-    struct ucstore_ended ended;
+    struct ucstore_ended ended = {0, 0, 0};
     int32_t status;
-    CHECK(ucstore_options(&options) == UCSTORE_OK);
-    options.memtable = 1000;
+    CHECK(ucstore_options_init(&options) == UCSTORE_OK);
+    options.write_buffer_size = 1000;
     status = ucstore_open(&opened, UCSTORE_APPEND, &options, history, history_length, &ended);
     CHECK((status == UCSTORE_OK) == (opened.at != NULL));
     CHECK(status != UCSTORE_OK || (ended.kind == UCSTORE_CLEAN && ucstore_close(&opened) == UCSTORE_OK));
@@ -188,7 +191,7 @@ static int32_t open_log(void) {
 static int32_t try_call(const struct call *call) {
     static uint8_t room[ROOM];
     struct ucstore_log_place place = {0, 0, 0};
-    struct ucstore_ended ended;
+    struct ucstore_ended ended = {0, 0, 0};
     size_t size = 0;
     uint64_t number = 0;
     bool compacted = false;
@@ -201,23 +204,29 @@ static int32_t try_call(const struct call *call) {
         return ucstore_merge(&store, call->key, call->key_length, call->value, call->value_length);
     case DELETE_RANGE:
         return ucstore_delete_range(&store, call->key, call->key_length, call->value, call->value_length);
-    case FEED:
-        return ucstore_feed(&store, call->batch, call->batch_length);
-    case KEEP:
-        return ucstore_keep(&store, &number);
+    case WRITE:
+        return ucstore_write_bytes(&store, call->batch, call->batch_length);
+    case PREPARE:
+        return ucstore_prepare(&store, call->batch, call->batch_length, history_length, history + history_length,
+                               MOST_LOG - history_length, &prepared);
+    case FLUSH:
+        return ucstore_flush(&store);
+    case SNAPSHOT:
+        return ucstore_snapshot(&store, &number);
     case RELEASE:
         return ucstore_release(&store, call->at);
     case GET:
-        return ucstore_get(&store, call->key, call->key_length, call->at, room, ROOM, &size);
-    case GET_LAST:
-        return ucstore_get_last(&store, call->key, call->key_length, room, ROOM, &size);
+        return ucstore_get(&store, call->key, call->key_length, room, ROOM, &size);
+    case GET_AT:
+        return ucstore_get_at(&store, call->key, call->key_length, call->at, room, ROOM, &size);
     case SCAN:
-        return ucstore_scan(&store, call->key, call->key_length, call->value, call->value_length, false, call->at,
-                            UINT64_MAX, room, ROOM, &size, &number);
+        return ucstore_scan(&store, call->key, call->key_length, call->value, call->value_length, false, UINT64_MAX, room, ROOM,
+                            &size, &number);
+    case SCAN_AT:
+        return ucstore_scan_at(&store, call->key, call->key_length, call->value, call->value_length, false, call->at,
+                               UINT64_MAX, room, ROOM, &size, &number);
     case COMPACT:
         return ucstore_compact(&store, &compacted);
-    case RECORD:
-        return ucstore_log_record(&store, history_length, call->batch, call->batch_length, room, ROOM, &size);
     case OPEN:
         return open_log();
     default:
@@ -235,16 +244,6 @@ static bool try_refused(const struct call *call, size_t before, int32_t *status)
     return refused;
 }
 
-/* Lays the record of a call's batch out behind the log, and returns its size: 0 if the store is full. */
-static size_t log_batch(const struct call *call) {
-    size_t size = 0, room = MOST_LOG - history_length;
-    int32_t status =
-        ucstore_log_record(&store, history_length, call->batch, call->batch_length, history + history_length, room, &size);
-    CHECK(status == UCSTORE_OK || (status == UCSTORE_TOO_MANY_RUNS && size == 0));
-    CHECK(size <= room);
-    return size;
-}
-
 /* Tries a call with each of its allocations refused, and then, if it wasn't done yet, with none. */
 static int32_t with_refusals(const struct call *call, struct held *held) {
     static struct held found;
@@ -252,32 +251,35 @@ static int32_t with_refusals(const struct call *call, struct held *held) {
     size_t before = 0;
     long blocks = live;
     while (try_refused(call, before++, &status) && status == UCSTORE_OUT_OF_MEMORY) {
-        CHECK(live == blocks);
+        CHECK(call->kind == OPEN || call->kind == NEXT ? live == blocks : true);
         look(&found);
         CHECK(is_same(&found, held));
-        /* A caller whose feed was refused may begin anew, at the record. */
-        if (call->kind == FEED) {
-            log_batch(call);
-        }
     }
     CHECK(status != UCSTORE_OUT_OF_MEMORY);
     return status;
 }
 
+/* Takes what is prepared, while each allocation is refused. */
+static void commit(void) {
+    granted = 0;
+    refused = false;
+    refuses = true;
+    CHECK(ucstore_commit(&store) == UCSTORE_OK && !refused);
+    refuses = false;
+    history_length += prepared;
+}
+
 static void step(struct held *held) {
+    static struct held before;
     struct call call = draw_call(held);
-    size_t record = log_batch(&call);
     int32_t status = with_refusals(&call, held);
-    /* What has a record is fed. */
-    CHECK(call.kind != FEED || (status == UCSTORE_OK) == (record > 0));
-    if (status == UCSTORE_TOO_MANY_RUNS) {
-        call.kind = COMPACT;
-        status = with_refusals(&call, held);
-    }
-    if (call.kind == FEED && status == UCSTORE_OK) {
-        history_length += record;
-    }
     CHECK(status == UCSTORE_OK || status == UCSTORE_NOT_FOUND || status == UCSTORE_NOT_PROTECTED || status == UCSTORE_LOG_ENDS);
+    if (call.kind == PREPARE) {
+        /* No read sees it before it is taken. */
+        look(&before);
+        CHECK(is_same(&before, held));
+        commit();
+    }
     look(held);
 }
 
@@ -285,7 +287,8 @@ static void step(struct held *held) {
 static void create(void) {
     struct ucstore_options options;
     int32_t status = UCSTORE_OUT_OF_MEMORY;
-    CHECK(ucstore_options(&options) == UCSTORE_OK);
+    CHECK(ucstore_options_init(&options) == UCSTORE_OK);
+    options.write_buffer_size = 1000;
     for (size_t before = 0; status == UCSTORE_OUT_OF_MEMORY; before++) {
         CHECK(store.at == NULL && live == 0);
         granted = before;

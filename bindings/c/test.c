@@ -37,9 +37,9 @@ struct dictionary {
     struct value at[KEYS];
 };
 
-/* A snapshot, and what was held there. */
+/* A snapshot, how often it was taken, and what was held there. */
 struct snapshot {
-    uint64_t at;
+    uint64_t at, taken;
     struct dictionary held;
 };
 
@@ -248,25 +248,19 @@ static void number_batch(uint8_t *batch, size_t size) {
     uint64_t back = draw(count + 1);
     push_number(batch, &place, back);
     if (back > 0 && batch[8] > 0) {
-        CHECK(ucstore_feed(&store, batch, size) == UCSTORE_SEQUENCE_BACK);
-        CHECK(ucstore_log_record(&store, history_length, batch, size, history, 0, &record) == UCSTORE_SEQUENCE_BACK && record == 99);
+        CHECK(ucstore_write_bytes(&store, batch, size) == UCSTORE_SEQUENCE_BACK);
+        CHECK(ucstore_prepare(&store, batch, size, history_length, history, 0, &record) == UCSTORE_SEQUENCE_BACK && record == 99);
     }
     place = 0;
     push_number(batch, &place, draw(2) == 0 ? 0 : count + 1);
 }
 
-/* Adds the next batch to the log, as the header says: a full store is compacted before. */
+/* Prepares a batch, and adds its record to the log. */
 static void log_batch(const uint8_t *batch, size_t size) {
     uint8_t *room = history + history_length;
     size_t record = 99;
-    int32_t status = ucstore_log_record(&store, history_length, batch, size, room, MOST_LOG - history_length, &record);
-    if (status == UCSTORE_TOO_MANY_RUNS) {
-        CHECK(record == 99);
-        CHECK(ucstore_feed(&store, batch, size) == UCSTORE_TOO_MANY_RUNS);
-        compact();
-        status = ucstore_log_record(&store, history_length, batch, size, room, MOST_LOG - history_length, &record);
-    }
-    CHECK(status == UCSTORE_OK && record <= MOST_LOG - history_length);
+    CHECK(ucstore_prepare(&store, batch, size, history_length, room, MOST_LOG - history_length, &record) == UCSTORE_OK);
+    CHECK(record <= MOST_LOG - history_length);
     history_length += record;
 }
 
@@ -276,33 +270,42 @@ static void wrote(const struct write *w) {
     writes[count++] = *w;
 }
 
+/* A write that stands in the log as a batch of its own. What is prepared for that is given up by the write. */
 static void write_one(void) {
     uint8_t batch[BATCH] = {0};
     size_t size = 12;
     struct write w = draw_write();
     push_record(batch, &size, &w);
     log_batch(batch, size);
+    CHECK(draw(2) == 0 || ucstore_give_up(&store) == UCSTORE_OK);
     CHECK(write_alone(&w) == UCSTORE_OK);
+    CHECK(ucstore_commit(&store) == UCSTORE_OK);
     wrote(&w);
 }
 
-static void feed(void) {
+/* A batch: in two steps, or in one. No read sees what is prepared. */
+static void write_batch(void) {
     struct write drawn[8];
     uint8_t batch[BATCH] = {0};
     size_t size = 12, length = (size_t)draw(9);
+    uint64_t last = 0;
     for (size_t place = 0; place < length; place++) {
         drawn[place] = draw_write();
         push_record(batch, &size, &drawn[place]);
     }
     number_batch(batch, size);
     log_batch(batch, size);
-    CHECK(ucstore_feed(&store, batch, size) == UCSTORE_OK);
+    CHECK(ucstore_last(&store, &last) == UCSTORE_OK && last == count);
+    if (draw(2) == 0) {
+        CHECK(ucstore_write_bytes(&store, batch, size) == UCSTORE_OK);
+    }
+    CHECK(ucstore_commit(&store) == UCSTORE_OK);
     for (size_t place = 0; place < length; place++) {
         wrote(&drawn[place]);
     }
     memset(batch, 0, 8);
     batch[8]++;
-    CHECK(ucstore_feed(&store, batch, size) == UCSTORE_NOT_A_BATCH);
+    CHECK(ucstore_write_bytes(&store, batch, size) == UCSTORE_NOT_A_BATCH);
 }
 
 /* Snapshots. */
@@ -321,15 +324,17 @@ static uint64_t draw_sequence(void) {
     return snapshot_count > 0 && draw(8) != 0 ? snapshots[draw(snapshot_count)].at : draw(count + 2);
 }
 
-static void keep(void) {
+static void take(void) {
     uint64_t at = UINT64_MAX;
     if (snapshot_count < MOST_KEEPS) {
-        CHECK(ucstore_keep(&store, &at) == UCSTORE_OK && at == count);
+        CHECK(ucstore_snapshot(&store, &at) == UCSTORE_OK && at == count);
         if (snapshot_at(at) == NULL) {
             snapshots[snapshot_count].at = at;
+            snapshots[snapshot_count].taken = 0;
             copy(&snapshots[snapshot_count].held, &now);
             snapshot_count++;
         }
+        snapshot_at(at)->taken++;
     }
 }
 
@@ -337,18 +342,19 @@ static void release(void) {
     uint64_t at = draw_sequence();
     struct snapshot *snapshot = snapshot_at(at);
     CHECK(ucstore_release(&store, at) == (snapshot != NULL ? UCSTORE_OK : UCSTORE_NOT_PROTECTED));
-    if (snapshot != NULL) {
+    if (snapshot != NULL && --snapshot->taken == 0) {
         struct snapshot *last = &snapshots[--snapshot_count];
         snapshot->at = last->at;
+        snapshot->taken = last->taken;
         copy(&snapshot->held, &last->held);
     }
 }
 
-static void check_keeps(void) {
+static void check_snapshots(void) {
     uint64_t room[MOST_KEEPS + 1];
     size_t found = 99, fits = (size_t)draw(MOST_KEEPS + 1);
     room[fits] = 77;
-    CHECK(ucstore_keeps(&store, room, fits, &found) == UCSTORE_OK && found == snapshot_count && room[fits] == 77);
+    CHECK(ucstore_snapshots(&store, room, fits, &found) == UCSTORE_OK && found == snapshot_count && room[fits] == 77);
     for (size_t place = 0; place < found && place < fits; place++) {
         CHECK(snapshot_at(room[place]) != NULL && (place == 0 || room[place - 1] < room[place]));
     }
@@ -356,8 +362,11 @@ static void check_keeps(void) {
 
 static void check_report(void) {
     struct ucstore_report report;
-    CHECK(ucstore_report(&store, &report) == UCSTORE_OK);
-    CHECK(report.snapshots == snapshot_count && report.last == count && report.runs <= 256);
+    report.size = sizeof report - 1;
+    CHECK(ucstore_report(&store, &report) == UCSTORE_BAD_SIZE);
+    report.size = sizeof report;
+    CHECK(ucstore_report(&store, &report) == UCSTORE_OK && report.size == sizeof report);
+    CHECK(report.snapshots == snapshot_count && report.last == count && report.gathered <= count && report.runs <= 36);
 }
 
 /* Reads. */
@@ -390,7 +399,7 @@ static void get(void) {
     struct snapshot *snapshot = snapshot_at(at);
     int32_t status;
     memset(room, 0xAA, VALUE);
-    status = ucstore_get(&store, text, length, at, room, room_length, &size);
+    status = ucstore_get_at(&store, text, length, at, room, room_length, &size);
     if (snapshot == NULL) {
         CHECK(status == UCSTORE_NOT_PROTECTED && size == 99 && has(room, 0, VALUE, room, 0));
     } else {
@@ -398,7 +407,7 @@ static void get(void) {
     }
     size = 99;
     memset(room, 0xAA, VALUE);
-    status = ucstore_get_last(&store, text, length, room, room_length, &size);
+    status = ucstore_get(&store, text, length, room, room_length, &size);
     check_value(status, &now.at[key], room, room_length, size);
 }
 
@@ -447,8 +456,8 @@ static void scan(void) {
     int32_t status;
     range.key_length = draw_key(range.key);
     range.value_length = draw_key(range.value);
-    status = ucstore_scan(&store, range.key, range.key_length, range.value, range.value_length, bounded, at, limit, room,
-                          room_length, &size, &shown);
+    status = ucstore_scan_at(&store, range.key, range.key_length, range.value, range.value_length, bounded, at, limit, room,
+                             room_length, &size, &shown);
     if (snapshot == NULL) {
         CHECK(status == UCSTORE_NOT_PROTECTED && size == 99 && shown == 99);
     } else {
@@ -456,6 +465,10 @@ static void scan(void) {
         CHECK(status == UCSTORE_OK && shown == wanted.count && size == wanted.size);
         CHECK(memcmp(room, wanted.bytes, wanted.fits) == 0);
     }
+    push_rows(&now, &range, bounded, limit, room_length, &wanted);
+    CHECK(ucstore_scan(&store, range.key, range.key_length, range.value, range.value_length, bounded, limit, room, room_length, &size,
+                       &shown) == UCSTORE_OK);
+    CHECK(shown == wanted.count && size == wanted.size && memcmp(room, wanted.bytes, wanted.fits) == 0);
 }
 
 /* Logs. */
@@ -510,7 +523,7 @@ static void check_store(struct ucstore *opened, uint64_t last) {
     }
     push_rows(&held, &all, false, UINT64_MAX, sizeof room, &wanted);
     CHECK(ucstore_last(opened, &at) == UCSTORE_OK && at == last);
-    CHECK(ucstore_scan(opened, all.key, 0, all.key, 0, false, at, UINT64_MAX, room, sizeof room, &size, &found) == UCSTORE_OK);
+    CHECK(ucstore_scan(opened, all.key, 0, all.key, 0, false, UINT64_MAX, room, sizeof room, &size, &found) == UCSTORE_OK);
     CHECK(size == wanted.size && found == wanted.count && memcmp(room, wanted.bytes, size) == 0);
 }
 
@@ -520,7 +533,7 @@ static struct ucstore_ended reopen(size_t length) {
     struct ucstore_options options;
     struct ucstore_log_place place;
     struct ucstore_ended walked = walk(length, &place), ended = {7, 7, 7};
-    CHECK(ucstore_options(&options) == UCSTORE_OK);
+    CHECK(ucstore_options_init(&options) == UCSTORE_OK);
     CHECK(ucstore_open(&opened, merge_operator, &options, history, length, &ended) == UCSTORE_OK);
     CHECK(ended.kind == walked.kind && ended.fault == walked.fault && ended.place == walked.place);
     check_store(&opened, place.last);
@@ -548,15 +561,17 @@ static void step(void) {
     if (choice < 40) {
         write_one();
     } else if (choice < 48) {
-        feed();
+        write_batch();
     } else if (choice < 55) {
-        keep();
+        take();
     } else if (choice < 62) {
         release();
-        check_keeps();
+        check_snapshots();
         check_report();
-    } else if (choice < 64) {
+    } else if (choice < 63) {
         compact();
+    } else if (choice < 64) {
+        CHECK(ucstore_flush(&store) == UCSTORE_OK);
     } else if (choice < 96) {
         get();
     } else {
@@ -570,11 +585,10 @@ static void soak(uint32_t drawn_operator, size_t operations) {
     merge_operator = drawn_operator;
     count = history_length = 0;
     memset(&now, 0, sizeof now);
-    snapshots[0].at = 0;
-    copy(&snapshots[0].held, &now);
-    snapshot_count = 1;
-    CHECK(ucstore_options(&options) == UCSTORE_OK);
-    options.memtable = 64;
+    snapshot_count = 0;
+    CHECK(ucstore_options_init(&options) == UCSTORE_OK);
+    options.write_buffer_size = 64;
+    options.compacts_itself = (uint32_t)draw(2);
     CHECK(ucstore_create(&store, merge_operator, &options) == UCSTORE_OK && store.at != NULL);
     for (size_t done = 0; done < operations; done++) {
         step();
@@ -585,131 +599,159 @@ static void soak(uint32_t drawn_operator, size_t operations) {
     printf("operator %u: %zu operations, %zu writes\n", (unsigned)merge_operator, operations, count);
 }
 
-/* Writes a batch durably, as the header says, whatever the record is refused for. */
+/* Writes a batch durably, as the header says, with a room that grows. */
 static void write_durably(const uint8_t *batch, size_t size) {
     size_t record = 0, room = 0;
-    int32_t status = UCSTORE_ROOM;
-    while (status != UCSTORE_OK) {
-        status = ucstore_log_record(&store, history_length, batch, size, history + history_length, room, &record);
-        switch (status) {
-        case UCSTORE_OK:
-            break;
-        case UCSTORE_ROOM:
-            CHECK(room < record && record <= MOST_LOG - history_length);
-            room = record;
-            break;
-        case UCSTORE_TOO_MANY_RUNS:
-            compact();
-            break;
-        default:
-            CHECK(false);
-        }
+    while (ucstore_prepare(&store, batch, size, history_length, history + history_length, room, &record) == UCSTORE_ROOM) {
+        CHECK(room < record && record <= MOST_LOG - history_length);
+        room = record;
     }
     history_length += record;
-    CHECK(ucstore_feed(&store, batch, size) == UCSTORE_OK);
+    CHECK(ucstore_commit(&store) == UCSTORE_OK);
 }
 
-/* More batches than there are slots, each a run, with the greatest trigger. The log has all of them. */
+/* More runs than there are slots, with the greatest triggers and no compaction before them. The log has all batches, and opens with memtables
+ * of a byte. */
 static void durable(void) {
     static const uint8_t one[] = {0, 0, 0, 0, 0, 0, 0, 0, 1, 0, 0, 0, 2, 1, 'k', 8, 1, 0, 0, 0, 0, 0, 0, 0};
     struct ucstore_options options;
-    struct ucstore_ended ended;
+    struct ucstore_ended ended = {7, 7, 7};
     uint8_t sum[8];
     size_t size = 0;
     uint64_t last = 0;
     history_length = 0;
-    CHECK(ucstore_options(&options) == UCSTORE_OK);
-    options.memtable = 1;
-    options.trigger = 255;
-    options.percent = UINT32_MAX;
-    options.least = 300;
+    CHECK(ucstore_options_init(&options) == UCSTORE_OK);
+    options.write_buffer_size = 1;
+    options.compaction_trigger = 255;
+    options.stop_trigger = 255;
+    options.max_size_amplification_percent = UINT32_MAX;
+    options.min_merge_width = 300;
+    options.compacts_itself = 0;
     CHECK(ucstore_create(&store, UCSTORE_COUNTER, &options) == UCSTORE_OK);
     for (int done = 0; done < 1000; done++) {
         write_durably(one, sizeof one);
     }
     CHECK(ucstore_close(&store) == UCSTORE_OK);
-    options.memtable = 1 << 22;
     CHECK(ucstore_open(&store, UCSTORE_COUNTER, &options, history, history_length, &ended) == UCSTORE_OK);
     CHECK(ended.kind == UCSTORE_CLEAN && ucstore_last(&store, &last) == UCSTORE_OK && last == 1000);
-    CHECK(ucstore_get_last(&store, (const uint8_t *)"k", 1, sum, sizeof sum, &size) == UCSTORE_OK);
+    CHECK(ucstore_get(&store, (const uint8_t *)"k", 1, sum, sizeof sum, &size) == UCSTORE_OK);
     CHECK(size == 8 && number(sum) == 1000);
+    CHECK(ucstore_close(&store) == UCSTORE_OK);
+}
+
+/* A million single writes with the usual options, and no other call. */
+static void million(void) {
+    struct ucstore_options options;
+    uint8_t key[8] = {0}, value[8];
+    size_t size = 0, place;
+    CHECK(ucstore_options_init(&options) == UCSTORE_OK);
+    CHECK(ucstore_create(&store, UCSTORE_COUNTER, &options) == UCSTORE_OK);
+    for (uint64_t done = 0; done < 1000000; done++) {
+        place = 0;
+        push_number(key, &place, done % 300000);
+        place = 0;
+        push_number(value, &place, done);
+        CHECK(ucstore_put(&store, key, sizeof key, value, sizeof value) == UCSTORE_OK);
+    }
+    place = 0;
+    push_number(key, &place, 7);
+    CHECK(ucstore_get(&store, key, sizeof key, value, sizeof value, &size) == UCSTORE_OK && size == 8 && number(value) == 900007);
     CHECK(ucstore_close(&store) == UCSTORE_OK);
 }
 
 /* Lengths of 0 with null addresses. */
 static void nothing_is_read(void) {
     struct ucstore_options options;
-    struct ucstore_ended ended;
+    struct ucstore_ended ended = {7, 7, 7};
     struct ucstore_log_place place = {0, 0, 0};
     size_t size = 99;
     uint64_t rows = 99;
-    CHECK(ucstore_options(&options) == UCSTORE_OK);
+    CHECK(ucstore_options_init(&options) == UCSTORE_OK);
     CHECK(ucstore_open(&store, UCSTORE_APPEND, &options, NULL, 0, &ended) == UCSTORE_OK && ended.kind == UCSTORE_CLEAN);
-    CHECK(ucstore_feed(&store, NULL, 0) == UCSTORE_NOT_A_BATCH);
-    CHECK(ucstore_log_record(&store, 0, NULL, 0, NULL, 0, &size) == UCSTORE_NOT_A_BATCH);
+    CHECK(ucstore_write_bytes(&store, NULL, 0) == UCSTORE_NOT_A_BATCH);
+    CHECK(ucstore_prepare(&store, NULL, 0, 0, NULL, 0, &size) == UCSTORE_NOT_A_BATCH && size == 99);
     CHECK(ucstore_put(&store, NULL, 0, NULL, 0) == UCSTORE_OK);
     CHECK(ucstore_merge(&store, NULL, 0, NULL, 0) == UCSTORE_OK);
-    CHECK(ucstore_get_last(&store, NULL, 0, NULL, 0, &size) == UCSTORE_OK && size == 1);
-    CHECK(ucstore_get(&store, NULL, 0, 0, NULL, 0, &size) == UCSTORE_NOT_FOUND);
-    CHECK(ucstore_keeps(&store, NULL, 0, &size) == UCSTORE_OK && size == 1);
-    CHECK(ucstore_scan(&store, NULL, 0, NULL, 0, true, 0, 9, NULL, 0, &size, &rows) == UCSTORE_OK && size == 0 && rows == 0);
-    CHECK(ucstore_keep(&store, &rows) == UCSTORE_OK && rows == 2);
-    CHECK(ucstore_scan(&store, NULL, 0, NULL, 0, true, 2, 9, NULL, 0, &size, &rows) == UCSTORE_OK && size == 0 && rows == 0);
-    CHECK(ucstore_scan(&store, NULL, 0, NULL, 0, false, 2, 9, NULL, 0, &size, &rows) == UCSTORE_OK && size == 17 && rows == 0);
+    CHECK(ucstore_get(&store, NULL, 0, NULL, 0, &size) == UCSTORE_OK && size == 1);
+    CHECK(ucstore_get_at(&store, NULL, 0, 0, NULL, 0, &size) == UCSTORE_NOT_PROTECTED);
+    CHECK(ucstore_snapshots(&store, NULL, 0, &size) == UCSTORE_OK && size == 0);
+    CHECK(ucstore_snapshot(&store, &rows) == UCSTORE_OK && rows == 2);
+    CHECK(ucstore_snapshots(&store, NULL, 0, &size) == UCSTORE_OK && size == 1);
+    CHECK(ucstore_scan_at(&store, NULL, 0, NULL, 0, true, 2, 9, NULL, 0, &size, &rows) == UCSTORE_OK && size == 0 && rows == 0);
+    CHECK(ucstore_scan_at(&store, NULL, 0, NULL, 0, false, 2, 9, NULL, 0, &size, &rows) == UCSTORE_OK && size == 17 && rows == 0);
+    CHECK(ucstore_scan(&store, NULL, 0, NULL, 0, false, 9, NULL, 0, &size, &rows) == UCSTORE_OK && size == 17 && rows == 0);
     CHECK(ucstore_delete_range(&store, NULL, 0, NULL, 0) == UCSTORE_OK);
     CHECK(ucstore_delete(&store, NULL, 0) == UCSTORE_OK);
     CHECK(ucstore_log_next(NULL, 0, &place, NULL, 0, &size, &rows, &ended) == UCSTORE_LOG_ENDS && ended.kind == UCSTORE_CLEAN);
     CHECK(ucstore_close(&store) == UCSTORE_OK);
 }
 
-/* What is refused, and what a handle without a store answers. */
-static void refusals(void) {
-    struct ucstore_options options;
-    struct ucstore_ended ended = {7, 7, 7};
+/* What a handle without a store answers. */
+static void without_store(void) {
     struct ucstore_report report;
-    struct ucstore_log_place place = {0, 0, 1};
     const uint8_t text[] = {'a'};
     uint8_t room[4];
     size_t size = 0, found = 7;
     uint64_t seq = 7;
     bool compacted = true;
-    CHECK(ucstore_version() == UCSTORE_ABI);
+    report.size = sizeof report;
     CHECK(ucstore_put(&store, text, 1, text, 1) == UCSTORE_NO_STORE);
     CHECK(ucstore_delete(&store, text, 1) == UCSTORE_NO_STORE);
     CHECK(ucstore_merge(&store, text, 1, text, 1) == UCSTORE_NO_STORE);
     CHECK(ucstore_delete_range(&store, text, 1, text, 1) == UCSTORE_NO_STORE);
-    CHECK(ucstore_feed(&store, text, 1) == UCSTORE_NO_STORE);
-    CHECK(ucstore_keep(&store, &seq) == UCSTORE_NO_STORE && seq == 7);
+    CHECK(ucstore_write_bytes(&store, text, 1) == UCSTORE_NO_STORE);
+    CHECK(ucstore_prepare(&store, text, 1, 0, room, sizeof room, &size) == UCSTORE_NO_STORE && size == 0);
+    CHECK(ucstore_commit(&store) == UCSTORE_NO_STORE);
+    CHECK(ucstore_give_up(&store) == UCSTORE_NO_STORE);
+    CHECK(ucstore_flush(&store) == UCSTORE_NO_STORE);
+    CHECK(ucstore_snapshot(&store, &seq) == UCSTORE_NO_STORE && seq == 7);
     CHECK(ucstore_release(&store, 0) == UCSTORE_NO_STORE);
     CHECK(ucstore_last(&store, &seq) == UCSTORE_NO_STORE && seq == 7);
-    CHECK(ucstore_get(&store, text, 1, 0, room, sizeof room, &size) == UCSTORE_NO_STORE);
-    CHECK(ucstore_get_last(&store, text, 1, room, sizeof room, &size) == UCSTORE_NO_STORE);
-    CHECK(ucstore_scan(&store, text, 1, text, 1, false, 0, 9, room, sizeof room, &size, &seq) == UCSTORE_NO_STORE && seq == 7);
-    CHECK(ucstore_keeps(&store, &seq, 1, &found) == UCSTORE_NO_STORE && seq == 7 && found == 7);
+    CHECK(ucstore_get(&store, text, 1, room, sizeof room, &size) == UCSTORE_NO_STORE);
+    CHECK(ucstore_get_at(&store, text, 1, 0, room, sizeof room, &size) == UCSTORE_NO_STORE);
+    CHECK(ucstore_scan(&store, text, 1, text, 1, false, 9, room, sizeof room, &size, &seq) == UCSTORE_NO_STORE && seq == 7);
+    CHECK(ucstore_scan_at(&store, text, 1, text, 1, false, 0, 9, room, sizeof room, &size, &seq) == UCSTORE_NO_STORE && seq == 7);
+    CHECK(ucstore_snapshots(&store, &seq, 1, &found) == UCSTORE_NO_STORE && seq == 7 && found == 7);
     CHECK(ucstore_report(&store, &report) == UCSTORE_NO_STORE);
-    CHECK(ucstore_log_record(&store, 0, text, 1, room, sizeof room, &size) == UCSTORE_NO_STORE);
     CHECK(ucstore_compact(&store, &compacted) == UCSTORE_NO_STORE && compacted);
     CHECK(ucstore_close(&store) == UCSTORE_NO_STORE);
+}
+
+/* What is refused. */
+static void refusals(void) {
+    struct ucstore_options options;
+    struct ucstore_ended ended = {7, 7, 7};
+    struct ucstore_log_place place = {0, 0, 1};
+    const uint8_t text[] = {'a'};
+    uint8_t room[4];
+    size_t size = 0;
+    uint64_t seq = 7;
+    CHECK(ucstore_version() == UCSTORE_ABI);
+    CHECK(strcmp(ucstore_status_text(UCSTORE_ROOM), "the room is too small") == 0);
+    CHECK(strcmp(ucstore_status_text(UCSTORE_SEQUENCE_BACK + 1), ucstore_status_text(-1)) == 0);
     CHECK(ucstore_log_next(text, 1, &place, room, sizeof room, &size, &seq, &ended) == UCSTORE_BAD_PLACE && place.batches == 1);
-    CHECK(ucstore_options(&options) == UCSTORE_OK && options.memtable == 4194304 && options.first_id == 1);
+    CHECK(ucstore_create(&store, UCSTORE_TAIL, &options) == UCSTORE_BAD_SIZE && store.at == NULL);
+    CHECK(ucstore_options_init(&options) == UCSTORE_OK && options.write_buffer_size == 4194304 && options.size == sizeof options);
     CHECK(ucstore_create(&store, 4, &options) == UCSTORE_UNKNOWN_OPERATOR && store.at == NULL);
-    options.least = 1;
+    options.min_merge_width = 1;
     CHECK(ucstore_create(&store, UCSTORE_TAIL, &options) == UCSTORE_BAD_OPTION && store.at == NULL);
-    options.least = 2;
-    options.trigger = 256;
+    options.min_merge_width = 2;
+    options.stop_trigger = 256;
     CHECK(ucstore_create(&store, UCSTORE_TAIL, &options) == UCSTORE_BAD_OPTION && store.at == NULL);
-    options.trigger = 4;
+    options.stop_trigger = 3;
+    CHECK(ucstore_create(&store, UCSTORE_TAIL, &options) == UCSTORE_BAD_OPTION && store.at == NULL);
+    options.stop_trigger = 4;
     place.offset = 2;
     CHECK(ucstore_log_next(text, 1, &place, room, sizeof room, &size, &seq, &ended) == UCSTORE_BAD_PLACE && place.offset == 2);
     CHECK(ucstore_open(&store, UCSTORE_TAIL, &options, text, 1, &ended) == UCSTORE_OK);
     CHECK(ended.kind == UCSTORE_TORN && ended.fault == 0 && ended.place == 0);
     CHECK(ucstore_create(&store, UCSTORE_TAIL, &options) == UCSTORE_HAS_STORE);
     CHECK(ucstore_put(&store, text, 1, text, 0) == UCSTORE_OK);
-    CHECK(ucstore_keep(&store, &seq) == UCSTORE_OK && seq == 1);
-    CHECK(ucstore_get(&store, text, 1, 1, room, 0, &size) == UCSTORE_OK && size == 0);
+    CHECK(ucstore_snapshot(&store, &seq) == UCSTORE_OK && seq == 1);
+    CHECK(ucstore_get_at(&store, text, 1, 1, room, 0, &size) == UCSTORE_OK && size == 0);
     CHECK(ucstore_release(&store, 9) == UCSTORE_NOT_PROTECTED);
-    CHECK(ucstore_feed(&store, text, 1) == UCSTORE_NOT_A_BATCH);
-    CHECK(ucstore_log_record(&store, 0, text, 1, room, sizeof room, &size) == UCSTORE_NOT_A_BATCH);
+    CHECK(ucstore_write_bytes(&store, text, 1) == UCSTORE_NOT_A_BATCH);
+    CHECK(ucstore_prepare(&store, text, 1, 0, room, sizeof room, &size) == UCSTORE_NOT_A_BATCH);
     CHECK(ucstore_close(&store) == UCSTORE_OK && store.at == NULL);
     CHECK(ucstore_close(&store) == UCSTORE_NO_STORE);
 }
@@ -725,9 +767,13 @@ int main(int argc, char **argv) {
     writes = (struct write *)calloc(most_writes, sizeof *writes);
     history = (uint8_t *)malloc(MOST_LOG);
     CHECK(writes != NULL && history != NULL);
+    without_store();
     refusals();
     nothing_is_read();
     durable();
+    if (operations >= 50000) {
+        million();
+    }
     for (uint32_t one = UCSTORE_APPEND; one <= UCSTORE_TAIL; one++) {
         soak(one, operations);
     }

@@ -5,17 +5,18 @@
  *     struct ucstore store = {0};
  *
  * Each function of a store takes the handle's address first, and each but `ucstore_version` answers one of the statuses
- * below. On any status but UCSTORE_OK the store and all outputs are unchanged, but for what `ucstore_log_record` and
+ * below. On any status but UCSTORE_OK no write is taken and no output is written, but for what `ucstore_prepare` and
  * `ucstore_log_next` tell.
  *
+ * Writes are gathered in a memtable, which becomes a run when it is full. Runs are compacted then, by the calling thread. Nothing else
+ * has to be called for it.
+ *
  * A store is in memory. To keep it, write each batch in this order, and open the store from the file's bytes the next time:
- * 1. `ucstore_log_record` gives the batch's record. UCSTORE_TOO_MANY_RUNS: `ucstore_compact`, then again. Any other refusal:
- *    the batch isn't written, and the log stays as it is.
- * 2. Append the record to the file, and sync it. If that fails, cut the file back to where the record begins.
- * 3. `ucstore_feed` the same batch, with no other write in between. It is refused for want of memory alone. Then feed the same
- *    batch again, or cut the file back to where the record begins. Don't record another batch before: two records would have
- *    one sequence, and the next opening would end at the second.
- * A single write isn't in such a log: feed a batch of it.
+ * 1. `ucstore_prepare` judges the batch, takes all memory that it needs, and gives its record. If it is refused, the log stays as it is.
+ * 2. Append the record to the file, and sync it. If that fails, cut the file back to where the record begins, and `ucstore_give_up`.
+ * 3. `ucstore_commit` takes the batch. It can't fail.
+ * Between 1 and 3 reads are free. A write, a flush or a snapshot gives the prepared batch up, and then the file has to be cut back too.
+ * What is written otherwise isn't in such a log.
  *
  * What C owes:
  * - It neither copies, changes nor frees what is in a handle, but by these functions. A handle may lie anywhere, and
@@ -40,8 +41,8 @@ extern "C" {
 #endif
 
 /* The version of the library, and that of its functions. */
-#define UCSTORE_VERSION "0.1.0"
-#define UCSTORE_ABI 1
+#define UCSTORE_VERSION "0.2.0"
+#define UCSTORE_ABI 2
 
 /* A handle: no store if it is all zeros. */
 struct ucstore {
@@ -58,7 +59,7 @@ enum ucstore_status {
     UCSTORE_NOT_PROTECTED = 5,     /* No snapshot is at the sequence. */
     UCSTORE_UNKNOWN_OPERATOR = 6,  /* No operator has the number. */
     UCSTORE_BAD_OPTION = 7,        /* An option isn't in its range. */
-    UCSTORE_TOO_MANY_RUNS = 8,     /* There would be more than 256 runs: `ucstore_compact` makes them fewer. */
+    UCSTORE_BAD_SIZE = 8,          /* A struct's `size` isn't the one that the library knows. */
     UCSTORE_IDS_SPENT = 9,         /* No number is left for a run: the greatest is 2^64 - 2. */
     UCSTORE_SEQUENCES_SPENT = 10,  /* Too few sequences are left: the greatest is 2^56 - 1. */
     UCSTORE_TOO_LONG = 11,         /* A text has 2^32 bytes or more. */
@@ -77,15 +78,42 @@ enum ucstore_operator {
     UCSTORE_TAIL = 3      /* The last four bytes of all texts. */
 };
 
-/* How a store is opened and compacted (RocksDB wiki, "Universal Compaction"). */
+/* A text for a status. */
+static inline const char *ucstore_status_text(int32_t status) {
+    static const char *const texts[] = {
+        "done",
+        "out of memory",
+        "the handle has no store",
+        "the handle has a store already",
+        "there is no value under the key",
+        "no snapshot is at the sequence",
+        "no operator has the number",
+        "an option isn't in its range",
+        "a struct's size isn't the one that the library knows",
+        "no number is left for a run",
+        "too few sequences are left",
+        "a text has 2^32 bytes or more",
+        "the bytes aren't a write batch",
+        "no walk over a log leads to the place",
+        "the room is too small",
+        "no batch comes next in the log",
+        "the sequence of the batch is neither 0 nor above the last one",
+    };
+    return status >= 0 && (size_t)status < sizeof texts / sizeof texts[0] ? texts[status] : "unknown status";
+}
+
+/* How a store is kept, with RocksDB's names (RocksDB wiki, "Universal Compaction"). `ucstore_options_init` fills it in. A later library may have
+ * more fields behind these. */
 struct ucstore_options {
-    uint64_t memtable;  /* From how many bytes on a memtable is flushed, at least 1. */
-    uint32_t trigger;   /* From how many runs on something is compacted, 1 to 255. */
-    uint32_t ratio;     /* By how many percent a run may be larger than those above it to be compacted with them. */
-    uint32_t percent;   /* Above how many percent of the oldest run's size the newer ones are compacted with it. */
-    uint32_t least;     /* The least number of runs for a compaction by size ratio, at least 2. */
-    uint32_t greatest;  /* The greatest number of runs for a compaction, at least `least`. */
-    uint64_t first_id;  /* The number of the first run, 1 to 2^64 - 257. */
+    size_t size;                              /* sizeof(struct ucstore_options). */
+    uint64_t write_buffer_size;               /* From how many bytes on the memtable is full, at least 1. */
+    uint32_t compaction_trigger;              /* From how many runs on something is compacted, at least 1. */
+    uint32_t stop_trigger;                    /* From how many runs on a write compacts before it goes on, `compaction_trigger` to 255. */
+    uint32_t size_ratio;                      /* By how many percent a run may be larger than those above it to be compacted with them. */
+    uint32_t max_size_amplification_percent;  /* Above how many percent of the oldest run's size the newer ones are compacted with it. */
+    uint32_t min_merge_width;                 /* The least number of runs for a compaction by size ratio, at least 2. */
+    uint32_t max_merge_width;                 /* The greatest number of runs for a compaction, at least `min_merge_width`. */
+    uint32_t compacts_itself;                 /* Not 0 if the store compacts behind a flush. Else only from `stop_trigger` runs on. */
 };
 
 /* How far a log was read. */
@@ -107,13 +135,16 @@ struct ucstore_ended {
     uint64_t place;
 };
 
-/* What a store holds, in numbers. Points, fragments and bytes are sums over its runs, held at 2^64 - 1. */
+/* What a store holds, in numbers. Points, fragments and bytes are sums over its runs, held at 2^64 - 1. A later library may have more fields
+ * behind these. */
 struct ucstore_report {
+    size_t size;         /* sizeof(struct ucstore_report), which the caller writes. */
     uint64_t runs;
-    uint64_t snapshots;
+    uint64_t snapshots;  /* How many sequences snapshots protect. */
     uint64_t points;     /* Writes of a single key. */
     uint64_t fragments;  /* Stretches of keys that range deletions cover. */
     uint64_t bytes;      /* Their texts, with 8 bytes for each sequence. */
+    uint64_t gathered;   /* Writes in the memtable, which no run has yet. */
     uint64_t last;       /* The last sequence; 0 if nothing was written. */
 };
 
@@ -127,18 +158,18 @@ struct ucstore_log_place {
 /* Tells UCSTORE_ABI of the library that is linked. It grows when a function or a status changes its meaning. */
 uint32_t ucstore_version(void);
 
-/* Fills in the default options: memtables of 4 MiB, 4 runs, 1 percent, 200 percent, at least 2 runs and no limit to
- * them, numbers from 1. It answers UCSTORE_OK. */
-int32_t ucstore_options(struct ucstore_options *options);
+/* Fills in the default options and their size: a memtable of 4 MiB, 4 runs, 36 runs, 1 percent, 200 percent, at least 2 runs and no limit
+ * to them, and a store that compacts by itself. It answers UCSTORE_OK. */
+int32_t ucstore_options_init(struct ucstore_options *options);
 
-/* Puts an empty store behind the handle. Its one snapshot is the sequence 0.
- * UCSTORE_HAS_STORE, UCSTORE_UNKNOWN_OPERATOR, UCSTORE_BAD_OPTION, UCSTORE_OUT_OF_MEMORY. */
+/* Puts an empty store without snapshots behind the handle.
+ * UCSTORE_HAS_STORE, UCSTORE_BAD_SIZE, UCSTORE_UNKNOWN_OPERATOR, UCSTORE_BAD_OPTION, UCSTORE_OUT_OF_MEMORY. */
 int32_t ucstore_create(struct ucstore *store, uint32_t merge_operator, const struct ucstore_options *options);
 
-/* Puts a store behind the handle that is opened from the bytes of a write-ahead log: it has the writes before the
- * log's first fault, and `ended` says whether there was one. Its one snapshot is the last sequence. Before anything is
+/* Puts a store behind the handle that is opened from the bytes of a write-ahead log of any length: it has the writes before the
+ * log's first fault, and `ended` says whether there was one. It has no snapshot. Before anything is
  * appended to the log, cut it where a walk by `ucstore_log_next` ends.
- * UCSTORE_HAS_STORE, UCSTORE_UNKNOWN_OPERATOR, UCSTORE_BAD_OPTION, UCSTORE_TOO_MANY_RUNS, UCSTORE_OUT_OF_MEMORY. */
+ * UCSTORE_HAS_STORE, UCSTORE_BAD_SIZE, UCSTORE_UNKNOWN_OPERATOR, UCSTORE_BAD_OPTION, UCSTORE_IDS_SPENT, UCSTORE_OUT_OF_MEMORY. */
 int32_t ucstore_open(struct ucstore *store, uint32_t merge_operator, const struct ucstore_options *options,
                      const uint8_t *log, size_t log_length, struct ucstore_ended *ended);
 
@@ -146,17 +177,14 @@ int32_t ucstore_open(struct ucstore *store, uint32_t merge_operator, const struc
  * UCSTORE_NO_STORE. */
 int32_t ucstore_close(struct ucstore *store);
 
-/* Feeds a write batch, as RocksDB writes it: 8 bytes for a sequence, 4 for a count, and as many records. The operations
+/* Writes a batch, as RocksDB writes it: 8 bytes for a sequence, 4 for a count, and as many records. The operations
  * get that sequence and those after it. If it is 0, they get the sequences after the last one. UCSTORE_SEQUENCES_SPENT also
  * says that the batch's own sequence is above 2^56 - 1.
- * UCSTORE_NO_STORE, UCSTORE_NOT_A_BATCH, UCSTORE_SEQUENCE_BACK, UCSTORE_SEQUENCES_SPENT, UCSTORE_TOO_MANY_RUNS,
- * UCSTORE_IDS_SPENT, UCSTORE_OUT_OF_MEMORY. */
-int32_t ucstore_feed(struct ucstore *store, const uint8_t *batch, size_t batch_length);
+ * UCSTORE_NO_STORE, UCSTORE_NOT_A_BATCH, UCSTORE_SEQUENCE_BACK, UCSTORE_SEQUENCES_SPENT, UCSTORE_IDS_SPENT, UCSTORE_OUT_OF_MEMORY. */
+int32_t ucstore_write_bytes(struct ucstore *store, const uint8_t *batch, size_t batch_length);
 
-/* Sets a key to a value, as a batch of its own, which is a run of its own: `ucstore_compact` merges them, and
- * `ucstore_feed` writes many at once.
- * UCSTORE_NO_STORE, UCSTORE_TOO_LONG, UCSTORE_SEQUENCES_SPENT, UCSTORE_TOO_MANY_RUNS, UCSTORE_IDS_SPENT,
- * UCSTORE_OUT_OF_MEMORY. */
+/* Sets a key to a value.
+ * UCSTORE_NO_STORE, UCSTORE_TOO_LONG, UCSTORE_SEQUENCES_SPENT, UCSTORE_IDS_SPENT, UCSTORE_OUT_OF_MEMORY. */
 int32_t ucstore_put(struct ucstore *store, const uint8_t *key, size_t key_length, const uint8_t *value, size_t value_length);
 
 /* Removes a key. The statuses are those of `ucstore_put`. */
@@ -171,62 +199,78 @@ int32_t ucstore_merge(struct ucstore *store, const uint8_t *key, size_t key_leng
 int32_t ucstore_delete_range(struct ucstore *store, const uint8_t *begin, size_t begin_length, const uint8_t *end,
                              size_t end_length);
 
-/* Takes a snapshot: the last sequence becomes one, if it isn't, and is told. Snapshots aren't counted: one release
- * ends it.
- * UCSTORE_NO_STORE, UCSTORE_OUT_OF_MEMORY. */
-int32_t ucstore_keep(struct ucstore *store, uint64_t *seq);
+/* Prepares a batch, so that `ucstore_commit` can take it. No read sees it before. Copies the bytes that it adds to a log of `log_length`
+ * bytes, and tells how many they are: zero bytes up to the next place of a header, if any are needed, and the batch with its sequence. A batch
+ * that was prepared before is given up. The head of this file says what to do with the record.
+ *
+ * UCSTORE_ROOM: the record doesn't fit the room. Nothing is prepared or written there, and `size` tells how much room it needs.
+ * Else the statuses are those of `ucstore_write_bytes`. */
+int32_t ucstore_prepare(struct ucstore *store, const uint8_t *batch, size_t batch_length, uint64_t log_length,
+                        uint8_t *room, size_t room_length, size_t *size);
+
+/* Takes the batch that is prepared; if there is none, nothing. It takes no memory.
+ * UCSTORE_NO_STORE. */
+int32_t ucstore_commit(struct ucstore *store);
+
+/* Gives up the batch that is prepared, if there is one.
+ * UCSTORE_NO_STORE. */
+int32_t ucstore_give_up(struct ucstore *store);
+
+/* Makes a run of what is gathered.
+ * UCSTORE_NO_STORE, UCSTORE_IDS_SPENT, UCSTORE_OUT_OF_MEMORY. */
+int32_t ucstore_flush(struct ucstore *store);
+
+/* Takes a snapshot at the last sequence, and tells that. What is gathered becomes a run first. A snapshot that is taken twice is released
+ * twice.
+ * UCSTORE_NO_STORE, UCSTORE_IDS_SPENT, UCSTORE_OUT_OF_MEMORY. */
+int32_t ucstore_snapshot(struct ucstore *store, uint64_t *seq);
 
 /* Releases a snapshot.
  * UCSTORE_NO_STORE, UCSTORE_NOT_PROTECTED. */
 int32_t ucstore_release(struct ucstore *store, uint64_t seq);
 
-/* Copies the sequences of the snapshots, which rise, as many as there is room for, and tells how many there are.
+/* Copies the sequences of the snapshots, which rise, each once, as many as there is room for, and tells how many there are.
  * `room_length` counts sequences.
  * UCSTORE_NO_STORE. */
-int32_t ucstore_keeps(struct ucstore *store, uint64_t *room, size_t room_length, size_t *count);
+int32_t ucstore_snapshots(struct ucstore *store, uint64_t *room, size_t room_length, size_t *count);
 
 /* Tells the last sequence: 0 if nothing was written.
  * UCSTORE_NO_STORE. */
 int32_t ucstore_last(struct ucstore *store, uint64_t *seq);
 
-/* Looks a key up at a snapshot: copies its value into the room, as much of it as there is room for, and tells the size
+/* Looks a key up at the last sequence: copies its value into the room, as much of it as there is room for, and tells the size
  * of all of it.
- * UCSTORE_NO_STORE, UCSTORE_NOT_PROTECTED, UCSTORE_NOT_FOUND, UCSTORE_OUT_OF_MEMORY. */
-int32_t ucstore_get(struct ucstore *store, const uint8_t *key, size_t key_length, uint64_t at, uint8_t *room,
-                    size_t room_length, size_t *size);
-
-/* Looks a key up at the last sequence, whether or not a snapshot is there, as `ucstore_get` does.
  * UCSTORE_NO_STORE, UCSTORE_NOT_FOUND, UCSTORE_OUT_OF_MEMORY. */
-int32_t ucstore_get_last(struct ucstore *store, const uint8_t *key, size_t key_length, uint8_t *room, size_t room_length,
-                         size_t *size);
+int32_t ucstore_get(struct ucstore *store, const uint8_t *key, size_t key_length, uint8_t *room, size_t room_length,
+                    size_t *size);
+
+/* Looks a key up at a snapshot, as `ucstore_get` does.
+ * UCSTORE_NO_STORE, UCSTORE_NOT_PROTECTED, UCSTORE_NOT_FOUND, UCSTORE_OUT_OF_MEMORY. */
+int32_t ucstore_get_at(struct ucstore *store, const uint8_t *key, size_t key_length, uint64_t at, uint8_t *room,
+                       size_t room_length, size_t *size);
 
 /* Scans the first rows, at most `limit`, of the keys from `low` to below `high`, or to the last one if not `bounded`,
- * at a snapshot. The rows that fit the room are written one behind the other, each as 8 bytes for the key's length,
+ * at the last sequence. The rows that fit the room are written one behind the other, each as 8 bytes for the key's length,
  * low byte first, the key, 8 bytes for the value's length, and the value. `rows` tells how many these are, and `size`
  * how many bytes all rows have: if it is above the room's length, some aren't there. All rows up to the limit are found,
  * whatever the room: to read page by page, give a limit, and begin the next page behind the last key.
- * UCSTORE_NO_STORE, UCSTORE_NOT_PROTECTED, UCSTORE_OUT_OF_MEMORY. */
+ * UCSTORE_NO_STORE, UCSTORE_OUT_OF_MEMORY. */
 int32_t ucstore_scan(struct ucstore *store, const uint8_t *low, size_t low_length, const uint8_t *high, size_t high_length,
-                     bool bounded, uint64_t at, uint64_t limit, uint8_t *room, size_t room_length, size_t *size,
-                     uint64_t *rows);
+                     bool bounded, uint64_t limit, uint8_t *room, size_t room_length, size_t *size, uint64_t *rows);
 
-/* Compacts the runs that are picked next, if there are any, and tells whether there were: call it until it says no.
+/* Scans at a snapshot, as `ucstore_scan` does.
+ * UCSTORE_NO_STORE, UCSTORE_NOT_PROTECTED, UCSTORE_OUT_OF_MEMORY. */
+int32_t ucstore_scan_at(struct ucstore *store, const uint8_t *low, size_t low_length, const uint8_t *high, size_t high_length,
+                        bool bounded, uint64_t at, uint64_t limit, uint8_t *room, size_t room_length, size_t *size,
+                        uint64_t *rows);
+
+/* Compacts the runs that are picked next, if there are any, and tells whether there were. A store that compacts by itself needs no such call.
  * UCSTORE_NO_STORE, UCSTORE_IDS_SPENT, UCSTORE_OUT_OF_MEMORY. */
 int32_t ucstore_compact(struct ucstore *store, bool *compacted);
 
 /* Tells what the store holds, in numbers. It looks at each run once, and at no point.
- * UCSTORE_NO_STORE. */
+ * UCSTORE_NO_STORE, UCSTORE_BAD_SIZE. */
 int32_t ucstore_report(struct ucstore *store, struct ucstore_report *report);
-
-/* Copies the bytes that the batch which is fed next adds to a log of `log_length` bytes, and tells how many they are: zero
- * bytes up to the next place of a header, if any are needed, and the batch with its sequence. The store stays as it is.
- * The head of this file says what to do with them.
- *
- * UCSTORE_ROOM: the record doesn't fit the room. Nothing is written there, and `size` tells how much room it needs.
- * UCSTORE_NO_STORE, UCSTORE_NOT_A_BATCH, UCSTORE_SEQUENCE_BACK, UCSTORE_SEQUENCES_SPENT, UCSTORE_TOO_MANY_RUNS,
- * UCSTORE_IDS_SPENT, UCSTORE_OUT_OF_MEMORY: as `ucstore_feed` would refuse the batch. */
-int32_t ucstore_log_record(struct ucstore *store, uint64_t log_length, const uint8_t *batch, size_t batch_length,
-                           uint8_t *room, size_t room_length, size_t *size);
 
 /* Goes from a place in a log to behind the next batch, and lays its writes out in the room one behind the other: each as
  * 8 bytes for the sequence, low byte first, 1 for the kind (0 a deletion, 1 a put, 2 a merge, 15 a deletion of a range),

@@ -9,7 +9,7 @@ import unittest
 import ucstore
 from ucstore import (
     BadOption, BatchFault, Delete, DeleteRange, End, Ended, LogFault, Merge, NoStore, NotABatch, NotProtected, Operator,
-    Options, Put, SequenceBack, SequencesSpent, Store, TooManyRuns, UnknownOperator, batch_bytes, log_writes,
+    Options, Put, SequenceBack, SequencesSpent, Store, UnknownOperator, batch_bytes, log_writes,
 )
 
 
@@ -30,16 +30,16 @@ class Calls(unittest.TestCase):
         store.put(b"b", b"3")
         store.delete(b"b")
         store.put(b"", b"")
-        self.assertEqual([store.get_last(key) for key in (b"a", b"b", b"")], [b"1,2", None, b""])
+        self.assertEqual([store.get(key) for key in (b"a", b"b", b"")], [b"1,2", None, b""])
         store.delete_range(b"a", b"b")
-        self.assertIsNone(store.get_last(b"a"))
+        self.assertIsNone(store.get(b"a"))
         self.assertEqual(store.last, 6)
 
     def test_a_long_value_comes_whole(self):
         for length in (511, 512, 513, 100000):
             value = bytes(place % 256 for place in range(length))
             self.store.put(b"k", value)
-            self.assertEqual(self.store.get_last(b"k"), value)
+            self.assertEqual(self.store.get(b"k"), value)
 
     def test_a_batch_has_the_bytes_that_rocksdb_writes(self):
         batch = batch_bytes([Put(b"k", b"v"), Delete(b"d"), Merge(b"m", b"\7" * 128), DeleteRange(b"", b"z")], 5)
@@ -54,25 +54,25 @@ class Calls(unittest.TestCase):
                 store.put(b"k", b"new")
                 compact(store)
                 self.assertEqual(second.get(b"k"), b"old")
-            self.assertEqual(store.keeps, [first.sequence])
+            self.assertEqual(store.snapshots, [first.sequence])
             self.assertEqual(first.get(b"k"), b"old")
-        self.assertEqual(store.keeps, [])
-        self.assertRaises(NotProtected, store.get, b"k", first.sequence)
+        self.assertEqual(store.snapshots, [])
+        self.assertRaises(NotProtected, store.get_at, b"k", first.sequence)
 
-    def test_keeps_are_counted(self):
+    def test_snapshots_are_counted(self):
         store = self.store
         self.assertRaises(NotProtected, store.release, 0)
-        sequence = store.keep()
-        self.assertEqual(store.keep(), sequence)
+        sequence = store.take_snapshot()
+        self.assertEqual(store.take_snapshot(), sequence)
         store.release(sequence)
-        self.assertIsNone(store.get(b"k", sequence))
+        self.assertIsNone(store.get_at(b"k", sequence))
         store.release(sequence)
         self.assertRaises(NotProtected, store.release, sequence)
-        self.assertRaises(NotProtected, store.get, b"k", 1 << 64)
+        self.assertRaises(NotProtected, store.get_at, b"k", 1 << 64)
 
     def test_a_scan_goes_over_many_pages(self):
         sizes = {b"%04d" % place: 40000 if place % 100 == 7 else place % 50 for place in range(1000)}
-        self.store.feed(Put(key, b"x" * size) for key, size in sizes.items())
+        self.store.write(Put(key, b"x" * size) for key, size in sizes.items())
         with self.store.snapshot() as snapshot:
             self.store.delete_range(b"", b"9")
             rows = {key: len(value) for key, value in snapshot.scan(b"0005", b"0995")}
@@ -83,36 +83,90 @@ class Calls(unittest.TestCase):
         self.store.put(b"k", b"v")
         with self.store.snapshot():
             report = self.store.report()
+            self.store.put(b"k", b"w")
+            gathered = self.store.report().gathered
         self.assertEqual((report.runs, report.snapshots, report.points, report.last), (1, 1, 1, 1))
+        self.assertEqual((report.gathered, gathered), (0, 1))
 
-    def test_too_many_runs_are_refused_and_compacted(self):
-        for number in range(256):
-            self.store.put(b"%d" % number, b"v")
-        self.assertRaises(TooManyRuns, self.store.put, b"k", b"v")
-        compact(self.store)
-        self.store.put(b"k", b"v")
-        self.assertEqual(self.store.last, 257)
+    def test_a_store_is_read_as_a_dict(self):
+        store = self.store
+        with store.write_batch() as batch:
+            for key in (b"a/1", b"a/2", b"a\xff", b"b"):
+                batch.put(key, key)
+            batch.merge(b"b", b"2")
+            batch.delete(b"a/1")
+            batch.delete_range(b"a/", b"a/2")
+        self.assertEqual((list(store), store[b"b"], store.last), ([b"a/2", b"a\xff", b"b"], b"b,2", 7))
+        self.assertEqual(list(store.prefix(b"a/")), [(b"a/2", b"a/2")])
+        self.assertEqual(len(list(store.prefix(b""))), 3)
+        self.assertEqual([key for key, _ in store.prefix(b"a\xff")], [b"a\xff"])
+        self.assertEqual(list(store.prefix(b"\xff")), [])
+        del store[b"b"]
+        self.assertRaises(KeyError, lambda: store[b"b"])
+        self.assertEqual((b"b" in store, store.get(b"b", b"none")), (False, b"none"))
+        with store.snapshot() as snapshot:
+            store.delete_range(b"", b"z")
+            self.assertEqual(list(snapshot.items()), [(b"a/2", b"a/2"), (b"a\xff", b"a\xff")])
+        self.assertEqual(list(store.items()), [])
+
+    def test_a_batch_that_fails_is_not_written(self):
+        with self.assertRaises(ZeroDivisionError):
+            with self.store.write_batch() as batch:
+                batch.put(b"k", b"v")
+                1 // 0
+        self.assertEqual(self.store.last, 0)
+
+    def test_a_prepared_batch_is_unseen_until_it_is_committed(self):
+        store = self.store
+        store.prepare(0, [Put(b"k", b"v")])
+        self.assertEqual((store.get(b"k"), store.last), (None, 0))
+        store.commit()
+        store.commit()
+        self.assertEqual((store.get(b"k"), store.last), (b"v", 1))
+        store.prepare(0, [Put(b"k", b"w")])
+        store.give_up()
+        store.commit()
+        self.assertEqual((store.get(b"k"), store.last), (b"v", 1))
+
+    def test_runs_stay_few(self):
+        with Store(Operator.APPEND, Options(write_buffer_size=64)) as store:
+            for number in range(3000):
+                store.put(b"%d" % number, b"v")
+                self.assertLess(store.report().runs, 36)
+            self.assertEqual(len(list(store)), 3000)
+
+    def test_a_store_compacts_by_itself_only_if_asked(self):
+        with Store(Operator.APPEND, Options(compacts_itself=False)) as store:
+            for number in range(8):
+                store.put(b"%d" % number, b"v")
+                store.flush()
+            self.assertEqual(store.report().runs, 8)
+            self.assertTrue(store.compact())
+            self.assertLess(store.report().runs, 8)
 
     def test_refusals(self):
-        for options in (Options(least=1), Options(trigger=1 << 32), Options(memtable=-1)):
+        for options in (
+            Options(min_merge_width=1), Options(compaction_trigger=1 << 32), Options(write_buffer_size=-1),
+            Options(compaction_trigger=5, stop_trigger=4), Options(stop_trigger=256),
+        ):
             self.assertRaises(BadOption, Store, Operator.TAIL, options)
         self.assertRaises(UnknownOperator, Store, 4)
         self.assertRaises(TypeError, self.store.put, b"k", "v")
         self.assertRaises(TypeError, self.store.put, b"k", None)
-        self.assertRaises(KeyError, self.store.feed, [("k", "v")])
-        self.assertRaises(NotProtected, next, self.store.scan(b"", None, 7))
+        self.assertRaises(KeyError, self.store.write, [("k", "v")])
+        self.assertRaises(NotProtected, next, self.store.scan_at(b"", None, 7))
 
     def test_sequences_may_be_given(self):
         operations = [Put(b"a", b"1"), Put(b"b", b"2")]
-        self.store.feed(operations, 10)
+        self.store.write(operations, 10)
         self.assertEqual(self.store.last, 11)
         for sequence in (-1, 1, 11):
-            self.assertRaises(SequenceBack, self.store.feed, operations, sequence)
-            self.assertRaises(SequenceBack, self.store.log_record, 0, operations, sequence)
+            self.assertRaises(SequenceBack, self.store.write, operations, sequence)
+            self.assertRaises(SequenceBack, self.store.prepare, 0, operations, sequence)
         for sequence in ((1 << 56) - 1, 1 << 56, 1 << 64):
-            self.assertRaises(SequencesSpent, self.store.feed, operations, sequence)
-            self.assertRaises(SequencesSpent, self.store.log_record, 0, operations, sequence)
-        self.store.feed(operations)
+            self.assertRaises(SequencesSpent, self.store.write, operations, sequence)
+            self.assertRaises(SequencesSpent, self.store.prepare, 0, operations, sequence)
+        self.store.write(operations)
         self.assertEqual(self.store.last, 13)
 
     def test_a_closed_store_says_so(self):
@@ -134,17 +188,13 @@ class Calls(unittest.TestCase):
             (Operator.TAIL, (b"one", b"two"), b"etwo"),
         ):
             with Store(operator) as store:
-                store.feed(Merge(b"k", operand) for operand in operands)
-                self.assertEqual(store.get_last(b"k"), wanted)
+                store.write(Merge(b"k", operand) for operand in operands)
+                self.assertEqual(store.get(b"k"), wanted)
 
     def test_threads_share_a_store(self):
         def write(thread):
             for number in range(200):
-                try:
-                    self.store.merge(b"k%d" % thread, b"%d" % number)
-                except TooManyRuns:
-                    compact(self.store)
-                    self.store.merge(b"k%d" % thread, b"%d" % number)
+                self.store.merge(b"k%d" % thread, b"%d" % number)
                 with self.store.snapshot() as snapshot:
                     self.assertEqual(snapshot.get(b"k%d" % thread).count(b","), number)
 
@@ -153,33 +203,33 @@ class Calls(unittest.TestCase):
             thread.start()
         for thread in threads:
             thread.join()
-        self.assertEqual((self.store.last, self.store.keeps), (800, []))
+        self.assertEqual((self.store.last, self.store.snapshots), (800, []))
 
     def test_the_examples_of_the_module(self):
         self.assertEqual(doctest.testmod(ucstore).failed, 0)
 
 
 class Logs(unittest.TestCase):
-    def feed(self, store, log, *operations):
-        record = store.log_record(len(log), operations)
-        store.feed(operations)
+    def write(self, store, log, *operations):
+        record = store.prepare(len(log), operations)
+        store.commit()
         return log + record
 
-    def test_a_log_opens_with_what_was_fed(self):
+    def test_a_log_opens_with_what_was_written(self):
         log = b""
         with Store(Operator.APPEND) as store:
             for length in (0, 1, 32700, 40000, 100000, 5):
-                log = self.feed(store, log, Put(b"k", b"x" * length))
+                log = self.write(store, log, Put(b"k", b"x" * length))
                 with Store.open(Operator.APPEND, log) as again:
                     self.assertEqual((str(again.ended), again.last), ("clean", store.last))
-                    self.assertEqual(len(again.get_last(b"k")), length)
+                    self.assertEqual(len(again.get(b"k")), length)
 
     def test_each_write_comes_back(self):
         operations = [Put(b"a", b"1"), Delete(b"b"), Merge(b"c", b"2"), DeleteRange(b"d", b"e")]
         with Store(Operator.APPEND) as store:
-            log = self.feed(store, b"", *operations[:2])
-            log = self.feed(store, log)
-            log = self.feed(store, log, *operations[2:])
+            log = self.write(store, b"", *operations[:2])
+            log = self.write(store, log)
+            log = self.write(store, log, *operations[2:])
         writes = log_writes(log)
         self.assertEqual([tuple(write) for write in writes], list(enumerate(operations, 1)))
         self.assertEqual((writes.ended, writes.offset), (Ended(End.CLEAN, None, 0), len(log)))
@@ -187,39 +237,39 @@ class Logs(unittest.TestCase):
 
     def test_a_log_has_the_sequences_that_were_given(self):
         with Store(Operator.APPEND) as store:
-            log = store.log_record(0, [Put(b"a", b"1")], 7)
-            store.feed([Put(b"a", b"1")], 7)
-            log = self.feed(store, log, Put(b"b", b"2"))
+            log = store.prepare(0, [Put(b"a", b"1")], 7)
+            store.commit()
+            log = self.write(store, log, Put(b"b", b"2"))
         self.assertEqual([write.sequence for write in log_writes(log)], [7, 8])
         with Store.open(Operator.APPEND, log) as store:
             self.assertEqual(store.last, 8)
 
     def test_a_torn_log_goes_on_where_it_is_cut(self):
         with Store(Operator.APPEND) as store:
-            first = self.feed(store, b"", Put(b"a", b"1"))
-            whole = self.feed(store, first, Put(b"b", b"x" * 50000))
+            first = self.write(store, b"", Put(b"a", b"1"))
+            whole = self.write(store, first, Put(b"b", b"x" * 50000))
         for length in (len(first) + 1, len(first) + 7, 32768, len(whole) - 1):
             offset, ended = log_writes(whole[:length]).end()
             self.assertEqual((ended.end, offset), (End.TORN, len(first)))
             with Store.open(Operator.APPEND, whole[:length]) as store:
                 self.assertEqual(store.ended, ended)
-                log = self.feed(store, whole[:offset], Put(b"c", b"2"))
+                log = self.write(store, whole[:offset], Put(b"c", b"2"))
             with Store.open(Operator.APPEND, log) as store:
-                self.assertEqual((store.get_last(b"b"), store.get_last(b"c")), (None, b"2"))
+                self.assertEqual((store.get(b"b"), store.get(b"c")), (None, b"2"))
 
     def test_a_log_goes_on_before_zeros(self):
         with Store(Operator.APPEND) as store:
-            first = self.feed(store, b"", Put(b"a", b"1"))
+            first = self.write(store, b"", Put(b"a", b"1"))
             offset, ended = log_writes(first + bytes(100000)).end()
             self.assertEqual((offset, ended.end), (len(first), End.CLEAN))
-            log = self.feed(store, first[:offset], Put(b"b", b"2"))
+            log = self.write(store, first[:offset], Put(b"b", b"2"))
         with Store.open(Operator.APPEND, log) as store:
             self.assertEqual((store.last, store.ended.end), (2, End.CLEAN))
 
     def test_faults_are_named(self):
         with Store(Operator.APPEND) as store:
-            first = self.feed(store, b"", Put(b"a", b"1"))
-            log = bytearray(self.feed(store, first, Put(b"b", b"2")))
+            first = self.write(store, b"", Put(b"a", b"1"))
+            log = bytearray(self.write(store, first, Put(b"b", b"2")))
         log[len(first) + 20] ^= 1
         with Store.open(Operator.APPEND, bytes(log)) as store:
             self.assertEqual(store.ended, Ended(End.LOG_FAULT, LogFault.BAD_CHECKSUM, len(first)))
@@ -250,7 +300,7 @@ class Soak:
     def __init__(self, operator, seed):
         self.operator = operator
         self.random = random.Random(seed)
-        self.store = Store(operator, Options(memtable=64))
+        self.store = Store(operator, Options(write_buffer_size=64))
         self.held, self.keeps, self.written, self.log = {}, [], [], bytearray()
 
     def key(self):
@@ -275,14 +325,13 @@ class Soak:
         else:
             self.held = {key: value for key, value in self.held.items() if not operation.begin <= key < operation.end}
 
-    def feed(self):
+    def write(self):
         operations = [self.operation() for _ in range(self.random.randrange(9))]
-        self.log += self.store.log_record(len(self.log), operations)
-        try:
-            self.store.feed(operations)
-        except TooManyRuns:
-            compact(self.store)
-            self.store.feed(operations)
+        self.log += self.store.prepare(len(self.log), operations)
+        if self.random.randrange(2):
+            self.store.commit()
+        else:
+            self.store.write(operations)
         for operation in operations:
             self.apply(operation)
         self.written += operations
@@ -290,28 +339,29 @@ class Soak:
 
     def keep(self):
         if len(self.keeps) < 12:
-            self.keeps.append((self.store.keep(), dict(self.held)))
+            self.keeps.append((self.store.take_snapshot(), dict(self.held)))
 
     def release(self):
         if self.keeps:
             self.store.release(self.keeps.pop(self.random.randrange(len(self.keeps)))[0])
-        assert self.store.keeps == sorted({sequence for sequence, _ in self.keeps})
+        assert self.store.snapshots == sorted({sequence for sequence, _ in self.keeps})
 
     def get(self):
         key = self.key()
-        assert self.store.get_last(key) == self.held.get(key)
+        assert self.store.get(key) == self.held.get(key)
         for sequence, held in self.keeps:
-            assert self.store.get(key, sequence) == held.get(key)
+            assert self.store.get_at(key, sequence) == held.get(key)
 
     def scan(self):
         low, high = self.key(), self.key()
+        assert list(self.store) == sorted(self.held)
         for sequence, held in self.keeps:
             wanted = sorted(row for row in held.items() if low <= row[0] < high)
-            assert list(self.store.scan(low, high, sequence)) == wanted
-            assert list(self.store.scan(b"", None, sequence)) == sorted(held.items())
+            assert list(self.store.scan_at(low, high, sequence)) == wanted
+            assert list(self.store.scan_at(b"", None, sequence)) == sorted(held.items())
 
     def step(self):
-        steps = (self.feed, self.keep, self.release, self.get, self.scan, lambda: compact(self.store))
+        steps = (self.write, self.keep, self.release, self.get, self.scan, self.store.compact)
         self.random.choices(steps, (40, 8, 8, 35, 6, 3))[0]()
 
     def reopen(self):

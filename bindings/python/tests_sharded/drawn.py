@@ -6,7 +6,7 @@ from typing import Dict, Iterable, List, Optional, Tuple
 from ucstore import Delete, DeleteRange, Merge, Operation, Operator, Options, Put, Store
 from ucstore.sharded import Scan, ShardedSnapshot, ShardedStore
 
-OPTIONS = Options(memtable=4096)
+OPTIONS = Options(write_buffer_size=4096)
 KEYS = 500
 SPLITS = [b"k125", b"k250", b"k375"]
 
@@ -41,7 +41,7 @@ def fed(batches: Iterable[List[Operation]]) -> Dict[bytes, bytes]:
 
 
 def feed(store: Store, operations: List[Operation]) -> None:
-    store.feed(operations)
+    store.write(operations)
     while store.compact():
         pass
 
@@ -69,7 +69,7 @@ class Beside:
 
     def keep(self) -> None:
         if len(self.snapshots) < 6:
-            self.snapshots.append((self.sharded.snapshot(), self.single.keep()))
+            self.snapshots.append((self.sharded.snapshot(), self.single.take_snapshot()))
             assert self.snapshots[-1][0].sequence == self.snapshots[-1][1]
 
     def release(self) -> None:
@@ -87,18 +87,18 @@ class Beside:
     def compare(self, snapshot: ShardedSnapshot, at: int) -> None:
         single, draws = self.single, self.draws
         asked = key(draws)
-        assert snapshot.get(asked) == single.get(asked, at)
+        assert snapshot.get(asked) == single.get_at(asked, at)
         scan = self.drawn_scan()
         assert list(snapshot.scan(*scan)) == self.rows(scan, at)
         queries = [key(draws) if draws.random() < 0.9 else self.drawn_scan() for _ in range(draws.randrange(40))]
-        wanted = [self.rows(query, at) if isinstance(query, Scan) else single.get(query, at) for query in queries]
+        wanted = [self.rows(query, at) if isinstance(query, Scan) else single.get_at(query, at) for query in queries]
         assert snapshot.answers(queries) == wanted
 
     def compare_all(self) -> None:
         """Compares all rows at all snapshots, and at one that is taken now."""
-        self.snapshots.append((self.sharded.snapshot(), self.single.keep()))
+        self.snapshots.append((self.sharded.snapshot(), self.single.take_snapshot()))
         for snapshot, at in self.snapshots:
-            assert list(snapshot.scan()) == list(self.single.scan(b"", None, at))
+            assert list(snapshot.scan()) == list(self.single.scan_at(b"", None, at))
 
     def drawn_scan(self) -> Scan:
         draws = self.draws
@@ -106,5 +106,5 @@ class Beside:
         return Scan(draws.choice((b"", key(draws))), high, draws.choice((None, draws.randrange(30))))
 
     def rows(self, scan: Scan, at: int) -> list:
-        rows = list(self.single.scan(scan.low, scan.high, at))
+        rows = list(self.single.scan_at(scan.low, scan.high, at))
         return rows if scan.limit is None else rows[:scan.limit]

@@ -124,7 +124,7 @@ class Drawn(OnCluster):
             beside.release()
         self.assertEqual([report.snapshots for report in beside.sharded.report()], [0] * 4)
         beside.sharded.close()
-        self.assertEqual(self.rows(self.open()), dict(beside.single.scan(b"", None, beside.single.keep())))
+        self.assertEqual(self.rows(self.open()), dict(beside.single.scan_at(b"", None, beside.single.take_snapshot())))
 
 
 class DrawnThroughTheScheduler(Drawn):

@@ -82,12 +82,12 @@ class Folder(unittest.TestCase):
 
 class Manifests(Folder):
     def shape(self, **changes):
-        shape = {"format": 2, "shards": 3, "placement": "crc32", "operator": "TAIL", "options": Options()._asdict()}
+        shape = {"format": 3, "shards": 3, "placement": "crc32", "operator": "TAIL", "options": Options()._asdict()}
         return {**shape, **changes}
 
     def test_each_wrong_shape_is_named(self):
         for wrong, changes in (
-            ("its format is 3, and only 2 is known", {"format": 3}),
+            ("its format is 4, and only 3 is known", {"format": 4}),
             ("0 isn't a number of shards", {"shards": 0}),
             ("'3' isn't a number of shards", {"shards": "3"}),
             ("there is no operator 'SUM'", {"operator": "SUM"}),
@@ -97,7 +97,7 @@ class Manifests(Folder):
             ("there are 1 split points, and 3 shards have 2", {"placement": ["61"]}),
             ("the split points don't rise", {"placement": ["62", "61"]}),
             ("the split points don't rise", {"placement": ["61", "61"]}),
-            ("there are no options", {"options": {"memtable": 0}}),
+            ("there are no options", {"options": {"write_buffer_size": 0}}),
             ("there are no options", {"options": {"memory": 1}}),
             ("there are no options", {"options": "usual"}),
             ("isn't an object of format, operator", {"splits": []}),
@@ -109,7 +109,7 @@ class Manifests(Folder):
                 Manifest.of(shape)
 
     def test_a_file_that_is_missing_or_wrong_is_named(self):
-        manifest = Manifest(2, (b"m",), Operator.APPEND, Options(trigger=9))
+        manifest = Manifest(2, (b"m",), Operator.APPEND, Options(compaction_trigger=9))
         make(manifest, self.folder)
         self.assertEqual(Manifest.read(self.folder), manifest)
         with self.assertRaisesRegex(BadManifest, "isn't empty"):
@@ -126,6 +126,16 @@ class Manifests(Folder):
         with self.assertRaisesRegex(BadManifest, "manifest.json is refused: .*No such file"):
             Manifest.read(self.folder)
 
+    def test_the_options_of_format_2_are_read_under_their_new_names(self):
+        make(Manifest(3, None, Operator.TAIL, Options()), self.folder)
+        old = {"memtable": 4096, "trigger": 40, "ratio": 2, "percent": 100, "least": 3, "greatest": 9, "first_id": 7}
+        (self.folder / "manifest.json").write_bytes(sealed(self.shape(format=2, options=old)))
+        self.assertEqual(Manifest.read(self.folder).options, Options(4096, 40, 40, 2, 100, 3, 9))
+        for options in ("usual", {**old, "trigger": "40"}, {**old, "memory": 1}):
+            (self.folder / "manifest.json").write_bytes(sealed(self.shape(format=2, options=options)))
+            with self.assertRaisesRegex(BadManifest, "manifest.json is refused"):
+                Manifest.read(self.folder)
+
     def test_each_flipped_bit_is_refused(self):
         make(Manifest(3, (b"key-3", b"key-6"), Operator.APPEND, Options()), self.folder)
         path = self.folder / "manifest.json"
@@ -140,8 +150,8 @@ class Manifests(Folder):
         make(Manifest(3, None, Operator.TAIL, Options()), self.folder)
         path, shape = self.folder / "manifest.json", self.shape()
         for text, wrong in (
-            (json.dumps({**shape, "format": 1}), "its format is 1, and only 2 is known"),
-            (sealed({**shape, "format": 3}).decode(), "its format is 3, and only 2 is known"),
+            (json.dumps({**shape, "format": 1}), "its format is 1, and only 3 is known"),
+            (sealed({**shape, "format": 4}).decode(), "its format is 4, and only 3 is known"),
             (json.dumps(shape), "it doesn't have its checksum"),
             (sealed(shape).decode().replace('"shards": 3', '"shards": 2'), "it doesn't have its checksum"),
             ("[]", "it isn't an object"),
@@ -400,7 +410,7 @@ class Shards(Folder):
         for cut in range(101):
             self.path.write_bytes(log[:len(log) - cut])
             shard = self.opened(acknowledged, last=9)
-            self.assertEqual(shard.get_last(b"a"), b"1" * 80 + b"," + b"3" * 30)
+            self.assertEqual(shard.get(b"a"), b"1" * 80 + b"," + b"3" * 30)
             self.assertEqual(shard.last, 5)
             self.assertEqual(shard.apply(acknowledged, 10, part(Put(b"a", b"6"))), self.path.stat().st_size)
             del shard
@@ -428,7 +438,7 @@ class Shards(Folder):
         length = shard.apply(0, 7, part(Merge(b"a", b"1")))
         self.assertEqual(shard.apply(0, 7, part(Merge(b"a", b"1"))), length)
         self.assertEqual(self.path.stat().st_size, length)
-        self.assertEqual(shard.get_last(b"a"), b"1")
+        self.assertEqual(shard.get(b"a"), b"1")
 
     def test_a_shard_that_refuses_lets_go_of_its_log(self):
         shard = self.opened()
@@ -438,7 +448,7 @@ class Shards(Folder):
         with full, self.assertRaisesRegex(ShardedError, f"shard 3: {self.path}: no space") as raised:
             shard.apply(length, 2, part(Put(b"a", b"2")))
         shard = self.opened(length)
-        self.assertEqual(shard.get_last(b"a"), b"1")
+        self.assertEqual(shard.get(b"a"), b"1")
         self.assertGreater(self.path.stat().st_size, length)
         self.assertEqual(shard.apply(length, 2, part(Put(b"a", b"3"))), self.path.stat().st_size)
         del raised
@@ -456,11 +466,11 @@ class Shards(Folder):
                 self.opened(length, last=last)
             self.assertEqual(self.path.read_bytes(), log)
         # One batch may be under way when a writer ends.
-        self.assertEqual(self.opened(second, last=8).get_last(b"a"), b"3")
+        self.assertEqual(self.opened(second, last=8).get(b"a"), b"3")
         self.path.write_bytes(log[:-1])
-        self.assertEqual(self.opened(first, last=4).get_last(b"a"), b"1")
+        self.assertEqual(self.opened(first, last=4).get(b"a"), b"1")
         # An older one that failed stays in a log that no later batch touched.
-        self.assertEqual(self.opened(first, last=20).get_last(b"a"), b"1")
+        self.assertEqual(self.opened(first, last=20).get(b"a"), b"1")
 
     def test_a_log_is_cut_by_the_first_batch(self):
         shard = self.opened()
@@ -473,7 +483,7 @@ class Shards(Folder):
         end = shard.apply(length, 2, part(Put(b"a", b"3")))
         self.assertEqual(self.path.stat().st_size, end)
         del shard
-        self.assertEqual(self.opened(end).get_last(b"a"), b"3")
+        self.assertEqual(self.opened(end).get(b"a"), b"3")
 
     def test_an_error_of_a_call_is_its_answer(self):
         shard = self.opened()
@@ -489,7 +499,7 @@ class Shards(Folder):
             with self.subTest(kind=kind), self.assertRaises(kind):
                 raise answer.error.with_traceback(None)
             answer = shard.call(*call)
-        self.assertEqual(shard.get_last(b"a"), b"1")
+        self.assertEqual(shard.get(b"a"), b"1")
         # The error is kept, but neither the shard nor its log's lock.
         del shard
         self.assertIsNone(answer.error.__traceback__)
@@ -515,17 +525,17 @@ class Shards(Folder):
         with self.assertRaises(AnotherWriter):
             self.opened(length)
 
-    def test_a_log_of_too_many_runs_is_opened_by_and_by(self):
-        options = Options(memtable=1)
+    def test_a_long_log_is_opened_with_a_snapshot(self):
+        options = Options(write_buffer_size=1)
         shard, length, at = self.opened(options=options), 0, 0
         for number in range(700):
             if number == 600:
-                kept, at = length, shard.keep()
+                kept, at = length, shard.take_snapshot()
             length = shard.apply(length, number + 1, part(Merge(b"%d" % (number % 3), b"%d" % number)))
-        rows = list(shard.scan(b"", None, shard.keep())), list(shard.scan(b"", None, at))
+        rows = list(shard.scan_at(b"", None, shard.take_snapshot())), list(shard.scan_at(b"", None, at))
         del shard
         shard = self.opened(length, [kept], options)
-        self.assertEqual((list(shard.scan(b"", None, shard.keep())), list(shard.scan(b"", None, at))), rows)
+        self.assertEqual((list(shard.scan_at(b"", None, shard.take_snapshot())), list(shard.scan_at(b"", None, at))), rows)
 
     def test_snapshots_are_taken_again(self):
         for seed in range(10):
@@ -534,18 +544,18 @@ class Shards(Folder):
             shard, single, last, length, keeps = self.opened(), Store(Operator.APPEND, drawn.OPTIONS), 0, 0, []
             for _ in range(12):
                 for _ in range(draws.randrange(3)):
-                    keeps.append((length, shard.keep(), single.keep()))
+                    keeps.append((length, shard.take_snapshot(), single.take_snapshot()))
                 first, operations = last + draws.randrange(1, 4), drawn.batch(draws, 100)
                 last = first + len(operations) + draws.randrange(3)
                 length = shard.apply(length, first, part(*operations))
-                single.feed(operations, first)
-            keeps.append((length, shard.keep(), single.keep()))
+                single.write(operations, first)
+            keeps.append((length, shard.take_snapshot(), single.take_snapshot()))
             alive = [keep for keep in keeps if draws.random() < 0.6]
             del shard
             shard = self.opened(length, [keep[0] for keep in alive])
             self.assertEqual(shard.last, single.last)
             for _, at, same in alive:
-                self.assertEqual(list(shard.scan(b"", None, at)), list(single.scan(b"", None, same)))
+                self.assertEqual(list(shard.scan_at(b"", None, at)), list(single.scan_at(b"", None, same)))
             for _, at, _ in alive:
                 shard.release(at)
             self.assertEqual(shard.report().snapshots, 0)

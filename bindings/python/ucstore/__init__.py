@@ -1,20 +1,20 @@
 """An embedded log-structured merge store in memory, proved against its contracts.
 
     >>> with Store(Operator.APPEND) as store:
-    ...     store.feed([Put(b"colour", b"blue"), Merge(b"tags", b"new")])
+    ...     store[b"colour"] = b"blue"
     ...     with store.snapshot() as before:
-    ...         store.delete(b"colour")
-    ...         before.get(b"colour"), store.get_last(b"colour")
+    ...         del store[b"colour"]
+    ...         before[b"colour"], store.get(b"colour")
     (b'blue', None)
 
-The store itself is in memory. Its owner keeps a log in a file: `Store.log_record` returns what to append before
-operations are fed, and `Store.open` reads it again.
+The store itself is in memory. Its owner keeps a log in a file: `Store.prepare` returns what to append before
+`Store.commit` writes, and `Store.open` reads it again.
 
     >>> with Store(Operator.APPEND) as store:
-    ...     log = store.log_record(0, [Put(b"colour", b"blue")])
-    ...     store.feed([Put(b"colour", b"blue")])
+    ...     log = store.prepare(0, [Put(b"colour", b"blue")])
+    ...     store.commit()
     >>> with Store.open(Operator.APPEND, log) as store:
-    ...     store.get_last(b"colour"), str(store.ended)
+    ...     store[b"colour"], str(store.ended)
     (b'blue', 'clean')
 """
 
@@ -24,12 +24,12 @@ import os
 import struct
 import threading
 from pathlib import Path
-from typing import Dict, Iterable, Iterator, List, NamedTuple, Optional, Tuple, Union
+from typing import Iterable, Iterator, List, NamedTuple, Optional, Tuple, Union
 
 __all__ = [
     "BadOption", "BatchFault", "Delete", "DeleteRange", "End", "Ended", "IdsSpent", "LogFault", "LogWrites", "Merge",
     "NoStore", "NotABatch", "NotProtected", "Operation", "Operator", "Options", "OutOfMemory", "Put", "Report",
-    "SequenceBack", "SequencesSpent", "Snapshot", "Store", "TooLong", "TooManyRuns", "UcstoreError", "UnknownOperator", "Write",
+    "SequenceBack", "SequencesSpent", "Snapshot", "Store", "TooLong", "UcstoreError", "UnknownOperator", "Write", "WriteBatch",
     "batch_bytes", "log_writes",
 ]
 
@@ -74,12 +74,6 @@ class BadOption(UcstoreError, ValueError):
     status, text = 7, "an option isn't in its range"
 
 
-class TooManyRuns(UcstoreError):
-    """There would be more than 256 runs: compact, and try again."""
-
-    status, text = 8, "there would be more than 256 runs"
-
-
 class IdsSpent(UcstoreError):
     """No number is left for a run: the greatest is 2^64 - 2."""
 
@@ -115,7 +109,7 @@ _OK, _NOT_FOUND, _ROOM, _LOG_ENDS = 0, 4, 14, 15
 _ERRORS = {
     error.status: error
     for error in (
-        OutOfMemory, NoStore, NotProtected, UnknownOperator, BadOption, TooManyRuns, IdsSpent, SequencesSpent, TooLong,
+        OutOfMemory, NoStore, NotProtected, UnknownOperator, BadOption, IdsSpent, SequencesSpent, TooLong,
         NotABatch, SequenceBack,
     )
 }
@@ -141,22 +135,24 @@ class Operator(enum.IntEnum):
 
 
 class Options(NamedTuple):
-    """How a store is opened and compacted, with the meaning of RocksDB's options (its wiki, "Universal Compaction")."""
+    """How a store is kept, with the names and the meaning of RocksDB's options (its wiki, "Universal Compaction")."""
 
-    memtable: int = 4194304
-    """From how many bytes on a memtable is flushed, at least 1."""
-    trigger: int = 4
-    """From how many runs on something is compacted, 1 to 255."""
-    ratio: int = 1
+    write_buffer_size: int = 4194304
+    """From how many bytes on the memtable is full, at least 1."""
+    compaction_trigger: int = 4
+    """From how many runs on something is compacted, at least 1."""
+    stop_trigger: int = 36
+    """From how many runs on a write compacts before it goes on, `compaction_trigger` to 255."""
+    size_ratio: int = 1
     """By how many percent a run may be larger than those above it to be compacted with them."""
-    percent: int = 200
+    max_size_amplification_percent: int = 200
     """Above how many percent of the oldest run's size the newer ones are compacted with it."""
-    least: int = 2
+    min_merge_width: int = 2
     """The least number of runs for a compaction by size ratio, at least 2."""
-    greatest: int = 4294967295
-    """The greatest number of runs for a compaction, at least `least`."""
-    first_id: int = 1
-    """The number of the first run, at least 1."""
+    max_merge_width: int = 4294967295
+    """The greatest number of runs for a compaction, at least `min_merge_width`."""
+    compacts_itself: bool = True
+    """Whether the store compacts behind a flush. Else it does only from `stop_trigger` runs on."""
 
 
 class Put(NamedTuple):
@@ -201,13 +197,14 @@ class Write(NamedTuple):
 
 
 class Report(NamedTuple):
-    """What a store holds, in numbers. `bytes` has 8 for each sequence."""
+    """What a store holds, in numbers. `bytes` has 8 for each sequence, and `gathered` counts the writes that no run has yet."""
 
     runs: int
     snapshots: int
     points: int
     fragments: int
     bytes: int
+    gathered: int
     last: int
 
 
@@ -276,15 +273,16 @@ class _Handle(ctypes.Structure):
 
 class _Options(ctypes.Structure):
     _fields_ = [
-        ("memtable", ctypes.c_uint64), ("trigger", ctypes.c_uint32), ("ratio", ctypes.c_uint32),
-        ("percent", ctypes.c_uint32), ("least", ctypes.c_uint32), ("greatest", ctypes.c_uint32),
-        ("first_id", ctypes.c_uint64),
+        ("size", ctypes.c_size_t), ("write_buffer_size", ctypes.c_uint64), ("compaction_trigger", ctypes.c_uint32),
+        ("stop_trigger", ctypes.c_uint32), ("size_ratio", ctypes.c_uint32),
+        ("max_size_amplification_percent", ctypes.c_uint32), ("min_merge_width", ctypes.c_uint32),
+        ("max_merge_width", ctypes.c_uint32), ("compacts_itself", ctypes.c_uint32),
     ]
 
     @classmethod
     def of(cls, options: Options) -> "_Options":
         """The options as C sees them. A number that a field has no room for would be cut silently."""
-        found = cls(*options)
+        found = cls(ctypes.sizeof(cls), *options)
         if any(getattr(found, name) != value for name, value in zip(Options._fields, options)):
             raise BadOption()
         return found
@@ -299,7 +297,7 @@ class _Ended(ctypes.Structure):
 
 
 class _Report(ctypes.Structure):
-    _fields_ = [(name, ctypes.c_uint64) for name in Report._fields]
+    _fields_ = [("size", ctypes.c_size_t), *((name, ctypes.c_uint64) for name in Report._fields)]
 
 
 class _LogPlace(ctypes.Structure):
@@ -307,7 +305,7 @@ class _LogPlace(ctypes.Structure):
 
 
 # The version of the library's functions.
-_ABI = 1
+_ABI = 2
 
 
 def _load() -> ctypes.CDLL:
@@ -326,21 +324,25 @@ _SIGNATURES = {
     "create": (_POINTER, _U32, _POINTER),
     "open": (_POINTER, _U32, _POINTER, *_TEXT, _POINTER),
     "close": (_POINTER,),
-    "feed": (_POINTER, *_TEXT),
+    "write_bytes": (_POINTER, *_TEXT),
     "put": (_POINTER, *_TEXT, *_TEXT),
     "delete": (_POINTER, *_TEXT),
     "merge": (_POINTER, *_TEXT, *_TEXT),
     "delete_range": (_POINTER, *_TEXT, *_TEXT),
-    "keep": (_POINTER, _POINTER),
+    "prepare": (_POINTER, *_TEXT, _U64, *_PLACE, _POINTER),
+    "commit": (_POINTER,),
+    "give_up": (_POINTER,),
+    "flush": (_POINTER,),
+    "snapshot": (_POINTER, _POINTER),
     "release": (_POINTER, _U64),
-    "keeps": (_POINTER, *_PLACE, _POINTER),
+    "snapshots": (_POINTER, *_PLACE, _POINTER),
     "last": (_POINTER, _POINTER),
-    "get": (_POINTER, *_TEXT, _U64, *_PLACE, _POINTER),
-    "get_last": (_POINTER, *_TEXT, *_PLACE, _POINTER),
-    "scan": (_POINTER, *_TEXT, *_TEXT, ctypes.c_bool, _U64, _U64, *_PLACE, _POINTER, _POINTER),
+    "get": (_POINTER, *_TEXT, *_PLACE, _POINTER),
+    "get_at": (_POINTER, *_TEXT, _U64, *_PLACE, _POINTER),
+    "scan": (_POINTER, *_TEXT, *_TEXT, ctypes.c_bool, _U64, *_PLACE, _POINTER, _POINTER),
+    "scan_at": (_POINTER, *_TEXT, *_TEXT, ctypes.c_bool, _U64, _U64, *_PLACE, _POINTER, _POINTER),
     "compact": (_POINTER, _POINTER),
     "report": (_POINTER, _POINTER),
-    "log_record": (_POINTER, _U64, *_TEXT, *_PLACE, _POINTER),
     "log_next": (*_TEXT, _POINTER, *_PLACE, _POINTER, _POINTER, _POINTER),
 }
 
@@ -425,11 +427,59 @@ def _text_at(room: memoryview, place: int) -> Tuple[bytes, int]:
     return bytes(room[place + 8:end]), end
 
 
-class Store:
+def _end_of_prefix(prefix: bytes) -> Optional[bytes]:
+    """The least key above all that begin with these bytes, or None if there is no greater key."""
+    kept = _bytes_of(prefix).rstrip(b"\xff")
+    return kept[:-1] + bytes([kept[-1] + 1]) if kept else None
+
+
+class _Reader:
+    """What a store and its snapshots are read by. Like a dict, they raise `KeyError` only for `reader[key]`."""
+
+    def get(self, key: bytes, default: Optional[bytes] = None) -> Optional[bytes]:
+        """The value under a key, or `default`. Raises `OutOfMemory`."""
+        found = self._get(key)
+        return default if found is None else found
+
+    def __getitem__(self, key: bytes) -> bytes:
+        """The value under a key. Raises `KeyError` and `OutOfMemory`."""
+        found = self._get(key)
+        if found is None:
+            raise KeyError(key)
+        return found
+
+    def __contains__(self, key: bytes) -> bool:
+        """Whether there is a value under a key. Raises `OutOfMemory`."""
+        return self._get(key) is not None
+
+    def __iter__(self) -> Iterator[bytes]:
+        """The keys, in the order of their bytes. Raises `OutOfMemory`."""
+        return (key for key, _ in self.scan())
+
+    def items(self) -> Iterator[_Row]:
+        """The keys with their values, in the order of the keys' bytes. Raises `OutOfMemory`."""
+        return self.scan()
+
+    def scan(self, low: bytes = b"", high: Optional[bytes] = None) -> Iterator[_Row]:
+        """The keys from `low` to below `high`, or to the last one, with their values.
+
+        They come in the order of the keys' bytes, and are fetched in pages. Raises `OutOfMemory`.
+        """
+        return self._scan(low, high)
+
+    def prefix(self, prefix: bytes) -> Iterator[_Row]:
+        """The keys that begin with some bytes, with their values, as `scan` gives them. Raises `OutOfMemory`."""
+        return self._scan(prefix, _end_of_prefix(prefix))
+
+
+class Store(_Reader):
     """A log-structured merge store in memory.
 
-    Its calls wait for one another, so that threads may share it. It opens without snapshots. Each `keep` at a sequence
-    is counted, and needs a `release` of its own.
+    Writes are gathered in a memtable, which becomes a run when it is full. Runs are compacted then.
+
+    Its calls wait for one another, so that threads may share it. It opens without snapshots. Each `take_snapshot` at a
+    sequence is counted, and needs a `release` of its own. A scan of the store whose rows come in several pages sees what is
+    written between them: a scan of a snapshot doesn't.
 
     `with` closes it at the end. A closed store raises `NoStore`.
     """
@@ -441,31 +491,24 @@ class Store:
         """An empty store. Raises `BadOption` and `OutOfMemory`."""
         self._begin()
         _check(_library.create(self._handle, operator, ctypes.byref(_Options.of(options))))
-        self._drop_snapshots()
 
     @classmethod
     def open(cls, operator: Operator, log: bytes, options: Options = Options()) -> "Store":
         """A store with the writes of a write-ahead log before its first fault. Its `ended` says how the log ends.
 
-        Raises `BadOption`, `TooManyRuns` and `OutOfMemory`.
+        Raises `BadOption`, `IdsSpent` and `OutOfMemory`.
         """
         store, ended = cls.__new__(cls), _Ended()
         store._begin()
         length = (_bytes_of(log), len(log))
         _check(_library.open(store._handle, operator, ctypes.byref(_Options.of(options)), *length, ctypes.byref(ended)))
         store.ended = ended.told()
-        store._drop_snapshots()
         return store
 
     def _begin(self) -> None:
         self._at = _Handle()
         self._handle = ctypes.byref(self._at)
         self._lock = threading.RLock()
-        self._kept: Dict[int, int] = {}
-
-    def _drop_snapshots(self) -> None:
-        """Releases the snapshot that a store opens with, since no keep counts it."""
-        self._call(_library.release, self.last)
 
     def _call(self, function, *arguments) -> None:
         with self._lock:
@@ -474,7 +517,6 @@ class Store:
     def close(self) -> None:
         """Frees the store. A second call does nothing."""
         with self._lock:
-            self._kept.clear()
             _library.close(self._handle)
 
     def __enter__(self) -> "Store":
@@ -488,27 +530,49 @@ class Store:
         if _library is not None and "_lock" in self.__dict__:
             self.close()
 
-    def feed(self, operations: Iterable[Operation], sequence: int = 0) -> None:
-        """Writes operations at once. They get sequences one by one, from `sequence` on, or from the one behind the last.
+    def write(self, operations: Iterable[Operation], sequence: int = 0) -> None:
+        """Writes operations at once: all, or none of them.
 
-        `sequence` is 0 or above the last one: there may be gaps. Raises `TooManyRuns`, `SequenceBack`, `NotABatch` for a
-        text of 2^32 bytes or more, `SequencesSpent`, `IdsSpent` and `OutOfMemory`.
+        They get sequences one by one, from `sequence` on, or from the one behind the last. `sequence` is 0 or above the last
+        one: there may be gaps. Raises `SequenceBack`, `NotABatch` for a text of 2^32 bytes or more, `SequencesSpent`,
+        `IdsSpent` and `OutOfMemory`.
         """
-        self._feed(batch_bytes(operations, sequence))
+        self.write_bytes(batch_bytes(operations, sequence))
 
-    def _feed(self, batch: bytes) -> None:
-        self._call(_library.feed, *_texts(batch))
+    def write_bytes(self, batch: bytes) -> None:
+        """Writes a batch that `batch_bytes` or RocksDB wrote. Raises what `write` does."""
+        self._call(_library.write_bytes, *_texts(batch))
+
+    def write_batch(self) -> "WriteBatch":
+        """A batch that is written when its `with` ends, unless that raises.
+
+            >>> with Store(Operator.APPEND) as store:
+            ...     with store.write_batch() as batch:
+            ...         batch.put(b"colour", b"blue")
+            ...         batch.merge(b"tags", b"new")
+            ...     list(store)
+            [b'colour', b'tags']
+        """
+        return WriteBatch(self)
 
     def put(self, key: bytes, value: bytes) -> None:
-        """Sets a key to a value, as a run of its own: `feed` writes many at once.
+        """Sets a key to a value.
 
-        Raises what `feed` does, but `TooLong` for a text of 2^32 bytes or more.
+        Raises `TooLong` for a text of 2^32 bytes or more, `SequencesSpent`, `IdsSpent` and `OutOfMemory`.
         """
         self._call(_library.put, *_texts(key, value))
+
+    def __setitem__(self, key: bytes, value: bytes) -> None:
+        """Sets a key to a value, as `put` does."""
+        self.put(key, value)
 
     def delete(self, key: bytes) -> None:
         """Removes a key. Raises what `put` does."""
         self._call(_library.delete, *_texts(key))
+
+    def __delitem__(self, key: bytes) -> None:
+        """Removes a key, as `delete` does. A key without a value is no error: nothing is read."""
+        self.delete(key)
 
     def merge(self, key: bytes, operand: bytes) -> None:
         """Combines a key with an operand. Raises what `put` does."""
@@ -525,48 +589,43 @@ class Store:
         self._call(_library.last, ctypes.byref(sequence))
         return sequence.value
 
-    def keep(self) -> int:
-        """The last sequence, at which a snapshot is until `release` is called as often as this.
+    def take_snapshot(self) -> int:
+        """Takes a snapshot at the last sequence, until `release` is called as often as this. Returns the sequence.
 
-        Raises `OutOfMemory`.
+        Raises `IdsSpent` and `OutOfMemory`.
         """
         sequence = _U64()
-        with self._lock:
-            self._call(_library.keep, ctypes.byref(sequence))
-            self._kept[sequence.value] = self._kept.get(sequence.value, 0) + 1
+        self._call(_library.snapshot, ctypes.byref(sequence))
         return sequence.value
 
     def release(self, sequence: int) -> None:
-        """Undoes a `keep`. The last release at a sequence ends its snapshot. Raises `NotProtected`."""
-        with self._lock:
-            if sequence not in self._kept:
-                raise NotProtected()
-            self._kept[sequence] -= 1
-            if self._kept[sequence] == 0:
-                del self._kept[sequence]
-                self._call(_library.release, sequence)
+        """Undoes a `take_snapshot`. The last release at a sequence ends its snapshot. Raises `NotProtected`."""
+        self._call(_library.release, _sequence(sequence))
 
     def snapshot(self) -> "Snapshot":
-        """A snapshot at the last sequence, which `with` releases at its end. Raises `OutOfMemory`."""
+        """A snapshot at the last sequence, which `with` releases at its end. Raises `IdsSpent` and `OutOfMemory`."""
         return Snapshot(self)
 
     @property
-    def keeps(self) -> List[int]:
+    def snapshots(self) -> List[int]:
         """The sequences at which snapshots are, which rise."""
         count = _SIZE()
         with self._lock:
-            self._call(_library.keeps, (_U64 * 1)(), 0, ctypes.byref(count))
+            self._call(_library.snapshots, (_U64 * 1)(), 0, ctypes.byref(count))
             room = (_U64 * count.value)()
-            self._call(_library.keeps, room, count.value, ctypes.byref(count))
+            self._call(_library.snapshots, room, count.value, ctypes.byref(count))
         return list(room)
 
-    def get(self, key: bytes, at: int) -> Optional[bytes]:
+    def get_at(self, key: bytes, at: int) -> Optional[bytes]:
         """The value under a key at a snapshot, or None. Raises `NotProtected` and `OutOfMemory`."""
-        return self._value(_library.get, *_texts(key), _sequence(at))
+        return self._value(_library.get_at, *_texts(key), _sequence(at))
 
-    def get_last(self, key: bytes) -> Optional[bytes]:
-        """The value under a key at the last sequence, or None. It needs no snapshot. Raises `OutOfMemory`."""
-        return self._value(_library.get_last, *_texts(key))
+    def scan_at(self, low: bytes, high: Optional[bytes], at: int) -> Iterator[_Row]:
+        """The rows of a `scan` at a snapshot. Raises `NotProtected` and `OutOfMemory`."""
+        return self._scan(low, high, at)
+
+    def _get(self, key: bytes) -> Optional[bytes]:
+        return self._value(_library.get, *_texts(key))
 
     def _value(self, function, *arguments) -> Optional[bytes]:
         """The value that a lookup copies into a room, if there is one."""
@@ -582,11 +641,7 @@ class Store:
                     return ctypes.string_at(room, size.value)
                 length = size.value
 
-    def scan(self, low: bytes, high: Optional[bytes], at: int) -> Iterator[_Row]:
-        """The keys from `low` to below `high`, or to the last one, with their values at a snapshot.
-
-        They come in the order of the keys' bytes, and are fetched in pages. Raises `NotProtected` and `OutOfMemory`.
-        """
+    def _scan(self, low: bytes, high: Optional[bytes], at: Optional[int] = None) -> Iterator[_Row]:
         room, limit = bytearray(_PAGE_BYTES), _PAGE_ROWS
         while True:
             rows, size = self._page(low, high, at, limit, room)
@@ -606,12 +661,17 @@ class Store:
                 # No key is between the last one and this.
                 low = rows[-1][0] + b"\0"
 
-    def _page(self, low: bytes, high: Optional[bytes], at: int, limit: int, room: bytearray) -> Tuple[List[_Row], int]:
+    def _page(
+        self, low: bytes, high: Optional[bytes], at: Optional[int], limit: int, room: bytearray
+    ) -> Tuple[List[_Row], int]:
         """The first rows of a scan, at most `limit`, as many as fit the room, and the size of all."""
         size, count = _SIZE(), _U64()
         ends = (*_texts(low, b"" if high is None else high), high is not None)
-        place = (ctypes.c_char * len(room)).from_buffer(room)
-        self._call(_library.scan, *ends, _sequence(at), limit, place, len(room), ctypes.byref(size), ctypes.byref(count))
+        place = ((ctypes.c_char * len(room)).from_buffer(room), len(room), ctypes.byref(size), ctypes.byref(count))
+        if at is None:
+            self._call(_library.scan, *ends, limit, *place)
+        else:
+            self._call(_library.scan_at, *ends, _sequence(at), limit, *place)
         rows, view, end = [], memoryview(room), 0
         for _ in range(count.value):
             key, end = _text_at(view, end)
@@ -619,10 +679,14 @@ class Store:
             rows.append((key, value))
         return rows, size.value
 
+    def flush(self) -> None:
+        """Makes a run of what is gathered. Raises `IdsSpent` and `OutOfMemory`."""
+        self._call(_library.flush)
+
     def compact(self) -> bool:
         """Compacts the runs that are picked next, if there are any, and tells whether there were.
 
-        Raises `IdsSpent` and `OutOfMemory`.
+        A store that compacts by itself needs no such call. Raises `IdsSpent` and `OutOfMemory`.
         """
         compacted = ctypes.c_bool()
         self._call(_library.compact, ctypes.byref(compacted))
@@ -630,43 +694,87 @@ class Store:
 
     def report(self) -> Report:
         """What the store holds, in numbers."""
-        report = _Report()
+        report = _Report(ctypes.sizeof(_Report))
         self._call(_library.report, ctypes.byref(report))
         return Report(*(getattr(report, name) for name in Report._fields))
 
-    def log_record(self, length: int, operations: Iterable[Operation], sequence: int = 0) -> bytes:
-        """The bytes that operations add to a log of `length` bytes, which are fed next. `sequence` is that of `feed`.
+    def prepare(self, length: int, operations: Iterable[Operation], sequence: int = 0) -> bytes:
+        """Prepares operations, so that `commit` can write them, and returns the bytes that they add to a log.
 
-        Append them to the log's file, wait until they are on its device, and `feed` the operations: then `open` has them
-        again after a crash. A file that was read is cut first, as `LogWrites.end` says.
+        The log has `length` bytes before, and `sequence` is that of `write`. No read sees the operations before `commit`.
+        Operations that were prepared before are given up, as they are by a write, a flush or a snapshot in between.
 
-        Raises what `feed` would. Fed next, operations that have a record are refused for want of memory alone: feed
-        them again then, or cut the file back to where their record begins.
+        Append the bytes to the log's file, wait until they are on its device, and `commit`: then `open` has them again
+        after a crash. If the file fails, cut it back, and `give_up`. A file that was read is cut first, as `LogWrites.end`
+        says.
+
+        Raises what `write` would.
         """
-        return self._log_record(length, batch_bytes(operations, sequence))
+        return self.prepare_bytes(length, batch_bytes(operations, sequence))
 
-    def _log_record(self, length: int, batch: bytes) -> bytes:
+    def prepare_bytes(self, length: int, batch: bytes) -> bytes:
+        """Prepares a batch that `batch_bytes` or RocksDB wrote, as `prepare` does."""
         # Room for a header in each block, and for the end of the block before.
         size, room_length = _SIZE(), len(batch) + _HEADER * (len(batch) // _MOST_FRAGMENT + 3)
         while True:
             room = ctypes.create_string_buffer(room_length)
             with self._lock:
-                status = _library.log_record(
-                    self._handle, length, *_texts(batch), room, room_length, ctypes.byref(size)
+                status = _library.prepare(
+                    self._handle, *_texts(batch), length, room, room_length, ctypes.byref(size)
                 )
             if status != _ROOM:
                 _check(status)
                 return ctypes.string_at(room, size.value)
             room_length = size.value
 
+    def commit(self) -> None:
+        """Writes what is prepared; if nothing is, it does nothing. It takes no memory."""
+        self._call(_library.commit)
 
-class Snapshot:
+    def give_up(self) -> None:
+        """Gives up what is prepared, if anything is."""
+        self._call(_library.give_up)
+
+
+class WriteBatch:
+    """Operations that are written at once, when `with` ends without an error."""
+
+    def __init__(self, store: Store) -> None:
+        self._store = store
+        self._operations: List[Operation] = []
+
+    def put(self, key: bytes, value: bytes) -> None:
+        """Will set a key to a value."""
+        self._operations.append(Put(key, value))
+
+    def delete(self, key: bytes) -> None:
+        """Will remove a key."""
+        self._operations.append(Delete(key))
+
+    def merge(self, key: bytes, operand: bytes) -> None:
+        """Will combine a key with an operand."""
+        self._operations.append(Merge(key, operand))
+
+    def delete_range(self, begin: bytes, end: bytes) -> None:
+        """Will remove each key from `begin` to below `end`."""
+        self._operations.append(DeleteRange(begin, end))
+
+    def __enter__(self) -> "WriteBatch":
+        return self
+
+    def __exit__(self, kind: object, *_: object) -> None:
+        """Writes the batch. Raises what `Store.write` does."""
+        if kind is None and self._operations:
+            self._store.write(self._operations)
+
+
+class Snapshot(_Reader):
     """A snapshot of a store: it reads what was written before it was taken. `with` releases it at its end."""
 
     def __init__(self, store: Store) -> None:
         self._store = store
         self._is_held = False
-        self.sequence = store.keep()
+        self.sequence = store.take_snapshot()
         """The sequence that it is at."""
         self._is_held = True
 
@@ -683,13 +791,11 @@ class Snapshot:
     def __exit__(self, *_) -> None:
         self.release()
 
-    def get(self, key: bytes) -> Optional[bytes]:
-        """The value under a key, or None. Raises `OutOfMemory`."""
-        return self._store.get(key, self.sequence)
+    def _get(self, key: bytes) -> Optional[bytes]:
+        return self._store.get_at(key, self.sequence)
 
-    def scan(self, low: bytes = b"", high: Optional[bytes] = None) -> Iterator[_Row]:
-        """The keys from `low` to below `high`, or to the last one, with their values. Raises `OutOfMemory`."""
-        return self._store.scan(low, high, self.sequence)
+    def _scan(self, low: bytes, high: Optional[bytes]) -> Iterator[_Row]:
+        return self._store.scan_at(low, high, self.sequence)
 
 
 class LogWrites:

@@ -21,10 +21,20 @@ from typing import Any, BinaryIO, Callable, Iterator, Mapping, NamedTuple, Seque
 from zlib import crc32
 
 from . import _TAGS, Delete, DeleteRange, End, Operation, Operator, Options, Store
-from . import TooManyRuns, UcstoreError, batch_bytes, log_writes
+from . import UcstoreError, batch_bytes, log_writes
 
 # The format of a store's files. It grows when they change their meaning.
-FORMAT = 2
+FORMAT = 3
+
+# The names that options had in the files of format 2.
+_OLD_NAMES = {
+    "memtable": "write_buffer_size",
+    "trigger": "compaction_trigger",
+    "ratio": "size_ratio",
+    "percent": "max_size_amplification_percent",
+    "least": "min_merge_width",
+    "greatest": "max_merge_width",
+}
 
 # How many rows a page of a scan has at most, and from how many bytes on it is full.
 PAGE_ROWS, PAGE_BYTES = 1000, 1 << 20
@@ -169,11 +179,21 @@ def unsealed(text: bytes) -> dict[str, Any]:
     shape = json.loads(text)
     if not isinstance(shape, dict):
         raise BadManifest("it isn't an object")
-    if shape.get("format") != FORMAT:
+    if shape.get("format") not in (2, FORMAT):
         raise BadManifest(f"its format is {shape.get('format')!r}, and only {FORMAT} is known")
     if shape.pop("sha256", None) != _checksum(shape):
         raise BadManifest("it doesn't have its checksum: it is damaged, or was changed")
-    return shape
+    return _renamed(shape) if shape["format"] == 2 else shape
+
+
+def _renamed(shape: Mapping[str, Any]) -> dict[str, Any]:
+    """A manifest of format 2 as it is spelled now. The numbers of runs begin at 1 for all stores."""
+    options = shape.get("options")
+    if isinstance(options, dict):
+        named = {_OLD_NAMES.get(name, name): value for name, value in options.items() if name != "first_id"}
+        # A trigger could be greater than the default of the option that bounds it now.
+        options = {**named, "stop_trigger": max(Options().stop_trigger, named.get("compaction_trigger", 1))}
+    return {**shape, "format": FORMAT, "options": options}
 
 
 class Claim:
@@ -295,7 +315,7 @@ class Manifest(NamedTuple):
     def read(cls, folder: Path) -> Manifest:
         """The manifest of a folder that has all files."""
         path = folder / "manifest.json"
-        with refusing(BadManifest, f"{path} is refused", OSError, ValueError, BadManifest):
+        with refusing(BadManifest, f"{path} is refused", OSError, TypeError, ValueError, BadManifest):
             manifest = cls.of(unsealed(path.read_bytes()))
             for needed in manifest._files():
                 if not (folder / needed).exists():
@@ -434,36 +454,30 @@ class Shard(Store):
             # Dask may keep an error, and with it the file and its lock.
             with undoing(file.close):
                 log = _read_log(file, whose, writer, length, last)
-                # As the oldest snapshot was, or less if that would be too many runs at once.
-                opened, shard = min(keeps, default=length), None
-                while shard is None:
-                    try:
-                        shard = cls.open(manifest.operator, log[:opened], manifest.options)
-                    except TooManyRuns:
-                        opened //= 2
-                shard._feed_rest(log, opened, Counter(keeps))
+                # As the oldest snapshot was.
+                opened = min(keeps, default=length)
+                shard = cls.open(manifest.operator, log[:opened], manifest.options)
+                shard._write_rest(log, opened, Counter(keeps))
         shard._writer, shard._whose, shard._file, shard._length = writer, whose, file, length
         shard._is_cut = False
         # Dask closes nothing: it drops an actor.
         weakref.finalize(shard, file.close)
         return shard
 
-    def _feed_rest(self, log: bytes, opened: int, keeps: Mapping[int, int]) -> None:
-        """Feeds the batches behind what was opened, and takes the snapshots that are alive."""
-        self._settle(keeps[opened])
+    def _write_rest(self, log: bytes, opened: int, keeps: Mapping[int, int]) -> None:
+        """Writes the batches behind what was opened, and takes the snapshots that are alive."""
+        self._keep(keeps[opened])
         writes = log_writes(log if opened < len(log) else b"")
         for end, batch in groupby(writes, lambda _: writes.offset):
             if end > opened:
-                fed = list(batch)
-                self._feed(batch_bytes((write.operation for write in fed), fed[0].sequence))
-                self._settle(keeps[end])
+                written = list(batch)
+                self.write((write.operation for write in written), written[0].sequence)
+                self._keep(keeps[end])
 
-    def _settle(self, keeps: int = 0) -> None:
-        """Takes snapshots, and compacts until nothing is picked."""
-        for _ in range(keeps):
-            self.keep()
-        while self.compact():
-            pass
+    def _keep(self, count: int) -> None:
+        """Takes snapshots."""
+        for _ in range(count):
+            self.take_snapshot()
 
     def call(self, method: str, *arguments: Any) -> Any:
         """What a method answers, or a `Refusal` with what it raises."""
@@ -473,19 +487,18 @@ class Shard(Store):
             return Refusal(error.with_traceback(None))
 
     def apply(self, length: int, first: int, part: bytes) -> int:
-        """Appends a part to the log, feeds it, and returns how long the log is then.
+        """Appends a part to the log, writes it, and returns how long the log is then.
 
         A log that isn't of the length has it already, because an answer was lost.
         """
         if self._length == length:
             with refusing(ShardedError, self._whose, OSError), undoing(self._file.close):
                 batch = batch_of(part, first)
-                record = self._log_record(length, batch)
+                record = self.prepare_bytes(length, batch)
                 self._writer.check()
                 self._cut()
                 append(self._file, record, self._writer.sync)
-                self._feed(batch)
-                self._settle()
+                self.commit()
             self._length += len(record)
         return self._length
 
@@ -504,15 +517,15 @@ class Shard(Store):
         found: list[tuple[int, Any]] = []
         for place, query in marshal.loads(queries):
             if isinstance(query, bytes):
-                found.append((place, self.get(query, at)))
+                found.append((place, self.get_at(query, at)))
             else:
-                found.append((place, list(islice(self.scan(*query[:2], at), query[2]))))
+                found.append((place, list(islice(self.scan_at(*query[:2], at), query[2]))))
         return dumps(found)
 
     def page(self, low: bytes, high: bytes | None, at: int) -> bytes:
         """The first rows of a scan at a snapshot, and whether there may be more, packed."""
         rows, size = [], 0
-        for row in self.scan(low, high, at):
+        for row in self.scan_at(low, high, at):
             rows.append(row)
             size += len(row[0]) + len(row[1])
             if len(rows) == PAGE_ROWS or size >= PAGE_BYTES:

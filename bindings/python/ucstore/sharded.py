@@ -187,7 +187,7 @@ class ShardedStore(AbstractContextManager):
     def write(self, operations: Iterable[Operation]) -> int:
         """Writes a batch, and returns its last sequence once all shards have it in their logs.
 
-        Raises what `Store.feed` does, `NoWorkers`, `AnotherWriter`, and `ShardedError` for a file's
+        Raises what `Store.write` does, `NoWorkers`, `AnotherWriter`, and `ShardedError` for a file's
         error: then the batch isn't there. An `OSError` is one of the sequencer's log: then that
         isn't known. The store is closed, and opening it tells.
         """

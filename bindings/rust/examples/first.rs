@@ -8,7 +8,7 @@ fn main() -> Result<(), ucstore::Error> {
     let before = store.snapshot()?;
     store.merge("visits", 3u64.to_le_bytes())?;
     let number = |text: Option<Vec<u8>>| u64::from_le_bytes(text.unwrap().try_into().unwrap());
-    let (then, now) = (before.get("visits")?, store.get_last("visits")?);
+    let (then, now) = (before.get("visits")?, store.get("visits")?);
     println!("{} visits, {} before", number(now), number(then));
     Ok(())
 }

@@ -3,7 +3,7 @@
 use crate::sys;
 use std::fmt;
 
-/// Why a call is refused. The store is as it was before it.
+/// Why a call is refused. No write was taken then.
 #[derive(Clone, Copy, Debug, PartialEq, Eq, Hash)]
 #[non_exhaustive]
 pub enum Error {
@@ -13,8 +13,6 @@ pub enum Error {
     NotProtected,
     /// An option isn't in its range.
     BadOption,
-    /// There would be more than 256 runs: compact, and try again.
-    TooManyRuns,
     /// No number is left for a run: the greatest is 2^64 - 2.
     IdsSpent,
     /// Too few sequences are left: the greatest is 2^56 - 1.
@@ -35,7 +33,6 @@ impl fmt::Display for Error {
             Error::OutOfMemory => "out of memory",
             Error::NotProtected => "no snapshot is at the sequence",
             Error::BadOption => "an option isn't in its range",
-            Error::TooManyRuns => "there would be more than 256 runs",
             Error::IdsSpent => "no number is left for a run",
             Error::SequencesSpent => "too few sequences are left",
             Error::TooLong => "a text has 2^32 bytes or more",
@@ -56,7 +53,6 @@ pub(crate) fn check(status: i32) -> Result<(), Error> {
         sys::OUT_OF_MEMORY => Err(Error::OutOfMemory),
         sys::NOT_PROTECTED => Err(Error::NotProtected),
         sys::BAD_OPTION => Err(Error::BadOption),
-        sys::TOO_MANY_RUNS => Err(Error::TooManyRuns),
         sys::IDS_SPENT => Err(Error::IdsSpent),
         sys::SEQUENCES_SPENT => Err(Error::SequencesSpent),
         sys::TOO_LONG => Err(Error::TooLong),

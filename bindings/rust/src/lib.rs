@@ -8,16 +8,16 @@
 //! let store = Store::create(Operator::Counter, &Options::default())?;
 //! let mut batch = Batch::new();
 //! batch.merge("visits", 2u64.to_le_bytes()).merge("visits", 3u64.to_le_bytes());
-//! store.feed(&batch)?;
-//! assert_eq!(store.get_last("visits")?, Some(5u64.to_le_bytes().to_vec()));
+//! store.write(&batch)?;
+//! assert_eq!(store.get("visits")?, Some(5u64.to_le_bytes().to_vec()));
 //! # Ok(())
 //! # }
 //! ```
 //!
 //! # A store that outlives its process
 //!
-//! The store itself is in memory. Its owner keeps a log in a file: [`Store::log_record`] returns what to append before
-//! a batch is fed, and [`Store::open`] reads it again. [`LogWrites::end`] says where the file goes on.
+//! The store itself is in memory. Its owner keeps a log in a file: [`Store::prepare`] returns what to append before
+//! [`Store::commit`] takes a batch, and [`Store::open`] reads it again. [`LogWrites::end`] says where the file goes on.
 //!
 //! ```
 //! # use ucstore::{Batch, Ended, Operator, Options, Store};
@@ -25,12 +25,12 @@
 //! let mut log = Vec::new();
 //! # let store = Store::create(Operator::Append, &Options::default())?;
 //! let mut batch = Batch::new();
-//! log.extend(store.log_record(log.len() as u64, batch.put("colour", "blue"))?);
-//! store.feed(&batch)?;
+//! log.extend(store.prepare(log.len() as u64, batch.put("colour", "blue"))?);
+//! store.commit();
 //!
 //! let (again, ended) = Store::open(Operator::Append, &Options::default(), &log)?;
 //! assert_eq!(ended, Ended::Clean);
-//! assert_eq!(again.get_last("colour")?, Some(b"blue".to_vec()));
+//! assert_eq!(again.get("colour")?, Some(b"blue".to_vec()));
 //! # Ok(())
 //! # }
 //! ```

@@ -67,7 +67,7 @@ pub struct LogWrites<'a> {
 /// # fn main() -> Result<(), ucstore::Error> {
 /// let store = Store::create(Operator::Append, &Options::default())?;
 /// let mut batch = Batch::new();
-/// let log = store.log_record(0, batch.put("colour", "blue"))?;
+/// let log = store.prepare(0, batch.put("colour", "blue"))?;
 /// let mut writes = ucstore::log_writes(&log);
 /// assert_eq!(writes.next().unwrap()?.sequence, 1);
 /// assert!(writes.next().is_none());

@@ -10,11 +10,13 @@ const PAGE_ROWS: u64 = 128;
 /// The bytes of a page at first.
 const PAGE_BYTES: usize = 16 * 1024;
 
-/// The keys of a range in order, each with its value at a snapshot. [`Store::scan`] makes it.
+/// The keys of a range in order, each with its value. [`Store::scan`] makes it, and [`Store::scan_at`] at a snapshot. Behind a page at the last
+/// sequence the next one has what was written since.
 #[derive(Debug)]
 pub struct Scan<'a> {
     store: &'a Store,
-    at: u64,
+    /// The sequence of a snapshot, or the last one.
+    at: Option<u64>,
     /// Where the next page begins.
     low: Vec<u8>,
     high: Option<Vec<u8>>,
@@ -29,8 +31,16 @@ pub struct Scan<'a> {
     is_last: bool,
 }
 
+/// The least key above all that begin with a prefix; none if there is no key above them.
+pub(crate) fn end_of_prefix(prefix: &[u8]) -> Option<Vec<u8>> {
+    let last = prefix.iter().rposition(|byte| *byte != u8::MAX)?;
+    let mut end = prefix[..=last].to_vec();
+    end[last] += 1;
+    Some(end)
+}
+
 impl<'a> Scan<'a> {
-    pub(crate) fn of(store: &'a Store, low: &[u8], high: Option<&[u8]>, at: u64) -> Scan<'a> {
+    pub(crate) fn of(store: &'a Store, low: &[u8], high: Option<&[u8]>, at: Option<u64>) -> Scan<'a> {
         Scan {
             store,
             at,

@@ -1,7 +1,7 @@
 //! [`Snapshot`]: a snapshot that its guard releases.
 
 use crate::error::Error;
-use crate::scan::Scan;
+use crate::scan::{end_of_prefix, Scan};
 use crate::store::Store;
 
 /// A snapshot of a store. It reads what was written before it was taken, whatever is written and compacted meanwhile.
@@ -15,7 +15,7 @@ use crate::store::Store;
 /// let before = store.snapshot()?;
 /// store.delete("colour")?;
 /// assert_eq!(before.get("colour")?, Some(b"blue".to_vec()));
-/// assert_eq!(store.get_last("colour")?, None);
+/// assert_eq!(store.get("colour")?, None);
 /// # Ok(())
 /// # }
 /// ```
@@ -30,7 +30,7 @@ impl<'a> Snapshot<'a> {
     pub(crate) fn of(store: &'a Store) -> Result<Snapshot<'a>, Error> {
         Ok(Snapshot {
             store,
-            sequence: store.keep()?,
+            sequence: store.take_snapshot()?,
         })
     }
 
@@ -45,7 +45,7 @@ impl<'a> Snapshot<'a> {
     ///
     /// [`Error::OutOfMemory`].
     pub fn get(&self, key: impl AsRef<[u8]>) -> Result<Option<Vec<u8>>, Error> {
-        self.store.get(key, self.sequence)
+        self.store.get_at(key, self.sequence)
     }
 
     /// The keys from `low` to below `high`, or to the last one, with their values.
@@ -54,7 +54,13 @@ impl<'a> Snapshot<'a> {
     ///
     /// A row may be [`Error::OutOfMemory`], and the last one then.
     pub fn scan(&self, low: impl AsRef<[u8]>, high: Option<&[u8]>) -> Scan<'_> {
-        self.store.scan(low, high, self.sequence)
+        self.store.scan_at(low, high, self.sequence)
+    }
+
+    /// The keys that begin with these bytes, with their values, as [`scan`](Snapshot::scan) gives them.
+    pub fn prefix(&self, prefix: impl AsRef<[u8]>) -> Scan<'_> {
+        let prefix = prefix.as_ref();
+        self.scan(prefix, end_of_prefix(prefix).as_deref())
     }
 }
 

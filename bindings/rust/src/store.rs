@@ -4,11 +4,10 @@ use crate::batch::Batch;
 use crate::ended::Ended;
 use crate::error::{check, Error};
 use crate::options::{Operator, Options};
-use crate::scan::Scan;
+use crate::scan::{end_of_prefix, Scan};
 use crate::snapshot::Snapshot;
 use crate::sys;
-use std::cell::{RefCell, UnsafeCell};
-use std::collections::BTreeMap;
+use std::cell::UnsafeCell;
 use std::fmt;
 use std::ptr;
 
@@ -29,24 +28,21 @@ const MOST_FRAGMENT: usize = 32_768 - HEADER_SIZE;
 /// share::<ucstore::Store>();
 /// ```
 ///
-/// It opens without snapshots. Each [`keep`](Store::keep) at a sequence is counted, and needs a
-/// [`release`](Store::release) of its own.
+/// Writes are gathered in a memtable, which becomes a run when it is full. Runs are compacted then. It opens without snapshots, which are
+/// counted: each [`take_snapshot`](Store::take_snapshot) needs a [`release`](Store::release) of its own.
 pub struct Store {
     handle: UnsafeCell<sys::Handle>,
-    /// How many keeps there are at each snapshot.
-    kept: RefCell<BTreeMap<u64, usize>>,
 }
 
 // The library lets handles go from thread to thread. What is behind this one is reached through it alone.
 unsafe impl Send for Store {}
 
 /// What a store holds, in numbers.
-#[repr(C)]
 #[derive(Clone, Copy, Debug, Default, PartialEq, Eq)]
 pub struct Report {
     /// How many runs there are.
     pub runs: u64,
-    /// How many snapshots there are.
+    /// How many sequences snapshots protect.
     pub snapshots: u64,
     /// How many points all runs have: puts, deletions and merges of keys.
     pub points: u64,
@@ -54,6 +50,8 @@ pub struct Report {
     pub fragments: u64,
     /// The bytes of all runs, with 8 for each sequence.
     pub bytes: u64,
+    /// How many writes are gathered, which no run has yet.
+    pub gathered: u64,
     /// The last sequence.
     pub last: u64,
 }
@@ -66,8 +64,8 @@ impl Store {
     /// [`Error::BadOption`], [`Error::OutOfMemory`].
     pub fn create(operator: Operator, options: &Options) -> Result<Store, Error> {
         let store = Store::closed();
-        check(unsafe { sys::ucstore_create(store.handle(), operator as u32, options) })?;
-        store.without_snapshots()
+        check(unsafe { sys::ucstore_create(store.handle(), operator as u32, &options.to_c()) })?;
+        Ok(store)
     }
 
     /// A store that is opened from the bytes of a write-ahead log, and how the log ends. It has the writes before the
@@ -75,7 +73,7 @@ impl Store {
     ///
     /// # Errors
     ///
-    /// [`Error::BadOption`], [`Error::TooManyRuns`], [`Error::OutOfMemory`].
+    /// [`Error::BadOption`], [`Error::IdsSpent`], [`Error::OutOfMemory`].
     pub fn open(
         operator: Operator,
         options: &Options,
@@ -87,31 +85,31 @@ impl Store {
             sys::ucstore_open(
                 store.handle(),
                 operator as u32,
-                options,
+                &options.to_c(),
                 log.as_ptr(),
                 log.len(),
                 &mut ended,
             )
         })?;
-        Ok((store.without_snapshots()?, Ended::of(ended)))
+        Ok((store, Ended::of(ended)))
     }
 
     /// Writes the operations of a batch. They get the sequences behind the last one, unless the batch has its own.
     ///
     /// # Errors
     ///
-    /// [`Error::TooManyRuns`], [`Error::NotABatch`] if a text has 2^32 bytes or more, [`Error::SequenceBack`],
-    /// [`Error::SequencesSpent`], [`Error::IdsSpent`], [`Error::OutOfMemory`].
-    pub fn feed(&self, batch: &Batch) -> Result<(), Error> {
+    /// [`Error::NotABatch`] if a text has 2^32 bytes or more, [`Error::SequenceBack`], [`Error::SequencesSpent`],
+    /// [`Error::IdsSpent`], [`Error::OutOfMemory`].
+    pub fn write(&self, batch: &Batch) -> Result<(), Error> {
         let bytes = batch.as_bytes();
-        check(unsafe { sys::ucstore_feed(self.handle(), bytes.as_ptr(), bytes.len()) })
+        check(unsafe { sys::ucstore_write_bytes(self.handle(), bytes.as_ptr(), bytes.len()) })
     }
 
-    /// Sets a key to a value, as a batch of its own. That is a run of its own: [`feed`](Store::feed) writes many at once.
+    /// Sets a key to a value.
     ///
     /// # Errors
     ///
-    /// Those of [`feed`](Store::feed), but [`Error::TooLong`] if a text has 2^32 bytes or more.
+    /// [`Error::TooLong`] if a text has 2^32 bytes or more, [`Error::SequencesSpent`], [`Error::IdsSpent`], [`Error::OutOfMemory`].
     pub fn put(&self, key: impl AsRef<[u8]>, value: impl AsRef<[u8]>) -> Result<(), Error> {
         let (key, value) = (key.as_ref(), value.as_ref());
         check(unsafe {
@@ -182,31 +180,23 @@ impl Store {
         sequence
     }
 
-    /// The last sequence, at which a snapshot is until [`release`](Store::release) is called as often as this.
+    /// Takes a snapshot at the last sequence, until [`release`](Store::release) is called as often as this. Returns the sequence.
     ///
     /// # Errors
     ///
-    /// [`Error::OutOfMemory`].
-    pub fn keep(&self) -> Result<u64, Error> {
+    /// [`Error::IdsSpent`], [`Error::OutOfMemory`].
+    pub fn take_snapshot(&self) -> Result<u64, Error> {
         let mut sequence = 0;
-        check(unsafe { sys::ucstore_keep(self.handle(), &mut sequence) })?;
-        *self.kept.borrow_mut().entry(sequence).or_insert(0) += 1;
+        check(unsafe { sys::ucstore_snapshot(self.handle(), &mut sequence) })?;
         Ok(sequence)
     }
 
-    /// Undoes a [`keep`](Store::keep). The last release at a sequence ends its snapshot.
+    /// Releases a snapshot that was taken at the sequence.
     ///
     /// # Errors
     ///
     /// [`Error::NotProtected`].
     pub fn release(&self, sequence: u64) -> Result<(), Error> {
-        let mut kept = self.kept.borrow_mut();
-        let count = kept.get_mut(&sequence).ok_or(Error::NotProtected)?;
-        *count -= 1;
-        if *count > 0 {
-            return Ok(());
-        }
-        kept.remove(&sequence);
         check(unsafe { sys::ucstore_release(self.handle(), sequence) })
     }
 
@@ -220,21 +210,21 @@ impl Store {
     }
 
     /// The sequences at which snapshots are, which rise.
-    pub fn keeps(&self) -> Vec<u64> {
+    pub fn snapshots(&self) -> Vec<u64> {
         let mut count = 0;
         self.certain(unsafe {
-            sys::ucstore_keeps(
+            sys::ucstore_snapshots(
                 self.handle(),
                 ptr::NonNull::dangling().as_ptr(),
                 0,
                 &mut count,
             )
         });
-        let mut keeps = vec![0; count];
+        let mut sequences = vec![0; count];
         self.certain(unsafe {
-            sys::ucstore_keeps(self.handle(), keeps.as_mut_ptr(), keeps.len(), &mut count)
+            sys::ucstore_snapshots(self.handle(), sequences.as_mut_ptr(), sequences.len(), &mut count)
         });
-        keeps
+        sequences
     }
 
     /// The value under a key at a snapshot, if there is one.
@@ -242,10 +232,10 @@ impl Store {
     /// # Errors
     ///
     /// [`Error::NotProtected`], [`Error::OutOfMemory`].
-    pub fn get(&self, key: impl AsRef<[u8]>, at: u64) -> Result<Option<Vec<u8>>, Error> {
+    pub fn get_at(&self, key: impl AsRef<[u8]>, at: u64) -> Result<Option<Vec<u8>>, Error> {
         let key = key.as_ref();
         value_by(|room, size| unsafe {
-            sys::ucstore_get(
+            sys::ucstore_get_at(
                 self.handle(),
                 key.as_ptr(),
                 key.len(),
@@ -257,15 +247,15 @@ impl Store {
         })
     }
 
-    /// The value under a key at the last sequence, if there is one. It needs no snapshot.
+    /// The value under a key, if there is one.
     ///
     /// # Errors
     ///
     /// [`Error::OutOfMemory`].
-    pub fn get_last(&self, key: impl AsRef<[u8]>) -> Result<Option<Vec<u8>>, Error> {
+    pub fn get(&self, key: impl AsRef<[u8]>) -> Result<Option<Vec<u8>>, Error> {
         let key = key.as_ref();
         value_by(|room, size| unsafe {
-            sys::ucstore_get_last(
+            sys::ucstore_get(
                 self.handle(),
                 key.as_ptr(),
                 key.len(),
@@ -276,17 +266,53 @@ impl Store {
         })
     }
 
-    /// The keys from `low` to below `high`, or to the last one, with their values at a snapshot. They come in the order
+    /// The keys from `low` to below `high`, or to the last one, with their values. They come in the order
     /// of the keys' bytes, and are fetched in pages.
     ///
     /// # Errors
     ///
-    /// A row may be [`Error::NotProtected`] or [`Error::OutOfMemory`], and the last one then.
-    pub fn scan(&self, low: impl AsRef<[u8]>, high: Option<&[u8]>, at: u64) -> Scan<'_> {
-        Scan::of(self, low.as_ref(), high, at)
+    /// A row may be [`Error::OutOfMemory`], and the last one then.
+    pub fn scan(&self, low: impl AsRef<[u8]>, high: Option<&[u8]>) -> Scan<'_> {
+        Scan::of(self, low.as_ref(), high, None)
     }
 
-    /// Compacts the runs that are picked next, if there are any, and tells whether there were.
+    /// The keys that begin with these bytes, with their values, as [`scan`](Store::scan) gives them.
+    ///
+    /// ```
+    /// # use ucstore::{Operator, Options, Store};
+    /// # fn main() -> Result<(), ucstore::Error> {
+    /// let store = Store::create(Operator::Append, &Options::default())?;
+    /// store.put("user/1", "Ada")?;
+    /// store.put("visit/1", "home")?;
+    /// assert_eq!(store.prefix("user/").count(), 1);
+    /// # Ok(())
+    /// # }
+    /// ```
+    pub fn prefix(&self, prefix: impl AsRef<[u8]>) -> Scan<'_> {
+        let prefix = prefix.as_ref();
+        self.scan(prefix, end_of_prefix(prefix).as_deref())
+    }
+
+    /// The keys from `low` to below `high`, or to the last one, with their values at a snapshot, as [`scan`](Store::scan) gives them.
+    ///
+    /// # Errors
+    ///
+    /// A row may be [`Error::NotProtected`] or [`Error::OutOfMemory`], and the last one then.
+    pub fn scan_at(&self, low: impl AsRef<[u8]>, high: Option<&[u8]>, at: u64) -> Scan<'_> {
+        Scan::of(self, low.as_ref(), high, Some(at))
+    }
+
+    /// Makes a run of what is gathered.
+    ///
+    /// # Errors
+    ///
+    /// [`Error::IdsSpent`], [`Error::OutOfMemory`].
+    pub fn flush(&self) -> Result<(), Error> {
+        check(unsafe { sys::ucstore_flush(self.handle()) })
+    }
+
+    /// Compacts the runs that are picked next, if there are any, and tells whether there were. A store that compacts by itself needs no such
+    /// call.
     ///
     /// # Errors
     ///
@@ -299,33 +325,44 @@ impl Store {
 
     /// What the store holds, in numbers.
     pub fn report(&self) -> Report {
-        let mut report = Report::default();
+        let mut report = sys::CReport {
+            size: std::mem::size_of::<sys::CReport>(),
+            ..Default::default()
+        };
         self.certain(unsafe { sys::ucstore_report(self.handle(), &mut report) });
-        report
+        Report {
+            runs: report.runs,
+            snapshots: report.snapshots,
+            points: report.points,
+            fragments: report.fragments,
+            bytes: report.bytes,
+            gathered: report.gathered,
+            last: report.last,
+        }
     }
 
-    /// The bytes that a batch adds to a log of `length` bytes. It is the batch that is fed next, and gets the same sequences.
+    /// Prepares a batch, so that [`commit`](Store::commit) can take it, and returns the bytes that it adds to a log of `length` bytes. No read
+    /// sees it before. A batch that was prepared before is given up.
     ///
-    /// Append them to the log's file, wait until they are on its device, and [`feed`](Store::feed) the batch: then
-    /// [`open`](Store::open) has it again after a crash. A file that was read is cut first, as
-    /// [`LogWrites::end`](crate::LogWrites::end) says.
+    /// Append the bytes to the log's file, wait until they are on its device, and [`commit`](Store::commit): then
+    /// [`open`](Store::open) has the batch again after a crash. If the file fails, cut it back, and [`give_up`](Store::give_up). A file that was
+    /// read is cut first, as [`LogWrites::end`](crate::LogWrites::end) says. A write, a flush or a snapshot in between gives the batch up.
     ///
     /// # Errors
     ///
-    /// What [`feed`](Store::feed) would refuse the batch for. Fed next, a batch that has a record is refused for want of memory
-    /// alone: feed it again then, or cut the file back to where its record begins.
-    pub fn log_record(&self, length: u64, batch: &Batch) -> Result<Vec<u8>, Error> {
+    /// What [`write`](Store::write) would refuse the batch for.
+    pub fn prepare(&self, length: u64, batch: &Batch) -> Result<Vec<u8>, Error> {
         let bytes = batch.as_bytes();
         // Room for a header in each block, and for the end of the block before.
         let mut room = vec![0; bytes.len() + HEADER_SIZE * (bytes.len() / MOST_FRAGMENT + 3)];
         loop {
             let mut size = 0;
             let status = unsafe {
-                sys::ucstore_log_record(
+                sys::ucstore_prepare(
                     self.handle(),
-                    length,
                     bytes.as_ptr(),
                     bytes.len(),
+                    length,
                     room.as_mut_ptr(),
                     room.len(),
                     &mut size,
@@ -340,32 +377,42 @@ impl Store {
         }
     }
 
+    /// Takes the batch that is prepared; if there is none, nothing.
+    pub fn commit(&self) {
+        self.certain(unsafe { sys::ucstore_commit(self.handle()) });
+    }
+
+    /// Gives up the batch that is prepared, if there is one.
+    pub fn give_up(&self) {
+        self.certain(unsafe { sys::ucstore_give_up(self.handle()) });
+    }
+
     /// The first rows of a scan, at most `limit`, as many as fit the room: how many these are, and the size of all.
     pub(crate) fn rows(
         &self,
         low: &[u8],
         high: Option<&[u8]>,
-        at: u64,
+        at: Option<u64>,
         limit: u64,
         room: &mut [u8],
     ) -> Result<(u64, usize), Error> {
         let (mut size, mut rows) = (0, 0);
-        let bound = high.unwrap_or(&[]);
-        check(unsafe {
-            sys::ucstore_scan(
-                self.handle(),
-                low.as_ptr(),
-                low.len(),
-                bound.as_ptr(),
-                bound.len(),
-                high.is_some(),
-                at,
-                limit,
-                room.as_mut_ptr(),
-                room.len(),
-                &mut size,
-                &mut rows,
-            )
+        let (bound, is_bounded) = (high.unwrap_or(&[]), high.is_some());
+        let (store, place) = (self.handle(), (room.as_mut_ptr(), room.len()));
+        let (low, bound) = ((low.as_ptr(), low.len()), (bound.as_ptr(), bound.len()));
+        check(match at {
+            None => unsafe {
+                sys::ucstore_scan(
+                    store, low.0, low.1, bound.0, bound.1, is_bounded, limit, place.0, place.1,
+                    &mut size, &mut rows,
+                )
+            },
+            Some(at) => unsafe {
+                sys::ucstore_scan_at(
+                    store, low.0, low.1, bound.0, bound.1, is_bounded, at, limit, place.0, place.1,
+                    &mut size, &mut rows,
+                )
+            },
         })?;
         Ok((rows, size))
     }
@@ -375,14 +422,7 @@ impl Store {
             handle: UnsafeCell::new(sys::Handle {
                 at: ptr::null_mut(),
             }),
-            kept: RefCell::default(),
         }
-    }
-
-    /// Releases the snapshot that a store opens with, since no keep counts it.
-    fn without_snapshots(self) -> Result<Store, Error> {
-        check(unsafe { sys::ucstore_release(self.handle(), self.last()) })?;
-        Ok(self)
     }
 
     /// The handle for a call. No call calls back, so there is only one at a time.

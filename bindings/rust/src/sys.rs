@@ -4,7 +4,6 @@
 //! behind the call. What is written is borrowed mutably, so it overlaps nothing. A handle is in a [`Store`](crate::Store),
 //! which no two threads share and no call calls back into.
 
-use crate::Options;
 use std::ffi::c_void;
 
 pub const OK: i32 = 0;
@@ -12,7 +11,6 @@ pub const OUT_OF_MEMORY: i32 = 1;
 pub const NOT_FOUND: i32 = 4;
 pub const NOT_PROTECTED: i32 = 5;
 pub const BAD_OPTION: i32 = 7;
-pub const TOO_MANY_RUNS: i32 = 8;
 pub const IDS_SPENT: i32 = 9;
 pub const SEQUENCES_SPENT: i32 = 10;
 pub const TOO_LONG: i32 = 11;
@@ -25,6 +23,35 @@ pub const SEQUENCE_BACK: i32 = 16;
 #[repr(C)]
 pub struct Handle {
     pub at: *mut c_void,
+}
+
+/// `struct ucstore_options`.
+#[repr(C)]
+#[derive(Clone, Copy, Default)]
+pub struct COptions {
+    pub size: usize,
+    pub write_buffer_size: u64,
+    pub compaction_trigger: u32,
+    pub stop_trigger: u32,
+    pub size_ratio: u32,
+    pub max_size_amplification_percent: u32,
+    pub min_merge_width: u32,
+    pub max_merge_width: u32,
+    pub compacts_itself: u32,
+}
+
+/// `struct ucstore_report`.
+#[repr(C)]
+#[derive(Clone, Copy, Default)]
+pub struct CReport {
+    pub size: usize,
+    pub runs: u64,
+    pub snapshots: u64,
+    pub points: u64,
+    pub fragments: u64,
+    pub bytes: u64,
+    pub gathered: u64,
+    pub last: u64,
 }
 
 /// `struct ucstore_ended`.
@@ -46,18 +73,18 @@ pub struct LogPlace {
 }
 
 extern "C" {
-    pub fn ucstore_options(options: *mut Options) -> i32;
-    pub fn ucstore_create(store: *mut Handle, merge_operator: u32, options: *const Options) -> i32;
+    pub fn ucstore_options_init(options: *mut COptions) -> i32;
+    pub fn ucstore_create(store: *mut Handle, merge_operator: u32, options: *const COptions) -> i32;
     pub fn ucstore_open(
         store: *mut Handle,
         merge_operator: u32,
-        options: *const Options,
+        options: *const COptions,
         log: *const u8,
         log_length: usize,
         ended: *mut CEnded,
     ) -> i32;
     pub fn ucstore_close(store: *mut Handle) -> i32;
-    pub fn ucstore_feed(store: *mut Handle, batch: *const u8, batch_length: usize) -> i32;
+    pub fn ucstore_write_bytes(store: *mut Handle, batch: *const u8, batch_length: usize) -> i32;
     pub fn ucstore_put(
         store: *mut Handle,
         key: *const u8,
@@ -80,16 +107,28 @@ extern "C" {
         end: *const u8,
         end_length: usize,
     ) -> i32;
-    pub fn ucstore_keep(store: *mut Handle, seq: *mut u64) -> i32;
+    pub fn ucstore_prepare(
+        store: *mut Handle,
+        batch: *const u8,
+        batch_length: usize,
+        log_length: u64,
+        room: *mut u8,
+        room_length: usize,
+        size: *mut usize,
+    ) -> i32;
+    pub fn ucstore_commit(store: *mut Handle) -> i32;
+    pub fn ucstore_give_up(store: *mut Handle) -> i32;
+    pub fn ucstore_flush(store: *mut Handle) -> i32;
+    pub fn ucstore_snapshot(store: *mut Handle, seq: *mut u64) -> i32;
     pub fn ucstore_release(store: *mut Handle, seq: u64) -> i32;
-    pub fn ucstore_keeps(
+    pub fn ucstore_snapshots(
         store: *mut Handle,
         room: *mut u64,
         room_length: usize,
         count: *mut usize,
     ) -> i32;
     pub fn ucstore_last(store: *mut Handle, seq: *mut u64) -> i32;
-    pub fn ucstore_get(
+    pub fn ucstore_get_at(
         store: *mut Handle,
         key: *const u8,
         key_length: usize,
@@ -98,7 +137,7 @@ extern "C" {
         room_length: usize,
         size: *mut usize,
     ) -> i32;
-    pub fn ucstore_get_last(
+    pub fn ucstore_get(
         store: *mut Handle,
         key: *const u8,
         key_length: usize,
@@ -113,6 +152,19 @@ extern "C" {
         high: *const u8,
         high_length: usize,
         bounded: bool,
+        limit: u64,
+        room: *mut u8,
+        room_length: usize,
+        size: *mut usize,
+        rows: *mut u64,
+    ) -> i32;
+    pub fn ucstore_scan_at(
+        store: *mut Handle,
+        low: *const u8,
+        low_length: usize,
+        high: *const u8,
+        high_length: usize,
+        bounded: bool,
         at: u64,
         limit: u64,
         room: *mut u8,
@@ -121,16 +173,7 @@ extern "C" {
         rows: *mut u64,
     ) -> i32;
     pub fn ucstore_compact(store: *mut Handle, compacted: *mut bool) -> i32;
-    pub fn ucstore_report(store: *mut Handle, report: *mut crate::Report) -> i32;
-    pub fn ucstore_log_record(
-        store: *mut Handle,
-        log_length: u64,
-        batch: *const u8,
-        batch_length: usize,
-        room: *mut u8,
-        room_length: usize,
-        size: *mut usize,
-    ) -> i32;
+    pub fn ucstore_report(store: *mut Handle, report: *mut CReport) -> i32;
     pub fn ucstore_log_next(
         log: *const u8,
         log_length: usize,

@@ -4,7 +4,7 @@ use ucstore::{
     log_writes, Batch, BatchFault, Ended, LogFault, Operation, Operator, Options, Store,
 };
 
-/// A store, and a log of all that was fed to it.
+/// A store, and a log of all that was written to it.
 struct Logged {
     store: Store,
     log: Vec<u8>,
@@ -17,10 +17,10 @@ impl Logged {
         Logged { store, log, ended }
     }
 
-    fn feed(&mut self, batch: &Batch) {
-        let record = self.store.log_record(self.log.len() as u64, batch).unwrap();
+    fn write(&mut self, batch: &Batch) {
+        let record = self.store.prepare(self.log.len() as u64, batch).unwrap();
         self.log.extend(record);
-        self.store.feed(batch).unwrap();
+        self.store.commit();
     }
 
     /// Cuts the log behind its last whole batch, as an owner does before more is written.
@@ -39,14 +39,14 @@ fn put(key: &str, length: usize) -> Batch {
 }
 
 #[test]
-fn a_log_opens_with_what_was_fed() {
+fn a_log_opens_with_what_was_written() {
     let mut logged = Logged::open(Vec::new());
     for length in [0, 1, 32_700, 40_000, 100_000, 5] {
-        logged.feed(&put("k", length));
+        logged.write(&put("k", length));
         let again = Logged::open(logged.log.clone());
         assert_eq!(again.ended, Ended::Clean);
         assert_eq!(again.store.last(), logged.store.last());
-        assert_eq!(again.store.get_last("k").unwrap().unwrap().len(), length);
+        assert_eq!(again.store.get("k").unwrap().unwrap().len(), length);
     }
 }
 
@@ -54,10 +54,10 @@ fn a_log_opens_with_what_was_fed() {
 fn each_write_comes_back() {
     let mut logged = Logged::open(Vec::new());
     let mut batch = Batch::new();
-    logged.feed(batch.put("a", "1").delete("b"));
-    logged.feed(&Batch::new());
+    logged.write(batch.put("a", "1").delete("b"));
+    logged.write(&Batch::new());
     batch.clear();
-    logged.feed(batch.merge("c", "2").delete_range("d", "e"));
+    logged.write(batch.merge("c", "2").delete_range("d", "e"));
     let text = |text: &str| text.as_bytes().to_vec();
     let wanted = [
         (
@@ -95,10 +95,10 @@ fn each_write_comes_back() {
 }
 
 #[test]
-fn a_log_has_the_sequences_that_were_fed() {
+fn a_log_has_the_sequences_that_were_given() {
     let mut logged = Logged::open(Vec::new());
-    logged.feed(put("a", 1).set_sequence(7));
-    logged.feed(&put("b", 1));
+    logged.write(put("a", 1).set_sequence(7));
+    logged.write(&put("b", 1));
     let sequences: Vec<_> = log_writes(&logged.log)
         .map(|write| write.unwrap().sequence)
         .collect();
@@ -109,40 +109,40 @@ fn a_log_has_the_sequences_that_were_fed() {
 #[test]
 fn a_torn_log_goes_on_where_it_is_cut() {
     let mut whole = Logged::open(Vec::new());
-    whole.feed(&put("a", 10));
+    whole.write(&put("a", 10));
     let first = whole.log.len();
-    whole.feed(&put("b", 50_000));
+    whole.write(&put("b", 50_000));
     for length in [first + 1, first + 7, 32_768, whole.log.len() - 1] {
         let torn = Logged::open(whole.log[..length].to_vec());
         assert!(matches!(torn.ended, Ended::Torn { .. }) && torn.ended.is_sound());
         let mut cut = torn.cut();
         assert_eq!(cut.log.len(), first);
-        cut.feed(&put("c", 3));
+        cut.write(&put("c", 3));
         let again = Logged::open(cut.log);
         assert_eq!(again.ended, Ended::Clean);
-        assert_eq!(again.store.get_last("b").unwrap(), None);
-        assert_eq!(again.store.get_last("c").unwrap().unwrap().len(), 3);
+        assert_eq!(again.store.get("b").unwrap(), None);
+        assert_eq!(again.store.get("c").unwrap().unwrap().len(), 3);
     }
 }
 
 #[test]
 fn a_log_goes_on_before_zeros() {
     let mut logged = Logged::open(Vec::new());
-    logged.feed(&put("a", 10));
+    logged.write(&put("a", 10));
     let length = logged.log.len();
     logged.log.resize(100_000, 0);
     let mut cut = Logged::open(logged.log).cut();
     assert_eq!((cut.log.len(), cut.ended), (length, Ended::Clean));
-    cut.feed(&put("b", 10));
+    cut.write(&put("b", 10));
     assert_eq!(Logged::open(cut.log).store.last(), 2);
 }
 
 #[test]
 fn faults_are_named() {
     let mut logged = Logged::open(Vec::new());
-    logged.feed(&put("a", 10));
+    logged.write(&put("a", 10));
     let end = logged.log.len();
-    logged.feed(&put("b", 10));
+    logged.write(&put("b", 10));
     let mut flipped = logged.log.clone();
     flipped[end + 20] ^= 1;
     let fault = Ended::LogFault {

@@ -102,18 +102,6 @@ fn write(store: &Store, operation: &Operation) -> Result<(), Error> {
     }
 }
 
-fn compact(store: &Store) {
-    while store.compact().unwrap() {}
-}
-
-/// Writes, and once more behind compactions if there are too many runs.
-fn settled(store: &Store, mut write: impl FnMut() -> Result<(), Error>) {
-    if write() == Err(Error::TooManyRuns) {
-        compact(store);
-        write().unwrap();
-    }
-}
-
 /// A store beside what it should hold, now and at each keep, and the log of it.
 struct Soak {
     operator: Operator,
@@ -127,7 +115,8 @@ struct Soak {
 }
 
 impl Soak {
-    fn feed(&mut self) {
+    /// Writes some at once: half of them are prepared and committed, half written again.
+    fn write_some(&mut self) {
         let operations: Vec<_> = (0..self.numbers.below(9))
             .map(|_| self.numbers.operation())
             .collect();
@@ -137,10 +126,14 @@ impl Soak {
             .for_each(|operation| push(&mut batch, operation));
         self.log.extend(
             self.store
-                .log_record(self.log.len() as u64, &batch)
+                .prepare(self.log.len() as u64, &batch)
                 .unwrap(),
         );
-        settled(&self.store, || self.store.feed(&batch));
+        if self.numbers.below(2) == 0 {
+            self.store.commit();
+        } else {
+            self.store.write(&batch).unwrap();
+        }
         self.wrote(operations);
     }
 
@@ -150,10 +143,10 @@ impl Soak {
         push(&mut batch, &operation);
         self.log.extend(
             self.store
-                .log_record(self.log.len() as u64, &batch)
+                .prepare(self.log.len() as u64, &batch)
                 .unwrap(),
         );
-        settled(&self.store, || write(&self.store, &operation));
+        write(&self.store, &operation).unwrap();
         self.wrote(vec![operation]);
     }
 
@@ -168,7 +161,7 @@ impl Soak {
     fn keep(&mut self) {
         if self.keeps.len() < 12 {
             self.keeps
-                .push((self.store.keep().unwrap(), self.map.clone()));
+                .push((self.store.take_snapshot().unwrap(), self.map.clone()));
         }
     }
 
@@ -180,18 +173,18 @@ impl Soak {
         let mut sequences: Vec<_> = self.keeps.iter().map(|keep| keep.0).collect();
         sequences.sort();
         sequences.dedup();
-        assert_eq!(self.store.keeps(), sequences);
+        assert_eq!(self.store.snapshots(), sequences);
     }
 
     fn get(&mut self) {
         let key = self.numbers.key();
         assert_eq!(
-            self.store.get_last(&key).unwrap().as_ref(),
+            self.store.get(&key).unwrap().as_ref(),
             self.map.get(&key)
         );
         for (sequence, map) in &self.keeps {
             assert_eq!(
-                self.store.get(&key, *sequence).unwrap().as_ref(),
+                self.store.get_at(&key, *sequence).unwrap().as_ref(),
                 map.get(&key)
             );
         }
@@ -199,17 +192,19 @@ impl Soak {
 
     fn scan(&mut self) {
         let (low, high) = (self.numbers.key(), self.numbers.key());
+        let now: Map = self.store.scan("", None).map(Result::unwrap).collect();
+        assert_eq!(now, self.map);
         for (sequence, map) in &self.keeps {
             let rows: Map = self
                 .store
-                .scan(&low, Some(&high), *sequence)
+                .scan_at(&low, Some(&high), *sequence)
                 .map(Result::unwrap)
                 .collect();
             let wanted = map.iter().filter(|row| low <= *row.0 && *row.0 < high);
             assert!(rows.iter().eq(wanted));
             let all: Map = self
                 .store
-                .scan("", None, *sequence)
+                .scan_at("", None, *sequence)
                 .map(Result::unwrap)
                 .collect();
             assert_eq!(all, *map);
@@ -237,10 +232,10 @@ impl Soak {
     fn step(&mut self) {
         match self.numbers.below(100) {
             0..=39 => self.write_one(),
-            40..=49 => self.feed(),
+            40..=49 => self.write_some(),
             50..=56 => self.keep(),
             57..=63 => self.release(),
-            64..=66 => compact(&self.store),
+            64..=66 => drop(self.store.compact().unwrap()),
             67..=95 => self.get(),
             _ => self.scan(),
         }
@@ -249,7 +244,7 @@ impl Soak {
 
 fn soak(operator: Operator, seed: u64) {
     let options = Options {
-        memtable: 64,
+        write_buffer_size: 64,
         ..Default::default()
     };
     let store = Store::create(operator, &options).unwrap();

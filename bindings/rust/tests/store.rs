@@ -19,11 +19,11 @@ fn a_store_reads_what_was_written() {
     store.put("b", "3").unwrap();
     store.delete("b").unwrap();
     store.put("c", "").unwrap();
-    assert_eq!(store.get_last("a").unwrap(), text("1,2"));
-    assert_eq!(store.get_last("b").unwrap(), None);
-    assert_eq!(store.get_last("c").unwrap(), text(""));
+    assert_eq!(store.get("a").unwrap(), text("1,2"));
+    assert_eq!(store.get("b").unwrap(), None);
+    assert_eq!(store.get("c").unwrap(), text(""));
     store.delete_range("a", "b").unwrap();
-    assert_eq!(store.get_last("a").unwrap(), None);
+    assert_eq!(store.get("a").unwrap(), None);
     assert_eq!(store.last(), 6);
 }
 
@@ -33,7 +33,7 @@ fn a_long_value_comes_whole() {
     for length in [511, 512, 513, 100_000] {
         let value: Vec<u8> = (0..length).map(|place| place as u8).collect();
         store.put("k", &value).unwrap();
-        assert_eq!(store.get_last("k").unwrap(), Some(value));
+        assert_eq!(store.get("k").unwrap(), Some(value));
     }
 }
 
@@ -41,7 +41,7 @@ fn a_long_value_comes_whole() {
 fn texts_of_zero_bytes_are_texts() {
     let store = empty();
     store.put("", "").unwrap();
-    assert_eq!(store.get_last("").unwrap(), text(""));
+    assert_eq!(store.get("").unwrap(), text(""));
     let snapshot = store.snapshot().unwrap();
     let rows: Vec<_> = snapshot.scan("", None).map(Result::unwrap).collect();
     assert_eq!(rows, [(vec![], vec![])]);
@@ -58,21 +58,21 @@ fn a_snapshot_stays_until_its_last_guard_is_dropped() {
     while store.compact().unwrap() {}
     let sequence = first.sequence();
     drop(first);
-    assert_eq!(store.keeps(), [sequence]);
+    assert_eq!(store.snapshots(), [sequence]);
     assert_eq!(second.get("k").unwrap(), text("old"));
     drop(second);
-    assert_eq!(store.keeps(), []);
-    assert_eq!(store.get("k", sequence), Err(Error::NotProtected));
+    assert_eq!(store.snapshots(), []);
+    assert_eq!(store.get_at("k", sequence), Err(Error::NotProtected));
 }
 
 #[test]
-fn keeps_are_counted() {
+fn snapshots_are_counted() {
     let store = empty();
     assert_eq!(store.release(0), Err(Error::NotProtected));
-    let sequence = store.keep().unwrap();
-    assert_eq!(store.keep(), Ok(sequence));
+    let sequence = store.take_snapshot().unwrap();
+    assert_eq!(store.take_snapshot(), Ok(sequence));
     store.release(sequence).unwrap();
-    assert_eq!(store.get("k", sequence), Ok(None));
+    assert_eq!(store.get_at("k", sequence), Ok(None));
     store.release(sequence).unwrap();
     assert_eq!(store.release(sequence), Err(Error::NotProtected));
 }
@@ -88,7 +88,7 @@ fn a_scan_goes_over_many_pages() {
             "x".repeat(if place % 100 == 7 { 40_000 } else { place % 50 }),
         );
     }
-    store.feed(&batch).unwrap();
+    store.write(&batch).unwrap();
     let snapshot = store.snapshot().unwrap();
     store.delete_range("", "9").unwrap();
     let rows: Vec<_> = snapshot
@@ -109,9 +109,24 @@ fn a_scan_goes_over_many_pages() {
 fn a_scan_ends_behind_an_error() {
     let store = empty();
     store.put("k", "v").unwrap();
-    let mut scan = store.scan("", None, 0);
+    let mut scan = store.scan_at("", None, 0);
     assert_eq!(scan.next(), Some(Err(Error::NotProtected)));
     assert_eq!(scan.next(), None);
+}
+
+#[test]
+fn a_scan_at_the_last_sequence_needs_no_snapshot() {
+    let store = empty();
+    for key in ["a", "b", "b1", "b\u{ff}", "c"] {
+        store.put(key, "v").unwrap();
+    }
+    assert_eq!(store.scan("b", Some(b"c")).count(), 3);
+    assert_eq!(store.prefix("b").count(), 3);
+    let snapshot = store.snapshot().unwrap();
+    store.delete_range("a", "c").unwrap();
+    assert_eq!(store.prefix("").count(), 1);
+    assert_eq!(snapshot.prefix("b").count(), 3);
+    assert_eq!(store.prefix([0xff]).count(), 0);
 }
 
 #[test]
@@ -124,20 +139,36 @@ fn a_report_counts() {
         (report.runs, report.snapshots, report.points, report.last),
         (1, 1, 1, 1)
     );
+    store.put("k", "w").unwrap();
+    assert_eq!((store.report().gathered, store.report().runs), (1, 1));
     assert!(format!("{store:?}").contains("runs: 1"));
 }
 
 #[test]
-fn too_many_runs_are_refused_and_compacted() {
+fn a_million_puts_need_no_other_call() {
     let store = empty();
-    for number in 0..256u32 {
-        store.put(number.to_be_bytes(), "v").unwrap();
+    for number in 0..1_000_000u32 {
+        store.put((number % 300_000).to_be_bytes(), number.to_be_bytes()).unwrap();
     }
-    assert_eq!(store.put("k", "v"), Err(Error::TooManyRuns));
-    assert_eq!(store.last(), 256);
-    while store.compact().unwrap() {}
-    store.put("k", "v").unwrap();
-    assert_eq!(store.last(), 257);
+    assert_eq!(store.get(7u32.to_be_bytes()).unwrap(), Some(900_007u32.to_be_bytes().to_vec()));
+    assert_eq!(store.last(), 1_000_000);
+}
+
+#[test]
+fn what_is_prepared_is_seen_once_it_is_committed() {
+    let store = empty();
+    let mut batch = Batch::new();
+    batch.put("k", "v");
+    store.prepare(0, &batch).unwrap();
+    assert_eq!(store.get("k").unwrap(), None);
+    store.give_up();
+    store.commit();
+    assert_eq!(store.get("k").unwrap(), None);
+    store.prepare(0, &batch).unwrap();
+    store.commit();
+    assert_eq!(store.get("k").unwrap(), text("v"));
+    store.flush().unwrap();
+    assert_eq!(store.report().runs, 1);
 }
 
 #[test]
@@ -145,22 +176,22 @@ fn a_batch_may_have_its_own_sequence() {
     let store = empty();
     let mut batch = Batch::new();
     batch.put("a", "1").put("b", "2").set_sequence(10);
-    store.feed(&batch).unwrap();
+    store.write(&batch).unwrap();
     assert_eq!(store.last(), 11);
     batch.set_sequence(11);
-    assert_eq!(store.feed(&batch), Err(Error::SequenceBack));
-    assert_eq!(store.log_record(0, &batch), Err(Error::SequenceBack));
+    assert_eq!(store.write(&batch), Err(Error::SequenceBack));
+    assert_eq!(store.prepare(0, &batch), Err(Error::SequenceBack));
     batch.set_sequence((1 << 56) - 1);
-    assert_eq!(store.feed(&batch), Err(Error::SequencesSpent));
+    assert_eq!(store.write(&batch), Err(Error::SequencesSpent));
     batch.set_sequence(0);
-    store.feed(&batch).unwrap();
+    store.write(&batch).unwrap();
     assert_eq!(store.last(), 13);
 }
 
 #[test]
 fn options_out_of_their_ranges_are_refused() {
     let options = Options {
-        least: 1,
+        min_merge_width: 1,
         ..Default::default()
     };
     let error = Store::create(Operator::Tail, &options).unwrap_err();
@@ -193,8 +224,8 @@ fn each_operator_merges() {
         let store = Store::create(operator, &Options::default()).unwrap();
         let mut batch = Batch::new();
         batch.merge("k", &operands[0]).merge("k", &operands[1]);
-        store.feed(&batch).unwrap();
-        assert_eq!(store.get_last("k").unwrap(), Some(wanted));
+        store.write(&batch).unwrap();
+        assert_eq!(store.get("k").unwrap(), Some(wanted));
     }
 }
 
@@ -206,12 +237,12 @@ fn a_store_goes_to_another_thread() {
         store.put("l", "w").unwrap();
         store
     });
-    assert_eq!(store.join().unwrap().get_last("l").unwrap(), text("w"));
+    assert_eq!(store.join().unwrap().get("l").unwrap(), text("w"));
 }
 
 #[test]
 fn no_bytes_are_a_clean_log() {
     let (store, ended) = Store::open(Operator::Append, &Options::default(), &[]).unwrap();
     assert_eq!((store.last(), ended), (0, Ended::Clean));
-    assert_eq!(store.keeps(), []);
+    assert_eq!(store.snapshots(), []);
 }

@@ -10,8 +10,6 @@ pub(crate) struct Asked {
     pub(crate) writes: usize,
     /// How many writes a batch has.
     pub(crate) size: usize,
-    /// Behind how many batches the store compacts.
-    pub(crate) every: usize,
     /// How many keys are looked up.
     pub(crate) gets: usize,
     /// How many scans there are.
@@ -24,7 +22,6 @@ pub(crate) fn few() -> Asked {
         merges: true,
         writes: 1000,
         size: 10,
-        every: 8,
         gets: 100,
         scans: 10,
     }
@@ -32,17 +29,16 @@ pub(crate) fn few() -> Asked {
 
 /// What a part and the numbers behind it ask for.
 pub(crate) fn asked_by(part: &str, numbers: &[String]) -> Result<Asked> {
-    let [writes, size, every, gets, scans] = numbers else {
-        bail!("{part} takes WRITES SIZE EVERY GETS SCANS");
+    let [writes, size, gets, scans] = numbers else {
+        bail!("{part} takes WRITES SIZE GETS SCANS");
     };
     let asked = Asked {
         merges: part == "counters",
         writes: writes.parse::<usize>()?,
         size: size.parse::<usize>()?,
-        every: every.parse::<usize>()?,
         gets: gets.parse::<usize>()?,
         scans: scans.parse::<usize>()?,
     };
-    ensure!(0 < asked.size && 0 < asked.every, "a number isn't above 0");
+    ensure!(0 < asked.size, "a batch has no write");
     Ok(asked)
 }

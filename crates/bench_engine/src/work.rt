@@ -1,13 +1,13 @@
 //! What is done with an engine, and how long it takes.
 use crate::batches::{drawn_batches, drawn_keys};
-use crate::sums::with_answer;
+use crate::sums::{with_rows, with_value};
 use crate::words::Asked;
 use anyhow::Result;
 use bench_queries::numbers::Numbers;
 use bench_queries::queries::KEYS;
 use std::alloc::Global;
 use std::time::{Clock, Instant};
-use uc_engine::{Bytes, Engine, OperatorKind, Options};
+use uc_engine::{Bytes, Engine, LiveOptions, OperatorKind};
 
 /// The most rows of a scan that is measured.
 const MOST_ROWS: usize = 50;
@@ -23,6 +23,7 @@ fn nanoseconds_since(clock: &impl Clock, start: Instant) -> Result<u64> {
 
 /// Compacts what is picked, until nothing is. Each compaction leaves fewer runs, of which there are never more than 256.
 fn settle(alloc: Global, engine: &mut Engine) -> Result<()> {
+    engine.flush(alloc)?;
     for _ in 0..256 {
         if !engine.compact_once(alloc)? {
             break;
@@ -31,44 +32,35 @@ fn settle(alloc: Global, engine: &mut Engine) -> Result<()> {
     Ok(())
 }
 
-/// Feeds batches, and returns how long this took, and how long what was compacted behind them.
+/// Writes batches, and returns how long this took, and how long what was left to be compacted.
 fn write_all(
     clock: &impl Clock,
     alloc: Global,
     engine: &mut Engine,
     batches: &[Vec<u8>],
-    every: usize,
 ) -> Result<(u64, u64)> {
-    let (mut writing, mut compacting) = (0u64, 0u64);
-    for (place, batch) in batches.iter().enumerate() {
-        let start = Instant::now(clock)?;
-        engine.feed(alloc, batch.as_slice())?;
-        writing = writing.saturating_add(nanoseconds_since(clock, start)?);
-        let start = Instant::now(clock)?;
-        if place.saturating_add(1).checked_rem(every) == Some(0) {
-            settle(alloc, engine)?;
-        }
-        compacting = compacting.saturating_add(nanoseconds_since(clock, start)?);
+    let start = Instant::now(clock)?;
+    for batch in batches {
+        engine.write_batch(alloc, batch.as_slice())?;
     }
+    let writing = nanoseconds_since(clock, start)?;
     let start = Instant::now(clock)?;
     settle(alloc, engine)?;
-    let settling = nanoseconds_since(clock, start)?;
-    Ok((writing, compacting.saturating_add(settling)))
+    Ok((writing, nanoseconds_since(clock, start)?))
 }
 
-/// Looks keys up at a sequence, and returns how long that took, with the checksum and then what was found.
+/// Looks keys up, and returns how long that took, with the checksum and then what was found.
 fn get_all(
     clock: &impl Clock,
     alloc: Global,
     engine: &Engine,
     keys: &[Bytes],
-    at: u64,
     checksum: u64,
 ) -> Result<(u64, u64)> {
     let mut sum = checksum;
     let start = Instant::now(clock)?;
     for key in keys {
-        sum = with_answer(sum, &engine.get(alloc, key.as_slice(), at)?);
+        sum = with_value(sum, &engine.get(alloc, key.as_slice())?);
     }
     Ok((nanoseconds_since(clock, start)?, sum))
 }
@@ -79,22 +71,19 @@ fn scan_all(
     alloc: Global,
     engine: &Engine,
     keys: &[Bytes],
-    at: u64,
     checksum: u64,
 ) -> Result<(u64, u64)> {
     let mut sum = checksum;
+    let high = Some(Bytes::from_slice(alloc, BEHIND_ALL)?);
     let start = Instant::now(clock)?;
     for (place, key) in keys.iter().enumerate() {
         let limit = place.checked_rem(MOST_ROWS).unwrap_or(0) as u64 + 1;
-        sum = with_answer(
-            sum,
-            &engine.scan(alloc, key.as_slice(), Some(BEHIND_ALL), at, limit)?,
-        );
+        sum = with_rows(sum, &engine.scan(alloc, key.as_slice(), &high, limit)?);
     }
     Ok((nanoseconds_since(clock, start)?, sum))
 }
 
-/// Feeds drawn batches, and returns how long this took, and how long what was compacted behind them.
+/// Writes drawn batches, and returns how long this took, and how long what was left to be compacted.
 fn write_drawn(
     clock: &impl Clock,
     alloc: Global,
@@ -103,13 +92,14 @@ fn write_drawn(
     asked: Asked,
 ) -> Result<(u64, u64)> {
     let batches = drawn_batches(alloc, numbers, asked)?;
-    write_all(clock, alloc, engine, &batches, asked.every)
+    write_all(clock, alloc, engine, &batches)
 }
 
 /// The checksum of all rows.
-fn sum_of_rows(alloc: Global, engine: &Engine, at: u64) -> Result<u64> {
-    let rows = engine.scan(alloc, b"account/", Some(BEHIND_ALL), at, KEYS)?;
-    Ok(with_answer(0, &rows))
+fn sum_of_rows(alloc: Global, engine: &Engine) -> Result<u64> {
+    let high = Some(Bytes::from_slice(alloc, BEHIND_ALL)?);
+    let rows = engine.scan(alloc, b"account/", &high, KEYS)?;
+    Ok(with_rows(0, &rows))
 }
 
 /// What was done: how long each step took, how many runs there are then, and a checksum of what was read.
@@ -132,12 +122,11 @@ fn do_work_with(
 ) -> Result<Done> {
     let mut numbers = Numbers::new(1);
     let (writing, compacting) = write_drawn(clock, alloc, engine, &mut numbers, asked)?;
-    let at = engine.keep()?;
-    let sum = sum_of_rows(alloc, engine, at)?;
+    let sum = sum_of_rows(alloc, engine)?;
     let looked_up = drawn_keys(alloc, &mut numbers, asked.gets)?;
     let scanned = drawn_keys(alloc, &mut numbers, asked.scans)?;
-    let (gets, sum) = get_all(clock, alloc, engine, &looked_up, at, sum)?;
-    let (scans, sum) = scan_all(clock, alloc, engine, &scanned, at, sum)?;
+    let (gets, sum) = get_all(clock, alloc, engine, &looked_up, sum)?;
+    let (scans, sum) = scan_all(clock, alloc, engine, &scanned, sum)?;
     let runs = engine.report().runs;
     Ok(Done {
         times: [writing, compacting, gets, scans],
@@ -148,6 +137,6 @@ fn do_work_with(
 
 /// Does all work.
 pub(crate) fn do_work(clock: &impl Clock, alloc: Global, asked: Asked) -> Result<Done> {
-    let mut engine = Engine::create(alloc, OperatorKind::Counter, Options::usual())?;
+    let mut engine = Engine::create(alloc, OperatorKind::Counter, LiveOptions::usual())?;
     do_work_with(clock, alloc, &mut engine, asked)
 }

@@ -1,4 +1,2 @@
-pub mod Taken
 pub mod Laying
 pub mod Beginning
-pub mod Sayable

@@ -1,12 +1,32 @@
--- What a compaction does to the store behind a handle.
-use Rattle.std.specs.Prelude.{◌≡◌, ℤ, Bool, Option}
+-- What flushes, compactions and snapshots do to the store behind a handle.
+use Rattle.std.specs.Prelude.{◌≡◌, [], ℕ, ℤ, Bool, Option}
+use Rattle.uc_live.specs.Compacting.{next_stretch, HasNoRoom, IsCompacted}
+use Rattle.uc_live.specs.Snapshots.{TakesSnapshot}
+use Rattle.uc_live.specs.Writing.{Prepares}
 use Rattle.uc_engine.specs.Engines.{Engined, meaning_of}
-use Rattle.uc_engine.specs.Compacting.{next_stretch, IsCompacted, IsNotDone}
-use Rattle.uc_c.specs.Statuses.{CompactSays}
 use Rattle.uc_c.specs.Replies.{Tries}
+use Rattle.uc_c.specs.Statuses.{RoomSays}
+use Rattle.uc_c.specs.Writing.{StaysUnwritten}
 
--- what is picked next is compacted, if anything is, or refused
-abbrev pub Compacts : ℤ → Option Engined → Option Engined → Bool → Type 0
-Compacts status old new compacted = Tries CompactSays status old new
-    (λ e e'. (e'.kind ≡ e.kind) × IsCompacted (meaning_of e.kind) (next_stretch e.owner) compacted e.owner e'.owner)
-    (λ e error. IsNotDone (next_stretch e.owner) e.owner error)
+-- The store took no write. What was gathered may have become a run.
+abbrev pub Settles : Engined → Engined → Type 0
+Settles e e' = (e'.kind ≡ e.kind) × Prepares (meaning_of e.kind) e.live e'.live e.live.prepared
+
+module _ (status : ℤ) (old new : Option Engined) where
+  -- what is gathered becomes a run, or the status says why not
+  abbrev pub Flushes : Type 0
+  Flushes = Tries RoomSays status old new
+      (λ e e'. StaysUnwritten e e' × (e'.live.gathered ≡ []))
+      (λ e e' error. HasNoRoom error e'.live.version × StaysUnwritten e e')
+
+  -- what is picked next is compacted, if anything is, or the status says why not
+  abbrev pub Compacts : Bool → Type 0
+  Compacts compacted = Tries RoomSays status old new
+      (λ e e'. (e'.kind ≡ e.kind) × IsCompacted (meaning_of e.kind) (next_stretch e.live) compacted e.live e'.live)
+      (λ e e' error. HasNoRoom error e.live.version × (e' ≡ e))
+
+  -- a snapshot is taken at the last sequence, or the status says why not
+  abbrev pub TakesOne : ℕ → Type 0
+  TakesOne seq = Tries RoomSays status old new
+      (λ e e'. (e'.kind ≡ e.kind) × TakesSnapshot (meaning_of e.kind) e.live e'.live seq)
+      (λ e e' error. HasNoRoom error e'.live.version × StaysUnwritten e e')

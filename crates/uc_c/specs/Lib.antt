@@ -5,7 +5,6 @@ pub mod Numbers
 pub mod Opening
 pub mod Writing
 pub mod Room
-pub mod Recording
 pub mod Reading
 pub mod Rows
 pub mod Compacting

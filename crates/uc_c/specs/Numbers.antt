@@ -1,24 +1,31 @@
 -- Options, reports, and how a log ended, as the numbers that C sees.
 use Rattle.uc_batch.specs.declared.ended.Ended.{Ended}
 use Rattle.uc_batch.specs.declared.ended.Ended.TheVariants as ends
-use Rattle.uc_version_state.specs.declared.options.Options.{Options}
+use Rattle.std.specs.Prelude.{◌≡◌, ◌≢◌, ◌⊎◌, ◌==◌, ℤ, not}
+use Rattle.uc_live.specs.declared.live_options.LiveOptions.{LiveOptions}
 use Rattle.uc_engine.specs.declared.report.EngineReport.{EngineReport}
 use Rattle.uc_c.specs.FaultCodes.{log_fault_code, batch_fault_code}
 use Rattle.uc_c.specs.declared.c_options.COptions.{COptions}
 use Rattle.uc_c.specs.declared.c_ended.CEnded.{CEnded}
 use Rattle.uc_c.specs.declared.c_report.CReport.{CReport}
+use Rattle.uc_c.specs.declared.c_report.TheConstants.{REPORT_SIZE}
+use Rattle.uc_c.specs.declared.status.TheConstants.{OK, BAD_SIZE}
 use Rattle.uc_c.specs.declared.c_ended.TheConstants.{CLEAN, TORN, LOG_FAULT, BATCH_FAULT}
 
 -- the options of a store
-abbrev pub options_in : COptions → Options
+abbrev pub options_in : COptions → LiveOptions
 options_in c = record {
-  memtable = c.memtable;
-  trigger = c.trigger;
-  ratio = c.ratio;
-  percent = c.percent;
-  least = c.least;
-  greatest = c.greatest;
-  first_id = c.first_id;
+  store = record {
+    memtable = c.write_buffer_size;
+    trigger = c.compaction_trigger;
+    ratio = c.size_ratio;
+    percent = c.max_size_amplification_percent;
+    least = c.min_merge_width;
+    greatest = c.max_merge_width;
+    first_id = 1;
+  };
+  stop_trigger = c.stop_trigger;
+  compacts_itself = not (c.compacts_itself == 0);
 }
 
 -- how a log ended: its kind, the offset in the log or the number of the payload, and the code of the fault
@@ -31,10 +38,18 @@ ended_in (ends.BatchFault number error) = record { kind = BATCH_FAULT; fault = b
 -- what an engine holds
 abbrev pub report_in : EngineReport → CReport
 report_in r = record {
+  size = REPORT_SIZE;
   runs = r.runs;
   snapshots = r.keeps;
   points = r.total.points;
   fragments = r.total.fragments;
   bytes = r.total.size;
+  gathered = r.gathered;
   last = r.last;
 }
+
+-- it is told, unless the report's size isn't the one that is known
+abbrev pub Reports : ℤ → EngineReport → CReport → CReport → Type 0
+Reports status report old new =
+    ((old.size ≡ REPORT_SIZE) × (status ≡ OK) × (new ≡ report_in report))
+    ⊎ ((old.size ≢ REPORT_SIZE) × (status ≡ BAD_SIZE))

@@ -6,9 +6,9 @@ use Rattle.uc_c.specs.declared.status.TheConstants.{OK, NOT_FOUND, NOT_PROTECTED
 use Rattle.uc_c.specs.Room.{filled}
 
 -- the value of a key, if it has one: it is in the room, and its size is told
-abbrev pub FoundValue : ℤ → Option (List ℕ) → List ℕ → List ℕ → ℕ → Type 0
-FoundValue status (Some value) room room' size' = (status ≡ OK) × (room' ≡ filled value room) × (size' ≡ length value)
-FoundValue status None room room' size' = status ≡ NOT_FOUND
+abbrev pub Found : ℤ → Option (List ℕ) → List ℕ → List ℕ → ℕ → Type 0
+Found status (Some value) room room' size' = (status ≡ OK) × (room' ≡ filled value room) × (size' ≡ length value)
+Found status None room room' size' = status ≡ NOT_FOUND
 
 -- Rows answer no look-up.
 abbrev pub IsLookedUp : Answer → Type 0
@@ -16,8 +16,8 @@ IsLookedUp (Value value) = Unit {0}
 IsLookedUp (NotProtected at) = Unit {0}
 IsLookedUp (Rows rows) = ⊥
 
--- the answer to a look-up
-abbrev pub Found : ℤ → Answer → List ℕ → List ℕ → ℕ → Type 0
-Found status (Value value) room room' size' = FoundValue status value room room' size'
-Found status (NotProtected at) room room' size' = status ≡ NOT_PROTECTED
-Found status (Rows rows) room room' size' = ⊥
+-- the answer to a look-up at a snapshot
+abbrev pub FoundAt : ℤ → Answer → List ℕ → List ℕ → ℕ → Type 0
+FoundAt status (Value value) room room' size' = Found status value room room' size'
+FoundAt status (NotProtected at) room room' size' = status ≡ NOT_PROTECTED
+FoundAt status (Rows rows) room room' size' = ⊥

@@ -1,15 +1,11 @@
 -- What the functions answer, and what is behind the handle before and after. E is what an engine is to a contract.
 use Rattle.std.specs.Prelude.{◌≡◌, ℤ, Option, None, ◌⊎◌, MatchOption, IsSomeAnd}
-use Rattle.uc_c.specs.declared.status.TheConstants.{OK, OUT_OF_MEMORY, NO_STORE}
+use Rattle.uc_c.specs.declared.status.TheConstants.{OK, NO_STORE}
 
 module _ {E : Type 0} (status : ℤ) (old new : Option E) where
   -- there was no store, and there is none
   abbrev pub Lacks : Type 0
   Lacks = (status ≡ NO_STORE) × (new ≡ None)
-
-  -- memory was refused, and nothing has changed
-  abbrev pub Refused : Type 0
-  Refused = (status ≡ OUT_OF_MEMORY) × (new ≡ old)
 
   -- P holds of the store, if there is one
   abbrev pub IfHeld : (E → Type 0) → Type 0
@@ -19,19 +15,16 @@ module _ {E : Type 0} (status : ℤ) (old new : Option E) where
   abbrev pub Answers : (E → Type 0) → Type 0
   Answers P = IfHeld (λ e. (new ≡ old) × P e)
 
-module _ {X : Type 0} (Says : X → ℤ → Type 0) where
-  -- some status says the error
-  abbrev pub IsSayable : X → Type 0
-  IsSayable error = (status : ℤ) × Says error status
+  -- P holds of the store before and after, if there is one
+  abbrev pub Becomes : (E → E → Type 0) → Type 0
+  Becomes P = IfHeld (λ e. IsSomeAnd new (P e))
 
-  -- the status says an error for which P holds
-  abbrev pub Names : ℤ → (X → Type 0) → Type 0
-  Names status P = (error : X) × Says error status × P error
+-- the status says an error for which P holds
+abbrev pub Names : {X : Type 0} → (X → ℤ → Type 0) → ℤ → (X → Type 0) → Type 0
+Names {X} Says status P = (error : X) × Says error status × P error
 
 module _ {E X : Type 0} (Says : X → ℤ → Type 0) (status : ℤ) (old new : Option E) where
   -- It is done, and Done holds of the store before and after; or it is refused for an error that the status says, for which
-  -- Fails holds, and nothing has changed.
-  abbrev pub Tries : (E → E → Type 0) → (E → X → Type 0) → Type 0
-  Tries Done Fails = IfHeld status old new (λ e.
-      ((status ≡ OK) × IsSomeAnd new (Done e))
-      ⊎ ((new ≡ old) × Names Says status (Fails e)))
+  -- Fails holds.
+  abbrev pub Tries : (E → E → Type 0) → (E → E → X → Type 0) → Type 0
+  Tries Done Fails = Becomes status old new (λ e e'. ((status ≡ OK) × Done e e') ⊎ Names Says status (Fails e e'))

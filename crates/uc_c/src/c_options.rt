@@ -3,79 +3,90 @@ ghost use Rattle.std.specs.Prelude.{◌≡◌};
 ghost use Rattle.uc_c.specs.declared.status.TheConstants.{OK};
 
 use crate::status::OK;
-use uc_engine::Options;
+use std::mem::size_of;
+use uc_engine::{LiveOptions, Options};
 
-/// A store's options, as C writes them. [`Options`](uc_engine::Options) says what each means.
+/// How many bytes the struct has.
+pub const OPTIONS_SIZE: usize = 48;
+
+/// A store's options, as C writes them. [`LiveOptions`](uc_engine::LiveOptions) says what each means.
 #[repr(C)]
 #[derive(Clone, Copy, Debug, PartialEq, Eq)]
 pub struct COptions {
-    /// From how many bytes on a memtable is flushed.
-    pub memtable: u64,
+    /// [`OPTIONS_SIZE`]. A later library may have more fields behind these.
+    pub size: usize,
+    /// From how many bytes on the memtable is full.
+    pub write_buffer_size: u64,
     /// From how many runs on something is compacted.
-    pub trigger: u32,
+    pub compaction_trigger: u32,
+    /// From how many runs on a write waits for a compaction.
+    pub stop_trigger: u32,
     /// By how many percent a run may be larger than those above it to be compacted with them.
-    pub ratio: u32,
+    pub size_ratio: u32,
     /// Above how many percent of the oldest run's size the newer ones together are compacted with it.
-    pub percent: u32,
+    pub max_size_amplification_percent: u32,
     /// The least number of runs for a compaction by size ratio.
-    pub least: u32,
+    pub min_merge_width: u32,
     /// The greatest number of runs for a compaction.
-    pub greatest: u32,
-    /// The number of the first run.
-    pub first_id: u64,
+    pub max_merge_width: u32,
+    /// Not 0 if the store compacts behind a flush.
+    pub compacts_itself: u32,
 }
+
+const _: () = prove!(size_of::<COptions>() == OPTIONS_SIZE);
 
 impl COptions {
     ghost use Rattle.uc_c.specs.Numbers.{options_in};
 
-    /// The options, as C sees them.
-    pub fn of(options: Options) -> COptions
-        ensures { options_in result ≡ options }
-    {
-        COptions {
-            memtable: options.memtable,
-            trigger: options.trigger,
-            ratio: options.ratio,
-            percent: options.percent,
-            least: options.least,
-            greatest: options.greatest,
-            first_id: options.first_id,
-        }
-    }
-
     /// The options of a store.
-    pub fn options(&self) -> Options
+    pub fn options(&self) -> LiveOptions
         ensures { result ≡ options_in self.now }
     {
-        Options {
-            memtable: self.memtable,
-            trigger: self.trigger,
-            ratio: self.ratio,
-            percent: self.percent,
-            least: self.least,
-            greatest: self.greatest,
-            first_id: self.first_id,
+        LiveOptions {
+            store: Options {
+                memtable: self.write_buffer_size,
+                trigger: self.compaction_trigger,
+                ratio: self.size_ratio,
+                percent: self.max_size_amplification_percent,
+                least: self.min_merge_width,
+                greatest: self.max_merge_width,
+                first_id: 1,
+            },
+            stop_trigger: self.stop_trigger,
+            compacts_itself: self.compacts_itself != 0,
         }
     }
 }
 
-/// Fills in the default options: memtables of 4 MiB, 4 runs, 1 percent, 200 percent, at least 2 runs and no limit to them,
-/// numbers from 1.
+/// Fills in the default options and their size: memtables of 4 MiB, 4 runs, stops from 36 runs on, 1 percent, 200 percent, at least 2 runs
+/// and no limit to them, and a store that compacts by itself.
 #[unsafe(no_mangle)]
-pub extern "C" fn ucstore_options(options: &mut COptions) -> i32
+pub extern "C" fn ucstore_options_init(options: &mut COptions) -> i32
     ensures status { result ≡ OK }
     ensures options { options.new ≡
         record {
-          memtable = 4194304;
-          trigger = 4;
-          ratio = 1;
-          percent = 200;
-          least = 2;
-          greatest =
+          size = 48;
+          write_buffer_size = 4194304;
+          compaction_trigger = 4;
+          stop_trigger = 36;
+          size_ratio = 1;
+          max_size_amplification_percent = 200;
+          min_merge_width = 2;
+          max_merge_width =
               4294967295;
-          first_id = 1;
+          compacts_itself = 1;
         } }
 {
-    *options = COptions::of(Options::usual());
+    *options = COptions {
+        size: OPTIONS_SIZE,
+        write_buffer_size: 4_194_304,
+        compaction_trigger: 4,
+        stop_trigger: 36,
+        size_ratio: 1,
+        max_size_amplification_percent: 200,
+        min_merge_width: 2,
+        max_merge_width: u32::MAX,
+        compacts_itself: 1,
+    };
     OK
 }

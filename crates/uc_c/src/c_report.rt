@@ -2,21 +2,27 @@
 ghost use Rattle.std.specs.Prelude.{◌≡◌, ◌⊎◌};
 ghost use Rattle.uc_engine.specs.EngineReports.{report_of};
 ghost use Rattle.uc_c.specs.declared.status.TheConstants.{OK};
-ghost use Rattle.uc_c.specs.Numbers.{report_in};
+ghost use Rattle.uc_c.specs.Numbers.{Reports};
 ghost use Rattle.uc_c.specs.Replies.{Answers};
 
-use crate::status::{NO_STORE, OK};
+use crate::status::{BAD_SIZE, NO_STORE, OK};
 use std::alloc::Global;
+use std::mem::size_of;
 use uc_engine::EngineReport;
 use uc_handle::Handle;
+
+/// How many bytes the struct has.
+pub const REPORT_SIZE: usize = 64;
 
 /// What a store holds, in numbers, as C sees it.
 #[repr(C)]
 #[derive(Clone, Copy, Debug, PartialEq, Eq)]
 pub struct CReport {
+    /// [`REPORT_SIZE`], which C writes. A later library may have more fields behind these.
+    pub size: usize,
     /// How many runs there are.
     pub runs: u64,
-    /// How many snapshots there are.
+    /// How many sequences snapshots protect.
     pub snapshots: u64,
     /// Points of all runs: writes of a single key. It is held at 2^64 - 1, as the next two are.
     pub points: u64,
@@ -24,31 +30,40 @@ pub struct CReport {
     pub fragments: u64,
     /// Bytes of all runs, with 8 for each sequence.
     pub bytes: u64,
+    /// How many writes are gathered, which no run has yet.
+    pub gathered: u64,
     /// The last sequence; 0 if nothing was written.
     pub last: u64,
 }
 
+const _: () = prove!(size_of::<CReport>() == REPORT_SIZE);
+
 impl CReport {
+    ghost use Rattle.uc_c.specs.Numbers.{report_in};
+
     /// What an engine holds, as C sees it.
     pub fn of(report: EngineReport) -> CReport
         ensures { result ≡ report_in report }
     {
         CReport {
+            size: REPORT_SIZE,
             runs: report.runs,
             snapshots: report.keeps,
             points: report.total.points,
             fragments: report.total.fragments,
             bytes: report.total.size,
+            gathered: report.gathered,
             last: report.last,
         }
     }
 }
 
-/// Tells what the store holds, in numbers. It looks at each run once, and at no point.
+/// Tells what the store holds, in numbers. It looks at each run once, and at no point. It is refused if the report's size isn't the one that this
+/// library knows.
 #[unsafe(no_mangle)]
 pub extern "C" fn ucstore_report(alloc: Global, handle: &mut Handle, report: &mut CReport) -> i32
     ensures reports { Answers result handle.old.held handle.new.held (λ e.
-        (result ≡ OK) × (report.new ≡ report_in (report_of e.owner.version))) }
+        Reports result (report_of e.live) report.old report.new) }
     ensures untold { (result ≡ OK) ⊎ (report.new ≡ report.old) }
 {
     let Some(engine) = handle.take(alloc) else {
@@ -56,6 +71,9 @@ pub extern "C" fn ucstore_report(alloc: Global, handle: &mut Handle, report: &mu
     };
     let found = engine.report();
     handle.put(engine);
+    if report.size != REPORT_SIZE {
+        return BAD_SIZE;
+    }
     *report = CReport::of(found);
     OK
 }

@@ -1,11 +1,27 @@
-//! Compactions of the store behind a handle.
+//! Flushes and compactions of the store behind a handle.
 ghost use Rattle.std.specs.Prelude.{◌≡◌, ◌⊎◌};
 ghost use Rattle.uc_c.specs.declared.status.TheConstants.{OK};
-ghost use Rattle.uc_c.specs.Compacting.{Compacts};
+ghost use Rattle.uc_c.specs.Compacting.{Compacts, Flushes};
 
-use crate::status::{NO_STORE, OK, compact_status};
+use crate::status::{NO_STORE, OK, room_status};
 use std::alloc::Global;
 use uc_handle::Handle;
+
+/// Makes a run of what is gathered. It is refused if no id is left for the run, and for want of memory.
+#[unsafe(no_mangle)]
+pub extern "C" fn ucstore_flush(alloc: Global, handle: &mut Handle) -> i32
+    ensures { Flushes result handle.old.held handle.new.held }
+{
+    let Some(mut engine) = handle.take(alloc) else {
+        return NO_STORE;
+    };
+    let done = engine.flush(alloc);
+    handle.put(engine);
+    match done {
+        Ok(()) => OK,
+        Err(error) => room_status(error),
+    }
+}
 
 /// Compacts the runs that are picked next, if there are any, and says whether there were. The calling thread does all
 /// of it. It is refused if no id is left for the new run, and for want of memory.
@@ -24,6 +40,6 @@ pub extern "C" fn ucstore_compact(alloc: Global, handle: &mut Handle, compacted:
             *compacted = found;
             OK
         }
-        Err(error) => compact_status(error),
+        Err(error) => room_status(error),
     }
 }

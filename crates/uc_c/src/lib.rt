@@ -6,7 +6,7 @@
 //! ```c
 //! struct ucstore store = {0};
 //! struct ucstore_options options;
-//! ucstore_options(&options);
+//! ucstore_options_init(&options);
 //! int32_t status = ucstore_create(&store, UCSTORE_COUNTER, &options);
 //! ```
 //!

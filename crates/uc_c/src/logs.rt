@@ -1,46 +1,16 @@
-//! Logs that C keeps in its files: what a batch adds to one, and a walk over one.
+//! Logs that C keeps in its files: a walk over one.
 ghost use Rattle.std.specs.Prelude.{◌≡◌, ◌⊎◌, ◌<◌, ◌≤◌, length};
 ghost use Rattle.uc_batch.specs.Log.{log_writes};
 ghost use Rattle.uc_c.specs.declared.status.TheConstants.{OK, ROOM, LOG_ENDS};
 ghost use Rattle.uc_c.specs.LogWalk.{ahead_of, start, Walks};
-ghost use Rattle.uc_c.specs.Recording.{Records};
-ghost use Rattle.uc_c.specs.Replies.{Answers};
 ghost use Rattle.uc_c.specs.Room.{filled};
 
 use crate::c_ended::CEnded;
 use crate::c_log_place::CLogPlace;
 use crate::log_step::{LaidWrites, LogStep, step_from};
 use crate::room::fill;
-use crate::status::{BAD_PLACE, LOG_ENDS, NO_STORE, OK, OUT_OF_MEMORY, ROOM, write_status};
+use crate::status::{BAD_PLACE, LOG_ENDS, OK, OUT_OF_MEMORY, ROOM};
 use std::alloc::Global;
-use uc_handle::Handle;
-
-/// Copies the bytes that a write batch adds to a log of so many bytes, if there is room for them, and says how many they
-/// are. The batch is the one that is fed next. It is refused as `ucstore_feed` would refuse it.
-#[unsafe(no_mangle)]
-pub extern "C" fn ucstore_log_record(
-    alloc: Global,
-    handle: &mut Handle,
-    log_length: u64,
-    batch: &[u8],
-    room: &mut [u8],
-    size: &mut usize,
-) -> i32
-    ensures records { Answers result handle.old.held handle.new.held (λ e.
-        Records result e log_length batch.now room.old room.new size.new) }
-    ensures untold { (result ≡ OK) ⊎ (room.new ≡ room.old) }
-    ensures size_untold { (result ≡ OK) ⊎ ((result ≡ ROOM) ⊎ (size.new ≡ size.old)) }
-{
-    let Some(engine) = handle.take(alloc) else {
-        return NO_STORE;
-    };
-    let record = engine.log_record(alloc, log_length, batch);
-    handle.put(engine);
-    match record {
-        Ok(bytes) => lay(bytes.as_slice(), room, size),
-        Err(error) => write_status(error),
-    }
-}
 
 /// Goes from a place in a log to behind the next batch, and lays its writes out in the room one behind the other: each as
 /// 8 bytes for the sequence, low byte first, 1 for the tag of the operation, 8 for the length of the first text, the text,

@@ -1,34 +1,33 @@
 //! Opens a store behind a handle, and closes it.
-ghost use Rattle.std.specs.Prelude.{◌≡◌, ◌≢◌, ◌⊎◌, Some, None, IfOk, IfErr, ⊤};
+ghost use Rattle.std.specs.Prelude.{◌≡◌, ◌⊎◌, IfOk, IfErr};
 ghost use Rattle.uc_batch.specs.Log.{log_writes};
-ghost use Rattle.uc_version_work.specs.Refusal.{opening_refusal};
-ghost use Rattle.uc_version_work.specs.declared.open_error.OpenError.TheVariants.{Memory};
-ghost use Rattle.uc_engine.specs.Engines.{opened_engine, log_opening, empty_opening};
+ghost use Rattle.uc_live.specs.declared.open_error.LiveOpenError.TheVariants.{NoRoom};
+ghost use Rattle.uc_live.specs.declared.room_error.RoomError.TheVariants.{Memory};
 ghost use Rattle.uc_c.specs.declared.status.TheConstants.{OK};
-ghost use Rattle.uc_c.specs.Numbers.{options_in, ended_in};
-ghost use Rattle.uc_c.specs.Opening.{Opens, Closes};
+ghost use Rattle.uc_c.specs.Numbers.{ended_in};
+ghost use Rattle.uc_c.specs.Opening.{Closes, Creates, Opens};
 
 use crate::c_ended::CEnded;
-use crate::c_options::COptions;
-use crate::status::{HAS_STORE, NO_STORE, OK, UNKNOWN_OPERATOR, open_status};
+use crate::c_options::{COptions, OPTIONS_SIZE};
+use crate::status::{BAD_SIZE, HAS_STORE, NO_STORE, OK, UNKNOWN_OPERATOR, open_status};
 use std::alloc::Global;
-use uc_engine::{Engine, OpenError, OpenedEngine, OperatorKind};
+use uc_engine::{Engine, LiveOpenError, OpenedEngine, OperatorKind, RoomError};
 use uc_handle::Handle;
 
 /// The engine in a box.
-fn boxed(alloc: Global, engine: Engine) -> Result<Box<Engine>, OpenError>
+fn boxed(alloc: Global, engine: Engine) -> Result<Box<Engine>, LiveOpenError>
     ensures ok { IfOk result (λ held. held.value ≡ engine) }
-    ensures err { IfErr result (λ error. error ≡ Memory) }
+    ensures err { IfErr result (λ error. error ≡ NoRoom Memory) }
 {
     match Box::new(alloc, engine) {
         Ok(held) => Ok(held),
-        Err(_) => Err(OpenError::Memory),
+        Err(_) => Err(LiveOpenError::NoRoom(RoomError::Memory)),
     }
 }
 
 /// Puts an empty store behind the handle, whose operator is 0 for texts joined by commas, 1 for sums, 2 for the greater
-/// text or 3 for the last four bytes. It is refused if the handle has a store, if no operator has the number, if an
-/// option is out of its range, and for want of memory.
+/// text or 3 for the last four bytes. It has no snapshot. It is refused if the handle has a store, if the options' size isn't the one that
+/// this library knows, if no operator has the number, if an option is out of its range, and for want of memory.
 #[unsafe(no_mangle)]
 pub extern "C" fn ucstore_create(
     alloc: Global,
@@ -36,11 +35,14 @@ pub extern "C" fn ucstore_create(
     operator: u32,
     options: &COptions,
 ) -> i32
-    ensures { Opens result handle.old.held handle.new.held operator (empty_opening (options_in options.now)) ⊤ }
+    ensures { Creates result handle.old.held handle.new.held operator options.now }
 {
     if let Some(engine) = handle.take(alloc) {
         handle.put(engine);
         return HAS_STORE;
+    }
+    if options.size != OPTIONS_SIZE {
+        return BAD_SIZE;
     }
     let Some(kind) = OperatorKind::of(operator) else {
         return UNKNOWN_OPERATOR;
@@ -59,8 +61,7 @@ pub extern "C" fn ucstore_create(
 }
 
 /// Puts a store behind the handle that is opened from the bytes of a write-ahead log: it has the writes before the log's first
-/// fault, and `ended` says whether there was one. It is refused as `ucstore_create` is, and if the writes make more runs than
-/// there are slots.
+/// fault, and `ended` says whether there was one. It has no snapshot. It is refused as `ucstore_create` is, and if no id is left for a run.
 #[unsafe(no_mangle)]
 pub extern "C" fn ucstore_open(
     alloc: Global,
@@ -70,13 +71,16 @@ pub extern "C" fn ucstore_open(
     log: &[u8],
     ended: &mut CEnded,
 ) -> i32
-    ensures opens { Opens result handle.old.held handle.new.held operator (log_opening (options_in options.now) log.now)
-        (ended.new ≡ ended_in (log_writes log.now).ended) }
+    ensures opens { Opens result handle.old.held handle.new.held operator options.now log.now }
+    ensures ended { (result ≡ OK) → ended.new ≡ ended_in (log_writes log.now).ended }
     ensures untold { (result ≡ OK) ⊎ (ended.new ≡ ended.old) }
 {
     if let Some(engine) = handle.take(alloc) {
         handle.put(engine);
         return HAS_STORE;
+    }
+    if options.size != OPTIONS_SIZE {
+        return BAD_SIZE;
     }
     let Some(kind) = OperatorKind::of(operator) else {
         return UNKNOWN_OPERATOR;

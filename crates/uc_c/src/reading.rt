@@ -1,23 +1,46 @@
-//! Reads from the store behind a handle.
+//! Look-ups in the store behind a handle.
 ghost use Rattle.std.specs.Prelude.{◌≡◌, ◌⊎◌};
-ghost use Rattle.uc_model.specs.Meaning.{value_of};
 ghost use Rattle.uc_query_read.specs.declared.query.Query.TheVariants as queries;
-ghost use Rattle.uc_version_state.specs.Versions.{writes_in};
-ghost use Rattle.uc_engine.specs.Engines.{answer_in, meaning_of};
+ghost use Rattle.uc_engine.specs.Engines.{answer_in, last_value};
 ghost use Rattle.uc_c.specs.declared.status.TheConstants.{OK, OUT_OF_MEMORY};
-ghost use Rattle.uc_c.specs.Reading.{IsLookedUp, Found, FoundValue};
+ghost use Rattle.uc_c.specs.Reading.{Found, FoundAt, IsLookedUp};
 ghost use Rattle.uc_c.specs.Replies.{Answers};
 
 use crate::room::fill;
 use crate::status::{NO_STORE, NOT_FOUND, NOT_PROTECTED, OK, OUT_OF_MEMORY};
 use std::alloc::Global;
-use uc_engine::Answer;
+use uc_engine::{Answer, Bytes};
 use uc_handle::Handle;
 
-/// Looks a key up at a sequence, copies its value into the room, as much of it as there is room for, and says how long
-/// it is. It is refused if no snapshot is at the sequence, and for want of memory.
+/// Looks a key up at the last sequence, copies its value into the room, as much of it as there is room for, and says how long
+/// it is. It is refused for want of memory.
 #[unsafe(no_mangle)]
 pub extern "C" fn ucstore_get(
+    alloc: Global,
+    handle: &mut Handle,
+    key: &[u8],
+    room: &mut [u8],
+    size: &mut usize,
+) -> i32
+    ensures found { Answers result handle.old.held handle.new.held (λ e.
+        (result ≡ OUT_OF_MEMORY) ⊎ Found result (last_value e key.now) room.old room.new size.new) }
+    ensures untold { (result ≡ OK) ⊎ ((room.new ≡ room.old) × (size.new ≡ size.old)) }
+{
+    let Some(engine) = handle.take(alloc) else {
+        return NO_STORE;
+    };
+    let value = engine.get(alloc, key);
+    handle.put(engine);
+    match value {
+        Ok(value) => tell_value(&value, room, size),
+        Err(_) => OUT_OF_MEMORY,
+    }
+}
+
+/// Looks a key up at a sequence, and copies its value as `ucstore_get` does. It is refused if no snapshot is at the sequence, and for
+/// want of memory.
+#[unsafe(no_mangle)]
+pub extern "C" fn ucstore_get_at(
     alloc: Global,
     handle: &mut Handle,
     key: &[u8],
@@ -27,13 +50,13 @@ pub extern "C" fn ucstore_get(
 ) -> i32
     ensures found { Answers result handle.old.held handle.new.held (λ e.
         (result ≡ OUT_OF_MEMORY)
-        ⊎ Found result (answer_in e (queries.Get key.now at)) room.old room.new size.new) }
+        ⊎ FoundAt result (answer_in e (queries.Get key.now at)) room.old room.new size.new) }
     ensures untold { (result ≡ OK) ⊎ ((room.new ≡ room.old) × (size.new ≡ size.old)) }
 {
     let Some(engine) = handle.take(alloc) else {
         return NO_STORE;
     };
-    let answer = engine.get(alloc, key, at);
+    let answer = engine.get_at(alloc, key, at);
     handle.put(engine);
     match answer {
         Ok(answer) => tell(&answer, room, size),
@@ -41,47 +64,29 @@ pub extern "C" fn ucstore_get(
     }
 }
 
-/// Looks a key up at the last sequence, whether or not a snapshot is there, and copies its value as `ucstore_get` does. It is
-/// refused for want of memory.
-#[unsafe(no_mangle)]
-pub extern "C" fn ucstore_get_last(
-    alloc: Global,
-    handle: &mut Handle,
-    key: &[u8],
-    room: &mut [u8],
-    size: &mut usize,
-) -> i32
-    ensures found { Answers result handle.old.held handle.new.held (λ e.
-        (result ≡ OUT_OF_MEMORY)
-        ⊎ FoundValue result
-        (value_of (meaning_of e.kind) (writes_in e.owner.version) key.now e.owner.version.last)
-        room.old room.new size.new) }
+/// Copies a value, if there is one.
+fn tell_value(value: &Option<Bytes>, room: &mut [u8], size: &mut usize) -> i32
+    ensures found { Found result value.now room.old room.new size.new }
     ensures untold { (result ≡ OK) ⊎ ((room.new ≡ room.old) × (size.new ≡ size.old)) }
 {
-    let Some(engine) = handle.take(alloc) else {
-        return NO_STORE;
-    };
-    let answer = engine.get_last(alloc, key);
-    handle.put(engine);
-    match answer {
-        Ok(answer) => tell(&answer, room, size),
-        Err(_) => OUT_OF_MEMORY,
+    match value {
+        Some(value) => {
+            fill(room, value.as_slice());
+            *size = value.len();
+            OK
+        }
+        None => NOT_FOUND,
     }
 }
 
 /// Copies the value of an answer, if there is one.
 fn tell(answer: &Answer, room: &mut [u8], size: &mut usize) -> i32
     requires { IsLookedUp answer.now }
-    ensures found { Found result answer.now room.old room.new size.new }
+    ensures found { FoundAt result answer.now room.old room.new size.new }
     ensures untold { (result ≡ OK) ⊎ ((room.new ≡ room.old) × (size.new ≡ size.old)) }
 {
     match answer {
-        Answer::Value(Some(value)) => {
-            fill(room, value.as_slice());
-            *size = value.len();
-            OK
-        }
-        Answer::Value(None) => NOT_FOUND,
+        Answer::Value(value) => tell_value(value, room, size),
         Answer::NotProtected(_) => NOT_PROTECTED,
         Answer::Rows(_) => unreachable!(),
     }

@@ -1,17 +1,21 @@
 //! Scans of the store behind a handle.
 ghost use Rattle.std.specs.Prelude.{◌≡◌, ◌⊎◌, ◌≤◌, ◌++◌, length, take, Some, None, IfOk, IfSome, OnOk, if◌then◌else◌};
 ghost use Rattle.uc_query_read.specs.declared.query.Query.TheVariants as queries;
-ghost use Rattle.uc_engine.specs.Engines.{answer_in};
+ghost use Rattle.uc_engine.specs.Engines.{answer_in, last_rows};
 ghost use Rattle.uc_c.specs.declared.status.TheConstants.{OK, OUT_OF_MEMORY};
-ghost use Rattle.uc_c.specs.Replies.{Answers};
+ghost use Rattle.uc_c.specs.Compacting.{Settles};
+ghost use Rattle.uc_c.specs.Replies.{Answers, Becomes};
 ghost use Rattle.uc_c.specs.Rows as layout;
-ghost use Rattle.uc_c.specs.Rows.{row_bytes, AreFitting, IsScanned, Scanned};
+ghost use Rattle.uc_c.specs.Rows.{row_bytes, AreFitting, AreShown, IsScanned, Scanned};
 
 use crate::room::{fill, push_text};
 use crate::status::{NO_STORE, NOT_PROTECTED, OK, OUT_OF_MEMORY};
 use std::alloc::{AllocError, Global};
-use uc_engine::{Answer, Bytes, Engine};
+use uc_engine::{Answer, Bytes, Engine, Query, Rows};
 use uc_handle::Handle;
+
+/// How many gathered writes a scan sorts: if there are more, they become a run first.
+const MOST_SORTED: usize = 256;
 
 /// The bytes of the two lengths in a row.
 const LENGTHS: usize = 16;
@@ -27,12 +31,69 @@ struct Laid {
     whole: usize,
 }
 
+/// The end of a scan, if it is bounded.
+fn bound(alloc: Global, high: &[u8], bounded: bool) -> Result<Option<Bytes>, AllocError>
+    ensures { IfOk result (λ bound. bound ≡ (if bounded then Some high.now else None)) }
+{
+    if bounded {
+        Ok(Some(Bytes::from_slice(alloc, high)?))
+    } else {
+        Ok(None)
+    }
+}
+
 /// Scans the first rows, at most `limit`, of the keys from `low` to below `high`, or to the last one if they aren't
-/// bounded, at a sequence. It writes the rows that fit the room one behind the other, each as 8 bytes for the key's
+/// bounded, at the last sequence. It writes the rows that fit the room one behind the other, each as 8 bytes for the key's
 /// length, low byte first, the key, 8 bytes for the value's length, and the value. It tells how many these are, and the
-/// size of all rows. It is refused if no snapshot is at the sequence, and for want of memory.
+/// size of all rows. Many gathered writes are flushed first, unless a batch is prepared. It is refused for want of memory.
 #[unsafe(no_mangle)]
 pub extern "C" fn ucstore_scan(
+    alloc: Global,
+    handle: &mut Handle,
+    low: &[u8],
+    high: &[u8],
+    bounded: bool,
+    limit: u64,
+    room: &mut [u8],
+    size: &mut usize,
+    count: &mut u64,
+) -> i32
+    ensures scanned { Becomes result handle.old.held handle.new.held (λ e e'. Settles e e' × ((result ≡ OUT_OF_MEMORY)
+        ⊎ ((result ≡ OK) × AreShown (last_rows e' low.now (if bounded then Some high.now else None) limit)
+        room.old room.new size.new count.new))) }
+    ensures untold { (result ≡ OK)
+        ⊎ ((room.new ≡ room.old) × (size.new ≡ size.old) × (count.new ≡ count.old)) }
+{
+    let Some(mut engine) = handle.take(alloc) else {
+        return NO_STORE;
+    };
+    engine.settle(alloc, MOST_SORTED);
+    let rows = scan(alloc, &engine, low, high, bounded, limit);
+    handle.put(engine);
+    match rows {
+        Ok(rows) => show_rows(alloc, rows.as_slice(), room, size, count),
+        Err(_) => OUT_OF_MEMORY,
+    }
+}
+
+/// The rows of a scan at the last sequence.
+fn scan(
+    alloc: Global,
+    engine: &Engine,
+    low: &[u8],
+    high: &[u8],
+    bounded: bool,
+    limit: u64,
+) -> Result<Rows, AllocError>
+    ensures { IfOk result (λ rows. rows ≡ last_rows engine.now low.now (if bounded then Some high.now else None) limit) }
+{
+    let high = bound(alloc, high, bounded)?;
+    engine.scan(alloc, low, &high, limit)
+}
+
+/// Scans as `ucstore_scan` does, at a sequence. It is refused if no snapshot is at the sequence, and for want of memory.
+#[unsafe(no_mangle)]
+pub extern "C" fn ucstore_scan_at(
     alloc: Global,
     handle: &mut Handle,
     low: &[u8],
@@ -55,7 +116,7 @@ pub extern "C" fn ucstore_scan(
     let Some(engine) = handle.take(alloc) else {
         return NO_STORE;
     };
-    let answer = scan(alloc, &engine, low, high, bounded, at, limit);
+    let answer = scan_at(alloc, &engine, low, high, bounded, at, limit);
     handle.put(engine);
     match answer {
         Ok(answer) => show(alloc, &answer, room, size, count),
@@ -63,8 +124,8 @@ pub extern "C" fn ucstore_scan(
     }
 }
 
-/// Scans the keys below `high` only if they are bounded.
-fn scan(
+/// The answer to a scan at a sequence.
+fn scan_at(
     alloc: Global,
     engine: &Engine,
     low: &[u8],
@@ -76,10 +137,36 @@ fn scan(
     ensures { IfOk result (λ answer.
         answer ≡ answer_in engine.now (queries.Scan low.now (if bounded then Some high.now else None) at limit)) }
 {
-    if bounded {
-        engine.scan(alloc, low, Some(high), at, limit)
-    } else {
-        engine.scan(alloc, low, None, at, limit)
+    let query = Query::Scan {
+        low: Bytes::from_slice(alloc, low)?,
+        high: bound(alloc, high, bounded)?,
+        at,
+        limit,
+    };
+    engine.answer(alloc, &query)
+}
+
+/// Writes the rows that fit the room.
+fn show_rows(
+    alloc: Global,
+    rows: &[(Bytes, Bytes)],
+    room: &mut [u8],
+    size: &mut usize,
+    count: &mut u64,
+) -> i32
+    ensures shown { (result ≡ OUT_OF_MEMORY)
+        ⊎ ((result ≡ OK) × AreShown rows.now room.old room.new size.new count.new) }
+    ensures untold { (result ≡ OK)
+        ⊎ ((room.new ≡ room.old) × (size.new ≡ size.old) × (count.new ≡ count.old)) }
+{
+    match laid_rows(alloc, rows, room.len()) {
+        Ok(laid) => {
+            fill(room, laid.bytes.as_slice());
+            *size = laid.whole;
+            *count = laid.count as u64;
+            OK
+        }
+        Err(_) => OUT_OF_MEMORY,
     }
 }
 
@@ -92,15 +179,7 @@ fn show(alloc: Global, answer: &Answer, room: &mut [u8], size: &mut usize, count
         ⊎ ((room.new ≡ room.old) × (size.new ≡ size.old) × (count.new ≡ count.old)) }
 {
     match answer {
-        Answer::Rows(rows) => match laid_rows(alloc, rows.as_slice(), room.len()) {
-            Ok(laid) => {
-                fill(room, laid.bytes.as_slice());
-                *size = laid.whole;
-                *count = laid.count as u64;
-                OK
-            }
-            Err(_) => OUT_OF_MEMORY,
-        },
+        Answer::Rows(rows) => show_rows(alloc, rows.as_slice(), room, size, count),
         Answer::NotProtected(_) => NOT_PROTECTED,
         Answer::Value(_) => unreachable!(),
     }

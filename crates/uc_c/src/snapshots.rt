@@ -1,46 +1,46 @@
 //! Snapshots of the store behind a handle.
 ghost use Rattle.std.specs.Prelude.{◌≡◌, ◌⊎◌, Contains, Some, length};
-ghost use Rattle.uc_version.specs.Feeding.{after_keep, after_release};
-ghost use Rattle.uc_engine.specs.Engines.{with_owner};
+ghost use Rattle.uc_live.specs.Lives as lives;
+ghost use Rattle.uc_live.specs.Snapshots.{without_snapshot};
+ghost use Rattle.uc_engine.specs.Engines.{with_live};
 ghost use Rattle.uc_c.specs.declared.status.TheConstants.{OK, NOT_PROTECTED};
-ghost use Rattle.uc_c.specs.Replies.{Answers, IfHeld, Refused};
+ghost use Rattle.uc_c.specs.Compacting.{TakesOne};
+ghost use Rattle.uc_c.specs.Replies.{Answers, IfHeld};
 ghost use Rattle.uc_c.specs.Room.{filled};
 
 use crate::room::fill_numbers;
-use crate::status::{NO_STORE, NOT_PROTECTED, OK, OUT_OF_MEMORY};
+use crate::status::{NO_STORE, NOT_PROTECTED, OK, room_status};
 use std::alloc::Global;
 use uc_handle::Handle;
 
-/// Takes a snapshot: the last sequence becomes one, if it isn't, and is told. It is refused for want of memory.
+/// Takes a snapshot at the last sequence, and tells that. Snapshots are counted: one that is taken twice is released twice. It is
+/// refused if no id is left for a run, and for want of memory.
 #[unsafe(no_mangle)]
-pub extern "C" fn ucstore_keep(alloc: Global, handle: &mut Handle, seq: &mut u64) -> i32
-    ensures keeps { IfHeld result handle.old.held handle.new.held (λ e.
-        ((result ≡ OK) × (seq.new ≡ e.owner.version.last)
-        × (handle.new.held ≡ Some (with_owner (after_keep e.owner) e)))
-        ⊎ Refused result handle.old.held handle.new.held) }
+pub extern "C" fn ucstore_snapshot(alloc: Global, handle: &mut Handle, seq: &mut u64) -> i32
+    ensures takes { TakesOne result handle.old.held handle.new.held seq.new }
     ensures untold { (result ≡ OK) ⊎ (seq.new ≡ seq.old) }
 {
     let Some(mut engine) = handle.take(alloc) else {
         return NO_STORE;
     };
-    let done = engine.keep();
+    let done = engine.snapshot(alloc);
     handle.put(engine);
     match done {
         Ok(last) => {
             *seq = last;
             OK
         }
-        Err(_) => OUT_OF_MEMORY,
+        Err(error) => room_status(error),
     }
 }
 
-/// Releases a snapshot. It is refused if no snapshot is at the sequence.
+/// Releases a snapshot. It is refused if none was taken at the sequence that isn't released.
 #[unsafe(no_mangle)]
 pub extern "C" fn ucstore_release(alloc: Global, handle: &mut Handle, seq: u64) -> i32
     ensures { IfHeld result handle.old.held handle.new.held (λ e.
-        ((result ≡ OK) × Contains e.owner.version.keeps seq
-        × (handle.new.held ≡ Some (with_owner (after_release seq e.owner) e)))
-        ⊎ ((result ≡ NOT_PROTECTED) × ¬ Contains e.owner.version.keeps seq × (handle.new.held ≡ handle.old.held))) }
+        ((result ≡ OK) × Contains e.live.snapshots seq
+        × (handle.new.held ≡ Some (with_live (without_snapshot seq e.live) e)))
+        ⊎ ((result ≡ NOT_PROTECTED) × ¬ Contains e.live.snapshots seq × (handle.new.held ≡ handle.old.held))) }
 {
     let Some(mut engine) = handle.take(alloc) else {
         return NO_STORE;
@@ -53,9 +53,9 @@ pub extern "C" fn ucstore_release(alloc: Global, handle: &mut Handle, seq: u64) 
     }
 }
 
-/// Copies the sequences of the snapshots, which rise, as many as there is room for, and says how many there are.
+/// Copies the sequences of the snapshots, which rise, each once, as many as there is room for, and says how many there are.
 #[unsafe(no_mangle)]
-pub extern "C" fn ucstore_keeps(
+pub extern "C" fn ucstore_snapshots(
     alloc: Global,
     handle: &mut Handle,
     room: &mut [u64],
@@ -63,8 +63,8 @@ pub extern "C" fn ucstore_keeps(
 ) -> i32
     ensures keeps { Answers result handle.old.held handle.new.held (λ e.
         (result ≡ OK)
-        × (room.new ≡ filled e.owner.version.keeps room.old)
-        × (count.new ≡ length e.owner.version.keeps)) }
+        × (room.new ≡ filled e.live.version.keeps room.old)
+        × (count.new ≡ length e.live.version.keeps)) }
     ensures untold { (result ≡ OK) ⊎ ((room.new ≡ room.old) × (count.new ≡ count.old)) }
 {
     let Some(engine) = handle.take(alloc) else {
@@ -89,7 +89,7 @@ fn show_keeps(keeps: &[u64], room: &mut [u64]) -> usize
 #[unsafe(no_mangle)]
 pub extern "C" fn ucstore_last(alloc: Global, handle: &mut Handle, seq: &mut u64) -> i32
     ensures last { Answers result handle.old.held handle.new.held (λ e.
-        (result ≡ OK) × (seq.new ≡ e.owner.version.last)) }
+        (result ≡ OK) × (seq.new ≡ lives.last e.live)) }
     ensures untold { (result ≡ OK) ⊎ (seq.new ≡ seq.old) }
 {
     let Some(engine) = handle.take(alloc) else {

@@ -1,15 +1,14 @@
 //! What a function of this library answers.
 ghost use Rattle.std.specs.Prelude.{◌≡◌, List, [], ◌∷◌, ℤ, pos};
-ghost use Rattle.uc_c.specs.Replies.{IsSayable};
 ghost use Rattle.uc_c.specs.declared.status.TheConstants as statuses;
-ghost use Rattle.uc_c.specs.Statuses.{OpenSays, BatchSays, FeedSays, WriteSays, CompactSays};
+ghost use Rattle.uc_c.specs.Statuses.{BatchSays, OpenSays, RoomSays, WriteSays};
 
-use uc_engine::{BatchError, CompactError, FeedError, OpenError, WriteError};
+use uc_engine::{BatchError, LiveOpenError, RoomError, WriteError};
 
 /// It did what it was asked.
 pub const OK: i32 = 0;
 
-/// Memory was refused. Nothing has changed.
+/// Memory was refused.
 pub const OUT_OF_MEMORY: i32 = 1;
 
 /// The handle has no store.
@@ -30,8 +29,8 @@ pub const UNKNOWN_OPERATOR: i32 = 6;
 /// An option isn't in its range.
 pub const BAD_OPTION: i32 = 7;
 
-/// The runs would be more than there are slots.
-pub const TOO_MANY_RUNS: i32 = 8;
+/// A struct hasn't the size that this library knows.
+pub const BAD_SIZE: i32 = 8;
 
 /// No id is left for a run.
 pub const IDS_SPENT: i32 = 9;
@@ -60,37 +59,30 @@ pub const SEQUENCE_BACK: i32 = 16;
 /// The statuses have the numbers that `enum ucstore_status` gives them, in its order.
 pub fn statuses_are_numbered()
     ensures first { statuses.OK ∷ statuses.OUT_OF_MEMORY ∷ statuses.NO_STORE ∷ statuses.HAS_STORE ∷ statuses.NOT_FOUND
-        ∷ statuses.NOT_PROTECTED ∷ statuses.UNKNOWN_OPERATOR ∷ statuses.BAD_OPTION ∷ statuses.TOO_MANY_RUNS ∷ []
+        ∷ statuses.NOT_PROTECTED ∷ statuses.UNKNOWN_OPERATOR ∷ statuses.BAD_OPTION ∷ statuses.BAD_SIZE ∷ []
         ≡ pos 0 ∷ pos 1 ∷ pos 2 ∷ pos 3 ∷ pos 4 ∷ pos 5 ∷ pos 6 ∷ pos 7 ∷ pos 8 ∷ [] }
     ensures rest { statuses.IDS_SPENT ∷ statuses.SEQUENCES_SPENT ∷ statuses.TOO_LONG ∷ statuses.NOT_A_BATCH
         ∷ statuses.BAD_PLACE ∷ statuses.ROOM ∷ statuses.LOG_ENDS ∷ statuses.SEQUENCE_BACK ∷ []
         ≡ pos 9 ∷ pos 10 ∷ pos 11 ∷ pos 12 ∷ pos 13 ∷ pos 14 ∷ pos 15 ∷ pos 16 ∷ [] }
 {}
 
-/// The status for an opening that is refused.
-pub fn open_status(error: OpenError) -> i32
-    requires { IsSayable OpenSays error }
-    ensures { OpenSays error result }
+/// The status where there is no room for a run.
+pub fn room_status(error: RoomError) -> i32
+    ensures { RoomSays error result }
 {
     match error {
-        OpenError::BadOption => BAD_OPTION,
-        OpenError::TooManyRuns => TOO_MANY_RUNS,
-        OpenError::Memory => OUT_OF_MEMORY,
-        OpenError::BadCount => unreachable!(),
-        OpenError::SnapshotAhead(_) => unreachable!(),
+        RoomError::IdsSpent => IDS_SPENT,
+        RoomError::Memory => OUT_OF_MEMORY,
     }
 }
 
-/// The status for writes that the store doesn't take.
-fn feed_status(error: FeedError) -> i32
-    requires { IsSayable FeedSays error }
-    ensures { FeedSays error result }
+/// The status for an opening that is refused.
+pub fn open_status(error: LiveOpenError) -> i32
+    ensures { OpenSays error result }
 {
     match error {
-        FeedError::TooManyRuns => TOO_MANY_RUNS,
-        FeedError::IdsSpent => IDS_SPENT,
-        FeedError::Memory => OUT_OF_MEMORY,
-        FeedError::Back(_) => unreachable!(),
+        LiveOpenError::BadOption => BAD_OPTION,
+        LiveOpenError::NoRoom(error) => room_status(error),
     }
 }
 
@@ -106,25 +98,12 @@ fn batch_status(fault: BatchError) -> i32
 
 /// The status for a write that is refused.
 pub fn write_status(error: WriteError) -> i32
-    requires { IsSayable WriteSays error }
     ensures { WriteSays error result }
 {
     match error {
         WriteError::Faulty(fault) => batch_status(fault),
         WriteError::SequencesSpent => SEQUENCES_SPENT,
         WriteError::TooLong => TOO_LONG,
-        WriteError::NotFed(error) => feed_status(error),
-    }
-}
-
-/// The status for a compaction that is refused.
-pub fn compact_status(error: CompactError) -> i32
-    requires { IsSayable CompactSays error }
-    ensures { CompactSays error result }
-{
-    match error {
-        CompactError::IdsSpent => IDS_SPENT,
-        CompactError::Memory => OUT_OF_MEMORY,
-        CompactError::NotClaimed(_) => unreachable!(),
+        WriteError::NoRoom(error) => room_status(error),
     }
 }

@@ -2,20 +2,21 @@
 
 use crate::c_ended::{CEnded, CLEAN, TORN};
 use crate::c_log_place::CLogPlace;
-use crate::c_options::{COptions, ucstore_options};
-use crate::c_report::{CReport, ucstore_report};
-use crate::compacting::ucstore_compact;
-use crate::logs::{ucstore_log_next, ucstore_log_record};
+use crate::c_options::{COptions, OPTIONS_SIZE, ucstore_options_init};
+use crate::c_report::{CReport, REPORT_SIZE, ucstore_report};
+use crate::compacting::{ucstore_compact, ucstore_flush};
+use crate::logs::ucstore_log_next;
 use crate::opening::{ucstore_close, ucstore_create, ucstore_open};
-use crate::reading::{ucstore_get, ucstore_get_last};
-use crate::scanning::ucstore_scan;
-use crate::snapshots::{ucstore_keep, ucstore_keeps, ucstore_last, ucstore_release};
+use crate::reading::{ucstore_get, ucstore_get_at};
+use crate::scanning::{ucstore_scan, ucstore_scan_at};
+use crate::snapshots::{ucstore_last, ucstore_release, ucstore_snapshot, ucstore_snapshots};
 use crate::status::{
-    BAD_OPTION, BAD_PLACE, HAS_STORE, LOG_ENDS, NO_STORE, NOT_A_BATCH, NOT_FOUND, NOT_PROTECTED,
-    OK, ROOM, SEQUENCE_BACK, UNKNOWN_OPERATOR,
+    BAD_OPTION, BAD_PLACE, BAD_SIZE, HAS_STORE, LOG_ENDS, NO_STORE, NOT_A_BATCH, NOT_FOUND,
+    NOT_PROTECTED, OK, ROOM, SEQUENCE_BACK, UNKNOWN_OPERATOR,
 };
 use crate::writing::{
-    ucstore_delete, ucstore_delete_range, ucstore_feed, ucstore_merge, ucstore_put,
+    ucstore_commit, ucstore_delete, ucstore_delete_range, ucstore_give_up, ucstore_merge,
+    ucstore_prepare, ucstore_put, ucstore_write_bytes,
 };
 use std::alloc::Global;
 use std::process::Abort;
@@ -54,15 +55,17 @@ static ROW: [u8; 20] = [
 /// The default options.
 fn usual() -> COptions {
     let mut options = COptions {
-        memtable: 0,
-        trigger: 0,
-        ratio: 0,
-        percent: 0,
-        least: 0,
-        greatest: 0,
-        first_id: 0,
+        size: 0,
+        write_buffer_size: 0,
+        compaction_trigger: 0,
+        stop_trigger: 0,
+        size_ratio: 0,
+        max_size_amplification_percent: 0,
+        min_merge_width: 0,
+        max_merge_width: 0,
+        compacts_itself: 0,
     };
-    ucstore_options(&mut options);
+    ucstore_options_init(&mut options);
     options
 }
 
@@ -85,45 +88,50 @@ fn write(rt: &impl Abort, alloc: Global, store: &mut Handle) {
     assert_eq!(rt; ucstore_delete_range(alloc, store, b"c", b"d"), OK);
 }
 
-/// Takes a snapshot at 6, beside the one at 0, and releases that.
-fn keep(rt: &impl Abort, alloc: Global, store: &mut Handle) {
-    let (mut seq, mut keeps, mut count) = (7, [7; 3], 7);
+/// Takes a snapshot at 6 twice, and releases it once.
+fn snapshot(rt: &impl Abort, alloc: Global, store: &mut Handle) {
+    let (mut seq, mut seqs, mut count) = (7, [7; 3], 7);
     assert_eq!(rt; ucstore_last(alloc, store, &mut seq), OK);
     assert_eq!(rt; seq, 6);
-    assert_eq!(rt; ucstore_keep(alloc, store, &mut seq), OK);
+    assert_eq!(rt; ucstore_snapshot(alloc, store, &mut seq), OK);
+    assert_eq!(rt; ucstore_snapshot(alloc, store, &mut seq), OK);
     assert_eq!(rt; seq, 6);
-    assert_eq!(rt; ucstore_keeps(alloc, store, &mut keeps, &mut count), OK);
-    assert!(rt; keeps == [0, 6, 7] && count == 2);
-    assert_eq!(rt; ucstore_keeps(alloc, store, &mut [], &mut count), OK);
-    assert_eq!(rt; count, 2);
-    assert_eq!(rt; ucstore_release(alloc, store, 0), OK);
+    assert_eq!(rt; ucstore_release(alloc, store, 6), OK);
     assert_eq!(rt; ucstore_release(alloc, store, 0), NOT_PROTECTED);
+    assert_eq!(rt; ucstore_snapshots(alloc, store, &mut seqs, &mut count), OK);
+    assert!(rt; seqs == [6, 7, 7] && count == 1);
+    assert_eq!(rt; ucstore_snapshots(alloc, store, &mut [], &mut count), OK);
+    assert_eq!(rt; count, 1);
 }
 
 /// Looks keys up, with room for all of a value, and for a byte of it.
 fn look_up(rt: &impl Abort, alloc: Global, store: &mut Handle) {
     let (mut room, mut size) = ([b'.'; 4], 7);
+    assert_eq!(rt; ucstore_get(alloc, store, b"a", &mut room, &mut size), OK);
+    assert!(rt; room == *b"1,2." && size == 3);
     assert_eq!(rt;
-        ucstore_get(alloc, store, b"a", 6, &mut room, &mut size),
+        ucstore_get(alloc, store, b"c", &mut room, &mut size),
+        NOT_FOUND
+    );
+    let mut cell = [b'.'];
+    assert_eq!(rt; ucstore_get(alloc, store, b"a", &mut cell, &mut size), OK);
+    assert!(rt; cell == *b"1" && size == 3);
+}
+
+/// The same at the snapshot.
+fn look_back(rt: &impl Abort, alloc: Global, store: &mut Handle) {
+    let (mut room, mut size) = ([b'.'; 4], 7);
+    assert_eq!(rt;
+        ucstore_get_at(alloc, store, b"a", 6, &mut room, &mut size),
         OK
     );
     assert!(rt; room == *b"1,2." && size == 3);
     assert_eq!(rt;
-        ucstore_get(alloc, store, b"c", 6, &mut room, &mut size),
-        NOT_FOUND
-    );
-    assert_eq!(rt;
-        ucstore_get(alloc, store, b"a", 5, &mut room, &mut size),
+        ucstore_get_at(alloc, store, b"a", 5, &mut room, &mut size),
         NOT_PROTECTED
     );
-    let mut cell = [b'.'];
     assert_eq!(rt;
-        ucstore_get_last(alloc, store, b"a", &mut cell, &mut size),
-        OK
-    );
-    assert!(rt; cell == *b"1" && size == 3);
-    assert_eq!(rt;
-        ucstore_get_last(alloc, store, b"b", &mut cell, &mut size),
+        ucstore_get_at(alloc, store, b"b", 6, &mut room, &mut size),
         NOT_FOUND
     );
 }
@@ -133,7 +141,7 @@ fn scan(rt: &impl Abort, alloc: Global, store: &mut Handle) {
     let (mut room, mut size, mut rows) = ([0; 20], 7, 7);
     assert_eq!(rt;
         ucstore_scan(
-            alloc, store, b"", b"", false, 6, 9, &mut room, &mut size, &mut rows
+            alloc, store, b"", b"", false, 9, &mut room, &mut size, &mut rows
         ),
         OK
     );
@@ -141,37 +149,60 @@ fn scan(rt: &impl Abort, alloc: Global, store: &mut Handle) {
     let mut cells = [0; 19];
     assert_eq!(rt;
         ucstore_scan(
-            alloc, store, b"", b"b", true, 6, 9, &mut cells, &mut size, &mut rows
+            alloc, store, b"", b"b", true, 9, &mut cells, &mut size, &mut rows
         ),
         OK
     );
     assert!(rt; cells == [0; 19] && size == 20 && rows == 0);
+}
+
+/// Scans at the snapshot, and where there is none.
+fn scan_back(rt: &impl Abort, alloc: Global, store: &mut Handle) {
+    let (mut room, mut size, mut rows) = ([0; 20], 7, 7);
     assert_eq!(rt;
-        ucstore_scan(
+        ucstore_scan_at(
+            alloc, store, b"", b"", false, 6, 9, &mut room, &mut size, &mut rows
+        ),
+        OK
+    );
+    assert!(rt; room == ROW && size == 20 && rows == 1);
+    assert_eq!(rt;
+        ucstore_scan_at(
             alloc, store, b"", b"", false, 5, 9, &mut room, &mut size, &mut rows
         ),
         NOT_PROTECTED
     );
 }
 
-/// Compacts the six runs to one, and tells what the store holds.
-fn compact(rt: &impl Abort, alloc: Global, store: &mut Handle) {
-    let mut compacted = false;
-    assert_eq!(rt; ucstore_compact(alloc, store, &mut compacted), OK);
-    assert!(rt; compacted);
-    assert_eq!(rt; ucstore_compact(alloc, store, &mut compacted), OK);
-    assert!(rt; !compacted);
+/// What the store holds: two writes in runs, and one that is gathered.
+fn report(rt: &impl Abort, alloc: Global, store: &mut Handle) {
     let mut report = CReport {
+        size: 0,
         runs: 7,
         snapshots: 7,
         points: 7,
         fragments: 7,
         bytes: 7,
+        gathered: 7,
         last: 7,
     };
+    assert_eq!(rt; ucstore_report(alloc, store, &mut report), BAD_SIZE);
+    assert_eq!(rt; report.runs, 7);
+    report.size = REPORT_SIZE;
     assert_eq!(rt; ucstore_report(alloc, store, &mut report), OK);
-    assert!(rt; report.runs == 1 && report.snapshots == 1 && report.last == 6);
-    assert!(rt; report.points == 1 && report.fragments == 0 && report.bytes == 12);
+    assert!(rt; report.runs == 1 && report.snapshots == 1 && report.gathered == 1);
+    assert!(rt; report.points == 5 && report.fragments == 1 && report.last == 7);
+}
+
+/// Flushes a write behind the snapshot, and compacts. Nothing is picked of two runs.
+fn compact(rt: &impl Abort, alloc: Global, store: &mut Handle) {
+    let mut compacted = true;
+    assert_eq!(rt; ucstore_put(alloc, store, b"c", b"5"), OK);
+    report(rt, alloc, store);
+    assert_eq!(rt; ucstore_flush(alloc, store), OK);
+    assert_eq!(rt; ucstore_compact(alloc, store, &mut compacted), OK);
+    assert!(rt; !compacted);
+    assert_eq!(rt; ucstore_delete(alloc, store, b"c"), OK);
 }
 
 /// A store from its creation to its close.
@@ -185,26 +216,31 @@ fn a_store(rt: HostRuntime) {
         HAS_STORE
     );
     write(&rt, alloc, &mut store);
-    keep(&rt, alloc, &mut store);
     look_up(&rt, alloc, &mut store);
     scan(&rt, alloc, &mut store);
+    snapshot(&rt, alloc, &mut store);
     compact(&rt, alloc, &mut store);
     look_up(&rt, alloc, &mut store);
+    look_back(&rt, alloc, &mut store);
+    scan_back(&rt, alloc, &mut store);
     assert_eq!(rt; ucstore_close(alloc, &mut store), OK);
     assert_eq!(rt; ucstore_close(alloc, &mut store), NO_STORE);
     drop(store.into_box());
 }
 
-/// Feeds a batch without a sequence behind the sequence 2, then a part of one.
-fn feed(rt: &impl Abort, alloc: Global, store: &mut Handle) {
+/// Writes a batch without a sequence behind the sequence 2, then a part of one.
+fn write_batch(rt: &impl Abort, alloc: Global, store: &mut Handle) {
     let mut seq = 7;
-    assert_eq!(rt; ucstore_feed(alloc, store, &UNNUMBERED), OK);
+    assert_eq!(rt; ucstore_write_bytes(alloc, store, &UNNUMBERED), OK);
     assert_eq!(rt; ucstore_last(alloc, store, &mut seq), OK);
     assert_eq!(rt; seq, 3);
-    assert_eq!(rt; ucstore_feed(alloc, store, &UNNUMBERED[..13]), NOT_A_BATCH);
+    assert_eq!(rt;
+        ucstore_write_bytes(alloc, store, &UNNUMBERED[..13]),
+        NOT_A_BATCH
+    );
 }
 
-/// A store that is opened from a log, and fed.
+/// A store that is opened from a log, and written to.
 #[test]
 fn a_log_is_opened(rt: HostRuntime) {
     let alloc = rt.alloc();
@@ -223,18 +259,18 @@ fn a_log_is_opened(rt: HostRuntime) {
     );
     assert!(rt; ended.kind == CLEAN && ended.fault == 0 && ended.place == 0);
     assert_eq!(rt;
-        ucstore_get(alloc, &mut store, b"a", 2, &mut cell, &mut size),
+        ucstore_get(alloc, &mut store, b"a", &mut cell, &mut size),
         OK
     );
     assert!(rt; cell == *b"1" && size == 1);
-    feed(&rt, alloc, &mut store);
+    write_batch(&rt, alloc, &mut store);
     assert_eq!(rt; ucstore_close(alloc, &mut store), OK);
     drop(store.into_box());
 }
 
 /// Writes without a store.
 fn refuse_writes(rt: &impl Abort, alloc: Global, store: &mut Handle) {
-    assert_eq!(rt; ucstore_feed(alloc, store, &BATCH), NO_STORE);
+    assert_eq!(rt; ucstore_write_bytes(alloc, store, &BATCH), NO_STORE);
     assert_eq!(rt; ucstore_put(alloc, store, b"a", b"1"), NO_STORE);
     assert_eq!(rt; ucstore_delete(alloc, store, b"a"), NO_STORE);
     assert_eq!(rt; ucstore_merge(alloc, store, b"a", b"1"), NO_STORE);
@@ -242,23 +278,59 @@ fn refuse_writes(rt: &impl Abort, alloc: Global, store: &mut Handle) {
     assert_eq!(rt; ucstore_compact(alloc, store, &mut false), NO_STORE);
 }
 
+/// Steps of a write without a store.
+fn refuse_steps(rt: &impl Abort, alloc: Global, store: &mut Handle) {
+    let mut size = 7;
+    assert_eq!(rt;
+        ucstore_prepare(alloc, store, &BATCH, 0, &mut [], &mut size),
+        NO_STORE
+    );
+    assert_eq!(rt; size, 7);
+    assert_eq!(rt; ucstore_commit(alloc, store), NO_STORE);
+    assert_eq!(rt; ucstore_give_up(alloc, store), NO_STORE);
+    assert_eq!(rt; ucstore_flush(alloc, store), NO_STORE);
+}
+
 /// Reads without a store.
 fn refuse_reads(rt: &impl Abort, alloc: Global, store: &mut Handle) {
     let (mut seq, mut size) = (7, 7);
-    assert_eq!(rt; ucstore_keep(alloc, store, &mut seq), NO_STORE);
+    assert_eq!(rt; ucstore_snapshot(alloc, store, &mut seq), NO_STORE);
     assert_eq!(rt; ucstore_release(alloc, store, 0), NO_STORE);
     assert_eq!(rt; ucstore_last(alloc, store, &mut seq), NO_STORE);
-    assert_eq!(rt; ucstore_keeps(alloc, store, &mut [], &mut size), NO_STORE);
     assert_eq!(rt;
-        ucstore_get(alloc, store, b"a", 0, &mut [], &mut size),
+        ucstore_snapshots(alloc, store, &mut [], &mut size),
         NO_STORE
     );
     assert_eq!(rt;
-        ucstore_get_last(alloc, store, b"a", &mut [], &mut size),
+        ucstore_get(alloc, store, b"a", &mut [], &mut size),
         NO_STORE
     );
+    assert_eq!(rt;
+        ucstore_get_at(alloc, store, b"a", 0, &mut [], &mut size),
+        NO_STORE
+    );
+    assert!(rt; seq == 7 && size == 7);
+}
+
+/// Scans without a store.
+fn refuse_scans(rt: &impl Abort, alloc: Global, store: &mut Handle) {
+    let (mut rows, mut size) = (7, 7);
     assert_eq!(rt;
         ucstore_scan(
+            alloc,
+            store,
+            b"",
+            b"",
+            false,
+            9,
+            &mut [],
+            &mut size,
+            &mut rows
+        ),
+        NO_STORE
+    );
+    assert_eq!(rt;
+        ucstore_scan_at(
             alloc,
             store,
             b"",
@@ -268,22 +340,22 @@ fn refuse_reads(rt: &impl Abort, alloc: Global, store: &mut Handle) {
             9,
             &mut [],
             &mut size,
-            &mut seq
+            &mut rows
         ),
         NO_STORE
     );
-    assert!(rt; seq == 7 && size == 7);
+    assert!(rt; rows == 7 && size == 7);
 }
 
-/// Options out of their range: the least `least` is 2, and the greatest trigger 255.
+/// Options out of their range: the least `min_merge_width` is 2, and writes stop at 255 runs or fewer.
 fn refuse_options(rt: &impl Abort, alloc: Global, store: &mut Handle) {
     let narrow = COptions {
-        least: 1,
+        min_merge_width: 1,
         ..usual()
     };
     assert_eq!(rt; ucstore_create(alloc, store, APPEND, &narrow), BAD_OPTION);
     let high = COptions {
-        trigger: 256,
+        stop_trigger: 256,
         ..usual()
     };
     assert_eq!(rt; ucstore_create(alloc, store, APPEND, &high), BAD_OPTION);
@@ -293,6 +365,11 @@ fn refuse_options(rt: &impl Abort, alloc: Global, store: &mut Handle) {
         BAD_OPTION
     );
     assert!(rt; ended.kind == 7);
+    let old = COptions {
+        size: OPTIONS_SIZE - 8,
+        ..usual()
+    };
+    assert_eq!(rt; ucstore_create(alloc, store, APPEND, &old), BAD_SIZE);
 }
 
 /// What a handle without a store answers, and openings that are refused.
@@ -301,7 +378,9 @@ fn no_store(rt: HostRuntime) {
     let alloc = rt.alloc();
     let mut store = Handle::empty(alloc);
     refuse_writes(&rt, alloc, &mut store);
+    refuse_steps(&rt, alloc, &mut store);
     refuse_reads(&rt, alloc, &mut store);
+    refuse_scans(&rt, alloc, &mut store);
     assert_eq!(rt;
         ucstore_create(alloc, &mut store, 4, &usual()),
         UNKNOWN_OPERATOR
@@ -311,42 +390,56 @@ fn no_store(rt: HostRuntime) {
     drop(store.into_box());
 }
 
-/// What a batch adds to logs.
+/// What a batch adds to logs. Nothing is taken before it is committed.
 fn record_one(rt: &impl Abort, alloc: Global, store: &mut Handle) {
-    let (mut room, mut size) = ([0; 27], 7);
+    let (mut room, mut size, mut seq) = ([0; 27], 7, 7);
+    // There is no room for a header in the last six bytes of a block.
     assert_eq!(rt;
-        ucstore_log_record(alloc, store, 0, &BATCH, &mut room, &mut size),
+        ucstore_prepare(alloc, store, &BATCH, 32762, &mut room, &mut size),
+        ROOM
+    );
+    assert!(rt; room == [0; 27] && size == 33);
+    assert_eq!(rt; ucstore_commit(alloc, store), OK);
+    assert_eq!(rt; ucstore_last(alloc, store, &mut seq), OK);
+    assert_eq!(rt; seq, 0);
+    assert_eq!(rt;
+        ucstore_prepare(alloc, store, &BATCH, 0, &mut room, &mut size),
         OK
     );
     assert!(rt; room == LOG && size == 27);
-    // There is no room for a header in the last six bytes of a block.
+    assert_eq!(rt; ucstore_last(alloc, store, &mut seq), OK);
+    assert_eq!(rt; seq, 0);
+    assert_eq!(rt; ucstore_commit(alloc, store), OK);
+    assert_eq!(rt; ucstore_last(alloc, store, &mut seq), OK);
+    assert_eq!(rt; seq, 2);
+}
+
+/// Batches that aren't prepared: no batch, and one that isn't above the last sequence. One that is given up isn't taken.
+fn refuse_back(rt: &impl Abort, alloc: Global, store: &mut Handle) {
+    let (mut room, mut size, mut seq) = ([0; 27], 7, 7);
     assert_eq!(rt;
-        ucstore_log_record(alloc, store, 32762, &BATCH, &mut room, &mut size),
-        ROOM
-    );
-    assert!(rt; room == LOG && size == 33);
-    assert_eq!(rt;
-        ucstore_log_record(alloc, store, 0, &[1], &mut room, &mut size),
+        ucstore_prepare(alloc, store, &[1], 0, &mut room, &mut size),
         NOT_A_BATCH
     );
-    assert!(rt; room == LOG && size == 33);
-}
-
-/// A batch that isn't above the last sequence.
-fn refuse_back(rt: &impl Abort, alloc: Global, store: &mut Handle) {
-    assert_eq!(rt; ucstore_feed(alloc, store, &BATCH), OK);
-    assert_eq!(rt; ucstore_feed(alloc, store, &BATCH), SEQUENCE_BACK);
-    let mut size = 7;
+    assert_eq!(rt; ucstore_write_bytes(alloc, store, &BATCH), SEQUENCE_BACK);
     assert_eq!(rt;
-        ucstore_log_record(alloc, store, 0, &BATCH, &mut [], &mut size),
+        ucstore_prepare(alloc, store, &BATCH, 0, &mut room, &mut size),
         SEQUENCE_BACK
     );
-    assert_eq!(rt; size, 7);
+    assert!(rt; room == [0; 27] && size == 7);
+    assert_eq!(rt;
+        ucstore_prepare(alloc, store, &UNNUMBERED, 0, &mut room, &mut size),
+        OK
+    );
+    assert_eq!(rt; ucstore_give_up(alloc, store), OK);
+    assert_eq!(rt; ucstore_commit(alloc, store), OK);
+    assert_eq!(rt; ucstore_last(alloc, store, &mut seq), OK);
+    assert_eq!(rt; seq, 2);
 }
 
-/// Records of batches, and none of one that goes back.
+/// Batches that are written in two steps.
 #[test]
-fn records(rt: HostRuntime) {
+fn two_steps(rt: HostRuntime) {
     let alloc = rt.alloc();
     let mut store = Handle::empty(alloc);
     assert_eq!(rt; ucstore_create(alloc, &mut store, APPEND, &usual()), OK);

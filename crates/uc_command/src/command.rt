@@ -343,7 +343,7 @@ fn with_subcommand<'a>(
 pub fn ucstore<'a>(alloc: Global, shown: &'a Shown) -> Result<Command<'a>, AllocError> {
     let command = Command::new(alloc, "ucstore")
         .about(ABOUT)
-        .version("0.1.0")
+        .version("0.2.0")
         .subcommand_required(true);
     let command = with_subcommand(command, play(alloc, shown))?;
     let command = with_subcommand(command, ask(alloc, shown))?;

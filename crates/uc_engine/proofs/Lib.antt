@@ -1,3 +1,0 @@
-mod FedBatches
-mod Free
-mod Recorded

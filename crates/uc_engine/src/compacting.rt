@@ -1,47 +1,55 @@
-//! Compactions by the calling thread.
-ghost use Rattle.std.specs.Prelude.{◌≡◌, IfOk, IfErr};
+//! Flushes and compactions by the calling thread.
+ghost use Rattle.std.specs.Prelude.{◌≡◌, [], IfOk, IfErr, OnOk};
+ghost use Rattle.uc_live.specs.Compacting.{next_stretch, HasNoRoom, IsCompacted};
+ghost use Rattle.uc_live.specs.Writing.{Prepares};
 ghost use Rattle.uc_engine.specs.Engines.{meaning_of};
-ghost use Rattle.uc_engine.specs.Compacting.{next_stretch, IsCompacted, IsNotDone};
 
 use crate::engine::{AnyStore, Engine};
 use std::alloc::Global;
-use uc_oper::Operator;
-use uc_version::{Alone, CompactError, Owned, picks_can_be_claimed};
-
-/// Compacts the picked stretch, if there is one.
-fn compact_picked<O: Operator>(alloc: Global, store: &mut Owned<O>) -> Result<bool, CompactError>
-    ensures ok { IfOk result (λ compacted.
-        IsCompacted O.meaning (next_stretch store.old) compacted store.old store.new) }
-    ensures err { IfErr result (λ error.
-        IsNotDone (next_stretch store.old) store.old error × (store.new ≡ store.old)) }
-{
-    store.recall();
-    picks_can_be_claimed();
-    let Some(stretch) = store.pick() else {
-        return Ok(false);
-    };
-    match store.compact_now_by(&Alone, alloc, stretch) {
-        Ok(_) => Ok(true),
-        Err(error) => Err(error),
-    }
-}
+use uc_live::RoomError;
 
 impl Engine {
-    /// Compacts the stretch of runs that is picked next, if there is one (RocksDB wiki, "Universal Compaction"), and installs
-    /// the result. Returns whether there was one: call it until it says no. The calling thread does all of it. It is refused
-    /// if no id is left for the new run, and for want of memory. The engine is as it was then.
-    pub fn compact_once(&mut self, alloc: Global) -> Result<bool, CompactError>
+    /// Makes a run of what is gathered, as `LiveStore::flush` does.
+    pub fn flush(&mut self, alloc: Global) -> Result<(), RoomError>
         ensures kind { self.new.kind ≡ self.old.kind }
-        ensures ok { IfOk result (λ compacted.
-            IsCompacted (meaning_of self.old.kind) (next_stretch self.old.owner) compacted self.old.owner self.new.owner) }
-        ensures err { IfErr result (λ error.
-            IsNotDone (next_stretch self.old.owner) self.old.owner error × (self.new ≡ self.old)) }
+        ensures prepares { Prepares (meaning_of self.old.kind) self.old.live self.new.live [] }
+        ensures all { OnOk result (self.new.live.gathered ≡ []) }
+        ensures err { IfErr result (λ error. HasNoRoom error self.new.live.version) }
     {
         match &mut self.store {
-            AnyStore::Append(store) => compact_picked(alloc, store),
-            AnyStore::Counter(store) => compact_picked(alloc, store),
-            AnyStore::Maximum(store) => compact_picked(alloc, store),
-            AnyStore::Tail(store) => compact_picked(alloc, store),
+            AnyStore::Append(store) => store.flush(alloc),
+            AnyStore::Counter(store) => store.flush(alloc),
+            AnyStore::Maximum(store) => store.flush(alloc),
+            AnyStore::Tail(store) => store.flush(alloc),
+        }
+    }
+
+    /// Compacts the stretch of runs that is picked next, if there is one, as `LiveStore::compact_once` does. Returns whether there was
+    /// one.
+    pub fn compact_once(&mut self, alloc: Global) -> Result<bool, RoomError>
+        ensures kind { self.new.kind ≡ self.old.kind }
+        ensures ok { IfOk result (λ compacted.
+            IsCompacted (meaning_of self.old.kind) (next_stretch self.old.live) compacted self.old.live self.new.live) }
+        ensures err { IfErr result (λ error. HasNoRoom error self.old.live.version × (self.new ≡ self.old)) }
+    {
+        match &mut self.store {
+            AnyStore::Append(store) => store.compact_once(alloc),
+            AnyStore::Counter(store) => store.compact_once(alloc),
+            AnyStore::Maximum(store) => store.compact_once(alloc),
+            AnyStore::Tail(store) => store.compact_once(alloc),
+        }
+    }
+
+    /// Flushes if more than so many writes are gathered and no batch is prepared, as `LiveStore::settle` does.
+    pub fn settle(&mut self, alloc: Global, most: usize)
+        ensures kind { self.new.kind ≡ self.old.kind }
+        ensures prepares { Prepares (meaning_of self.old.kind) self.old.live self.new.live self.old.live.prepared }
+    {
+        match &mut self.store {
+            AnyStore::Append(store) => store.settle(alloc, most),
+            AnyStore::Counter(store) => store.settle(alloc, most),
+            AnyStore::Maximum(store) => store.settle(alloc, most),
+            AnyStore::Tail(store) => store.settle(alloc, most),
         }
     }
 }

@@ -1,30 +1,26 @@
-//! [`Engine`]: a store whose operator is a value.
-ghost use Rattle.std.specs.Prelude.{◌≡◌, true, IfOk};
-ghost use Rattle.uc_version_state.specs.Options.{are_good};
-ghost use Rattle.uc_version.specs.Owners.{unclaimed};
+//! [`Engine`]: a live store whose operator is a value.
+ghost use Rattle.std.specs.Prelude.{◌≡◌, length};
+ghost use Rattle.uc_live.specs.Lives as lives;
 
 use crate::operator_kind::{LastBytes, OperatorKind, Texts};
-use std::alloc::{AllocError, Global};
 use std::marker::Model;
+use uc_live::{LiveStore, Version};
 use uc_oper::{Counter, Maximum};
-use uc_version::{Options, Owned, Version};
 
 /// A store of each operator.
 #[derive(Drop)]
 pub(crate) enum AnyStore {
     /// A store that joins texts.
-    Append(Owned<Texts>),
+    Append(LiveStore<Texts>),
     /// A store that adds numbers.
-    Counter(Owned<Counter>),
+    Counter(LiveStore<Counter>),
     /// A store that keeps the greater text.
-    Maximum(Owned<Maximum>),
+    Maximum(LiveStore<Maximum>),
     /// A store that keeps the last bytes.
-    Tail(Owned<LastBytes>),
+    Tail(LiveStore<LastBytes>),
 }
 
-/// A store with one owner, whose operator is chosen when it opens. A contract sees which operator it is, and the owner.
-///
-/// It holds no claims: a stretch of runs is claimed, compacted and installed by one call.
+/// A live store whose operator is chosen when it opens. A contract sees which operator it is, and the store.
 pub struct Engine {
     pub(crate) store: AnyStore,
 }
@@ -46,32 +42,6 @@ impl Drop for Engine {
 }
 
 impl Engine {
-    /// The engine of a version, without claims.
-    pub(crate) fn of(
-        alloc: Global,
-        kind: OperatorKind,
-        version: Version,
-        options: Options,
-    ) -> Result<Engine, AllocError>
-        requires { are_good options ≡ true }
-        ensures { IfOk result (λ engine. engine ≡ record { kind = kind; owner = unclaimed version options }) }
-    {
-        match kind {
-            OperatorKind::Append => Ok(Engine {
-                store: AnyStore::Append(Owned::new(alloc, version, options)?),
-            }),
-            OperatorKind::Counter => Ok(Engine {
-                store: AnyStore::Counter(Owned::new(alloc, version, options)?),
-            }),
-            OperatorKind::Maximum => Ok(Engine {
-                store: AnyStore::Maximum(Owned::new(alloc, version, options)?),
-            }),
-            OperatorKind::Tail => Ok(Engine {
-                store: AnyStore::Tail(Owned::new(alloc, version, options)?),
-            }),
-        }
-    }
-
     /// Which operator merges.
     pub fn kind(&self) -> OperatorKind
         ensures { result ≡ self.now.kind }
@@ -84,9 +54,9 @@ impl Engine {
         }
     }
 
-    /// What the store holds now.
+    /// What its runs hold.
     pub(crate) fn version(&self) -> &Version
-        ensures { result.now ≡ self.now.owner.version }
+        ensures { result.now ≡ self.now.live.version }
     {
         match &self.store {
             AnyStore::Append(store) => store.version(),
@@ -98,14 +68,31 @@ impl Engine {
 
     /// The last sequence; 0 if nothing was written.
     pub fn last(&self) -> u64
-        ensures { result ≡ self.now.owner.version.last }
+        ensures { result ≡ lives.last self.now.live }
     {
-        self.version().last()
+        match &self.store {
+            AnyStore::Append(store) => store.last(),
+            AnyStore::Counter(store) => store.last(),
+            AnyStore::Maximum(store) => store.last(),
+            AnyStore::Tail(store) => store.last(),
+        }
     }
 
-    /// The sequences of its snapshots, which rise.
+    /// How many writes are gathered.
+    pub fn gathered(&self) -> usize
+        ensures { result ≡ length self.now.live.gathered }
+    {
+        match &self.store {
+            AnyStore::Append(store) => store.gathered(),
+            AnyStore::Counter(store) => store.gathered(),
+            AnyStore::Maximum(store) => store.gathered(),
+            AnyStore::Tail(store) => store.gathered(),
+        }
+    }
+
+    /// The sequences that snapshots protect, which rise, each once.
     pub fn keeps(&self) -> &[u64]
-        ensures { result.now ≡ self.now.owner.version.keeps }
+        ensures { result.now ≡ self.now.live.version.keeps }
     {
         self.version().keeps()
     }

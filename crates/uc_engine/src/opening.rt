@@ -1,19 +1,19 @@
 //! Engines that open from a write-ahead log, or empty.
-ghost use Rattle.std.specs.Prelude.{◌≡◌, ◌≢◌, None, Some, IfOk, IfErr};
+ghost use Rattle.std.specs.Prelude.{◌≡◌, ◌≢◌, [], true, false, IfOk, IfErr};
 ghost use Rattle.uc_batch.specs.Log.{log_writes};
-ghost use Rattle.uc_version_work.specs.declared.open_error.OpenError.TheVariants.{Memory};
-ghost use Rattle.uc_engine.specs.Engines.{opened_engine, engine_refusal, log_opening, empty_opening};
+ghost use Rattle.uc_live.specs.LiveOptions as live_options;
+ghost use Rattle.uc_live.specs.Lives.{created};
+ghost use Rattle.uc_live.specs.Going.{GoesOn};
+ghost use Rattle.uc_live.specs.declared.open_error.LiveOpenError.TheVariants.{BadOption, NoRoom};
+ghost use Rattle.uc_live.specs.declared.room_error.RoomError.TheVariants.{Memory};
+ghost use Rattle.uc_engine.specs.Engines.{meaning_of};
+ghost use Rattle.uc_engine.specs.HeldEngines.{kind_of, live_of};
 
-use crate::engine::Engine;
+use crate::engine::{AnyStore, Engine};
 use crate::operator_kind::OperatorKind;
-use std::alloc::{AllocError, Global};
+use std::alloc::Global;
 use uc_batch::Ended;
-use uc_claims::MOST_SLOTS;
-use uc_version::{Options, Version};
-use uc_version_work::{OpenError, Opener, Recovered, recover};
-
-/// The greatest `trigger` of an engine: a store with a run in each slot has more runs, so some are picked.
-pub const GREATEST_TRIGGER: u32 = MOST_SLOTS as u32 - 1;
+use uc_live::{LiveOpenError, LiveOptions, LiveStore};
 
 /// An engine that was opened from a log, and how far the log could be read.
 #[derive(Drop)]
@@ -24,44 +24,70 @@ pub struct OpenedEngine {
     pub ended: Ended,
 }
 
+/// The engine of a store that was opened.
+fn opened(store: AnyStore, ended: Ended) -> OpenedEngine
+    ensures engine { result.engine ≡ record { kind = kind_of store; live = live_of store } }
+    ensures ended { result.ended ≡ ended }
+{
+    OpenedEngine {
+        engine: Engine { store },
+        ended,
+    }
+}
+
 impl Engine {
-    /// Opens an engine from the bytes of a write-ahead log, as point-in-time recovery does (RocksDB wiki, "WAL Recovery
-    /// Modes"): it has the writes before the log's first fault, and `ended` says whether there was one. Its one snapshot
-    /// is the last sequence. It is refused for the first of these: an option out of its range or a `trigger` above
-    /// [`GREATEST_TRIGGER`], more runs than slots; and for want of memory. It goes once over the log.
+    /// An engine without writes and without snapshots, as [`LiveStore::create`] makes it.
+    pub fn create(
+        alloc: Global,
+        kind: OperatorKind,
+        options: LiveOptions,
+    ) -> Result<Engine, LiveOpenError>
+        ensures engine { IfOk result (λ engine. engine ≡ record { kind = kind; live = created options }) }
+        ensures good { IfOk result (λ _. live_options.are_good options ≡ true) }
+        ensures err { IfErr result (λ error.
+            error ≢ NoRoom Memory → (error ≡ BadOption) × (live_options.are_good options ≡ false)) }
+    {
+        let store = match kind {
+            OperatorKind::Append => AnyStore::Append(LiveStore::create(alloc, options)?),
+            OperatorKind::Counter => AnyStore::Counter(LiveStore::create(alloc, options)?),
+            OperatorKind::Maximum => AnyStore::Maximum(LiveStore::create(alloc, options)?),
+            OperatorKind::Tail => AnyStore::Tail(LiveStore::create(alloc, options)?),
+        };
+        Ok(Engine { store })
+    }
+
+    /// Opens an engine from the bytes of a write-ahead log, as [`LiveStore::open`] does.
     pub fn open(
         alloc: Global,
         kind: OperatorKind,
         log: &[u8],
-        options: Options,
-    ) -> Result<OpenedEngine, OpenError>
-        ensures engine { IfOk result (λ found. found.engine ≡ opened_engine kind (log_opening options log.now)) }
+        options: LiveOptions,
+    ) -> Result<OpenedEngine, LiveOpenError>
+        ensures kind { IfOk result (λ found. found.engine.kind ≡ kind) }
+        ensures store { IfOk result (λ found.
+            GoesOn (meaning_of kind) (created options) found.engine.live (log_writes log.now).list) }
+        ensures none { IfOk result (λ found. found.engine.live.prepared ≡ []) }
         ensures ended { IfOk result (λ found. found.ended ≡ (log_writes log.now).ended) }
-        ensures may { IfOk result (λ _. engine_refusal (log_opening options log.now) ≡ None) }
-        ensures err { IfErr result (λ error.
-            error ≢ Memory → engine_refusal (log_opening options log.now) ≡ Some error) }
+        ensures good { IfOk result (λ _. live_options.are_good options ≡ true) }
+        ensures err { IfErr result (λ error. error ≡ BadOption → live_options.are_good options ≡ false) }
     {
-        if options.trigger > GREATEST_TRIGGER {
-            return Err(OpenError::BadOption);
+        match kind {
+            OperatorKind::Append => {
+                let (store, ended) = LiveStore::open(alloc, log, options)?.into_parts();
+                Ok(opened(AnyStore::Append(store), ended))
+            }
+            OperatorKind::Counter => {
+                let (store, ended) = LiveStore::open(alloc, log, options)?.into_parts();
+                Ok(opened(AnyStore::Counter(store), ended))
+            }
+            OperatorKind::Maximum => {
+                let (store, ended) = LiveStore::open(alloc, log, options)?.into_parts();
+                Ok(opened(AnyStore::Maximum(store), ended))
+            }
+            OperatorKind::Tail => {
+                let (store, ended) = LiveStore::open(alloc, log, options)?.into_parts();
+                Ok(opened(AnyStore::Tail(store), ended))
+            }
         }
-        let Recovered { opener, ended } = recover(alloc, log, options)?;
-        let version = opener.finish(alloc, &[])?;
-        let engine = Engine::of(alloc, kind, version, options)?;
-        Ok(OpenedEngine { engine, ended })
-    }
-
-    /// An engine without writes. Its one snapshot is the sequence 0. It is refused if an option is out of its range or its
-    /// `trigger` above [`GREATEST_TRIGGER`], and for want of memory.
-    pub fn create(alloc: Global, kind: OperatorKind, options: Options) -> Result<Engine, OpenError>
-        ensures engine { IfOk result (λ engine. engine ≡ opened_engine kind (empty_opening options)) }
-        ensures may { IfOk result (λ _. engine_refusal (empty_opening options) ≡ None) }
-        ensures err { IfErr result (λ error.
-            error ≢ Memory → engine_refusal (empty_opening options) ≡ Some error) }
-    {
-        if options.trigger > GREATEST_TRIGGER {
-            return Err(OpenError::BadOption);
-        }
-        let version = Opener::new(alloc, options).finish(alloc, &[])?;
-        Ok(Engine::of(alloc, kind, version, options)?)
     }
 }

@@ -1,71 +1,67 @@
-//! Reads at snapshots.
-ghost use Rattle.std.specs.Prelude.{◌≡◌, IfOk, option_map};
+//! Reads, which only read.
+ghost use Rattle.std.specs.Prelude.{◌≡◌, IfOk};
 ghost use Rattle.uc_query_read.specs.declared.query.Query.TheVariants as queries;
-ghost use Rattle.uc_engine.specs.Engines.{answer_in};
+ghost use Rattle.uc_engine.specs.Engines.{answer_in, last_rows, last_value};
 
 use crate::engine::{AnyStore, Engine};
-use crate::operator_kind::{LastBytes, Texts};
 use std::alloc::{AllocError, Global};
 use uc_bytes::Bytes;
-use uc_oper::{Counter, Maximum};
-use uc_query_read::{Answer, Query, answer_one, get};
-
-/// A copy of the bytes, if there are any.
-fn copy_of(alloc: Global, bytes: Option<&[u8]>) -> Result<Option<Bytes>, AllocError>
-    ensures { IfOk result (λ copy. copy ≡ option_map (λ b. b.now) bytes.entry) }
-{
-    match bytes {
-        None => Ok(None),
-        Some(bytes) => Ok(Some(Bytes::from_slice(alloc, bytes)?)),
-    }
-}
+use uc_query_read::{Answer, Query, Rows};
 
 impl Engine {
+    /// The value that a key has at the last sequence, if it has one.
+    pub fn get(&self, alloc: Global, key: &[u8]) -> Result<Option<Bytes>, AllocError>
+        ensures { IfOk result (λ value. value ≡ last_value self.now key.now) }
+    {
+        match &self.store {
+            AnyStore::Append(store) => store.get(alloc, key),
+            AnyStore::Counter(store) => store.get(alloc, key),
+            AnyStore::Maximum(store) => store.get(alloc, key),
+            AnyStore::Tail(store) => store.get(alloc, key),
+        }
+    }
+
     /// Looks a key up at a sequence. The answer is a value, if the key has one, or `NotProtected` if no snapshot is at the
-    /// sequence. It costs a search in each run, from the newest on, up to the first that puts or deletes the key.
-    pub fn get(&self, alloc: Global, key: &[u8], at: u64) -> Result<Answer, AllocError>
+    /// sequence.
+    pub fn get_at(&self, alloc: Global, key: &[u8], at: u64) -> Result<Answer, AllocError>
         ensures { IfOk result (λ answer. answer ≡ answer_in self.now (queries.Get key.now at)) }
     {
         match &self.store {
-            AnyStore::Append(store) => get::<Texts>(alloc, store.version(), key, at),
-            AnyStore::Counter(store) => get::<Counter>(alloc, store.version(), key, at),
-            AnyStore::Maximum(store) => get::<Maximum>(alloc, store.version(), key, at),
-            AnyStore::Tail(store) => get::<LastBytes>(alloc, store.version(), key, at),
+            AnyStore::Append(store) => store.get_at(alloc, key, at),
+            AnyStore::Counter(store) => store.get_at(alloc, key, at),
+            AnyStore::Maximum(store) => store.get_at(alloc, key, at),
+            AnyStore::Tail(store) => store.get_at(alloc, key, at),
         }
     }
 
-    /// The answer to a query.
-    fn answer(&self, alloc: Global, query: &Query) -> Result<Answer, AllocError>
-        ensures { IfOk result (λ answer. answer ≡ answer_in self.now query.now) }
-    {
-        match &self.store {
-            AnyStore::Append(store) => answer_one::<Texts>(alloc, store.version(), query),
-            AnyStore::Counter(store) => answer_one::<Counter>(alloc, store.version(), query),
-            AnyStore::Maximum(store) => answer_one::<Maximum>(alloc, store.version(), query),
-            AnyStore::Tail(store) => answer_one::<LastBytes>(alloc, store.version(), query),
-        }
-    }
-
-    /// The first rows, at most `limit`, of the keys from `low` to below `high`, or to the last one if `high` is `None`, at a
-    /// sequence. The answer is rows, or `NotProtected` if no snapshot is at the sequence. It costs a search in each run, and
-    /// then a step in each run for each key in the range up to the last row's.
+    /// The first rows, at most `limit`, of the keys from `low` to below `high`, or to the last one if `high` is `None`, at the last
+    /// sequence.
     pub fn scan(
         &self,
         alloc: Global,
         low: &[u8],
-        high: Option<&[u8]>,
-        at: u64,
+        high: &Option<Bytes>,
         limit: u64,
-    ) -> Result<Answer, AllocError>
-        ensures { IfOk result (λ answer.
-            answer ≡ answer_in self.now (queries.Scan low.now (option_map (λ b. b.now) high.entry) at limit)) }
+    ) -> Result<Rows, AllocError>
+        ensures { IfOk result (λ rows. rows ≡ last_rows self.now low.now high.now limit) }
     {
-        let query = Query::Scan {
-            low: Bytes::from_slice(alloc, low)?,
-            high: copy_of(alloc, high)?,
-            at,
-            limit,
-        };
-        self.answer(alloc, &query)
+        match &self.store {
+            AnyStore::Append(store) => store.scan(alloc, low, high, limit),
+            AnyStore::Counter(store) => store.scan(alloc, low, high, limit),
+            AnyStore::Maximum(store) => store.scan(alloc, low, high, limit),
+            AnyStore::Tail(store) => store.scan(alloc, low, high, limit),
+        }
+    }
+
+    /// The answer to a query at a snapshot, or `NotProtected` if no snapshot is at its sequence.
+    pub fn answer(&self, alloc: Global, query: &Query) -> Result<Answer, AllocError>
+        ensures { IfOk result (λ answer. answer ≡ answer_in self.now query.now) }
+    {
+        match &self.store {
+            AnyStore::Append(store) => store.answer(alloc, query),
+            AnyStore::Counter(store) => store.answer(alloc, query),
+            AnyStore::Maximum(store) => store.answer(alloc, query),
+            AnyStore::Tail(store) => store.answer(alloc, query),
+        }
     }
 }

@@ -12,11 +12,13 @@ use uc_version_state::Placed;
 pub struct EngineReport {
     /// How many runs there are.
     pub runs: u64,
-    /// How many snapshots there are.
+    /// How many sequences snapshots protect.
     pub keeps: u64,
     /// The sums of all runs: points, fragments of range deletions, and bytes, with 8 for each sequence. Each is held at
     /// 2^64 - 1.
     pub total: Totals,
+    /// How many writes are gathered, which no run has yet.
+    pub gathered: u64,
     /// The last sequence.
     pub last: u64,
 }
@@ -62,14 +64,15 @@ fn total(runs: &[Placed]) -> Totals
 impl Engine {
     /// What it holds, in numbers. It looks at each run once, and at no point.
     pub fn report(&self) -> EngineReport
-        ensures { result ≡ reports.report_of self.now.owner.version }
+        ensures { result ≡ reports.report_of self.now.live }
     {
         let version = self.version();
         EngineReport {
             runs: version.runs().len() as u64,
             keeps: version.keeps().len() as u64,
             total: total(version.runs()),
-            last: version.last(),
+            gathered: self.gathered() as u64,
+            last: self.last(),
         }
     }
 }

@@ -1,36 +1,37 @@
 //! Snapshots that come and go.
-ghost use Rattle.std.specs.Prelude.{◌≡◌, Contains, IfOk, IfErr, OnOk, OnErr};
+ghost use Rattle.std.specs.Prelude.{◌≡◌, [], Contains, IfOk, IfErr, OnOk};
 ghost use Rattle.uc_version_state.specs.declared.release_error.ReleaseError.TheVariants.{NotKept};
-ghost use Rattle.uc_version.specs.Feeding.{after_keep, after_release};
-ghost use Rattle.uc_engine.specs.Engines.{with_owner};
+ghost use Rattle.uc_live.specs.Compacting.{HasNoRoom};
+ghost use Rattle.uc_live.specs.Snapshots.{TakesSnapshot, without_snapshot};
+ghost use Rattle.uc_live.specs.Writing.{Prepares};
+ghost use Rattle.uc_engine.specs.Engines.{meaning_of, with_live};
 
 use crate::engine::{AnyStore, Engine};
-use std::alloc::AllocError;
-use uc_version::ReleaseError;
+use std::alloc::Global;
+use uc_live::{ReleaseError, RoomError};
 
 impl Engine {
-    /// Takes a snapshot (RocksDB wiki, "Snapshot"): the last sequence becomes a keep, if it isn't one. Returns it. Keeps aren't
-    /// counted: one release ends a keep that was taken twice. An `Err` changes nothing.
-    pub fn keep(&mut self) -> Result<u64, AllocError>
-        ensures ok { IfOk result (λ seq.
-            (seq ≡ self.old.owner.version.last) × (self.new ≡ with_owner (after_keep self.old.owner) self.old)) }
-        ensures err { OnErr result (self.new ≡ self.old) }
+    /// Takes a snapshot at the last sequence, and returns that, as `LiveStore::snapshot` does.
+    pub fn snapshot(&mut self, alloc: Global) -> Result<u64, RoomError>
+        ensures kind { self.new.kind ≡ self.old.kind }
+        ensures ok { IfOk result (TakesSnapshot (meaning_of self.old.kind) self.old.live self.new.live) }
+        ensures err { IfErr result (λ error. HasNoRoom error self.new.live.version
+            × Prepares (meaning_of self.old.kind) self.old.live self.new.live []) }
     {
         match &mut self.store {
-            AnyStore::Append(store) => store.keep(),
-            AnyStore::Counter(store) => store.keep(),
-            AnyStore::Maximum(store) => store.keep(),
-            AnyStore::Tail(store) => store.keep(),
+            AnyStore::Append(store) => store.snapshot(alloc),
+            AnyStore::Counter(store) => store.snapshot(alloc),
+            AnyStore::Maximum(store) => store.snapshot(alloc),
+            AnyStore::Tail(store) => store.snapshot(alloc),
         }
     }
 
-    /// Releases a snapshot: the sequence is a keep no more. It is refused if it is none.
+    /// Releases a snapshot that was taken at the sequence. It is refused if there is none.
     pub fn release(&mut self, seq: u64) -> Result<(), ReleaseError>
         ensures ok { OnOk result
-            (Contains self.old.owner.version.keeps seq
-            × (self.new ≡ with_owner (after_release seq self.old.owner) self.old)) }
+            (Contains self.old.live.snapshots seq × (self.new ≡ with_live (without_snapshot seq self.old.live) self.old)) }
         ensures err { IfErr result (λ error.
-            (error ≡ NotKept seq) × ¬ Contains self.old.owner.version.keeps seq × (self.new ≡ self.old)) }
+            (error ≡ NotKept seq) × ¬ Contains self.old.live.snapshots seq × (self.new ≡ self.old)) }
     {
         match &mut self.store {
             AnyStore::Append(store) => store.release(seq),

@@ -4,8 +4,8 @@ use crate::plain::Plain;
 use std::alloc::{AllocError, Global};
 use std::test::Fail;
 use uc_batch::{fits_batch, write_batch};
-use uc_bytes::Bytes;
-use uc_engine::{Engine, Op, OperatorKind, WriteError};
+use uc_bytes::{Bytes, Op};
+use uc_engine::{Answer, Engine, LiveOptions, OpRef, OperatorKind, Options};
 use uc_query_read::Query;
 use uc_tests_shared::dice::{Dice, KEYS};
 
@@ -20,16 +20,6 @@ static KINDS: [OperatorKind; 4] = [
 /// How many calls are drawn for each operator.
 const CALLS: u64 = 120;
 
-/// Writes an operation.
-fn write(alloc: Global, engine: &mut Engine, op: &Op) -> Result<(), WriteError> {
-    match op {
-        Op::Put(key, value) => engine.put(alloc, key.as_slice(), value.as_slice()),
-        Op::Delete(key) => engine.delete(alloc, key.as_slice()),
-        Op::Merge(key, operand) => engine.merge(alloc, key.as_slice(), operand.as_slice()),
-        Op::DeleteRange(begin, end) => engine.delete_range(alloc, begin.as_slice(), end.as_slice()),
-    }
-}
-
 /// Writes a drawn operation.
 fn write_drawn(
     alloc: Global,
@@ -38,7 +28,7 @@ fn write_drawn(
     plain: &mut Plain,
 ) -> Result<(), Fail> {
     let op = dice.op(alloc)?;
-    if write(alloc, engine, &op) != Ok(()) {
+    if engine.write(alloc, OpRef::of(&op)) != Ok(()) {
         return Err("the write is refused")?;
     }
     plain.write(alloc, plain.next(), op)
@@ -59,8 +49,26 @@ fn unnumbered(alloc: Global, batch: &[u8]) -> Result<Vec<u8>, AllocError> {
     Ok(bytes)
 }
 
-/// Feeds a batch of up to three drawn operations, which leaves up to three sequences out, or has none of its own.
-fn feed_drawn(
+/// Writes a batch in one step, or in two, also behind one that is given up.
+fn write_bytes(alloc: Global, dice: &mut Dice, engine: &mut Engine, bytes: &[u8]) -> bool {
+    if dice.roll(2) == 0 {
+        return engine.write_batch(alloc, bytes) == Ok(());
+    }
+    if dice.roll(2) == 0 {
+        let is_prepared = engine.prepare_recorded(alloc, 0, bytes).is_ok();
+        engine.give_up();
+        engine.commit();
+        if !is_prepared {
+            return false;
+        }
+    }
+    let is_prepared = engine.prepare_recorded(alloc, 0, bytes).is_ok();
+    engine.commit();
+    is_prepared
+}
+
+/// Writes a batch of up to three drawn operations, which leaves up to three sequences out, or has none of its own.
+fn write_drawn_batch(
     alloc: Global,
     dice: &mut Dice,
     engine: &mut Engine,
@@ -78,7 +86,7 @@ fn feed_drawn(
     } else {
         bytes
     };
-    if engine.feed(alloc, &bytes) != Ok(()) {
+    if !write_bytes(alloc, dice, engine, &bytes) {
         return Err("the batch is refused")?;
     }
     for op in ops {
@@ -89,12 +97,11 @@ fn feed_drawn(
 }
 
 /// Takes a snapshot.
-fn keep(engine: &mut Engine, plain: &mut Plain) -> Result<(), Fail> {
-    let seq = engine.keep()?;
-    if seq != plain.last() {
+fn take(alloc: Global, engine: &mut Engine, plain: &mut Plain) -> Result<(), Fail> {
+    if engine.snapshot(alloc) != Ok(plain.last()) {
         return Err("another sequence is kept")?;
     }
-    plain.keep(seq)?;
+    plain.keep(plain.last())?;
     Ok(())
 }
 
@@ -102,10 +109,24 @@ fn keep(engine: &mut Engine, plain: &mut Plain) -> Result<(), Fail> {
 fn release_drawn(dice: &mut Dice, engine: &mut Engine, plain: &mut Plain) -> Result<(), Fail> {
     let seq = dice.roll(plain.last().saturating_add(2));
     if engine.release(seq).is_ok() != plain.is_kept(seq) {
-        return Err("only a keep is released")?;
+        return Err("only a snapshot is released")?;
     }
     plain.release(seq);
     Ok(())
+}
+
+/// Flushes or compacts.
+fn tidy(alloc: Global, dice: &mut Dice, engine: &mut Engine) -> Result<(), Fail> {
+    let is_done = if dice.roll(2) == 0 {
+        engine.flush(alloc).is_ok()
+    } else {
+        engine.compact_once(alloc).is_ok()
+    };
+    if is_done {
+        Ok(())
+    } else {
+        Err("nothing is flushed or compacted")?
+    }
 }
 
 /// Makes a drawn call.
@@ -115,19 +136,17 @@ fn call(
     engine: &mut Engine,
     plain: &mut Plain,
 ) -> Result<(), Fail> {
-    let kind = dice.roll(8);
-    if kind < 3 {
+    let kind = dice.roll(10);
+    if kind < 5 {
         write_drawn(alloc, dice, engine, plain)
-    } else if kind == 3 {
-        feed_drawn(alloc, dice, engine, plain)
-    } else if kind < 6 {
-        keep(engine, plain)
-    } else if kind == 6 {
+    } else if kind == 5 {
+        write_drawn_batch(alloc, dice, engine, plain)
+    } else if kind < 8 {
+        take(alloc, engine, plain)
+    } else if kind == 8 {
         release_drawn(dice, engine, plain)
-    } else if engine.compact_once(alloc).is_ok() {
-        Ok(())
     } else {
-        Err("nothing is compacted")?
+        tidy(alloc, dice, engine)
     }
 }
 
@@ -144,23 +163,29 @@ fn looks_up_alike(
         at,
     };
     let wanted = plain.answer(alloc, &plain.keeps, &query)?;
-    Ok(engine.get(alloc, key, at)? == wanted)
+    Ok(engine.get_at(alloc, key, at)? == wanted)
 }
 
 /// Whether a key has the plain program's answer at the last sequence.
-fn looks_up_last(
-    alloc: Global,
-    engine: &mut Engine,
-    plain: &Plain,
-    key: &[u8],
-) -> Result<bool, Fail> {
+fn looks_up_last(alloc: Global, engine: &Engine, plain: &Plain, key: &[u8]) -> Result<bool, Fail> {
     let at = plain.last();
     let query = Query::Get {
         key: Bytes::from_slice(alloc, key)?,
         at,
     };
     let wanted = plain.answer(alloc, &[at], &query)?;
-    Ok(engine.get_last(alloc, key)? == wanted)
+    Ok(Answer::Value(engine.get(alloc, key)?) == wanted)
+}
+
+/// A drawn scan at a sequence.
+fn drawn_scan(alloc: Global, dice: &mut Dice, at: u64) -> Result<Query, Fail> {
+    let high = KEYS[dice.roll(4) as usize];
+    Ok(Query::Scan {
+        low: Bytes::from_slice(alloc, b"a")?,
+        high: Some(Bytes::from_slice(alloc, high)?),
+        at,
+        limit: dice.roll(5),
+    })
 }
 
 /// Whether a drawn scan has the plain program's answer at a sequence.
@@ -171,23 +196,42 @@ fn scans_alike(
     plain: &Plain,
     at: u64,
 ) -> Result<bool, Fail> {
-    let high = KEYS[dice.roll(4) as usize];
-    let limit = dice.roll(5);
-    let query = Query::Scan {
-        low: Bytes::from_slice(alloc, b"a")?,
-        high: Some(Bytes::from_slice(alloc, high)?),
-        at,
-        limit,
-    };
+    let query = drawn_scan(alloc, dice, at)?;
     let wanted = plain.answer(alloc, &plain.keeps, &query)?;
-    Ok(engine.scan(alloc, b"a", Some(high), at, limit)? == wanted)
+    Ok(engine.answer(alloc, &query)? == wanted)
+}
+
+/// The rows of a scan at the last sequence.
+fn last_rows(alloc: Global, engine: &Engine, query: &Query) -> Result<Answer, Fail> {
+    match query {
+        Query::Scan {
+            low,
+            high,
+            limit,
+            ..
+        } => Ok(Answer::Rows(engine.scan(alloc, low.as_slice(), high, *limit)?)),
+        Query::Get { at, .. } => Ok(Answer::NotProtected(*at)),
+    }
+}
+
+/// Whether a drawn scan has the plain program's rows at the last sequence.
+fn scans_last(
+    alloc: Global,
+    dice: &mut Dice,
+    engine: &Engine,
+    plain: &Plain,
+) -> Result<bool, Fail> {
+    let at = plain.last();
+    let query = drawn_scan(alloc, dice, at)?;
+    let wanted = plain.answer(alloc, &[at], &query)?;
+    Ok(last_rows(alloc, engine, &query)? == wanted)
 }
 
 /// Whether the engine reads as the plain program does, at a drawn sequence and at the last one.
 fn reads_alike(
     alloc: Global,
     dice: &mut Dice,
-    engine: &mut Engine,
+    engine: &Engine,
     plain: &Plain,
 ) -> Result<bool, Fail> {
     let at = dice.roll(plain.last().saturating_add(2));
@@ -195,28 +239,47 @@ fn reads_alike(
     Ok(
         looks_up_alike(alloc, engine, plain, key, at)?
             && scans_alike(alloc, dice, engine, plain, at)?
-            && looks_up_last(alloc, engine, plain, key)?,
+            && looks_up_last(alloc, engine, plain, key)?
+            && scans_last(alloc, dice, engine, plain)?,
     )
 }
 
 /// Makes drawn calls, and reads behind each.
-fn plays(alloc: Global, dice: &mut Dice, kind: OperatorKind) -> Result<bool, Fail> {
-    let mut engine = empty(alloc, kind, small())?;
+fn plays(
+    alloc: Global,
+    dice: &mut Dice,
+    kind: OperatorKind,
+    options: LiveOptions,
+) -> Result<bool, Fail> {
+    let mut engine = empty(alloc, kind, options)?;
     let mut plain = Plain::new(alloc, kind)?;
     for _ in 0..CALLS {
         call(alloc, dice, &mut engine, &mut plain)?;
-        if !reads_alike(alloc, dice, &mut engine, &plain)? {
+        if !reads_alike(alloc, dice, &engine, &plain)? {
             return Ok(false);
         }
     }
     Ok(engine.last() == plain.last())
 }
 
-/// Whether each operator plays as the plain program does.
-fn each_plays(alloc: Global) -> Result<bool, Fail> {
+/// Options that gather some writes, compact by themselves, and stop early.
+fn gathering() -> LiveOptions {
+    LiveOptions {
+        store: Options {
+            memtable: 100,
+            trigger: 2,
+            ..Options::usual()
+        },
+        stop_trigger: 3,
+        compacts_itself: true,
+    }
+}
+
+/// Whether each operator plays as the plain program does, under these options.
+fn each_plays(alloc: Global, options: LiveOptions) -> Result<bool, Fail> {
     for (seed, kind) in KINDS.iter().enumerate() {
         let mut dice = Dice::new(seed as u64);
-        if !plays(alloc, &mut dice, *kind)? {
+        if !plays(alloc, &mut dice, *kind, options)? {
             return Ok(false);
         }
     }
@@ -226,6 +289,7 @@ fn each_plays(alloc: Global) -> Result<bool, Fail> {
 #[test]
 fn drawn_calls_read_as_plain_writes(rt: HostRuntime) -> Result<(), Fail> {
     let alloc = rt.alloc();
-    assert!(rt; each_plays(alloc)?);
+    assert!(rt; each_plays(alloc, small())?);
+    assert!(rt; each_plays(alloc, gathering())?);
     Ok(())
 }

@@ -1,18 +1,26 @@
 //! The engines and the bytes that tests begin with.
 use std::alloc::{AllocError, Global};
 use std::test::Fail;
-use uc_engine::{Answer, Engine, OperatorKind, Options};
+use uc_engine::{Engine, LiveOptions, OpRef, OperatorKind, Options, WriteError};
 
-/// Options that make a run of each write.
-pub(crate) fn small() -> Options {
-    Options {
-        memtable: 1,
-        ..Options::usual()
+/// Options that flush behind each write, and compact only if asked.
+pub(crate) fn small() -> LiveOptions {
+    LiveOptions {
+        store: Options {
+            memtable: 1,
+            ..Options::usual()
+        },
+        compacts_itself: false,
+        ..LiveOptions::usual()
     }
 }
 
 /// An engine without writes.
-pub(crate) fn empty(alloc: Global, kind: OperatorKind, options: Options) -> Result<Engine, Fail> {
+pub(crate) fn empty(
+    alloc: Global,
+    kind: OperatorKind,
+    options: LiveOptions,
+) -> Result<Engine, Fail> {
     match Engine::create(alloc, kind, options) {
         Ok(engine) => Ok(engine),
         Err(_) => Err("the engine doesn't open")?,
@@ -32,25 +40,30 @@ pub(crate) fn batch(
     Ok(bytes)
 }
 
-/// Whether an answer is this value.
-pub(crate) fn is_value(answer: &Answer, wanted: &[u8]) -> bool {
-    match answer {
-        Answer::Value(Some(value)) => value.as_slice() == wanted,
-        _ => false,
-    }
+/// Sets a key.
+pub(crate) fn put(
+    alloc: Global,
+    engine: &mut Engine,
+    key: &[u8],
+    value: &[u8],
+) -> Result<(), WriteError> {
+    engine.write(alloc, OpRef::put(key, value))
 }
 
 /// Whether the key has this value at the last sequence.
 pub(crate) fn has(
     alloc: Global,
-    engine: &mut Engine,
+    engine: &Engine,
     key: &[u8],
     wanted: &[u8],
 ) -> Result<bool, AllocError> {
-    Ok(is_value(&engine.get_last(alloc, key)?, wanted))
+    match engine.get(alloc, key)? {
+        Some(value) => Ok(value.as_slice() == wanted),
+        None => Ok(false),
+    }
 }
 
 /// Whether the key has no value at the last sequence.
-pub(crate) fn has_none(alloc: Global, engine: &mut Engine, key: &[u8]) -> Result<bool, AllocError> {
-    Ok(engine.get_last(alloc, key)? == Answer::Value(None))
+pub(crate) fn has_none(alloc: Global, engine: &Engine, key: &[u8]) -> Result<bool, AllocError> {
+    Ok(engine.get(alloc, key)?.is_none())
 }

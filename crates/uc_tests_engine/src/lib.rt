@@ -1,20 +1,18 @@
 //! Engines, whose operator is a value, by hand and drawn.
 //!
 //! `worked.rt` has the values that are worked out by hand for each operator, and `given.rt` the engines and bytes that
-//! tests begin with. `feeds.rt`, `writes.rt`, `reads.rt`, `snapshots.rt`, `compactions.rt` and `openings.rt` try each call on
+//! tests begin with. `writes.rt`, `batches.rt`, `steps.rt`, `reads.rt`, `snapshots.rt`, `compactions.rt` and `openings.rt` try each call on
 //! its happy path and each refusal. `drawn.rt` plays drawn calls beside the plain program of `plain.rt`.
 #![tactic(auto)]
 
+#[cfg(test)]
+mod batches;
 #[cfg(test)]
 mod compactions;
 #[cfg(test)]
 mod drawn;
 #[cfg(test)]
-mod feeds;
-#[cfg(test)]
 mod given;
-#[cfg(test)]
-mod log_records;
 #[cfg(test)]
 mod openings;
 #[cfg(test)]
@@ -23,6 +21,8 @@ mod plain;
 mod reads;
 #[cfg(test)]
 mod snapshots;
+#[cfg(test)]
+mod steps;
 #[cfg(test)]
 mod worked;
 #[cfg(test)]

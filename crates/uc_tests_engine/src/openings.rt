@@ -4,7 +4,7 @@ use crate::worked::{MERGED, Merged};
 use std::alloc::Global;
 use std::test::Fail;
 use uc_bytes::MAX_SEQUENCE;
-use uc_engine::{Ended, Engine, OpenError, OpenedEngine, OperatorKind, Options};
+use uc_engine::{Ended, Engine, LiveOpenError, LiveOptions, OpenedEngine, OperatorKind, Options};
 use uc_logrec::LogWriter;
 
 /// A log of one batch.
@@ -16,7 +16,7 @@ fn log_of(alloc: Global, sequence: u64, count: u32, records: &[u8]) -> Result<Ve
 
 /// What opens from a log.
 fn opened(alloc: Global, kind: OperatorKind, log: &[u8]) -> Result<OpenedEngine, Fail> {
-    match Engine::open(alloc, kind, log, Options::usual()) {
+    match Engine::open(alloc, kind, log, LiveOptions::usual()) {
         Ok(opened) => Ok(opened),
         Err(_) => Err("the engine doesn't open")?,
     }
@@ -29,18 +29,18 @@ pub(crate) fn full(alloc: Global) -> Result<Engine, Fail> {
 }
 
 /// Whether what opened has both merges of a log, whose batch begins at the sequence 7.
-fn has_merged(alloc: Global, opened: &mut OpenedEngine, merged: &Merged) -> Result<bool, Fail> {
+fn has_merged(alloc: Global, opened: &OpenedEngine, merged: &Merged) -> Result<bool, Fail> {
     let is_whole = opened.ended == Ended::Clean && opened.engine.kind() == merged.kind;
-    let is_last = opened.engine.last() == 8 && opened.engine.keeps() == [8].as_slice();
-    Ok(is_whole && is_last && has(alloc, &mut opened.engine, b"k", merged.value)?)
+    let is_last = opened.engine.last() == 8 && opened.engine.keeps().is_empty();
+    Ok(is_whole && is_last && has(alloc, &opened.engine, b"k", merged.value)?)
 }
 
 /// Whether a log opens under each operator.
 fn each_opens(alloc: Global) -> Result<bool, Fail> {
     for merged in &MERGED {
         let log = log_of(alloc, 7, 2, merged.records)?;
-        let mut opened = opened(alloc, merged.kind, &log)?;
-        if !has_merged(alloc, &mut opened, merged)? {
+        let opened = opened(alloc, merged.kind, &log)?;
+        if !has_merged(alloc, &opened, merged)? {
             return Ok(false);
         }
     }
@@ -64,31 +64,37 @@ fn a_torn_log_opens_up_to_its_end(rt: HostRuntime) -> Result<(), Fail> {
 }
 
 /// Whether an engine opens neither from a log nor empty, for a bad option.
-fn refuses_options(alloc: Global, options: Options) -> bool {
+fn refuses_options(alloc: Global, options: LiveOptions) -> bool {
     let from_log = Engine::open(alloc, OperatorKind::Append, b"", options);
     let empty = Engine::create(alloc, OperatorKind::Append, options);
     let is_refused = match from_log {
-        Err(error) => error == OpenError::BadOption,
+        Err(error) => error == LiveOpenError::BadOption,
         Ok(_) => false,
     };
     match empty {
-        Err(error) => is_refused && error == OpenError::BadOption,
+        Err(error) => is_refused && error == LiveOpenError::BadOption,
         Ok(_) => false,
+    }
+}
+
+/// Options with a trigger and a number of runs at which writes stop.
+fn triggers(trigger: u32, stop_trigger: u32) -> LiveOptions {
+    let small = small();
+    LiveOptions {
+        store: Options {
+            trigger,
+            ..small.store
+        },
+        stop_trigger,
+        ..small
     }
 }
 
 #[test]
 fn bad_options_are_refused(rt: HostRuntime) -> Result<(), Fail> {
-    let low = Options {
-        trigger: 0,
-        ..small()
-    };
-    assert!(rt; refuses_options(rt.alloc(), low));
-    let high = Options {
-        trigger: 256,
-        ..small()
-    };
-    assert!(rt; refuses_options(rt.alloc(), high));
+    assert!(rt; refuses_options(rt.alloc(), triggers(0, 36)));
+    assert!(rt; refuses_options(rt.alloc(), triggers(4, 256)));
+    assert!(rt; refuses_options(rt.alloc(), triggers(5, 4)));
     Ok(())
 }
 
@@ -101,15 +107,18 @@ fn deletes(alloc: Global, count: usize) -> Result<Vec<u8>, Fail> {
     Ok(records)
 }
 
+/// A log whose memtables are more than there are slots opens.
 #[test]
-fn more_runs_than_slots_are_refused(rt: HostRuntime) -> Result<(), Fail> {
+fn long_logs_open(rt: HostRuntime) -> Result<(), Fail> {
     let alloc = rt.alloc();
-    let log = log_of(alloc, 1, 257, &deletes(alloc, 257)?)?;
-    let is_refused = match Engine::open(alloc, OperatorKind::Append, &log, small()) {
-        Err(error) => error == OpenError::TooManyRuns,
-        Ok(_) => false,
+    let mut log = LogWriter::new(alloc);
+    for sequence in 0..600 {
+        log.add(&batch(alloc, 1 + sequence, 1, &deletes(alloc, 1)?)?)?;
+    }
+    let Ok(opened) = Engine::open(alloc, OperatorKind::Append, &log.finish(), small()) else {
+        return Err("the log doesn't open")?;
     };
-    assert!(rt; is_refused);
+    assert!(rt; opened.engine.last() == 600 && opened.engine.report().runs <= 36);
     Ok(())
 }
 

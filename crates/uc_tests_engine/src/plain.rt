@@ -7,7 +7,7 @@ use uc_engine::{Answer, OperatorKind};
 use uc_oper::{Append, Counter, Maximum, Tail};
 use uc_query_read::{Query, answer_writes};
 
-/// What an engine was given, and the sequences that it keeps, in any order.
+/// What an engine was given, and the sequence of each snapshot, in any order.
 #[derive(Drop)]
 pub(crate) struct Plain {
     kind: OperatorKind,
@@ -26,10 +26,9 @@ fn with_write(alloc: Global, writes: &Writes, seq: u64, op: Op) -> Result<Writes
 }
 
 impl Plain {
-    /// A program without writes, which keeps 0.
+    /// A program without writes and snapshots.
     pub(crate) fn new(alloc: Global, kind: OperatorKind) -> Result<Plain, Fail> {
-        let mut keeps = Vec::new(alloc);
-        keeps.push(0)?;
+        let keeps = Vec::new(alloc);
         let writes = Writes::of(Vec::new(alloc)).ok_or("no writes rise")?;
         Ok(Plain {
             kind,
@@ -59,17 +58,17 @@ impl Plain {
         self.last().saturating_add(1)
     }
 
-    /// Keeps a sequence.
+    /// Keeps a sequence once more.
     pub(crate) fn keep(&mut self, seq: u64) -> Result<(), AllocError> {
-        if !self.is_kept(seq) {
-            self.keeps.push(seq)?;
-        }
+        self.keeps.push(seq)?;
         Ok(())
     }
 
-    /// Keeps a sequence no more.
+    /// Keeps a sequence once less.
     pub(crate) fn release(&mut self, seq: u64) {
-        self.keeps.retain(|keep| *keep != seq);
+        if let Some(place) = self.keeps.iter().position(|keep| *keep == seq) {
+            self.keeps.swap_remove(place);
+        }
     }
 
     /// The answer to a query under these keeps.

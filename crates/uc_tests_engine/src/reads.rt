@@ -1,8 +1,8 @@
-//! Scans, and reads at the last sequence.
-use crate::given::{empty, has};
+//! Scans at the last sequence.
+use crate::given::{empty, put};
 use std::alloc::Global;
 use std::test::Fail;
-use uc_engine::{Answer, Bytes, Engine, OperatorKind, Options};
+use uc_engine::{Bytes, Engine, LiveOptions, OperatorKind};
 
 /// Whether rows are these.
 fn are(rows: &[(Bytes, Bytes)], wanted: &[(&[u8], &[u8])]) -> bool {
@@ -17,58 +17,57 @@ fn are(rows: &[(Bytes, Bytes)], wanted: &[(&[u8], &[u8])]) -> bool {
     true
 }
 
-/// Whether an answer has these rows.
-fn shows(answer: &Answer, wanted: &[(&[u8], &[u8])]) -> bool {
-    match answer {
-        Answer::Rows(rows) => are(rows.as_slice(), wanted),
-        _ => false,
-    }
+/// Puts `a`, `b`, `c` and `d`.
+fn put_four(alloc: Global, engine: &mut Engine) -> bool {
+    put(alloc, engine, b"b", b"2") == Ok(())
+        && put(alloc, engine, b"a", b"1") == Ok(())
+        && put(alloc, engine, b"d", b"4") == Ok(())
+        && put(alloc, engine, b"c", b"3") == Ok(())
 }
 
-/// Puts `a`, `b`, `c` and `d`, and keeps the last sequence, which is 4.
-fn put_four(alloc: Global, engine: &mut Engine) -> Result<bool, Fail> {
-    let first = engine.put(alloc, b"b", b"2") == Ok(()) && engine.put(alloc, b"a", b"1") == Ok(());
-    let others = engine.put(alloc, b"d", b"4") == Ok(()) && engine.put(alloc, b"c", b"3") == Ok(());
-    Ok(first && others && engine.keep()? == 4)
+/// Whether a scan has these rows.
+fn shows(
+    alloc: Global,
+    engine: &Engine,
+    range: (&[u8], Option<&[u8]>),
+    limit: u64,
+    wanted: &[(&[u8], &[u8])],
+) -> Result<bool, Fail> {
+    let high = match range.1 {
+        Some(high) => Some(Bytes::from_slice(alloc, high)?),
+        None => None,
+    };
+    let rows = engine.scan(alloc, range.0, &high, limit)?;
+    Ok(are(rows.as_slice(), wanted))
 }
 
 /// Scans with and without an end, and with a limit.
 fn scans(alloc: Global, engine: &Engine) -> Result<bool, Fail> {
-    let all = engine.scan(alloc, b"b", None, 4, 9)?;
-    let below = engine.scan(alloc, b"a", Some(b"c"), 4, 9)?;
-    let first = engine.scan(alloc, b"", None, 4, 1)?;
-    let shown = shows(&all, &[(b"b", b"2"), (b"c", b"3"), (b"d", b"4")]);
-    Ok(shown && shows(&below, &[(b"a", b"1"), (b"b", b"2")]) && shows(&first, &[(b"a", b"1")]))
-}
-
-/// Whether a scan is refused where no snapshot is.
-fn is_unprotected(alloc: Global, engine: &Engine) -> Result<bool, Fail> {
-    Ok(engine.scan(alloc, b"", None, 3, 9)? == Answer::NotProtected(3))
+    let all = [
+        (b"b".as_slice(), b"2".as_slice()),
+        (b"c".as_slice(), b"3".as_slice()),
+        (b"d".as_slice(), b"4".as_slice()),
+    ];
+    let below = [
+        (b"a".as_slice(), b"1".as_slice()),
+        (b"b".as_slice(), b"2".as_slice()),
+    ];
+    Ok(
+        shows(alloc, engine, (b"b", None), 9, &all)?
+            && shows(alloc, engine, (b"a", Some(b"c")), 9, &below)?
+            && shows(alloc, engine, (b"", None), 1, &below[..1])?,
+    )
 }
 
 #[test]
 fn scans_show_the_first_rows(rt: HostRuntime) -> Result<(), Fail> {
     let alloc = rt.alloc();
-    let mut engine = empty(alloc, OperatorKind::Tail, Options::usual())?;
-    let is_put = put_four(alloc, &mut engine)?;
+    let mut engine = empty(alloc, OperatorKind::Tail, LiveOptions::usual())?;
+    let is_put = put_four(alloc, &mut engine);
     assert!(rt; is_put);
     assert!(rt; scans(alloc, &engine)?);
-    assert!(rt; is_unprotected(alloc, &engine)?);
-    Ok(())
-}
-
-/// Reads at the last sequence, which is kept before or not, and stays so.
-fn leaves_keeps(alloc: Global, engine: &mut Engine) -> Result<bool, Fail> {
-    let read = engine.put(alloc, b"k", b"v") == Ok(()) && has(alloc, engine, b"k", b"v")?;
-    let stays = engine.keeps() == [0].as_slice() && engine.keep()? == 1;
-    Ok(read && stays && has(alloc, engine, b"k", b"v")? && engine.keeps() == [0, 1].as_slice())
-}
-
-#[test]
-fn reads_at_the_last_sequence_leave_the_keeps(rt: HostRuntime) -> Result<(), Fail> {
-    let alloc = rt.alloc();
-    let mut engine = empty(alloc, OperatorKind::Counter, Options::usual())?;
-    let leaves = leaves_keeps(alloc, &mut engine)?;
-    assert!(rt; leaves);
+    let is_flushed = engine.flush(alloc).is_ok();
+    assert!(rt; is_flushed && engine.gathered() == 0);
+    assert!(rt; scans(alloc, &engine)?);
     Ok(())
 }
