@@ -42,7 +42,7 @@ def count(client: Client, folder: str, lines: Iterator[str]) -> None:
             if number == 1:
                 kill_a_worker(client)
             store.write(batch)
-            single.feed(batch)
+            single.write(batch)
             single.compact()
         with store.snapshot() as found, single.snapshot() as wanted:
             counts = list(found.scan())
