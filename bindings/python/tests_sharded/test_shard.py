@@ -488,7 +488,7 @@ class Shards(Folder):
     def test_an_error_of_a_call_is_its_answer(self):
         shard = self.opened()
         length = shard.call("apply", 0, 1, part(Put(b"a", b"1")))
-        at = shard.call("keep")
+        at = shard.call("take_snapshot")
         wrong_limit, wrong_text = dumps([(0, (b"", None, -1))]), dumps([(0, ("a", None, 1))])
         for kind, call in (
             (ValueError, ("answers", wrong_limit, at)), (TypeError, ("answers", wrong_text, at)),

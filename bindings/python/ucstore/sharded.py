@@ -212,7 +212,7 @@ class ShardedStore(AbstractContextManager):
         with self._guard:
             lengths, numbers = list(self._acknowledged().lengths), range(self._manifest.shards)
             with undoing(self._forget, numbers):
-                at = self._ask("keep", dict.fromkeys(numbers, ()))
+                at = self._ask("take_snapshot", dict.fromkeys(numbers, ()))
                 snapshot = ShardedSnapshot(self, at, lengths)
                 self._snapshots.add(snapshot)
         return snapshot
