@@ -102,8 +102,8 @@ static inline const char *ucstore_status_text(int32_t status) {
     return status >= 0 && (size_t)status < sizeof texts / sizeof texts[0] ? texts[status] : "unknown status";
 }
 
-/* How a store is kept, with RocksDB's names (RocksDB wiki, "Universal Compaction"). `ucstore_options_init` fills it in. A later library may have
- * more fields behind these. */
+/* How a store is kept, with RocksDB's names (RocksDB wiki, "Universal Compaction"). `ucstore_options_init` fills it
+ * in. A later library may have more fields behind these. */
 struct ucstore_options {
     size_t size;                              /* sizeof(struct ucstore_options). */
     uint64_t write_buffer_size;               /* From how many bytes on the memtable is full, at least 1. */
@@ -135,8 +135,8 @@ struct ucstore_ended {
     uint64_t place;
 };
 
-/* What a store holds, in numbers. Points, fragments and bytes are sums over its runs, held at 2^64 - 1. A later library may have more fields
- * behind these. */
+/* What a store holds, in numbers. Points, fragments and bytes are sums over its runs, held at 2^64 - 1. A later
+ * library may have more fields behind these. */
 struct ucstore_report {
     size_t size;         /* sizeof(struct ucstore_report), which the caller writes. */
     uint64_t runs;
@@ -158,18 +158,19 @@ struct ucstore_log_place {
 /* Tells UCSTORE_ABI of the library that is linked. It grows when a function or a status changes its meaning. */
 uint32_t ucstore_version(void);
 
-/* Fills in the default options and their size: a memtable of 4 MiB, 4 runs, 36 runs, 1 percent, 200 percent, at least 2 runs and no limit
- * to them, and a store that compacts by itself. It answers UCSTORE_OK. */
+/* Fills in the default options and their size: a memtable of 4 MiB, 4 runs, 36 runs, 1 percent, 200 percent, at least
+ * 2 runs and no limit to them, and a store that compacts by itself. It answers UCSTORE_OK. */
 int32_t ucstore_options_init(struct ucstore_options *options);
 
 /* Puts an empty store without snapshots behind the handle.
  * UCSTORE_HAS_STORE, UCSTORE_BAD_SIZE, UCSTORE_UNKNOWN_OPERATOR, UCSTORE_BAD_OPTION, UCSTORE_OUT_OF_MEMORY. */
 int32_t ucstore_create(struct ucstore *store, uint32_t merge_operator, const struct ucstore_options *options);
 
-/* Puts a store behind the handle that is opened from the bytes of a write-ahead log of any length: it has the writes before the
- * log's first fault, and `ended` says whether there was one. It has no snapshot. Before anything is
+/* Puts a store behind the handle that is opened from the bytes of a write-ahead log of any length: it has the writes
+ * before the log's first fault, and `ended` says whether there was one. It has no snapshot. Before anything is
  * appended to the log, cut it where a walk by `ucstore_log_next` ends.
- * UCSTORE_HAS_STORE, UCSTORE_BAD_SIZE, UCSTORE_UNKNOWN_OPERATOR, UCSTORE_BAD_OPTION, UCSTORE_IDS_SPENT, UCSTORE_OUT_OF_MEMORY. */
+ * UCSTORE_HAS_STORE, UCSTORE_BAD_SIZE, UCSTORE_UNKNOWN_OPERATOR, UCSTORE_BAD_OPTION, UCSTORE_IDS_SPENT,
+ * UCSTORE_OUT_OF_MEMORY. */
 int32_t ucstore_open(struct ucstore *store, uint32_t merge_operator, const struct ucstore_options *options,
                      const uint8_t *log, size_t log_length, struct ucstore_ended *ended);
 
@@ -177,10 +178,11 @@ int32_t ucstore_open(struct ucstore *store, uint32_t merge_operator, const struc
  * UCSTORE_NO_STORE. */
 int32_t ucstore_close(struct ucstore *store);
 
-/* Writes a batch, as RocksDB writes it: 8 bytes for a sequence, 4 for a count, and as many records. The operations
- * get that sequence and those after it. If it is 0, they get the sequences after the last one. UCSTORE_SEQUENCES_SPENT also
- * says that the batch's own sequence is above 2^56 - 1.
- * UCSTORE_NO_STORE, UCSTORE_NOT_A_BATCH, UCSTORE_SEQUENCE_BACK, UCSTORE_SEQUENCES_SPENT, UCSTORE_IDS_SPENT, UCSTORE_OUT_OF_MEMORY. */
+/* Writes a batch, as RocksDB writes it: 8 bytes for a sequence, 4 for a count, and as many records. The operations get
+ * that sequence and those after it. If it is 0, they get the sequences after the last one. UCSTORE_SEQUENCES_SPENT
+ * also says that the batch's own sequence is above 2^56 - 1.
+ * UCSTORE_NO_STORE, UCSTORE_NOT_A_BATCH, UCSTORE_SEQUENCE_BACK, UCSTORE_SEQUENCES_SPENT, UCSTORE_IDS_SPENT,
+ * UCSTORE_OUT_OF_MEMORY. */
 int32_t ucstore_write_bytes(struct ucstore *store, const uint8_t *batch, size_t batch_length);
 
 /* Sets a key to a value.
@@ -199,12 +201,13 @@ int32_t ucstore_merge(struct ucstore *store, const uint8_t *key, size_t key_leng
 int32_t ucstore_delete_range(struct ucstore *store, const uint8_t *begin, size_t begin_length, const uint8_t *end,
                              size_t end_length);
 
-/* Prepares a batch, so that `ucstore_commit` can take it. No read sees it before. Copies the bytes that it adds to a log of `log_length`
- * bytes, and tells how many they are: zero bytes up to the next place of a header, if any are needed, and the batch with its sequence. A batch
- * that was prepared before is given up. The head of this file says what to do with the record.
+/* Prepares a batch, so that `ucstore_commit` can take it. No read sees it before. Copies the bytes that it adds to a
+ * log of `log_length` bytes, and tells how many they are: zero bytes up to the next place of a header, if any are
+ * needed, and the batch with its sequence. A batch that was prepared before is given up. The head of this file says
+ * what to do with the record.
  *
- * UCSTORE_ROOM: the record doesn't fit the room. Nothing is prepared or written there, and `size` tells how much room it needs.
- * Else the statuses are those of `ucstore_write_bytes`. */
+ * UCSTORE_ROOM: the record doesn't fit the room. Nothing is prepared or written there, and `size` tells how much room
+ * it needs. Else the statuses are those of `ucstore_write_bytes`. */
 int32_t ucstore_prepare(struct ucstore *store, const uint8_t *batch, size_t batch_length, uint64_t log_length,
                         uint8_t *room, size_t room_length, size_t *size);
 
@@ -220,8 +223,8 @@ int32_t ucstore_give_up(struct ucstore *store);
  * UCSTORE_NO_STORE, UCSTORE_IDS_SPENT, UCSTORE_OUT_OF_MEMORY. */
 int32_t ucstore_flush(struct ucstore *store);
 
-/* Takes a snapshot at the last sequence, and tells that. What is gathered becomes a run first. A snapshot that is taken twice is released
- * twice.
+/* Takes a snapshot at the last sequence, and tells that. What is gathered becomes a run first. A snapshot that is
+ * taken twice is released twice.
  * UCSTORE_NO_STORE, UCSTORE_IDS_SPENT, UCSTORE_OUT_OF_MEMORY. */
 int32_t ucstore_snapshot(struct ucstore *store, uint64_t *seq);
 
@@ -229,8 +232,8 @@ int32_t ucstore_snapshot(struct ucstore *store, uint64_t *seq);
  * UCSTORE_NO_STORE, UCSTORE_NOT_PROTECTED. */
 int32_t ucstore_release(struct ucstore *store, uint64_t seq);
 
-/* Copies the sequences of the snapshots, which rise, each once, as many as there is room for, and tells how many there are.
- * `room_length` counts sequences.
+/* Copies the sequences of the snapshots, which rise, each once, as many as there is room for, and tells how many there
+ * are. `room_length` counts sequences.
  * UCSTORE_NO_STORE. */
 int32_t ucstore_snapshots(struct ucstore *store, uint64_t *room, size_t room_length, size_t *count);
 
@@ -238,8 +241,8 @@ int32_t ucstore_snapshots(struct ucstore *store, uint64_t *room, size_t room_len
  * UCSTORE_NO_STORE. */
 int32_t ucstore_last(struct ucstore *store, uint64_t *seq);
 
-/* Looks a key up at the last sequence: copies its value into the room, as much of it as there is room for, and tells the size
- * of all of it.
+/* Looks a key up at the last sequence: copies its value into the room, as much of it as there is room for, and tells
+ * the size of all of it.
  * UCSTORE_NO_STORE, UCSTORE_NOT_FOUND, UCSTORE_OUT_OF_MEMORY. */
 int32_t ucstore_get(struct ucstore *store, const uint8_t *key, size_t key_length, uint8_t *room, size_t room_length,
                     size_t *size);
@@ -250,10 +253,10 @@ int32_t ucstore_get_at(struct ucstore *store, const uint8_t *key, size_t key_len
                        size_t room_length, size_t *size);
 
 /* Scans the first rows, at most `limit`, of the keys from `low` to below `high`, or to the last one if not `bounded`,
- * at the last sequence. The rows that fit the room are written one behind the other, each as 8 bytes for the key's length,
- * low byte first, the key, 8 bytes for the value's length, and the value. `rows` tells how many these are, and `size`
- * how many bytes all rows have: if it is above the room's length, some aren't there. All rows up to the limit are found,
- * whatever the room: to read page by page, give a limit, and begin the next page behind the last key.
+ * at the last sequence. The rows that fit the room are written one behind the other, each as 8 bytes for the key's
+ * length, low byte first, the key, 8 bytes for the value's length, and the value. `rows` tells how many these are, and
+ * `size` how many bytes all rows have: if it is above the room's length, some aren't there. All rows up to the limit
+ * are found, whatever the room: to read page by page, give a limit, and begin the next page behind the last key.
  * UCSTORE_NO_STORE, UCSTORE_OUT_OF_MEMORY. */
 int32_t ucstore_scan(struct ucstore *store, const uint8_t *low, size_t low_length, const uint8_t *high, size_t high_length,
                      bool bounded, uint64_t limit, uint8_t *room, size_t room_length, size_t *size, uint64_t *rows);
@@ -264,7 +267,8 @@ int32_t ucstore_scan_at(struct ucstore *store, const uint8_t *low, size_t low_le
                         bool bounded, uint64_t at, uint64_t limit, uint8_t *room, size_t room_length, size_t *size,
                         uint64_t *rows);
 
-/* Compacts the runs that are picked next, if there are any, and tells whether there were. A store that compacts by itself needs no such call.
+/* Compacts the runs that are picked next, if there are any, and tells whether there were. A store that compacts by
+ * itself needs no such call.
  * UCSTORE_NO_STORE, UCSTORE_IDS_SPENT, UCSTORE_OUT_OF_MEMORY. */
 int32_t ucstore_compact(struct ucstore *store, bool *compacted);
 
@@ -272,14 +276,14 @@ int32_t ucstore_compact(struct ucstore *store, bool *compacted);
  * UCSTORE_NO_STORE, UCSTORE_BAD_SIZE. */
 int32_t ucstore_report(struct ucstore *store, struct ucstore_report *report);
 
-/* Goes from a place in a log to behind the next batch, and lays its writes out in the room one behind the other: each as
- * 8 bytes for the sequence, low byte first, 1 for the kind (0 a deletion, 1 a put, 2 a merge, 15 a deletion of a range),
- * 8 for the length of the first text, that text, 8 for the length of the second, and that one. A deletion's second text
- * is empty. `writes` tells how many these are, and `size` how many bytes.
+/* Goes from a place in a log to behind the next batch, and lays its writes out in the room one behind the other: each
+ * as 8 bytes for the sequence, low byte first, 1 for the kind (0 a deletion, 1 a put, 2 a merge, 15 a deletion of a
+ * range), 8 for the length of the first text, that text, 8 for the length of the second, and that one. A deletion's
+ * second text is empty. `writes` tells how many these are, and `size` how many bytes.
  *
  * UCSTORE_ROOM: the writes don't fit the room. The place stays, and `size` tells how much room they need.
- * UCSTORE_LOG_ENDS: no batch comes next. The place stays, and `ended` tells how far the log was read, as `ucstore_open`
- * does. A log that is cut at `place->offset` can be appended to.
+ * UCSTORE_LOG_ENDS: no batch comes next. The place stays, and `ended` tells how far the log was read, as
+ * `ucstore_open` does. A log that is cut at `place->offset` can be appended to.
  * UCSTORE_BAD_PLACE: there are more batches than bytes before the place, or it lies past the log.
  * UCSTORE_OUT_OF_MEMORY. */
 int32_t ucstore_log_next(const uint8_t *log, size_t log_length, struct ucstore_log_place *place, uint8_t *room,

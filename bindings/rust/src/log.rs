@@ -100,8 +100,8 @@ impl LogWrites<'_> {
 
     /// Passes over what is left. It returns where the log goes on, and how it ends.
     ///
-    /// A log's file is cut to this length before more is appended to it: what is behind may be a torn record, or zeros that
-    /// a crash left.
+    /// A log's file is cut to this length before more is appended to it: what is behind may be a torn record, or zeros
+    /// that a crash left.
     ///
     /// # Errors
     ///

@@ -4,8 +4,8 @@ use crate::sys;
 
 /// How a store is kept, with the names of RocksDB's options (its wiki, "Universal Compaction").
 ///
-/// The default options are a memtable of 4 MiB, 4 runs, 36 runs, 1 percent, 200 percent, at least 2 runs and no limit to them, and a
-/// store that compacts by itself.
+/// The default options are a memtable of 4 MiB, 4 runs, 36 runs, 1 percent, 200 percent, at least 2 runs and no limit
+/// to them, and a store that compacts by itself.
 ///
 /// ```
 /// let options = ucstore::Options { write_buffer_size: 1 << 20, ..Default::default() };

@@ -10,8 +10,8 @@ const PAGE_ROWS: u64 = 128;
 /// The bytes of a page at first.
 const PAGE_BYTES: usize = 16 * 1024;
 
-/// The keys of a range in order, each with its value. [`Store::scan`] makes it, and [`Store::scan_at`] at a snapshot. Behind a page at the last
-/// sequence the next one has what was written since.
+/// The keys of a range in order, each with its value. [`Store::scan`] makes it, and [`Store::scan_at`] at a snapshot.
+/// Behind a page at the last sequence the next one has what was written since.
 #[derive(Debug)]
 pub struct Scan<'a> {
     store: &'a Store,
@@ -40,7 +40,12 @@ pub(crate) fn end_of_prefix(prefix: &[u8]) -> Option<Vec<u8>> {
 }
 
 impl<'a> Scan<'a> {
-    pub(crate) fn of(store: &'a Store, low: &[u8], high: Option<&[u8]>, at: Option<u64>) -> Scan<'a> {
+    pub(crate) fn of(
+        store: &'a Store,
+        low: &[u8],
+        high: Option<&[u8]>,
+        at: Option<u64>,
+    ) -> Scan<'a> {
         Scan {
             store,
             at,
@@ -54,8 +59,8 @@ impl<'a> Scan<'a> {
         }
     }
 
-    /// Fetches the next page. Behind one whose rows don't all fit, the next asks for no more rows than did. The page grows
-    /// only if its first row doesn't fit.
+    /// Fetches the next page. Behind one whose rows don't all fit, the next asks for no more rows than did. The page
+    /// grows only if its first row doesn't fit.
     fn fetch(&mut self) -> Result<(), Error> {
         if self.page.is_empty() {
             self.page.resize(PAGE_BYTES, 0);

@@ -20,16 +20,17 @@ const MOST_FRAGMENT: usize = 32_768 - HEADER_SIZE;
 
 /// A log-structured merge store in memory.
 ///
-/// Its methods take `&self`, so that snapshots may be held while it is written. It takes one call at a time: a store may
-/// go from thread to thread (`Send`), and threads don't share it (`!Sync`).
+/// Its methods take `&self`, so that snapshots may be held while it is written. It takes one call at a time: a store
+/// may go from thread to thread (`Send`), and threads don't share it (`!Sync`).
 ///
 /// ```compile_fail
 /// fn share<T: Sync>() {}
 /// share::<ucstore::Store>();
 /// ```
 ///
-/// Writes are gathered in a memtable, which becomes a run when it is full. Runs are compacted then. It opens without snapshots, which are
-/// counted: each [`take_snapshot`](Store::take_snapshot) needs a [`release`](Store::release) of its own.
+/// Writes are gathered in a memtable, which becomes a run when it is full. Runs are compacted then. It opens without
+/// snapshots, which are counted: each [`take_snapshot`](Store::take_snapshot) needs a [`release`](Store::release) of
+/// its own.
 pub struct Store {
     handle: UnsafeCell<sys::Handle>,
 }
@@ -109,7 +110,8 @@ impl Store {
     ///
     /// # Errors
     ///
-    /// [`Error::TooLong`] if a text has 2^32 bytes or more, [`Error::SequencesSpent`], [`Error::IdsSpent`], [`Error::OutOfMemory`].
+    /// [`Error::TooLong`] if a text has 2^32 bytes or more, [`Error::SequencesSpent`], [`Error::IdsSpent`],
+    /// [`Error::OutOfMemory`].
     pub fn put(&self, key: impl AsRef<[u8]>, value: impl AsRef<[u8]>) -> Result<(), Error> {
         let (key, value) = (key.as_ref(), value.as_ref());
         check(unsafe {
@@ -180,7 +182,8 @@ impl Store {
         sequence
     }
 
-    /// Takes a snapshot at the last sequence, until [`release`](Store::release) is called as often as this. Returns the sequence.
+    /// Takes a snapshot at the last sequence, until [`release`](Store::release) is called as often as this. Returns the
+    /// sequence.
     ///
     /// # Errors
     ///
@@ -222,7 +225,12 @@ impl Store {
         });
         let mut sequences = vec![0; count];
         self.certain(unsafe {
-            sys::ucstore_snapshots(self.handle(), sequences.as_mut_ptr(), sequences.len(), &mut count)
+            sys::ucstore_snapshots(
+                self.handle(),
+                sequences.as_mut_ptr(),
+                sequences.len(),
+                &mut count,
+            )
         });
         sequences
     }
@@ -293,7 +301,8 @@ impl Store {
         self.scan(prefix, end_of_prefix(prefix).as_deref())
     }
 
-    /// The keys from `low` to below `high`, or to the last one, with their values at a snapshot, as [`scan`](Store::scan) gives them.
+    /// The keys from `low` to below `high`, or to the last one, with their values at a snapshot, as
+    /// [`scan`](Store::scan) gives them.
     ///
     /// # Errors
     ///
@@ -311,8 +320,8 @@ impl Store {
         check(unsafe { sys::ucstore_flush(self.handle()) })
     }
 
-    /// Compacts the runs that are picked next, if there are any, and tells whether there were. A store that compacts by itself needs no such
-    /// call.
+    /// Compacts the runs that are picked next, if there are any, and tells whether there were. A store that compacts by
+    /// itself needs no such call.
     ///
     /// # Errors
     ///
@@ -341,12 +350,13 @@ impl Store {
         }
     }
 
-    /// Prepares a batch, so that [`commit`](Store::commit) can take it, and returns the bytes that it adds to a log of `length` bytes. No read
-    /// sees it before. A batch that was prepared before is given up.
+    /// Prepares a batch, so that [`commit`](Store::commit) can take it, and returns the bytes that it adds to a log of
+    /// `length` bytes. No read sees it before. A batch that was prepared before is given up.
     ///
     /// Append the bytes to the log's file, wait until they are on its device, and [`commit`](Store::commit): then
-    /// [`open`](Store::open) has the batch again after a crash. If the file fails, cut it back, and [`give_up`](Store::give_up). A file that was
-    /// read is cut first, as [`LogWrites::end`](crate::LogWrites::end) says. A write, a flush or a snapshot in between gives the batch up.
+    /// [`open`](Store::open) has the batch again after a crash. If the file fails, cut it back, and
+    /// [`give_up`](Store::give_up). A file that was read is cut first, as [`LogWrites::end`](crate::LogWrites::end)
+    /// says. A write, a flush or a snapshot in between gives the batch up.
     ///
     /// # Errors
     ///

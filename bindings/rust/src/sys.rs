@@ -1,8 +1,8 @@
 //! The functions of `ucstore.h`, which says what each does and what its caller owes.
 //!
-//! This crate's calls are sound for these reasons. Addresses are those of references and slices, which aren't null and live
-//! behind the call. What is written is borrowed mutably, so it overlaps nothing. A handle is in a [`Store`](crate::Store),
-//! which no two threads share and no call calls back into.
+//! This crate's calls are sound for these reasons. Addresses are those of references and slices, which aren't null and
+//! live behind the call. What is written is borrowed mutably, so it overlaps nothing. A handle is in a
+//! [`Store`](crate::Store), which no two threads share and no call calls back into.
 
 use std::ffi::c_void;
 
@@ -74,7 +74,8 @@ pub struct LogPlace {
 
 extern "C" {
     pub fn ucstore_options_init(options: *mut COptions) -> i32;
-    pub fn ucstore_create(store: *mut Handle, merge_operator: u32, options: *const COptions) -> i32;
+    pub fn ucstore_create(store: *mut Handle, merge_operator: u32, options: *const COptions)
+        -> i32;
     pub fn ucstore_open(
         store: *mut Handle,
         merge_operator: u32,

@@ -124,11 +124,8 @@ impl Soak {
         operations
             .iter()
             .for_each(|operation| push(&mut batch, operation));
-        self.log.extend(
-            self.store
-                .prepare(self.log.len() as u64, &batch)
-                .unwrap(),
-        );
+        self.log
+            .extend(self.store.prepare(self.log.len() as u64, &batch).unwrap());
         if self.numbers.below(2) == 0 {
             self.store.commit();
         } else {
@@ -141,11 +138,8 @@ impl Soak {
         let operation = self.numbers.operation();
         let mut batch = Batch::new();
         push(&mut batch, &operation);
-        self.log.extend(
-            self.store
-                .prepare(self.log.len() as u64, &batch)
-                .unwrap(),
-        );
+        self.log
+            .extend(self.store.prepare(self.log.len() as u64, &batch).unwrap());
         write(&self.store, &operation).unwrap();
         self.wrote(vec![operation]);
     }
@@ -178,10 +172,7 @@ impl Soak {
 
     fn get(&mut self) {
         let key = self.numbers.key();
-        assert_eq!(
-            self.store.get(&key).unwrap().as_ref(),
-            self.map.get(&key)
-        );
+        assert_eq!(self.store.get(&key).unwrap().as_ref(), self.map.get(&key));
         for (sequence, map) in &self.keeps {
             assert_eq!(
                 self.store.get_at(&key, *sequence).unwrap().as_ref(),

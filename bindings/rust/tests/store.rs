@@ -148,9 +148,14 @@ fn a_report_counts() {
 fn a_million_puts_need_no_other_call() {
     let store = empty();
     for number in 0..1_000_000u32 {
-        store.put((number % 300_000).to_be_bytes(), number.to_be_bytes()).unwrap();
+        store
+            .put((number % 300_000).to_be_bytes(), number.to_be_bytes())
+            .unwrap();
     }
-    assert_eq!(store.get(7u32.to_be_bytes()).unwrap(), Some(900_007u32.to_be_bytes().to_vec()));
+    assert_eq!(
+        store.get(7u32.to_be_bytes()).unwrap(),
+        Some(900_007u32.to_be_bytes().to_vec())
+    );
     assert_eq!(store.last(), 1_000_000);
 }
 

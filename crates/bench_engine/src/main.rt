@@ -1,8 +1,9 @@
-//! What `bench/c` does from C, called from Rattle: the same batches, lookups and scans, over the engine of the C library.
+//! What `bench/c` does from C, called from Rattle: the same batches, lookups and scans, over the engine of the C
+//! library.
 //!
-//! `bench_engine puts|counters WRITES SIZE GETS SCANS` prints the line that the programs of `bench/c` print: the nanoseconds of
-//! the writes, of what is left to be compacted, of the lookups and of the scans; how many runs there are; and a checksum of what was read. Without
-//! words it does so with a few writes, and prints the last two.
+//! `bench_engine puts|counters WRITES SIZE GETS SCANS` prints the line that the programs of `bench/c` print: the
+//! nanoseconds of the writes, of what is left to be compacted, of the lookups and of the scans; how many runs there
+//! are; and a checksum of what was read. Without words it does so with a few writes, and prints the last two.
 #![tactic(auto)]
 
 mod batches;

@@ -21,7 +21,8 @@ fn nanoseconds_since(clock: &impl Clock, start: Instant) -> Result<u64> {
     Ok(u64::try_from(nanoseconds).unwrap_or(u64::MAX))
 }
 
-/// Compacts what is picked, until nothing is. Each compaction leaves fewer runs, of which there are never more than 256.
+/// Compacts what is picked, until nothing is. Each compaction leaves fewer runs, of which there are never more than
+/// 256.
 fn settle(alloc: Global, engine: &mut Engine) -> Result<()> {
     engine.flush(alloc)?;
     for _ in 0..256 {
@@ -65,7 +66,8 @@ fn get_all(
     Ok((nanoseconds_since(clock, start)?, sum))
 }
 
-/// Reads rows from each of these keys on, 1 to 50, and returns how long that took, with the checksum and then what was found.
+/// Reads rows from each of these keys on, 1 to 50, and returns how long that took, with the checksum and then what was
+/// found.
 fn scan_all(
     clock: &impl Clock,
     alloc: Global,

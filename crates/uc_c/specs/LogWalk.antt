@@ -63,7 +63,8 @@ module _ (status : ℤ) (log : List ℕ) (old new : CLogPlace) (room room' : Lis
     pub told : status ≡ LOG_ENDS
     pub ended_is : ended ≡ ended_in found
 
-  -- Memory was refused, or no walk leads to the place: there are more batches than bytes before it, or it is past the log.
+  -- Memory was refused, or no walk leads to the place: there are more batches than bytes before it, or it is past the
+  -- log.
   abbrev pub IsRefused : Type 0
   IsRefused = (status ≡ OUT_OF_MEMORY) ⊎ ((status ≡ BAD_PLACE) × ((old.offset < old.batches) ⊎ (length log < old.offset)))
 

@@ -31,7 +31,8 @@ module _ (status : ℤ) (old new : Option Engined) where
   abbrev pub IsUnknown : ℕ → Type 0
   IsUnknown size = ((status ≡ BAD_SIZE) × (size ≢ OPTIONS_SIZE) × (new ≡ old)) ⊎ ((status ≡ UNKNOWN_OPERATOR) × (new ≡ old))
 
-  -- a store of the operator with the number is put there, if there is none, the size is known, and there is such an operator
+  -- a store of the operator with the number is put there, if there is none, the size is known, and there is such an
+  -- operator
   abbrev pub PutsNumbered : (OperatorKind → Engined → Type 0) → ℕ → COptions → Type 0
   PutsNumbered P operator c =
       MatchOption old

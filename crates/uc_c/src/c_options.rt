@@ -58,8 +58,8 @@ impl COptions {
     }
 }
 
-/// Fills in the default options and their size: memtables of 4 MiB, 4 runs, stops from 36 runs on, 1 percent, 200 percent, at least 2 runs
-/// and no limit to them, and a store that compacts by itself.
+/// Fills in the default options and their size: memtables of 4 MiB, 4 runs, stops from 36 runs on, 1 percent, 200
+/// percent, at least 2 runs and no limit to them, and a store that compacts by itself.
 #[unsafe(no_mangle)]
 pub extern "C" fn ucstore_options_init(options: &mut COptions) -> i32
     ensures status { result ≡ OK }

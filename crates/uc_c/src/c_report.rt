@@ -58,8 +58,8 @@ impl CReport {
     }
 }
 
-/// Tells what the store holds, in numbers. It looks at each run once, and at no point. It is refused if the report's size isn't the one that this
-/// library knows.
+/// Tells what the store holds, in numbers. It looks at each run once, and at no point. It is refused if the report's
+/// size isn't the one that this library knows.
 #[unsafe(no_mangle)]
 pub extern "C" fn ucstore_report(alloc: Global, handle: &mut Handle, report: &mut CReport) -> i32
     ensures reports { Answers result handle.old.held handle.new.held (λ e.

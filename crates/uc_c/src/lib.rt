@@ -1,7 +1,7 @@
 //! An embedded store for programs in C, and for languages that call C.
 //!
-//! C holds a store in a [`Handle`](uc_handle::Handle), a struct of one address, and passes its address to each function.
-//! `bindings/c/ucstore.h` declares them:
+//! C holds a store in a [`Handle`](uc_handle::Handle), a struct of one address, and passes its address to each
+//! function. `bindings/c/ucstore.h` declares them:
 //!
 //! ```c
 //! struct ucstore store = {0};
@@ -10,15 +10,16 @@
 //! int32_t status = ucstore_create(&store, UCSTORE_COUNTER, &options);
 //! ```
 //!
-//! Each function of a store is a thin export over a method of [`Engine`](uc_engine::Engine): it takes the engine out of the
-//! handle, calls it, puts it back, and answers a status. What is written through an address is written only if the
+//! Each function of a store is a thin export over a method of [`Engine`](uc_engine::Engine): it takes the engine out of
+//! the handle, calls it, puts it back, and answers a status. What is written through an address is written only if the
 //! status is `OK`.
 //!
 //! The functions of `logs.rt` need no handle: C keeps a log in a file of its own, appends what they lay out, and walks
 //! over it. Where a walk stops, it tells why through an address.
 //!
 //! Read `status.rt` and `specs/Replies.antt` first, for what the functions answer, then `opening.rt`, `writing.rt`,
-//! `snapshots.rt`, `reading.rt`, `scanning.rt`, `compacting.rt`, `c_report.rt` and, with `specs/LogWalk.antt`, `logs.rt`.
+//! `snapshots.rt`, `reading.rt`, `scanning.rt`, `compacting.rt`, `c_report.rt` and, with `specs/LogWalk.antt`,
+//! `logs.rt`.
 //!
 //! Tests: its own.
 #![tactic(auto)]

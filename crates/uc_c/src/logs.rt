@@ -12,13 +12,13 @@ use crate::room::fill;
 use crate::status::{BAD_PLACE, LOG_ENDS, OK, OUT_OF_MEMORY, ROOM};
 use std::alloc::Global;
 
-/// Goes from a place in a log to behind the next batch, and lays its writes out in the room one behind the other: each as
-/// 8 bytes for the sequence, low byte first, 1 for the tag of the operation, 8 for the length of the first text, the text,
-/// 8 for the length of the second text, and that text. It says how many these are, and how many bytes.
+/// Goes from a place in a log to behind the next batch, and lays its writes out in the room one behind the other: each
+/// as 8 bytes for the sequence, low byte first, 1 for the tag of the operation, 8 for the length of the first text, the
+/// text, 8 for the length of the second text, and that text. It says how many these are, and how many bytes.
 ///
-/// If they don't fit the room, the place stays, and only the size is told. Where the log ends, or the batch may not follow,
-/// the place stays too, and it is told how far the log was read. It is refused if the place has more batches than bytes
-/// before it or lies past the log, and for want of memory.
+/// If they don't fit the room, the place stays, and only the size is told. Where the log ends, or the batch may not
+/// follow, the place stays too, and it is told how far the log was read. It is refused if the place has more batches
+/// than bytes before it or lies past the log, and for want of memory.
 #[unsafe(no_mangle)]
 pub extern "C" fn ucstore_log_next(
     alloc: Global,

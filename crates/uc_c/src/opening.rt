@@ -26,8 +26,9 @@ fn boxed(alloc: Global, engine: Engine) -> Result<Box<Engine>, LiveOpenError>
 }
 
 /// Puts an empty store behind the handle, whose operator is 0 for texts joined by commas, 1 for sums, 2 for the greater
-/// text or 3 for the last four bytes. It has no snapshot. It is refused if the handle has a store, if the options' size isn't the one that
-/// this library knows, if no operator has the number, if an option is out of its range, and for want of memory.
+/// text or 3 for the last four bytes. It has no snapshot. It is refused if the handle has a store, if the options' size
+/// isn't the one that this library knows, if no operator has the number, if an option is out of its range, and for want
+/// of memory.
 #[unsafe(no_mangle)]
 pub extern "C" fn ucstore_create(
     alloc: Global,
@@ -60,8 +61,9 @@ pub extern "C" fn ucstore_create(
     }
 }
 
-/// Puts a store behind the handle that is opened from the bytes of a write-ahead log: it has the writes before the log's first
-/// fault, and `ended` says whether there was one. It has no snapshot. It is refused as `ucstore_create` is, and if no id is left for a run.
+/// Puts a store behind the handle that is opened from the bytes of a write-ahead log: it has the writes before the
+/// log's first fault, and `ended` says whether there was one. It has no snapshot. It is refused as `ucstore_create` is,
+/// and if no id is left for a run.
 #[unsafe(no_mangle)]
 pub extern "C" fn ucstore_open(
     alloc: Global,

@@ -12,8 +12,8 @@ use std::alloc::Global;
 use uc_engine::{Answer, Bytes};
 use uc_handle::Handle;
 
-/// Looks a key up at the last sequence, copies its value into the room, as much of it as there is room for, and says how long
-/// it is. It is refused for want of memory.
+/// Looks a key up at the last sequence, copies its value into the room, as much of it as there is room for, and says
+/// how long it is. It is refused for want of memory.
 #[unsafe(no_mangle)]
 pub extern "C" fn ucstore_get(
     alloc: Global,
@@ -37,8 +37,8 @@ pub extern "C" fn ucstore_get(
     }
 }
 
-/// Looks a key up at a sequence, and copies its value as `ucstore_get` does. It is refused if no snapshot is at the sequence, and for
-/// want of memory.
+/// Looks a key up at a sequence, and copies its value as `ucstore_get` does. It is refused if no snapshot is at the
+/// sequence, and for want of memory.
 #[unsafe(no_mangle)]
 pub extern "C" fn ucstore_get_at(
     alloc: Global,

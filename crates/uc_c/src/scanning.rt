@@ -43,9 +43,10 @@ fn bound(alloc: Global, high: &[u8], bounded: bool) -> Result<Option<Bytes>, All
 }
 
 /// Scans the first rows, at most `limit`, of the keys from `low` to below `high`, or to the last one if they aren't
-/// bounded, at the last sequence. It writes the rows that fit the room one behind the other, each as 8 bytes for the key's
-/// length, low byte first, the key, 8 bytes for the value's length, and the value. It tells how many these are, and the
-/// size of all rows. Many gathered writes are flushed first, unless a batch is prepared. It is refused for want of memory.
+/// bounded, at the last sequence. It writes the rows that fit the room one behind the other, each as 8 bytes for the
+/// key's length, low byte first, the key, 8 bytes for the value's length, and the value. It tells how many these are,
+/// and the size of all rows. Many gathered writes are flushed first, unless a batch is prepared. It is refused for want
+/// of memory.
 #[unsafe(no_mangle)]
 pub extern "C" fn ucstore_scan(
     alloc: Global,
@@ -91,7 +92,8 @@ fn scan(
     engine.scan(alloc, low, &high, limit)
 }
 
-/// Scans as `ucstore_scan` does, at a sequence. It is refused if no snapshot is at the sequence, and for want of memory.
+/// Scans as `ucstore_scan` does, at a sequence. It is refused if no snapshot is at the sequence, and for want of
+/// memory.
 #[unsafe(no_mangle)]
 pub extern "C" fn ucstore_scan_at(
     alloc: Global,

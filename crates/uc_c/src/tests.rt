@@ -414,7 +414,8 @@ fn record_one(rt: &impl Abort, alloc: Global, store: &mut Handle) {
     assert_eq!(rt; seq, 2);
 }
 
-/// Batches that aren't prepared: no batch, and one that isn't above the last sequence. One that is given up isn't taken.
+/// Batches that aren't prepared: no batch, and one that isn't above the last sequence. One that is given up isn't
+/// taken.
 fn refuse_back(rt: &impl Abort, alloc: Global, store: &mut Handle) {
     let (mut room, mut size, mut seq) = ([0; 27], 7, 7);
     assert_eq!(rt;

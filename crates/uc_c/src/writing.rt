@@ -13,10 +13,10 @@ use std::alloc::Global;
 use uc_engine::OpRef;
 use uc_handle::Handle;
 
-/// Writes a batch, given as the bytes that RocksDB writes: 8 bytes for a sequence, 4 for a count, and as many
-/// records. The operations get the batch's sequence and those behind it; if it is 0, those behind the last one. It is refused if
-/// the bytes aren't a batch, if its sequence is neither 0 nor above the last one, if too few sequences are left, if no id is left for a
-/// run, and for want of memory.
+/// Writes a batch, given as the bytes that RocksDB writes: 8 bytes for a sequence, 4 for a count, and as many records.
+/// The operations get the batch's sequence and those behind it; if it is 0, those behind the last one. It is refused if
+/// the bytes aren't a batch, if its sequence is neither 0 nor above the last one, if too few sequences are left, if no
+/// id is left for a run, and for want of memory.
 #[unsafe(no_mangle)]
 pub extern "C" fn ucstore_write_bytes(alloc: Global, handle: &mut Handle, batch: &[u8]) -> i32
     ensures { WritesBatch result handle.old.held handle.new.held batch.now }
@@ -47,8 +47,8 @@ fn write(alloc: Global, handle: &mut Handle, op: OpRef<'_>) -> i32
     }
 }
 
-/// Sets a key to a value. It is refused if no sequence is left, if a text has 2^32 bytes or more, if no id is left for a run, and for
-/// want of memory.
+/// Sets a key to a value. It is refused if no sequence is left, if a text has 2^32 bytes or more, if no id is left for
+/// a run, and for want of memory.
 #[unsafe(no_mangle)]
 pub extern "C" fn ucstore_put(alloc: Global, handle: &mut Handle, key: &[u8], value: &[u8]) -> i32
     ensures { Writes result handle.old.held handle.new.held (ops.Put key.now value.now) }
@@ -90,9 +90,9 @@ pub extern "C" fn ucstore_delete_range(
     write(alloc, handle, OpRef::delete_range(begin, end))
 }
 
-/// Prepares a batch, so that `ucstore_commit` can take it, and copies the bytes that it adds to a log of so many bytes, if there is room
-/// for them. It says how many these are. If there is too little room, nothing is prepared. It is refused as `ucstore_write_bytes` would
-/// refuse the batch.
+/// Prepares a batch, so that `ucstore_commit` can take it, and copies the bytes that it adds to a log of so many bytes,
+/// if there is room for them. It says how many these are. If there is too little room, nothing is prepared. It is
+/// refused as `ucstore_write_bytes` would refuse the batch.
 #[unsafe(no_mangle)]
 pub extern "C" fn ucstore_prepare(
     alloc: Global,

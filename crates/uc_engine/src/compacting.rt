@@ -24,8 +24,8 @@ impl Engine {
         }
     }
 
-    /// Compacts the stretch of runs that is picked next, if there is one, as `LiveStore::compact_once` does. Returns whether there was
-    /// one.
+    /// Compacts the stretch of runs that is picked next, if there is one, as `LiveStore::compact_once` does. Returns
+    /// whether there was one.
     pub fn compact_once(&mut self, alloc: Global) -> Result<bool, RoomError>
         ensures kind { self.new.kind ≡ self.old.kind }
         ensures ok { IfOk result (λ compacted.

@@ -1,10 +1,11 @@
-//! A live store whose merge operator is a value, for callers that can name no type: exports to C, and what is built on them.
+//! A live store whose merge operator is a value, for callers that can name no type: exports to C, and what is built on
+//! them.
 //!
-//! An [`Engine`] is a [`LiveStore`](uc_live::LiveStore) of one of the operators, and which that is. Each method is a match over the
-//! operators, and does what the store's method of the same name does. It starts no thread.
+//! An [`Engine`] is a [`LiveStore`](uc_live::LiveStore) of one of the operators, and which that is. Each method is a
+//! match over the operators, and does what the store's method of the same name does. It starts no thread.
 //!
-//! Read `specs/Engines.antt` first, then `operator_kind.rt`, `engine.rt`, `opening.rt`, `writing.rt`, `reading.rt`, `snapshots.rt` and
-//! `compacting.rt`.
+//! Read `specs/Engines.antt` first, then `operator_kind.rt`, `engine.rt`, `opening.rt`, `writing.rt`, `reading.rt`,
+//! `snapshots.rt` and `compacting.rt`.
 //!
 //! Tests: `uc_tests_engine`.
 //!

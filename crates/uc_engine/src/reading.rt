@@ -21,8 +21,8 @@ impl Engine {
         }
     }
 
-    /// Looks a key up at a sequence. The answer is a value, if the key has one, or `NotProtected` if no snapshot is at the
-    /// sequence.
+    /// Looks a key up at a sequence. The answer is a value, if the key has one, or `NotProtected` if no snapshot is at
+    /// the sequence.
     pub fn get_at(&self, alloc: Global, key: &[u8], at: u64) -> Result<Answer, AllocError>
         ensures { IfOk result (λ answer. answer ≡ answer_in self.now (queries.Get key.now at)) }
     {
@@ -34,8 +34,8 @@ impl Engine {
         }
     }
 
-    /// The first rows, at most `limit`, of the keys from `low` to below `high`, or to the last one if `high` is `None`, at the last
-    /// sequence.
+    /// The first rows, at most `limit`, of the keys from `low` to below `high`, or to the last one if `high` is `None`,
+    /// at the last sequence.
     pub fn scan(
         &self,
         alloc: Global,

@@ -11,7 +11,8 @@ use uc_bytes::OpRef;
 use uc_live::WriteError;
 
 impl Engine {
-    /// Writes an operation: it gets the sequence behind the last one. It is refused as `LiveStore::prepare` says, and no read changes then.
+    /// Writes an operation: it gets the sequence behind the last one. It is refused as `LiveStore::prepare` says, and
+    /// no read changes then.
     pub fn write(&mut self, alloc: Global, op: OpRef<'_>) -> Result<(), WriteError>
         ensures kind { self.new.kind ≡ self.old.kind }
         ensures ok { OnOk result (IsWritten (meaning_of self.old.kind) op.entry self.old.live self.new.live) }

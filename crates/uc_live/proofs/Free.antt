@@ -1,5 +1,5 @@
 -- Runs of which none is claimed.
-use Rattle.std.proofs.Common.{◌≡◌, ℕ, suc, Bool, true, false, cond, List, [], ◌∷◌, length, map, refl, ap, ◌∙◌}
+use Rattle.std.proofs.Common.{◌≡◌, ℕ, suc, Bool, false, cond, List, [], ◌∷◌, length, map, refl, ap, ◌∙◌}
 use Rattle.uc_version_state.specs.Versions.{PlacedRun}
 use Rattle.uc_version_state.specs.Picks.{unclaimed}
 use Rattle.uc_version_work.specs.Picking.{candidate_of}

@@ -1,10 +1,10 @@
 -- What is held stays a live store.
-use Rattle.std.proofs.Common.{◌≡◌, ℕ, zero, suc, ◌-◌, ◌^◌, ◌<◌, ◌+◌, List, [], ◌∷◌, ◌++◌, Option, Some, None, map, length, refl, sym, ap, ◌∙◌, subst, arith}
+use Rattle.std.proofs.Common.{◌≡◌, ℕ, zero, suc, ◌-◌, ◌^◌, ◌<◌, List, [], ◌∷◌, ◌++◌, Option, None, map, length, refl, sym, ap, ◌∙◌, subst, arith}
 use Rattle.std.specs.Prelude.{replicate}
 use Rattle.std.proofs.lemmas.List.{append-nil}
 use Rattle.uc_bytes.specs.declared.write.Write.{Write}
 use Rattle.uc_oper.specs.Operation.{Operation}
-use Rattle.uc_batch.specs.Rising.{IsRising, last_of}
+use Rattle.uc_batch.specs.Rising.{IsRising}
 use Rattle.uc_run.specs.Size.{memtable_size}
 use Rattle.uc_memtable.specs.Gathering.{Gathering}
 use Rattle.uc_version_state.specs.declared.stretch.Stretch.{Stretch}

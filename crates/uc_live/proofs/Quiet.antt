@@ -1,8 +1,7 @@
 -- Compactions, of which no read tells.
 use Rattle.std.proofs.Common.{◌≡◌, ℕ, ◌<◌, ◌≤◌, Bool, true, false, List, [], Option, Some, None, length, drop, refl, sym, ap, ◌∙◌, subst, arith}
 use Rattle.std.specs.Prelude.{◌&&◌, nat_le, is_some}
-use Rattle.std.specs.List.{list_any}
-use Rattle.std.proofs.Math.Dec.{ltb, leb, eqb}
+use Rattle.std.proofs.Math.Dec.{ltb, leb}
 use Rattle.std.proofs.lemmas.Bool.{ltb-true, ltb-false, leb-true, false≢true}
 use Rattle.std.proofs.lemmas.List.{length-map}
 use Rattle.uc_oper.specs.Operation.{Operation}

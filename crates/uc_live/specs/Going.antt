@@ -1,5 +1,5 @@
 -- How a live store goes on.
-use Rattle.std.specs.Prelude.{◌≡◌, ℕ, List, ◌++◌, fold}
+use Rattle.std.specs.Prelude.{◌≡◌, List, ◌++◌, fold}
 use Rattle.std.specs.List.{flat_map}
 use Rattle.uc_bytes.specs.declared.write.Write.{Write}
 use Rattle.uc_oper.specs.Operation.{Operation}
@@ -8,8 +8,8 @@ use Rattle.uc_version_state.specs.declared.event.Event.{Event}
 use Rattle.uc_version_state.specs.Histories.{MayFollow, KeepsStay, after, writes_brought}
 use Rattle.uc_live.specs.Lives.{Live}
 
--- Events happened to a version, each of which might happen, and none of them was a snapshot that comes or goes. What was gathered before it, and
--- then `ws`, is what they brought, and then what is gathered now.
+-- Events happened to a version, each of which might happen, and none of them was a snapshot that comes or goes. What
+-- was gathered before it, and then `ws`, is what they brought, and then what is gathered now.
 pub record Follows (m : Operation) (v v' : Stored) (gathered gathered' ws : List Write) : Type 0 where
   pub events : List Event
   pub follow : MayFollow m v events
@@ -17,7 +17,7 @@ pub record Follows (m : Operation) (v v' : Stored) (gathered gathered' ws : List
   pub version : v' ≡ fold after v events
   pub writes : flat_map writes_brought events ++ gathered' ≡ gathered ++ ws
 
--- The store took these writes. Meanwhile what was gathered may have become runs, and runs may have been compacted. Its snapshots and
--- options stay.
+-- The store took these writes. Meanwhile what was gathered may have become runs, and runs may have been compacted. Its
+-- snapshots and options stay.
 abbrev pub GoesOn : Operation → Live → Live → List Write → Type 0
 GoesOn m old new ws = Follows m old.version new.version old.gathered new.gathered ws × (new.snapshots ≡ old.snapshots) × (new.options ≡ old.options)

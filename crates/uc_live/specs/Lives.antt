@@ -8,8 +8,8 @@ use Rattle.uc_version_state.specs.Snapshots.{released}
 use Rattle.uc_live.specs.declared.live_options.LiveOptions.{LiveOptions}
 use Rattle.uc_live.specs.LiveOptions.{version_options}
 
--- a version; the writes that no run has yet, oldest first; those of a batch that is prepared, which no read sees; the sequence of
--- each snapshot that was taken and not released, oldest first; and how it is kept
+-- a version; the writes that no run has yet, oldest first; those of a batch that is prepared, which no read sees; the
+-- sequence of each snapshot that was taken and not released, oldest first; and how it is kept
 pub record Live : Type 0 where
   pub version : Stored
   pub gathered : List Write

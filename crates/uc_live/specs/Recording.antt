@@ -24,8 +24,8 @@ pub record HasBatches (log : List ℕ) (offset : ℕ) (writes : List Write) : Ty
   pub walked : Walks log payloads offset
   pub read : batches_of 0 1 payloads ≡ record { writes = writes; refused = None }
 
--- Cut at the offset and continued by the bytes, the log has these writes and those, and ends clean. It goes on behind the
--- bytes.
+-- Cut at the offset and continued by the bytes, the log has these writes and those, and ends clean. It goes on behind
+-- the bytes.
 pub record IsRecovered (log : List ℕ) (offset : ℕ) (bytes : List ℕ) (writes more : List Write) : Type 0 where
   pub all : log_writes (cut_and_added log offset bytes) ≡ record { list = writes ++ more; ended = Clean }
   pub goes_on : HasBatches (cut_and_added log offset bytes) (offset + length bytes) (writes ++ more)

@@ -12,9 +12,9 @@ use uc_version::{Alone, CompactError, picks_can_be_claimed};
 use uc_version_state::something_is_picked_above_the_trigger;
 
 impl<O: Operator> LiveStore<O> {
-    /// Compacts the stretch of runs that is picked next, if there is one (RocksDB wiki, "Universal Compaction"), and installs
-    /// the result. Returns whether there was one: call it until it says no. The calling thread does all of it. It is refused
-    /// if no id is left for the new run, and for want of memory. The store is as it was then.
+    /// Compacts the stretch of runs that is picked next, if there is one (RocksDB wiki, "Universal Compaction"), and
+    /// installs the result. Returns whether there was one: call it until it says no. The calling thread does all of it.
+    /// It is refused if no id is left for the new run, and for want of memory. The store is as it was then.
     pub fn compact_once(&mut self, alloc: Global) -> Result<bool, RoomError>
         ensures ok { IfOk result (λ compacted.
             IsCompacted O.meaning (next_stretch self.old) compacted self.old self.new) }
@@ -36,7 +36,8 @@ impl<O: Operator> LiveStore<O> {
         }
     }
 
-    /// Compacts while something is picked. Want of memory or of ids ends it early: what isn't compacted now is picked later.
+    /// Compacts while something is picked. Want of memory or of ids ends it early: what isn't compacted now is picked
+    /// later.
     pub(crate) fn compact_while_picked(&mut self, alloc: Global)
         ensures goes_on { GoesOn O.meaning self.old self.new [] }
         ensures gathered { self.new.gathered ≡ self.old.gathered }
@@ -45,7 +46,8 @@ impl<O: Operator> LiveStore<O> {
         while let Ok(true) = self.compact_once(alloc) {}
     }
 
-    /// Compacts until there are fewer runs than those from which on writes stop, or none is picked. Then a slot is free.
+    /// Compacts until there are fewer runs than those from which on writes stop, or none is picked. Then a slot is
+    /// free.
     pub(crate) fn make_slot(&mut self, alloc: Global) -> Result<(), RoomError>
         ensures goes_on { GoesOn O.meaning self.old self.new [] }
         ensures gathered { self.new.gathered ≡ self.old.gathered }

@@ -47,10 +47,11 @@ impl<O: Operator> LiveStore<O> {
         self.active.size() >= self.options.store.memtable || self.active.ranges() >= MOST_RANGES
     }
 
-    /// Makes a run of what is gathered. From `stop_trigger` runs on it compacts first, and if the options say so, it compacts behind that while
-    /// something is picked. A batch that is prepared is given up.
+    /// Makes a run of what is gathered. From `stop_trigger` runs on it compacts first, and if the options say so, it
+    /// compacts behind that while something is picked. A batch that is prepared is given up.
     ///
-    /// It is refused if no id is left for a run, and for want of memory. What is gathered stays so then, and no read changes.
+    /// It is refused if no id is left for a run, and for want of memory. What is gathered stays so then, and no read
+    /// changes.
     pub fn flush(&mut self, alloc: Global) -> Result<(), RoomError>
         ensures prepares { Prepares O.meaning self.old self.new [] }
         ensures all { OnOk result (self.new.gathered ≡ []) }
@@ -68,8 +69,8 @@ impl<O: Operator> LiveStore<O> {
         Ok(())
     }
 
-    /// Flushes if more than so many writes are gathered and no batch is prepared, so that a scan has no more to sort. Want of memory
-    /// or of ids leaves them gathered.
+    /// Flushes if more than so many writes are gathered and no batch is prepared, so that a scan has no more to sort.
+    /// Want of memory or of ids leaves them gathered.
     pub fn settle(&mut self, alloc: Global, most: usize)
         ensures { Prepares O.meaning self.old self.new self.old.prepared }
     {

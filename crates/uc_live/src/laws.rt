@@ -13,7 +13,7 @@ ghost use Rattle.uc_live.specs.Going.{GoesOn};
 ghost use Rattle.uc_live.specs.Snapshots.{TakesSnapshot, without_snapshot};
 ghost use Rattle.uc_live.specs.Coming.{HasTaken};
 
-use uc_model::{effect_continues_value, later_writes_change_nothing};
+use uc_model::effect_continues_value;
 use uc_oper::Operator;
 use uc_query_read::equal_values_give_equal_answers;
 use uc_version_state::{histories_keep_what_is_read, histories_say_writes_and_keeps};
@@ -23,8 +23,8 @@ pub fn created_stores_have_taken_nothing<O: Operator>()
     ensures { (options : OptionsOf) → are_good options ≡ true → HasTaken O.meaning (created options) [] }
 {}
 
-/// A store that goes on has taken the writes from before and those that it took meanwhile. A snapshot that is taken or released
-/// brings no write.
+/// A store that goes on has taken the writes from before and those that it took meanwhile. A snapshot that is taken or
+/// released brings no write.
 pub fn taken_writes_add_up<O: Operator>()
     ensures goes_on { (old new : Live) (before ws : List Write) → HasTaken O.meaning old before → GoesOn O.meaning old new ws →
         HasTaken O.meaning new (before ++ ws) }
@@ -34,8 +34,8 @@ pub fn taken_writes_add_up<O: Operator>()
         HasTaken O.meaning (without_snapshot seq l) before }
 {}
 
-/// Whatever a store flushed and compacted, it answers as one thread that folds all writes it has taken: at the last sequence, and at each
-/// snapshot.
+/// Whatever a store flushed and compacted, it answers as one thread that folds all writes it has taken: at the last
+/// sequence, and at each snapshot.
 pub fn stores_answer_as_their_writes<O: Operator>()
     ensures last { (l : Live) (ws : List Write) → HasTaken O.meaning l ws → lives.last l ≡ last_of 0 ws }
     ensures value { (l : Live) (ws : List Write) (key : List ℕ) → HasTaken O.meaning l ws → IsRising l.version.last l.gathered →
@@ -50,6 +50,5 @@ pub fn stores_answer_as_their_writes<O: Operator>()
     histories_keep_what_is_read::<O>();
     histories_say_writes_and_keeps::<O>();
     effect_continues_value::<O>();
-    later_writes_change_nothing::<O>();
     equal_values_give_equal_answers::<O>();
 }

@@ -1,18 +1,20 @@
 //! A store that one owner writes to as to a map: single writes are gathered in a memtable, and it compacts by itself.
 //!
-//! A [`LiveStore`] has a version, and an active memtable before its runs. A contract sees a [`Live`](specs/Lives.antt): the
-//! version, and the list of the writes that are gathered. Read `specs/Lives.antt` first, then `specs/Going.antt`, which says how a store goes
-//! on, and `live_store.rt`.
+//! A [`LiveStore`] has a version, and an active memtable before its runs. A contract sees a [`Live`](specs/Lives.antt):
+//! the version, and the list of the writes that are gathered. Read `specs/Lives.antt` first, then `specs/Going.antt`,
+//! which says how a store goes on, and `live_store.rt`.
 //!
-//! A write has two steps. [`LiveStore::prepare`] and [`LiveStore::prepare_batch`] judge it, number it and take all memory that it needs
-//! (`preparing.rt`); [`LiveStore::commit`] takes it, and can't fail. Reads only read (`reading.rt`): the last sequence needs no snapshot. A full memtable
-//! becomes a run when the next write comes, and then runs are compacted while some are picked (`flushing.rt`, `compacting.rt`). Snapshots are
-//! counted (`snapshots.rt`).
+//! A write has two steps. [`LiveStore::prepare`] and [`LiveStore::prepare_batch`] judge it, number it and take all
+//! memory that it needs (`preparing.rt`); [`LiveStore::commit`] takes it, and can't fail. Reads only read
+//! (`reading.rt`): the last sequence needs no snapshot. A full memtable becomes a run when the next write comes, and
+//! then runs are compacted while some are picked (`flushing.rt`, `compacting.rt`). Snapshots are counted
+//! (`snapshots.rt`).
 //!
-//! A program makes it durable by a log in a file: [`LiveStore::prepare_recorded`] gives what it appends before it commits
-//! (`recording.rt`, `recorded_laws.rt`).
+//! A program makes it durable by a log in a file: [`LiveStore::prepare_recorded`] gives what it appends before it
+//! commits (`recording.rt`, `recorded_laws.rt`).
 //!
-//! By the laws of `laws.rt` a store answers as one thread that folds all writes it has taken, whatever it flushed and compacted.
+//! By the laws of `laws.rt` a store answers as one thread that folds all writes it has taken, whatever it flushed and
+//! compacted.
 //!
 //! `uc_tests_engine` tries it by way of `uc_engine`.
 //!

@@ -13,10 +13,11 @@ pub const GREATEST_STOP: u32 = MOST_SLOTS as u32 - 1;
 pub struct LiveOptions {
     /// How its runs are compacted, and from how many bytes on the active memtable is full (`write_buffer_size`).
     pub store: Options,
-    /// From how many runs on it compacts before it flushes (`level0_stop_writes_trigger`): no fewer than the store's `trigger`, and at most
-    /// [`GREATEST_STOP`].
+    /// From how many runs on it compacts before it flushes (`level0_stop_writes_trigger`): no fewer than the store's
+    /// `trigger`, and at most [`GREATEST_STOP`].
     pub stop_trigger: u32,
-    /// Whether it compacts behind each flush while runs are picked. Else its owner does, and the store only from `stop_trigger` runs on.
+    /// Whether it compacts behind each flush while runs are picked. Else its owner does, and the store only from
+    /// `stop_trigger` runs on.
     pub compacts_itself: bool,
 }
 

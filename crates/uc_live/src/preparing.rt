@@ -84,12 +84,12 @@ impl<O: Operator> LiveStore<O> {
         Ok(())
     }
 
-    /// Prepares an operation as a batch of its own: it gets the sequence behind the last one, and all memory that it needs. No read sees
-    /// it before [`commit`](LiveStore::commit). A batch that was prepared before is given up. If the active memtable is full, it is flushed
-    /// first.
+    /// Prepares an operation as a batch of its own: it gets the sequence behind the last one, and all memory that it
+    /// needs. No read sees it before [`commit`](LiveStore::commit). A batch that was prepared before is given up. If
+    /// the active memtable is full, it is flushed first.
     ///
-    /// It is refused if no sequence is left, if a text has 2^32 bytes or more, so that no batch holds it, if no id is left for a run,
-    /// and for want of memory. Nothing is prepared then, and no read changes.
+    /// It is refused if no sequence is left, if a text has 2^32 bytes or more, so that no batch holds it, if no id is
+    /// left for a run, and for want of memory. Nothing is prepared then, and no read changes.
     pub fn prepare(&mut self, alloc: Global, op: OpRef<'_>) -> Result<(), WriteError>
         ensures ok { OnOk result (IsPrepared O.meaning op.entry self.old self.new) }
         ensures err { IfErr result (λ error. Refuses op.entry self.old self.new error × Prepares O.meaning self.old self.new []) }
@@ -138,12 +138,14 @@ impl<O: Operator> LiveStore<O> {
         Ok(())
     }
 
-    /// Prepares a write batch, given as bytes (RocksDB, `write_batch.cc`): 8 bytes for a sequence, 4 for a count, and as many
-    /// records. The operations get the batch's sequence and those behind it, in their order. A batch with the sequence 0, as a
-    /// program that builds one leaves it, gets the sequence behind the last one. Else it goes as [`prepare`](LiveStore::prepare) does.
+    /// Prepares a write batch, given as bytes (RocksDB, `write_batch.cc`): 8 bytes for a sequence, 4 for a count, and
+    /// as many records. The operations get the batch's sequence and those behind it, in their order. A batch with the
+    /// sequence 0, as a program that builds one leaves it, gets the sequence behind the last one. Else it goes as
+    /// [`prepare`](LiveStore::prepare) does.
     ///
-    /// It is refused if the bytes aren't a batch, if its sequence is neither 0 nor above the last one, if too few sequences are
-    /// left, if no id is left for a run, and for want of memory. Nothing is prepared then, and no read changes.
+    /// It is refused if the bytes aren't a batch, if its sequence is neither 0 nor above the last one, if too few
+    /// sequences are left, if no id is left for a run, and for want of memory. Nothing is prepared then, and no read
+    /// changes.
     pub fn prepare_batch(&mut self, alloc: Global, batch: &[u8]) -> Result<(), WriteError>
         ensures ok { OnOk result (IsBatchPrepared O.meaning batch.now self.old self.new) }
         ensures err { IfErr result (λ error.

@@ -17,8 +17,8 @@ use uc_query_read::{
 use uc_run::flush_keeps_every_effect;
 
 impl<O: Operator> LiveStore<O> {
-    /// The value that a key has at the last sequence, if it has one. It asks the active memtable first, and then the runs, from the newest on,
-    /// up to the first that puts or deletes the key.
+    /// The value that a key has at the last sequence, if it has one. It asks the active memtable first, and then the
+    /// runs, from the newest on, up to the first that puts or deletes the key.
     pub fn get(&self, alloc: Global, key: &[u8]) -> Result<Option<Bytes>, AllocError>
         ensures { IfOk result (λ value.
             value ≡ value_of O.meaning (lives.writes_of self.now) key.now (lives.last self.now)) }
@@ -29,8 +29,8 @@ impl<O: Operator> LiveStore<O> {
         value_behind::<O>(alloc, self.owned.version(), key, last, newer)
     }
 
-    /// Looks a key up at a sequence. The answer is a value, if the key has one, or `NotProtected` if no snapshot is at the
-    /// sequence. What is gathered lies behind each snapshot, so it asks the runs alone.
+    /// Looks a key up at a sequence. The answer is a value, if the key has one, or `NotProtected` if no snapshot is at
+    /// the sequence. What is gathered lies behind each snapshot, so it asks the runs alone.
     pub fn get_at(&self, alloc: Global, key: &[u8], at: u64) -> Result<Answer, AllocError>
         ensures { IfOk result (λ answer.
             answer ≡ answer_of O.meaning (lives.writes_of self.now) self.now.version.keeps (queries.Get key.now at)) }
@@ -41,9 +41,9 @@ impl<O: Operator> LiveStore<O> {
         get::<O>(alloc, self.owned.version(), key, at)
     }
 
-    /// The first rows, at most `limit`, of the keys from `low` to below `high`, or to the last one if `high` is `None`, at the last
-    /// sequence. It costs a sort of what is gathered, a search in each run, and then a step in each run for each key in the range up to the last
-    /// row's.
+    /// The first rows, at most `limit`, of the keys from `low` to below `high`, or to the last one if `high` is `None`,
+    /// at the last sequence. It costs a sort of what is gathered, a search in each run, and then a step in each run for
+    /// each key in the range up to the last row's.
     pub fn scan(
         &self,
         alloc: Global,
@@ -65,8 +65,8 @@ impl<O: Operator> LiveStore<O> {
         rows_behind::<O>(alloc, newer, version, low, high, self.active.last(), limit)
     }
 
-    /// The answer to a query at a snapshot, or `NotProtected` if no snapshot is at its sequence. What is gathered lies behind each snapshot,
-    /// so it asks the runs alone.
+    /// The answer to a query at a snapshot, or `NotProtected` if no snapshot is at its sequence. What is gathered lies
+    /// behind each snapshot, so it asks the runs alone.
     pub fn answer(&self, alloc: Global, query: &Query) -> Result<Answer, AllocError>
         ensures { IfOk result (λ answer.
             answer ≡ answer_of O.meaning (lives.writes_of self.now) self.now.version.keeps query.now) }

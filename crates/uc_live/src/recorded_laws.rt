@@ -8,16 +8,16 @@ ghost use Rattle.uc_live.specs.Recording.{HasBatches, IsRecorded, IsRecovered};
 
 use uc_logrec::{log_goes_on, walk_goes_on};
 
-/// Each log begins with no batches. If it begins with some that end at an offset, and a payload there is a batch that comes after
-/// their last sequence, it begins with that one too.
+/// Each log begins with no batches. If it begins with some that end at an offset, and a payload there is a batch that
+/// comes after their last sequence, it begins with that one too.
 pub fn batches_are_walked()
     ensures none { (log : List ℕ) → HasBatches log 0 [] }
     ensures more { (log : List ℕ) (offset behind : ℕ) (writes more : List Write) (payload : List ℕ) → HasBatches log offset writes →
         LiesIn payload log offset behind → batch_of (last_of 0 writes) payload ≡ Ok more → HasBatches log behind (writes ++ more) }
 {}
 
-/// A log begins with batches that end at an offset. Cut there, and continued by the record of a batch, it has the writes of all of
-/// these, and ends clean. Then it goes on in the same way behind the record.
+/// A log begins with batches that end at an offset. Cut there, and continued by the record of a batch, it has the
+/// writes of all of these, and ends clean. Then it goes on in the same way behind the record.
 pub fn recorded_batch_is_recovered()
     ensures { (log : List ℕ) (offset : ℕ) (writes : List Write) (batch bytes : List ℕ) → HasBatches log offset writes →
         (recorded : IsRecorded (last_of 0 writes) offset batch bytes) →

@@ -34,9 +34,10 @@ impl<O: Operator> LiveStore<O> {
         }
     }
 
-    /// Prepares a batch, as [`prepare_batch`](LiveStore::prepare_batch) does, and returns the bytes that make it durable, at the end of a
-    /// write-ahead log of `length` bytes (LevelDB, `log_format.md`): append them, and then [`commit`](LiveStore::commit), which can't fail. A store
-    /// that opens from that log has the batch's writes, with the same sequences.
+    /// Prepares a batch, as [`prepare_batch`](LiveStore::prepare_batch) does, and returns the bytes that make it
+    /// durable, at the end of a write-ahead log of `length` bytes (LevelDB, `log_format.md`): append them, and then
+    /// [`commit`](LiveStore::commit), which can't fail. A store that opens from that log has the batch's writes, with
+    /// the same sequences.
     pub fn prepare_recorded(
         &mut self,
         alloc: Global,

@@ -40,8 +40,8 @@ impl<O: Operator> LiveStore<O> {
         Ok(())
     }
 
-    /// Takes a snapshot (RocksDB wiki, "Snapshot") at the last sequence, and returns that. What is gathered is flushed first, as
-    /// [`flush`](LiveStore::flush) does it. One that is taken twice is released twice.
+    /// Takes a snapshot (RocksDB wiki, "Snapshot") at the last sequence, and returns that. What is gathered is flushed
+    /// first, as [`flush`](LiveStore::flush) does it. One that is taken twice is released twice.
     ///
     /// It is refused as a flush is. No snapshot is there then that wasn't before.
     pub fn snapshot(&mut self, alloc: Global) -> Result<u64, RoomError>

@@ -9,8 +9,8 @@ use uc_bytes::WriteRef;
 use uc_memtable::ActiveMemtable;
 use uc_run::op_size;
 
-/// Prepares a write more. It is refused for want of memory, also where all together would have 2^64 bytes, which no memory holds. An
-/// `Err` changes nothing.
+/// Prepares a write more. It is refused for want of memory, also where all together would have 2^64 bytes, which no
+/// memory holds. An `Err` changes nothing.
 pub(crate) fn prepare_one(
     active: &mut ActiveMemtable,
     write: &WriteRef<'_>,

@@ -30,7 +30,8 @@ fn puts(alloc: Global, engine: &mut Engine, times: usize) -> bool {
     true
 }
 
-/// Compacts four runs that put one key: one is left, and nothing is picked any more. What is gathered becomes a run when it is flushed.
+/// Compacts four runs that put one key: one is left, and nothing is picked any more. What is gathered becomes a run
+/// when it is flushed.
 fn compacts(alloc: Global, engine: &mut Engine) -> Result<bool, Fail> {
     let before = engine.report() == report_of(4, 4, 1, 5) && engine.gathered() == 1;
     let done = engine.compact_once(alloc) == Ok(true) && engine.compact_once(alloc) == Ok(false);
@@ -50,7 +51,8 @@ fn picked_runs_are_compacted(rt: HostRuntime) -> Result<(), Fail> {
     Ok(())
 }
 
-/// An engine with the greatest trigger, whose size ratio and amplification pick nothing, takes more writes than there are slots.
+/// An engine with the greatest trigger, whose size ratio and amplification pick nothing, takes more writes than there
+/// are slots.
 #[test]
 fn writes_are_never_too_many(rt: HostRuntime) -> Result<(), Fail> {
     let alloc = rt.alloc();

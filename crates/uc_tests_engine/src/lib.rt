@@ -1,8 +1,9 @@
 //! Engines, whose operator is a value, by hand and drawn.
 //!
 //! `worked.rt` has the values that are worked out by hand for each operator, and `given.rt` the engines and bytes that
-//! tests begin with. `writes.rt`, `batches.rt`, `steps.rt`, `reads.rt`, `snapshots.rt`, `compactions.rt` and `openings.rt` try each call on
-//! its happy path and each refusal. `drawn.rt` plays drawn calls beside the plain program of `plain.rt`.
+//! tests begin with. `writes.rt`, `batches.rt`, `steps.rt`, `reads.rt`, `snapshots.rt`, `compactions.rt` and
+//! `openings.rt` try each call on its happy path and each refusal. `drawn.rt` plays drawn calls beside the plain
+//! program of `plain.rt`.
 #![tactic(auto)]
 
 #[cfg(test)]

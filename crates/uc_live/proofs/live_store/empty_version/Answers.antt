@@ -1,5 +1,5 @@
 use Rattle.std.proofs.Common.{◌≡◌, ℕ, ◌+◌, List, [], sym, subst, arith}
-use Rattle.uc_version_state.specs.Versions.{IsVersion, PlacedRun, Stored}
+use Rattle.uc_version_state.specs.Versions.{IsVersion, PlacedRun}
 use Rattle.uc_version_state.specs.Openings.{MayOpen, opened}
 use Rattle.uc_live.specs.Lives.{empty_opening, created}
 use Rattle.uc_live.proofs.Taken.{version_options_good}

@@ -1,7 +1,7 @@
-use Rattle.std.proofs.Common.{◌≡◌, sym, subst}
-use Rattle.uc_batch.specs.Position.{BatchComesFirst, Advances, nothing_ahead}
+use Rattle.std.proofs.Common.{subst}
+use Rattle.uc_batch.specs.Position.{BatchComesFirst, Advances}
 use Rattle.uc_batch.specs.declared.batch_reader.Advance.{Advance}
-use Rattle.uc_live.proofs.LogTaken.{HasRead, none_read, next_rises, one_read, all_read, ends}
+use Rattle.uc_live.proofs.LogTaken.{none_read, next_rises, one_read, all_read, ends}
 use Rattle.uc_live.proofs.opening.read_on.Goals as goal
 
 pub loop-store-init : goal.loop-store-init

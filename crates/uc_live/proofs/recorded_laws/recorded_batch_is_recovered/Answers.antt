@@ -1,7 +1,6 @@
 use Rattle.std.proofs.Common.{◌≡◌, ℕ, ◌+◌, List, [], ◌∷◌, ◌++◌, length, ap, sym, subst, ◌∙◌}
-use Rattle.uc_logrec.specs.declared.ending.Ending.{Ending}
 use Rattle.uc_logrec.specs.declared.ending.Ending.TheVariants.{Clean}
-use Rattle.uc_logrec.specs.Log.{payload_text, payloads_of, ending_of}
+use Rattle.uc_logrec.specs.Log.{payloads_of, ending_of}
 use Rattle.uc_logrec.specs.Walk.{Walks, cut_and_added}
 use Rattle.uc_batch.specs.Log.{batches_of, kept}
 use Rattle.uc_live.specs.Writing.{numbered}

@@ -1,6 +1,5 @@
 use Rattle.std.proofs.Common.{◌≡◌, ◌<◌, ◌-◌, ◌^◌, List, [], ◌++◌, sym, ap, ◌∙◌, subst}
 use Rattle.uc_bytes.specs.declared.write.Write.{Write}
-use Rattle.uc_batch.specs.Rising.{IsRising, last_of}
 use Rattle.uc_run.specs.Size.{memtable_size}
 use Rattle.uc_memtable.specs.Gathering.{Gathering}
 use Rattle.uc_live.proofs.Held.{size-first}

@@ -1,4 +1,4 @@
-use Rattle.std.proofs.Common.{◌≡◌, [], Bool, Result, IfOk, subst, sym}
+use Rattle.std.proofs.Common.{[], Bool, Result, IfOk, subst, sym}
 use Rattle.uc_live.specs.Compacting.{next_stretch, IsCompacted}
 use Rattle.uc_live.specs.declared.room_error.RoomError.{RoomError}
 use Rattle.uc_live.specs.Going.{GoesOn}
