@@ -41,4 +41,6 @@ mod status;
 #[cfg(test)]
 mod tests;
 mod version;
+#[cfg(test)]
+mod walk_tests;
 mod writing;

@@ -1,18 +1,16 @@
 //! Each export once where it does what it is asked, and once where it is refused.
 
 use crate::c_ended::{CEnded, CLEAN, TORN};
-use crate::c_log_place::CLogPlace;
 use crate::c_options::{COptions, OPTIONS_SIZE, ucstore_options_init};
 use crate::c_report::{CReport, REPORT_SIZE, ucstore_report};
 use crate::compacting::{ucstore_compact, ucstore_flush};
-use crate::logs::ucstore_log_next;
 use crate::opening::{ucstore_close, ucstore_create, ucstore_open};
 use crate::reading::{ucstore_get, ucstore_get_at};
 use crate::scanning::{ucstore_scan, ucstore_scan_at};
 use crate::snapshots::{ucstore_last, ucstore_release, ucstore_snapshot, ucstore_snapshots};
 use crate::status::{
-    BAD_OPTION, BAD_PLACE, BAD_SIZE, HAS_STORE, LOG_ENDS, NO_STORE, NOT_A_BATCH, NOT_FOUND,
-    NOT_PROTECTED, OK, ROOM, SEQUENCE_BACK, UNKNOWN_OPERATOR,
+    BAD_OPTION, BAD_SIZE, HAS_STORE, NO_STORE, NOT_A_BATCH, NOT_FOUND, NOT_PROTECTED, OK, ROOM,
+    SEQUENCE_BACK, UNKNOWN_OPERATOR,
 };
 use crate::writing::{
     ucstore_commit, ucstore_delete, ucstore_delete_range, ucstore_give_up, ucstore_merge,
@@ -37,14 +35,8 @@ static BATCH: [u8; 20] = [
 static UNNUMBERED: [u8; 15] = [0, 0, 0, 0, 0, 0, 0, 0, 1, 0, 0, 0, 0, 1, b'b'];
 
 /// The log of the first batch: a masked CRC-32C, the length, FULL, and the batch.
-static LOG: [u8; 27] = [
+pub(crate) static LOG: [u8; 27] = [
     98, 33, 102, 255, 20, 0, 1, 1, 0, 0, 0, 0, 0, 0, 0, 2, 0, 0, 0, 1, 1, b'a', 1, b'1', 0, 1, b'b',
-];
-
-/// Its writes as a walk lays them out.
-static WRITES: [u8; 53] = [
-    1, 0, 0, 0, 0, 0, 0, 0, 1, 1, 0, 0, 0, 0, 0, 0, 0, b'a', 1, 0, 0, 0, 0, 0, 0, 0, b'1', 2, 0, 0,
-    0, 0, 0, 0, 0, 0, 1, 0, 0, 0, 0, 0, 0, 0, b'b', 0, 0, 0, 0, 0, 0, 0, 0,
 ];
 
 /// A row: 1,2 under a.
@@ -70,7 +62,7 @@ fn usual() -> COptions {
 }
 
 /// An end that was told by nobody.
-fn untold() -> CEnded {
+pub(crate) fn untold() -> CEnded {
     CEnded {
         kind: 7,
         fault: 7,
@@ -448,79 +440,4 @@ fn two_steps(rt: HostRuntime) {
     refuse_back(&rt, alloc, &mut store);
     assert_eq!(rt; ucstore_close(alloc, &mut store), OK);
     drop(store.into_box());
-}
-
-/// A walk over the log of a batch: too little room, then enough, then the end.
-#[test]
-fn a_walk(rt: HostRuntime) {
-    let alloc = rt.alloc();
-    let mut place = CLogPlace {
-        offset: 0,
-        last: 0,
-        batches: 0,
-    };
-    let (mut room, mut size, mut count, mut ended) = ([0; 53], 7, 7, untold());
-    assert_eq!(rt;
-        ucstore_log_next(
-            alloc,
-            &LOG,
-            &mut place,
-            &mut room[..52],
-            &mut size,
-            &mut count,
-            &mut ended
-        ),
-        ROOM
-    );
-    assert!(rt; place.offset == 0 && size == 53 && count == 7);
-    assert_eq!(rt;
-        ucstore_log_next(
-            alloc, &LOG, &mut place, &mut room, &mut size, &mut count, &mut ended
-        ),
-        OK
-    );
-    assert!(rt; place.offset == 27 && place.last == 2 && place.batches == 1);
-    assert!(rt; room == WRITES && size == 53 && count == 2 && ended == untold());
-    assert_eq!(rt;
-        ucstore_log_next(
-            alloc, &LOG, &mut place, &mut room, &mut size, &mut count, &mut ended
-        ),
-        LOG_ENDS
-    );
-    assert!(rt; place.offset == 27 && ended.kind == CLEAN);
-}
-
-/// No walk leads to the place.
-fn refuse_place(rt: &impl Abort, alloc: Global, mut place: CLogPlace) {
-    let (mut size, mut count, mut ended) = (7, 7, untold());
-    assert_eq!(rt;
-        ucstore_log_next(
-            alloc,
-            &LOG,
-            &mut place,
-            &mut [],
-            &mut size,
-            &mut count,
-            &mut ended
-        ),
-        BAD_PLACE
-    );
-    assert!(rt; size == 7 && count == 7 && ended == untold());
-}
-
-/// Places with more batches than bytes before them, and past the log.
-#[test]
-fn no_walk(rt: HostRuntime) {
-    let crowded = CLogPlace {
-        offset: 0,
-        last: 0,
-        batches: 1,
-    };
-    refuse_place(&rt, rt.alloc(), crowded);
-    let past = CLogPlace {
-        offset: 28,
-        last: 0,
-        batches: 0,
-    };
-    refuse_place(&rt, rt.alloc(), past);
 }
