@@ -19,6 +19,7 @@ use Rattle.uc_live.specs.Lives.{Live}
 use Rattle.uc_live.specs.Going.{GoesOn}
 use Rattle.uc_live.specs.Compacting.{next_stretch, IsCompacted}
 use Rattle.uc_live.proofs.Going.{goes_nowhere, goes_on}
+use Rattle.uc_live.proofs.Taken.{and_front}
 use Rattle.uc_live.proofs.Free.{unclaimed_all}
 
 -- the store compacted, and did nothing else
@@ -40,13 +41,9 @@ quiet_compacted m old new (Some s) b is on = (on, ap (λ (l : Live). l.gathered)
 
 -- ---- a slot is free where nothing is picked
 
-left : (a b : Bool) → (a && b) ≡ true → a ≡ true
-left true b e = refl
-left false b e = absurd (false≢true e)
-
-right : (a b : Bool) → (a && b) ≡ true → b ≡ true
-right true b e = e
-right false b e = absurd (false≢true e)
+and_back : (a b : Bool) → (a && b) ≡ true → b ≡ true
+and_back true b e = e
+and_back false b e = absurd (false≢true e)
 
 -- nothing was picked if nothing was compacted
 pub none_picked : (m : Operation) (old new : Live) (found : Option Stretch) (b : Bool) → b ≡ false → IsCompacted m found b old new → found ≡ None
@@ -62,9 +59,9 @@ module _ (picks : (o : Options) (runs : List Candidate) (k : ℕ) → store.are_
   within : l.options.store.trigger ≤ 255
   within =
       let o = l.options in
-      let stops = right (store.are_good o.store) (nat_le o.store.trigger o.stop_trigger && nat_le o.stop_trigger GREATEST_STOP) good in
-      let low = leb-true o.store.trigger o.stop_trigger (left (nat_le o.store.trigger o.stop_trigger) (nat_le o.stop_trigger GREATEST_STOP) stops) in
-      let high = leb-true o.stop_trigger GREATEST_STOP (right (nat_le o.store.trigger o.stop_trigger) (nat_le o.stop_trigger GREATEST_STOP) stops) in
+      let stops = and_back (store.are_good o.store) (nat_le o.store.trigger o.stop_trigger && nat_le o.stop_trigger GREATEST_STOP) good in
+      let low = leb-true o.store.trigger o.stop_trigger (and_front (nat_le o.store.trigger o.stop_trigger) (nat_le o.stop_trigger GREATEST_STOP) stops) in
+      let high = leb-true o.stop_trigger GREATEST_STOP (and_back (nat_le o.store.trigger o.stop_trigger) (nat_le o.stop_trigger GREATEST_STOP) stops) in
       omega (arith, low, high)
 
   more : l.options.store.trigger < length l.version.runs → 2 ≤ length l.version.runs → length l.version.runs < MOST_SLOTS
@@ -74,7 +71,7 @@ module _ (picks : (o : Options) (runs : List Candidate) (k : ℕ) → store.are_
       let runs = candidates_of l.version (is_busy owner) in
       let many = length-map l.version.runs (candidate_of (is_busy owner)) in
       let all = unclaimed_all (is_busy owner) (λ slot. refl) l.version.runs in
-      let sound = left (store.are_good o) (nat_le o.trigger l.options.stop_trigger && nat_le l.options.stop_trigger GREATEST_STOP) good in
+      let sound = and_front (store.are_good o) (nat_le o.trigger l.options.stop_trigger && nat_le l.options.stop_trigger GREATEST_STOP) good in
       let some : is_some (picked o runs) ≡ true = picks o runs 0 sound (omega (arith, above, many)) (omega (arith, all, two)) in
       absurd (false≢true (sym (ap (λ (f : Option Stretch). is_some f) none) ∙ some))
 

@@ -36,7 +36,7 @@ use Rattle.uc_live.proofs.Going.{follow-append, after-append, brought-append}
 
 -- ---- a store that begins
 
-and_front : (a b : Bool) → (a && b) ≡ true → a ≡ true
+pub and_front : (a b : Bool) → (a && b) ≡ true → a ≡ true
 and_front true b h = refl
 and_front false b h = h
 
