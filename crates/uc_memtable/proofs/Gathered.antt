@@ -10,6 +10,8 @@ use Rattle.uc_batch.specs.Rising.{IsRising, last_of}
 use Rattle.uc_run.specs.Size.{memtable_size}
 use Rattle.uc_memtable.specs.Gathering.{Gathering}
 use Rattle.uc_memtable.specs.Labels.{write_label, deletes_range}
+use Rattle.uc_memtable.specs.HeldWrites.{IsGathered}
+use Rattle.uc_memtable.specs.declared.active_memtable.ActiveMemtable.TheInside.{Inside}
 
 -- writes of which the first `n` are shown
 abbrev pub cut_at : ℕ → List Write → Gathering
@@ -86,6 +88,18 @@ held_first writes labels shown size last ranges all held =
       ranges_counted = held.ranges_counted ∙ ap (count_by deletes_range) (sym again);
       all_counted = held.ranges_counted;
     }
+
+-- what a memtable holds
+pub held_of : (m : Inside) → IsGathered m → Held m.writes m.chains m.shown m.size m.last m.ranges m.all_ranges
+held_of m is = record {
+  within = is.within;
+  rising = is.rising;
+  labelled = is.labelled;
+  size_counted = is.size_counted;
+  last_counted = is.last_counted;
+  ranges_counted = is.ranges_counted;
+  all_counted = is.all_ranges_counted;
+}
 
 -- whether some wait is told by how many are shown
 module _ (n : ℕ) (ws waiting : List Write) (dropped : drop n ws ≡ waiting) where

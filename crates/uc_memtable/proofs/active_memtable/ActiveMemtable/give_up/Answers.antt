@@ -1,21 +1,13 @@
 use Rattle.std.proofs.Common.{rules, ◌≡◌, take, ℕ, List, sym, subst}
 use Rattle.uc_bytes.specs.declared.write.Write.{Write}
-use Rattle.uc_memtable.proofs.Gathered.{Held, held_first}
+use Rattle.uc_memtable.proofs.Gathered.{Held, held_of, held_first}
 use Rattle.uc_memtable.proofs.active_memtable.ActiveMemtable.give_up.Goals as goal
 
 pub invariant_of-self : goal.invariant_of-self
 invariant_of-self c =
     let s = c.self.inside in
     let i = c.self.invariant in
-    let held : Held s.writes s.chains s.shown s.size s.last s.ranges s.all_ranges = record {
-      within = i.within;
-      rising = i.rising;
-      labelled = i.labelled;
-      size_counted = i.size_counted;
-      last_counted = i.last_counted;
-      ranges_counted = i.ranges_counted;
-      all_counted = i.all_ranges_counted;
-    } in
+    let held : Held s.writes s.chains s.shown s.size s.last s.ranges s.all_ranges = held_of s i in
     let first : Held (take s.shown s.writes) (take s.shown s.chains) s.shown s.size s.last s.ranges s.ranges = held_first _ _ _ _ _ _ _ held in
     let writes : c.truncate.new.self ≡ take s.shown s.writes = search rules in
     let labels : c.truncate-2.new.self ≡ take s.shown s.chains = search rules in

@@ -4,7 +4,7 @@ use Rattle.uc_bytes.specs.declared.write.Write.{Write}
 use Rattle.uc_batch.specs.Rising.{last_of}
 use Rattle.uc_memtable.specs.Gathering.{Gathering}
 use Rattle.uc_memtable.specs.Labels.{label_of, write_label, deletes_range}
-use Rattle.uc_memtable.proofs.Gathered.{Held, held_more}
+use Rattle.uc_memtable.proofs.Gathered.{Held, held_of, held_more}
 use Rattle.uc_memtable.proofs.active_memtable.ActiveMemtable.prepare.Goals as goal
 
 pub invariant_of-self-then-is_range : goal.invariant_of-self-then-is_range
@@ -12,15 +12,7 @@ invariant_of-self-then-is_range c =
     let s = c.self.inside in
     let i = c.self.invariant in
     let w = c.args.write.now in
-    let held : Held s.writes s.chains s.shown s.size s.last s.ranges s.all_ranges = record {
-      within = i.within;
-      rising = i.rising;
-      labelled = i.labelled;
-      size_counted = i.size_counted;
-      last_counted = i.last_counted;
-      ranges_counted = i.ranges_counted;
-      all_counted = i.all_ranges_counted;
-    } in
+    let held : Held s.writes s.chains s.shown s.size s.last s.ranges s.all_ranges = held_of s i in
     let above : last_of 0 s.writes < w.seq =
     subst (λ (ws : List Write). last_of 0 ws < w.seq) (take-append-drop s.shown s.writes)
     (subst (λ (g : Gathering). last_of 0 (g.shown ++ g.waiting) < w.seq) (sym c.self.view_is) c.requires.above) in
@@ -46,15 +38,7 @@ invariant_of-self-else-is_range c =
     let s = c.self.inside in
     let i = c.self.invariant in
     let w = c.args.write.now in
-    let held : Held s.writes s.chains s.shown s.size s.last s.ranges s.all_ranges = record {
-      within = i.within;
-      rising = i.rising;
-      labelled = i.labelled;
-      size_counted = i.size_counted;
-      last_counted = i.last_counted;
-      ranges_counted = i.ranges_counted;
-      all_counted = i.all_ranges_counted;
-    } in
+    let held : Held s.writes s.chains s.shown s.size s.last s.ranges s.all_ranges = held_of s i in
     let above : last_of 0 s.writes < w.seq =
     subst (λ (ws : List Write). last_of 0 ws < w.seq) (take-append-drop s.shown s.writes)
     (subst (λ (g : Gathering). last_of 0 (g.shown ++ g.waiting) < w.seq) (sym c.self.view_is) c.requires.above) in
