@@ -39,7 +39,7 @@ there : (n : ℕ) → 0 < n → ltb 0 n ≡ true
 there n lt = grind (arith, nat_tests)
 
 -- a claim that isn't refused is in range, and finds no run that is claimed
-fine_parts : (range : Option ClaimError) (busy : Option ℕ) → option_or range (option_map Busy busy) ≡ None → (range ≡ None) × (busy ≡ None)
+pub fine_parts : (range : Option ClaimError) (busy : Option ℕ) → option_or range (option_map Busy busy) ≡ None → (range ≡ None) × (busy ≡ None)
 fine_parts None None e = (refl, refl)
 fine_parts None (Some slot) e = absurd cc
 fine_parts (Some error) busy e = absurd cc

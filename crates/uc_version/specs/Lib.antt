@@ -7,3 +7,5 @@ pub mod Installing
 pub mod AtOnce
 pub mod HeldOwners
 pub mod Feeding
+pub mod Jobs
+pub mod HeldJobs

@@ -2,7 +2,7 @@
 //!
 //! An [`Owned`] has a version, and the claims of those who compact stretches of its runs. Read `specs/Owners.antt`
 //! first, then `specs/Claiming.antt`, `specs/Installing.antt` and `owned.rt`; and `specs/AtOnce.antt` with
-//! `at_once.rt`, and `specs/Feeding.antt` with `live.rt` and `memtable_feed.rt`. Compactions of any version's runs, and their installs, are in
+//! `at_once.rt`, `specs/Feeding.antt` with `live.rt` and `memtable_feed.rt`; and `specs/Jobs.antt` with `job.rt`. Compactions of any version's runs, and their installs, are in
 //! `uc_version_work`, whoever claims them; versions are in `uc_version_state`. This crate re-exports the public items
 //! of both.
 //!
@@ -15,6 +15,8 @@ mod at_once;
 mod claims;
 mod compact_error;
 mod held_stretch;
+mod job;
+mod job_end;
 mod laws;
 mod live;
 mod memtable_feed;
@@ -26,6 +28,8 @@ mod slots;
 
 pub use compact_error::CompactError;
 pub use held_stretch::{HeldStretch, MOST_CLAIMS};
+pub use job::Job;
+pub use job_end::JobEnd;
 pub use laws::{
     claimable_stretches_can_be_compacted, claims_are_held, claims_can_be_compacted,
     claims_keep_their_runs, installs_are_events, own_compactions_are_refused_for_ids_alone,
@@ -41,6 +45,6 @@ pub use uc_version_state::{
 };
 pub use uc_version_work::{
     ClaimError, InThreads, InstallError, OpenError, Opener, Workers, are_inputs, compact_stretch,
-    compact_stretch_by, error_of, install_of, install_refusal, open_version, pick, present_refusal,
-    run_ids, runs_of, slots_of, stretch_runs, what_fits_may_be_installed,
+    compact_stretch_by, error_of, install_of, install_refusal, open_version, own_refusal, pick,
+    present_refusal, run_ids, runs_of, slots_of, stretch_runs, what_fits_may_be_installed,
 };

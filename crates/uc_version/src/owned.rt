@@ -3,6 +3,7 @@ ghost use Rattle.std.specs.Prelude.{◌≡◌, ◌<◌, Some, None, true, IfOk, 
 ghost use Rattle.uc_claims.specs.declared.table.TheConstants.{MOST_SLOTS};
 ghost use Rattle.uc_version_state.specs.Picks.{picked};
 ghost use Rattle.uc_version_state.specs.Options.{are_good};
+ghost use Rattle.uc_version_state.specs.Versions.{contents_of};
 ghost use Rattle.uc_version.specs.Owners.{IsOwner, is_busy, unclaimed};
 ghost use Rattle.uc_version_work.specs.Picking.{candidates_of};
 ghost use Rattle.uc_version.specs.Claiming as claiming;
@@ -21,7 +22,8 @@ use uc_compact::{Compacted, Merger};
 use uc_oper::Operator;
 use uc_version_state::{Options, Stretch, Version, install_gives_a_version};
 use uc_version_work::{
-    ClaimError, InstallError, compact_stretch, compact_stretch_by, install_refusal, pick, runs_of,
+    ClaimError, InstallError, compact_stretch, compact_stretch_by, install_refusal, own_refusal,
+    pick, runs_of,
 };
 
 /// A store with one owner: a version, and the claims of stretches of its runs.
@@ -198,6 +200,23 @@ impl<O: Operator> Owned<O> {
     {
         let held = held_stretch(&self.claims, claim);
         compact_stretch_by::<O, M>(merger, alloc, &self.version, held.place())
+    }
+
+    /// Why `made`, which was made of the claim's runs, may not replace them, if it may not. It compares no points.
+    pub(crate) fn own_refusal_of(
+        &self,
+        claim: &OwnedClaim,
+        made: &Compacted<O>,
+    ) -> Option<InstallError>
+        requires held { claiming.is_held self.now claim.now ≡ true }
+        requires own { made.now.inputs ≡ contents_of (installing.claimed_runs self.now claim.now) }
+        ensures none { IfNone result
+            (installing.MayReplace self.now.version (installing.stretch_of self.now claim.now) made.now) }
+        ensures some { IfSome result
+            (installing.IsRefused self.now.version (installing.stretch_of self.now claim.now) made.now) }
+    {
+        let held = held_stretch(&self.claims, claim);
+        own_refusal(held_runs(&self.version, &held), &self.version, made)
     }
 
     /// Why `made` may not replace the claim's runs, if it may not. It goes over the points of these runs.

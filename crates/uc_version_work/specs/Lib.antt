@@ -9,3 +9,4 @@ pub mod LogPositions
 pub mod Compacting
 pub mod Picking
 pub mod Ranges
+pub mod Asked

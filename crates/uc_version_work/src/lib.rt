@@ -22,13 +22,14 @@
 //! `workers.rt`, and then `reading.rt`.
 //!
 //! A stretch of a version's runs is compacted, and the result is judged and installed. Read `specs/Compacting.antt` first, then
-//! `stretches.rt` and `refusal.rt`. `specs/Ranges.antt` says which stretches may be claimed at all, and `candidates.rt` picks one.
+//! `asked.rt`, `stretches.rt` and `refusal.rt`. `specs/Ranges.antt` says which stretches may be claimed at all, and `candidates.rt` picks one.
 //!
 //! An `Err(AllocError)`, or a variant `Memory`, comes only if an allocation fails.
 //!
 //! Tests: `uc_tests_versions`.
 #![tactic(auto)]
 
+mod asked;
 mod candidates;
 mod claim_error;
 mod first_version;
@@ -52,6 +53,7 @@ mod stretches;
 mod work;
 mod workers;
 
+pub use asked::Asked;
 pub use candidates::pick;
 pub use claim_error::ClaimError;
 pub use first_version::open_version;
@@ -63,7 +65,7 @@ pub use memtable_feed::version_with_memtable;
 pub use open_error::OpenError;
 pub use opener::Opener;
 pub use recovery::{Counted, Recovered, count_writes, recover, recover_first, recover_pieces};
-pub use refusal::{are_inputs, error_of, install_refusal, present_refusal};
+pub use refusal::{are_inputs, error_of, install_refusal, own_refusal, present_refusal};
 pub use runs::{run_ids, runs_of, slots_of, stretch_runs};
 pub use stretches::{compact_stretch, compact_stretch_by, install_of};
 pub use uc_compact::Alone;

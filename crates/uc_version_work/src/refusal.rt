@@ -60,6 +60,24 @@ pub fn present_refusal<O: Operator>(
     present.replace_refusal(&ids[..claimed.len()], &terms)
 }
 
+/// Why a compaction of the claimed runs may not be installed in their place in the present version, or `None`. It
+/// compares no points and doesn't allocate.
+pub fn own_refusal<O: Operator>(
+    claimed: &[Placed],
+    present: &Version,
+    made: &Compacted<O>,
+) -> Option<InstallError>
+    requires few { length claimed.now ≤ MOST_SLOTS }
+    requires own { made.now.inputs ≡ contents_of claimed.now }
+    ensures none { IfNone result (IsInstallable present.now claimed.now made.now) }
+    ensures some { IfSome result (λ error. IsNotInstallable present.now claimed.now made.now error) }
+{
+    match present_refusal(claimed, present, made) {
+        None => None,
+        Some(refusal) => Some(error_of(refusal)),
+    }
+}
+
 /// Why a compaction may not be installed in place of the claimed runs in the present version, or `None`. It goes over
 /// the points of the claimed runs, and doesn't allocate.
 pub fn install_refusal<O: Operator>(
@@ -74,8 +92,5 @@ pub fn install_refusal<O: Operator>(
     if !are_inputs(made, claimed) {
         return Some(InstallError::WrongInputs);
     }
-    match present_refusal(claimed, present, made) {
-        None => None,
-        Some(refusal) => Some(error_of(refusal)),
-    }
+    own_refusal(claimed, present, made)
 }

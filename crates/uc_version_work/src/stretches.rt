@@ -1,28 +1,19 @@
 //! The compaction of a stretch, and its install.
-ghost use Rattle.std.specs.Prelude.{◌≡◌, ◌+◌, ◌≤◌, ◌==◌, IfOk, length, map};
+ghost use Rattle.std.specs.Prelude.{◌≡◌, ◌+◌, ◌≤◌, IfOk, length, map};
 ghost use Rattle.std.specs.Arc.{arc_value};
 ghost use Rattle.uc_compact.specs.Inputs.{Stand};
 ghost use Rattle.uc_version_state.specs.Versions.{ids_of};
 ghost use Rattle.uc_version_work.specs.Compacting.{compaction_at, install_for};
 
-use crate::runs::{shared_runs, stretch_runs};
+use crate::asked::Asked;
 use std::alloc::{AllocError, Global};
 use std::marker::Sync;
 use std::sync::Arc;
 use std::thread::Threads;
-use uc_compact::{By, Compacted, Merger, compact_by, merge_in_threads};
+use uc_compact::{By, Compacted, Merger, merge_in_threads};
 use uc_oper::Operator;
 use uc_run::Run;
 use uc_version_state::{Install, Placed, Stretch, Version};
-
-/// Whether the last run of a stretch is the oldest of all.
-fn has_oldest(version: &Version, stretch: Stretch) -> bool
-    requires { stretch.first + stretch.count ≤ length version.now.runs }
-    ensures { result ≡ (stretch.first + stretch.count == length version.now.runs) }
-{
-    let runs = version.runs().len();
-    stretch.first + stretch.count == runs
-}
 
 /// Compacts a stretch of a version, under its keeps, and with the oldest run exactly if that is the last of them.
 pub fn compact_stretch_by<O: Operator, M: Merger<O>>(
@@ -36,11 +27,8 @@ pub fn compact_stretch_by<O: Operator, M: Merger<O>>(
     requires within { stretch.first + stretch.count ≤ length version.now.runs }
     ensures { IfOk result (λ made. made ≡ compaction_at version.now stretch) }
 {
-    version.recall();
-    let runs = stretch_runs(version, stretch);
-    let inputs = shared_runs(alloc, runs)?;
-    let oldest = has_oldest(version, stretch);
-    compact_by::<O, M>(merger, alloc, &inputs, version.keeps(), oldest)
+    let asked = Asked::of(alloc, version, stretch)?;
+    asked.compact_by::<O, M>(merger, alloc)
 }
 
 /// Compacts a stretch of a version as [`compact_stretch_by`] does, in threads.

@@ -1,0 +1,14 @@
+//! [`JobEnd`]: what came of a job.
+
+use uc_version_work::InstallError;
+
+/// What came of a job that was ended.
+#[derive(Clone, Copy, Debug, PartialEq, Eq)]
+pub enum JobEnd {
+    /// Its run was installed, with this id.
+    Installed(u64),
+    /// It wasn't run.
+    NotRun,
+    /// Its run was refused.
+    Refused(InstallError),
+}

@@ -1,0 +1,73 @@
+//! [`Asked`]: what is asked of a compaction.
+ghost use Rattle.std.specs.Prelude.{◌≡◌, ◌+◌, ◌≤◌, ◌==◌, IfOk, length};
+ghost use Rattle.uc_version_work.specs.Compacting.{compaction_at};
+
+use crate::runs::{shared_runs, stretch_runs};
+use std::alloc::{AllocError, Global};
+use std::marker::Model;
+use std::sync::Arc;
+use uc_compact::{Compacted, Merger, compact_by};
+use uc_oper::Operator;
+use uc_run::Run;
+use uc_version_state::{Stretch, Version};
+
+/// What is asked of a compaction: shares of the runs, the keeps, and whether the oldest run of all is among them. It holds no
+/// version, so it can be carried out anywhere.
+#[derive(Drop)]
+pub struct Asked {
+    inputs: Vec<Arc<Run>>,
+    keeps: Vec<u64>,
+    oldest: bool,
+}
+
+impl Model for Asked {
+    ghost use Rattle.uc_compact.specs.Inputs.{Compaction};
+    ghost use Rattle.uc_version_work.specs.Asked.{asked, IsAsked};
+
+    ghost Value = { Compaction };
+
+    ghost view = { asked };
+
+    ghost invariant = { IsAsked };
+}
+
+/// Whether the last run of a stretch is the oldest of all.
+fn has_oldest(version: &Version, stretch: Stretch) -> bool
+    requires { stretch.first + stretch.count ≤ length version.now.runs }
+    ensures { result ≡ (stretch.first + stretch.count == length version.now.runs) }
+{
+    let runs = version.runs().len();
+    stretch.first + stretch.count == runs
+}
+
+impl Asked {
+    /// What is asked of the compaction of a stretch of a version: under the version's keeps, and with the oldest run exactly if
+    /// that is the last of the stretch. It copies no run.
+    pub fn of(alloc: Global, version: &Version, stretch: Stretch) -> Result<Asked, AllocError>
+        requires two { 2 ≤ stretch.count }
+        requires within { stretch.first + stretch.count ≤ length version.now.runs }
+        ensures { IfOk result (λ asked. asked ≡ compaction_at version.now stretch) }
+    {
+        version.recall();
+        let inputs = shared_runs(alloc, stretch_runs(version, stretch))?;
+        let keeps = version.keeps().to_vec(alloc)?;
+        let oldest = has_oldest(version, stretch);
+        Ok(Asked {
+            inputs,
+            keeps,
+            oldest,
+        })
+    }
+
+    /// The compaction, by this merger.
+    pub fn compact_by<O: Operator, M: Merger<O>>(
+        &self,
+        merger: &M,
+        alloc: Global,
+    ) -> Result<Compacted<O>, AllocError>
+        requires { M.can_merge merger.now }
+        ensures { IfOk result (λ made. made ≡ self.now) }
+    {
+        compact_by::<O, M>(merger, alloc, &self.inputs, &self.keeps, self.oldest)
+    }
+}
