@@ -36,6 +36,12 @@ claims_again o h =
 pub back_again : (o : Owner) (s : Stretch) → without_claim (with_claim o (claim_of o s) s) (claim_of o s) ≡ o
 back_again o s = ap (λ (cs : List (Option HeldStretch)). record o { claims = cs }) (claims_again o _)
 
+-- the stretch of a claim that was just made
+pub claimed_stretch : (o : Owner) → IsOwner o → (s : Stretch) → claim_refusal o s ≡ None →
+    stretch_of (with_claim o (claim_of o s) s) (claim_of o s) ≡ record { first = s.first; count = s.count; newest = (claim_of o s).newest; oldest = (claim_of o s).oldest }
+claimed_stretch o is_owner s fine =
+    ap stretch_in (get_or-set_same o.claims (free_number o.claims) (Some (record { first = s.first; count = s.count; newest = (claim_of o s).newest; oldest = (claim_of o s).oldest })) None (number o is_owner s fine))
+
 module _ (m : Operation) (o : Owner) (is_owner : IsOwner o) (s : Stretch) (fine : claim_refusal o s ≡ None) (left : IdLeft o.version) where
   abbrev v : Stored
   v = o.version
@@ -62,7 +68,7 @@ module _ (m : Operation) (o : Owner) (is_owner : IsOwner o) (s : Stretch) (fine 
   may = is_legal m v is_owner.version h there.0 there.1 (compaction_of v h) made_stands may_replace
 
   stretch_is : stretch_of claimed c ≡ h
-  stretch_is = ap stretch_in (get_or-set_same o.claims (free_number o.claims) (Some h) None (number o is_owner s fine))
+  stretch_is = claimed_stretch o is_owner s fine
 
   -- what an install of a stretch's compaction leaves of the owner who claimed it
   abbrev left_by : HeldStretch → Owner

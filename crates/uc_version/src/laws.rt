@@ -16,6 +16,7 @@ ghost use Rattle.uc_version.specs.Installing.{stretch_of, claimed_runs, compacti
 ghost use Rattle.uc_version.specs.Installing.{IsRefused, after_install, install_of};
 ghost use Rattle.uc_version.specs.AtOnce.{install_at, after_compaction};
 ghost use Rattle.uc_version.specs.Feeding.{after_feed, after_keep, after_release};
+ghost use Rattle.uc_version.specs.Jobs.{IsOwn, task_of};
 ghost use Rattle.uc_version_work.specs.declared.install_error.InstallError.{InstallError};
 ghost use Rattle.uc_version_work.specs.declared.install_error.InstallError.TheVariants.{IdsSpent};
 
@@ -126,6 +127,13 @@ pub fn own_compactions_are_refused_for_ids_alone<O: Operator>()
 {
     own_compactions_stay_installable::<O>();
 }
+
+/// A job that is started is held by its store, and was made of the runs of its claim. So it stays, as claims keep their runs
+/// until they are given back.
+pub fn jobs_are_own()
+    ensures { (o : Owner) (s : Stretch) → IsOwner o → claim_refusal o s ≡ None →
+        (is_held (with_claim o (claim_of o s) s) (task_of o s).claim ≡ true) × IsOwn (with_claim o (claim_of o s) s) (task_of o s) }
+{}
 
 /// A stretch that can be claimed can be compacted at once if an id is left. It is claimed, its compaction is an event
 /// that may happen, and the install gives the claim back. So the owner holds the same claims as before.

@@ -32,8 +32,8 @@ pub use job::Job;
 pub use job_end::JobEnd;
 pub use laws::{
     claimable_stretches_can_be_compacted, claims_are_held, claims_can_be_compacted,
-    claims_keep_their_runs, installs_are_events, own_compactions_are_refused_for_ids_alone,
-    owners_stay_owners, picks_can_be_claimed,
+    claims_keep_their_runs, installs_are_events, jobs_are_own,
+    own_compactions_are_refused_for_ids_alone, owners_stay_owners, picks_can_be_claimed,
 };
 pub use opened_writes::open_plain;
 pub use owned::Owned;
