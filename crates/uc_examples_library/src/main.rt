@@ -1,4 +1,4 @@
-//! Counts visits on, from the log on standard input: in a store of one owner, which the README shows, and in one that threads share.
+//! Counts visits on, from the log on standard input: in a live store, which the README shows, and in one that threads share.
 #![tactic(auto)]
 
 mod one_owner;
@@ -8,14 +8,14 @@ mod visits;
 use anyhow::Result;
 use std::io::Read;
 use std::marker::Brand;
-use uc_store::{Alone, Options, open_log, open_shared};
+use uc_store::{Alone, LiveOptions, LiveStore, Options, open_shared};
 
 fn main(rt: HostRuntime) -> Result<()> {
     let alloc = rt.alloc();
     let mut log = Vec::new(alloc);
     rt.stdin().read_to_end(&mut log)?;
-    let mut opened = open_log(&Alone, alloc, &log, &[], Options::usual())?;
-    let (before, now) = one_owner::count(&rt, alloc, &mut opened.store)?;
+    let (mut store, _) = LiveStore::open(alloc, &log, LiveOptions::usual())?.into_parts();
+    let (before, now) = one_owner::count(alloc, &mut store)?;
     println!(rt; "{before} visits at the snapshot, {now} now")?;
     let opened = open_shared(&Alone, alloc, &log, &[], Options::usual(), 4, 1)?;
     let before = threads::count::<Brand, _>(&rt, alloc, opened.opening)?;

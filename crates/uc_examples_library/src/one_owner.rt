@@ -1,26 +1,17 @@
-//! One owner's store: it feeds, compacts, and reads at a snapshot and at the last sequence.
-use crate::visits::{VISITS, batch_of, number};
+//! A live store: it is written to as a map, and read at a snapshot and at the last sequence.
+use crate::visits::{VISITS, number, number_of};
 use anyhow::Result;
 use std::alloc::Global;
-use std::marker::Sync;
-use std::thread::Threads;
-use uc_store::{Counter, Owned, feed_batch, get, get_last};
+use uc_store::{Counter, LiveStore, OpRef};
 
-/// Counts three times, and compacts. Returns the visits at a snapshot that was taken before, and those now.
-pub(crate) fn count(
-    rt: &(impl Threads + Sync),
-    alloc: Global,
-    store: &mut Owned<Counter>,
-) -> Result<(u64, u64)> {
-    let snapshot = store.keep()?;
-    for visits in 1..4 {
-        feed_batch(alloc, store, batch_of(alloc, visits)?)?;
+/// Counts three times. Returns the visits at a snapshot that was taken before, and those now.
+pub(crate) fn count(alloc: Global, store: &mut LiveStore<Counter>) -> Result<(u64, u64)> {
+    let snapshot = store.snapshot(alloc)?;
+    for visits in 1..4u64 {
+        store.write(alloc, OpRef::merge(VISITS, &visits.to_le_bytes()))?;
     }
-    if let Some(stretch) = store.pick() {
-        store.compact_now(rt, alloc, stretch)?;
-    }
-    let before = get::<Counter>(alloc, store.version(), VISITS, snapshot)?;
+    let before = store.get_at(alloc, VISITS, snapshot)?;
+    let now = store.get(alloc, VISITS)?;
     store.release(snapshot)?;
-    let now = get_last(alloc, store, VISITS)?;
-    Ok((number(&before)?, number(&now)?))
+    Ok((number(&before)?, number_of(&now)?))
 }

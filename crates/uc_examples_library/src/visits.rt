@@ -27,10 +27,18 @@ pub(crate) fn lookups(alloc: Global, at: u64) -> Result<[Query; 2], AllocError> 
     ])
 }
 
+/// The number that a value is, or 0 if there is none.
+pub(crate) fn number_of(value: &Option<Bytes>) -> Result<u64> {
+    match value {
+        Some(bytes) => Ok(u64::from_le_bytes(bytes.as_slice().try_into()?)),
+        None => Ok(0),
+    }
+}
+
 /// The number that an answer has.
 pub(crate) fn number(answer: &Answer) -> Result<u64> {
     match answer {
-        Answer::Value(Some(value)) => Ok(u64::from_le_bytes(value.as_slice().try_into()?)),
+        Answer::Value(value) => number_of(value),
         _ => Ok(0),
     }
 }

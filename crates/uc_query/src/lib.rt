@@ -40,5 +40,7 @@ pub use reports::report;
 pub use run_line::{RunLine, total_fields};
 pub use summary::Report;
 pub use uc_fold::Totals;
-pub use uc_query_read::{Answer, Query, Rows, answer_one, answer_writes, get, get_last};
+pub use uc_query_read::{
+    Answer, Query, Rows, answer_last, answer_one, answer_writes, get, get_last,
+};
 pub use uc_query_workers::{AskError, MOST_WORKERS, answer_plain};

@@ -8,6 +8,7 @@ ghost use Rattle.uc_query_read.specs.declared.answer.Answer.TheVariants as given
 ghost use Rattle.uc_query_read.specs.declared.query.Query.TheVariants as query;
 ghost use Rattle.uc_compact.specs.Inputs.{writes_of};
 ghost use Rattle.uc_version_state.specs.Versions.{contents_of, writes_in};
+ghost use Rattle.uc_version_state.specs.Snapshots.{with_keep};
 
 use crate::answer::Answer;
 use crate::lookup::value_of_runs;
@@ -116,4 +117,23 @@ pub fn get_last<O: Operator>(
 {
     let value = value_of_runs::<O>(alloc, version.runs(), key, version.last())?;
     Ok(Answer::Value(value))
+}
+
+/// The answer to a query at the last sequence, whether or not a snapshot is there, or at a snapshot, as [`answer_one`] returns
+/// it.
+pub fn answer_last<O: Operator>(
+    alloc: Global,
+    version: &Version,
+    query: &Query,
+) -> Result<Answer, AllocError>
+    ensures { IfOk result (λ answer. answer ≡
+        answers.answer_of O.meaning (writes_in version.now) (with_keep version.now.last version.now.keeps) query.now) }
+{
+    version.recall();
+    let at = query.at();
+    if at == version.last() || is_protected(version.keeps(), at) {
+        reading::<O>(alloc, version.runs(), query)
+    } else {
+        Ok(Answer::NotProtected(at))
+    }
 }

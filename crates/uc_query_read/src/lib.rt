@@ -33,7 +33,7 @@ pub use answer_laws::{
     equal_values_give_equal_answers, scan_is_answered_by_first_rows, scan_keys_are_named,
     scan_keys_rise, scan_rows_are_determined, scan_rows_are_first, unprotected_is_refused,
 };
-pub use answering::{answer_one, get, get_last};
+pub use answering::{answer_last, answer_one, get, get_last};
 pub use behind::{rows_at, rows_behind, value_behind};
 pub use laws::{histories_keep_answers, later_events_leave_answers_alone};
 pub use plain::answer_writes;

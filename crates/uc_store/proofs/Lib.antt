@@ -1,3 +1,2 @@
 mod FedNext
 mod Numbered
-mod Released

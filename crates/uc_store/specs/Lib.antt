@@ -12,5 +12,12 @@ pub use Rattle.uc_share.specs.Live
 pub use Rattle.uc_share.specs.Installing
 pub use Rattle.uc_share.specs.Turns
 pub use Rattle.uc_query_shared.specs.Given
+pub use Rattle.uc_live.specs.LiveOptions
+pub use Rattle.uc_live.specs.Lives
+pub use Rattle.uc_live.specs.Going
+pub use Rattle.uc_live.specs.Coming
+pub use Rattle.uc_live.specs.Compacting
+pub use Rattle.uc_live.specs.Writing
+pub use Rattle.uc_live.specs.Recording
 pub mod Batches
 pub mod SharedBatches

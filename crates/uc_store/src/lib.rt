@@ -1,10 +1,14 @@
-//! The store for programs: one crate to name.
+//! The stores for programs: one crate to name.
 //!
-//! [`open_log`] opens a store from the bytes of a write-ahead log, and says how far the log could be read; [`open_pieces`] lets go of
-//! the log meanwhile. Both take [`Workers`] first: [`Alone`], or [`InThreads`], which opens it sooner. [`get`] looks a key
-//! up at a sequence that a snapshot protects, [`answer_one`] answers any query and [`answer_plain`] a batch of them by many
-//! workers. [`feed_batch`] writes, and [`get_last`] and [`answer_last`] read at the last sequence. [`Owned`] takes snapshots, and
-//! picks what to compact; [`report`] says what a store holds.
+//! A [`LiveStore`] is the one to begin with. It has one owner, gathers single writes, flushes and compacts by itself:
+//! [`LiveStore::open`] opens it from the bytes of a write-ahead log, [`LiveStore::write`] writes, [`LiveStore::get`] and
+//! [`LiveStore::scan`] read, [`LiveStore::snapshot`] takes a snapshot. It comes from `uc_live`.
+//!
+//! An [`Owned`] store shows its runs, and its owner says what is compacted. [`open_log`] opens one from the bytes of a log, and says
+//! how far the log could be read; [`open_pieces`] lets go of the log meanwhile. Both take [`Workers`] first: [`Alone`], or
+//! [`InThreads`], which opens it sooner. [`get`] looks a key up at a sequence that a snapshot protects, [`answer_one`] answers any
+//! query and [`answer_plain`] a batch of them by many workers. [`feed_batch`] writes, and [`get_last`] and [`answer_last`] read at
+//! the last sequence. [`Owned`] takes snapshots, and picks what to compact; [`report`] says what a store holds.
 //!
 //! [`open_shared`] opens a [`Store`] that threads share. [`feed_shared_batch`]
 //! writes to it, [`Store::keep`] and [`Store::release`] take and release snapshots, and [`Store::turn`] compacts for a
@@ -33,7 +37,8 @@ pub use opened_log::{OpenedLog, open_log, open_pieces};
 pub use opened_shared::{OpenedShared, open_shared};
 pub use shared_batches::feed_shared_batch;
 pub use uc_batch::{Ended, Op, Pieces, Writes};
-pub use uc_bytes::{Bytes, Write};
+pub use uc_bytes::{Bytes, OpRef, Write};
+pub use uc_live::{LiveOpenError, LiveOptions, LiveStore, OpenedStore, RoomError, WriteError};
 pub use uc_oper::{Append, Counter, Maximum, Operator, Tail};
 pub use uc_query::{Answer, AskError, Query, Report, Rows, answer_one, answer_plain, get, report};
 pub use uc_query_shared::{Free, Gate, MOST_WORKERS, answer_all};
