@@ -12,3 +12,4 @@ pub mod CompactedNow
 pub mod Feeding
 pub mod OwnCompactions
 pub mod HeldOn
+pub mod HeldOver

@@ -136,7 +136,8 @@ pub fn jobs_are_own()
 {}
 
 /// A stretch that can be claimed can be compacted at once if an id is left. It is claimed, its compaction is an event
-/// that may happen, and the install gives the claim back. So the owner holds the same claims as before.
+/// that may happen, and the install gives the claim back. So the owner holds the same claims as before, and they keep their
+/// runs.
 pub fn claimable_stretches_can_be_compacted<O: Operator>()
     ensures may { (o : Owner) (s : Stretch) → IsOwner o → claim_refusal o s ≡ None → IdLeft o.version →
         MayInstall O.meaning o.version (install_at O.meaning o.version s) }
@@ -146,6 +147,9 @@ pub fn claimable_stretches_can_be_compacted<O: Operator>()
     ensures stays { (o : Owner) (s : Stretch) → IsOwner o → claim_refusal o s ≡ None → IdLeft o.version →
         IsOwner (after_compaction O.meaning o s) }
     ensures given_back { (o : Owner) (s : Stretch) → without_claim (with_claim o (claim_of o s) s) (claim_of o s) ≡ o }
+    ensures kept { (o : Owner) (s : Stretch) (c : Claim) → IsOwner o → claim_refusal o s ≡ None → IdLeft o.version → is_held o c ≡ true →
+        (is_held (after_compaction O.meaning o s) c ≡ true)
+        × (claimed_runs (after_compaction O.meaning o s) c ≡ claimed_runs o c) }
 {
     install_gives_a_version::<O>();
 }

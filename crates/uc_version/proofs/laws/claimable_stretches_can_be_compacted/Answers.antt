@@ -1,4 +1,5 @@
 use Rattle.uc_version.proofs.CompactedNow.{back_again, may, at_once, stays}
+use Rattle.uc_version.proofs.HeldOver.{held_over}
 use Rattle.uc_version.proofs.laws.claimable_stretches_can_be_compacted.Goals as goal
 
 pub returns : goal.returns
@@ -9,4 +10,5 @@ returns g c =
       after = λ o s is_owner fine left. at_once m o is_owner s fine left;
       stays = λ o s is_owner fine left. stays m o is_owner s fine left c.install_gives_a_version.ensures;
       given_back = λ o s. back_again o s;
+      kept = λ o s claim is_owner fine left held. held_over m o is_owner s fine left claim held;
     }
