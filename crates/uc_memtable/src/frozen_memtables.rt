@@ -16,7 +16,7 @@ use uc_oper::{Effect, Operator};
 
 /// Memtables that take no more writes, the oldest first. A contract sees it as all writes that they show, in order.
 ///
-/// They are few: each has more bytes than the next one, which [`join_small`](FrozenMemtables::join_small) sees to.
+/// They are few: each has more than twice the bytes of the next one, by [`join_small`](FrozenMemtables::join_small).
 #[derive(Debug)]
 pub(crate) struct FrozenMemtables {
     memtables: Vec<FrozenMemtable>,
@@ -159,8 +159,8 @@ impl FrozenMemtables {
         Ok(())
     }
 
-    /// Puts the newest two together, by a copy, while the older one isn't larger. So each write is copied at most once
-    /// for each power of two below the bytes of all. An `Err` leaves some apart.
+    /// Puts the newest ones together, by a copy, so that each has more than twice the bytes of the next one. A write is
+    /// copied once, and then only where its memtable's bytes grow by half. An `Err` leaves them apart.
     pub(crate) fn join_small(&mut self, alloc: Global) -> Result<(), AllocError>
         ensures { self.new ≡ self.old }
     {

@@ -1,5 +1,5 @@
 //! Frozen memtables one by one: how they are shared, put together, and looked into.
-ghost use Rattle.std.specs.Prelude.{◌≡◌, ◌<◌, ◌≤◌, ◌++◌, ◌∷◌, [], true, IfOk, IfErr, OnOk, length};
+ghost use Rattle.std.specs.Prelude.{◌≡◌, ◌<◌, ◌≤◌, ◌++◌, ◌∷◌, [], IfOk, IfErr, OnOk, length};
 ghost use Rattle.uc_batch.specs.Rising.{IsRising};
 ghost use Rattle.uc_model.specs.Meaning.{effect_on};
 ghost use Rattle.uc_oper.specs.Composition.{composed};
@@ -58,34 +58,44 @@ pub(crate) fn copy_of(
     Ok(one)
 }
 
-/// Whether the newest two are to be one: the older one isn't larger.
-fn is_last_small(memtables: &[FrozenMemtable]) -> bool
-    ensures { result ≡ true → 2 ≤ length memtables.now }
+/// From which place on memtables are put together: the one before it has more than twice the bytes of all from there on.
+fn small_from(memtables: &[FrozenMemtable]) -> usize
+    ensures { result ≤ length memtables.now }
 {
-    match memtables {
-        [.., older, newer] => older.memtable().size() <= newer.memtable().size(),
-        _ => false,
+    let [older @ .., newest] = memtables else {
+        return 0;
+    };
+    let mut behind = newest.memtable().size();
+    for place in (0..older.len()).rev() {
+        let size = older[place].memtable().size();
+        if size > behind.saturating_mul(2) {
+            return place + 1;
+        }
+        behind = behind.saturating_add(size);
     }
+    0
 }
 
-/// Puts the newest two together. An `Err` leaves them apart.
-fn join_last(alloc: Global, memtables: &mut Vec<FrozenMemtable>) -> Result<(), AllocError>
-    requires two { 2 ≤ length memtables.old.items }
+/// Puts all memtables from a place on together. An `Err` leaves them apart.
+fn join_from(
+    alloc: Global,
+    memtables: &mut Vec<FrozenMemtable>,
+    place: usize,
+) -> Result<(), AllocError>
+    requires within { place < length memtables.old.items }
     requires rising { IsRising 0 (all_of memtables.old.items) }
-    ensures all { all_of memtables.new.items ≡ all_of memtables.old.items }
-    ensures fewer { OnOk result (length memtables.new.items < length memtables.old.items) }
+    ensures { all_of memtables.new.items ≡ all_of memtables.old.items }
 {
-    let place = memtables.len() - 2;
-    let both = copy_of(alloc, &memtables[place..])?;
-    let Ok(both) = FrozenMemtable::new(alloc, both) else {
+    let all = copy_of(alloc, &memtables[place..])?;
+    let Ok(all) = FrozenMemtable::new(alloc, all) else {
         return Err(AllocError);
     };
-    memtables[place] = both;
+    memtables[place] = all;
     memtables.truncate(place + 1);
     Ok(())
 }
 
-/// Puts the newest two together while the older one isn't larger. An `Err` leaves some apart.
+/// Puts the newest ones together, so that each has more than twice the bytes of the next one. An `Err` leaves them apart.
 pub(crate) fn join_small(
     alloc: Global,
     memtables: &mut Vec<FrozenMemtable>,
@@ -93,8 +103,9 @@ pub(crate) fn join_small(
     requires { IsRising 0 (all_of memtables.old.items) }
     ensures { all_of memtables.new.items ≡ all_of memtables.old.items }
 {
-    while is_last_small(memtables) {
-        join_last(alloc, memtables)?;
+    let place = small_from(memtables);
+    if place + 1 < memtables.len() {
+        join_from(alloc, memtables, place)?;
     }
     Ok(())
 }
