@@ -3,3 +3,8 @@ pub mod Links
 pub mod Seeing
 pub mod Walking
 pub mod Gathered
+pub mod RisingParts
+pub mod Copied
+pub mod AllFrozen
+pub mod AllGathered
+pub mod EffectsBefore

@@ -5,3 +5,7 @@ pub mod Linked
 pub mod HeldLinks
 pub mod Sights
 pub mod HeldWrites
+pub mod Frozen
+pub mod HeldFrozen
+pub mod HeldFrozens
+pub mod HeldMemtables

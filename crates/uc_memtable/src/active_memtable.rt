@@ -8,6 +8,7 @@ ghost use Rattle.uc_run.specs.Size.{memtable_size};
 ghost use Rattle.uc_memtable.specs.Labels.{deletes_range};
 
 use crate::chains::Chains;
+use crate::copying::prepare_range;
 use crate::label::{is_range, label_of};
 use crate::lookup::effect_seen;
 use crate::sight::Sight;
@@ -195,6 +196,32 @@ impl ActiveMemtable {
         self.writes.truncate(self.shown);
         self.chains.truncate(self.shown);
         self.all_ranges = self.ranges;
+    }
+
+    /// Takes and shows copies of the writes that another memtable shows, which lie behind all of these. It costs a copy
+    /// of the texts. An `Err` changes nothing.
+    pub(crate) fn take_shown(&mut self, other: &ActiveMemtable) -> Result<(), AllocError>
+        requires none { self.old.waiting ≡ [] }
+        requires rising { IsRising (last_of 0 self.old.shown) other.now.shown }
+        ensures ok { OnOk result (self.new ≡
+            record { shown = self.old.shown ++ other.now.shown; waiting = [] }) }
+        ensures err { OnErr result (self.new ≡ self.old) }
+    {
+        if let Err(error) = prepare_range(self, &other.writes, 0, other.shown) {
+            self.give_up();
+            return Err(error);
+        }
+        self.commit();
+        Ok(())
+    }
+
+    /// A memtable in which copies of the writes that wait here do so, and no write is shown.
+    pub(crate) fn with_waiting(&self, alloc: Global) -> Result<ActiveMemtable, AllocError>
+        ensures { IfOk result (λ apart. apart ≡ record { shown = []; waiting = self.now.waiting }) }
+    {
+        let mut apart = ActiveMemtable::new(alloc);
+        prepare_range(&mut apart, &self.writes, self.shown, self.writes.len())?;
+        Ok(apart)
     }
 
     /// What the shown writes at or below a sequence together do to a key. It looks at the range deletions, the newest

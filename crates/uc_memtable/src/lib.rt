@@ -4,6 +4,10 @@
 //! prepared and can't fail. A lookup by [`ActiveMemtable::effect`] finds what the shown writes do to a key. Read
 //! `specs/Gathering.antt` and `active_memtable.rt` first, then `sight.rt` and `lookup.rt`.
 //!
+//! [`GatheredMemtables`] does the same, and [`GatheredMemtables::share`] gives other threads what is shown at a moment:
+//! it freezes the active memtable behind those that are frozen already, and begins another. `gathered_memtables.rt`,
+//! `frozen_memtables.rt` and `joining.rt` have it.
+//!
 //! The writes of a key are found by [`Chains`](chains::Chains): each write has a label, which is the hash of its key, and
 //! writes whose labels share a bucket are in one chain, from the newest on. `specs/Labels.antt` and `specs/Linked.antt`
 //! define them.
@@ -15,9 +19,15 @@
 
 mod active_memtable;
 mod chains;
+mod copying;
+mod frozen_memtable;
+mod frozen_memtables;
+mod gathered_memtables;
+mod joining;
 mod label;
 mod linking;
 mod lookup;
 mod sight;
 
 pub use active_memtable::ActiveMemtable;
+pub use gathered_memtables::GatheredMemtables;

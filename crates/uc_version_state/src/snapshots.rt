@@ -36,9 +36,9 @@ fn take_out(keeps: &mut Vec<u64>, seq: u64)
 }
 
 impl Version {
-    /// A copy, which shares the runs.
-    fn again(&self, alloc: Global) -> Result<Version, AllocError>
-        ensures { IfOk result (λ copy. copy ≡ self.now) }
+    /// The version again. It shares the runs.
+    pub fn shared(&self, alloc: Global) -> Result<Version, AllocError>
+        ensures { IfOk result (λ again. again ≡ self.now) }
     {
         self.recall();
         let mut runs = Vec::with_capacity(alloc, self.runs.len())?;
@@ -51,7 +51,7 @@ impl Version {
     pub fn kept(&self, alloc: Global) -> Result<Version, AllocError>
         ensures { IfOk result (λ version. version ≡ snapshots.kept self.now) }
     {
-        let mut next = self.again(alloc)?;
+        let mut next = self.shared(alloc)?;
         next.keep()?;
         Ok(next)
     }
@@ -60,7 +60,7 @@ impl Version {
     pub fn released(&self, alloc: Global, seq: u64) -> Result<Version, AllocError>
         ensures { IfOk result (λ version. version ≡ snapshots.released seq self.now) }
     {
-        let mut next = self.again(alloc)?;
+        let mut next = self.shared(alloc)?;
         next.release(seq);
         Ok(next)
     }

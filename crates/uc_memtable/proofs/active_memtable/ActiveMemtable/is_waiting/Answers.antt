@@ -1,6 +1,5 @@
-use Rattle.std.proofs.Common.{◌≡◌, ◌<◌, List, length, ap, subst, ◌∙◌, sym}
+use Rattle.std.proofs.Common.{ap, subst, sym}
 use Rattle.std.specs.Prelude.{IsTrue, ◌↔◌, ◌≢◌, [], nat_lt}
-use Rattle.uc_bytes.specs.declared.write.Write.{Write}
 use Rattle.uc_memtable.specs.Gathering.{Gathering}
 use Rattle.uc_memtable.proofs.Gathered.{waits_if}
 use Rattle.uc_memtable.proofs.active_memtable.ActiveMemtable.is_waiting.Goals as goal

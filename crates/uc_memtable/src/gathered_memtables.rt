@@ -1,0 +1,212 @@
+//! [`GatheredMemtables`]: writes that are looked into while more come, and which threads share as they are at a moment.
+ghost use Rattle.std.specs.Prelude.{◌≡◌, ◌≢◌, ◌<◌, ◌^◌, ◌↔◌, ◌∷◌, ◌++◌, [], IsTrue, IfOk, IfSome, OnOk, OnErr, length, count_by};
+ghost use Rattle.uc_batch.specs.Rising.{IsRising, last_of};
+ghost use Rattle.uc_model.specs.Meaning.{effect_on};
+ghost use Rattle.uc_run.specs.Flush.{flushed};
+ghost use Rattle.uc_run.specs.Size.{memtable_size};
+ghost use Rattle.uc_memtable.specs.Labels.{deletes_range};
+
+use crate::active_memtable::ActiveMemtable;
+use crate::frozen_memtables::FrozenMemtables;
+use std::alloc::{AllocError, Global};
+use std::marker::Model;
+use uc_bytes::WriteRef;
+use uc_model::effects_of_parts_compose;
+use uc_oper::{Effect, Operator};
+use uc_run::{Memtable, Run};
+
+/// An active memtable, and memtables before it that take no more writes. A contract sees it as an [`ActiveMemtable`] of
+/// all their writes.
+///
+/// [`share`](GatheredMemtables::share) freezes what is shown. Before its first call each method costs what that of the
+/// active memtable does, and a lookup then asks each frozen one in turn, of which there are few.
+#[derive(Debug)]
+pub struct GatheredMemtables {
+    frozen: FrozenMemtables,
+    active: ActiveMemtable,
+}
+
+impl Model for GatheredMemtables {
+    ghost use Rattle.uc_memtable.specs.Gathering.{Gathering};
+    ghost use Rattle.uc_memtable.specs.HeldMemtables.{all_gathered, AreGathered};
+
+    ghost Value = { Gathering };
+
+    ghost view = { all_gathered };
+
+    ghost invariant = { AreGathered };
+}
+
+impl Drop for GatheredMemtables {
+    fn drop(self) {
+        let GatheredMemtables {
+            frozen: _,
+            active: _,
+        } = self;
+    }
+}
+
+impl GatheredMemtables {
+    /// No writes. It doesn't allocate.
+    pub fn new(alloc: Global) -> GatheredMemtables
+        ensures { result ≡ record { shown = []; waiting = [] } }
+    {
+        GatheredMemtables {
+            frozen: FrozenMemtables::new(alloc),
+            active: ActiveMemtable::new(alloc),
+        }
+    }
+
+    /// Whether no write is shown.
+    pub fn is_empty(&self) -> bool
+        ensures { IsTrue result ↔ (self.now.shown ≡ []) }
+    {
+        self.frozen.is_empty() && self.active.is_empty()
+    }
+
+    /// How many writes are shown.
+    pub fn len(&self) -> usize
+        ensures { result ≡ length self.now.shown }
+    {
+        self.frozen.len() + self.active.len()
+    }
+
+    /// How many bytes the shown writes have, as [`Memtable::size`] counts them.
+    pub fn size(&self) -> u64
+        ensures { result ≡ memtable_size self.now.shown }
+    {
+        self.frozen.size().saturating_add(self.active.size())
+    }
+
+    /// The last sequence that is shown, or 0 if there is none.
+    pub fn last(&self) -> u64
+        ensures { result ≡ last_of 0 self.now.shown }
+    {
+        self.frozen.last().max(self.active.last())
+    }
+
+    /// The last sequence of all writes, those that wait too, or 0 if there is none.
+    pub fn last_prepared(&self) -> u64
+        ensures { result ≡ last_of 0 (self.now.shown ++ self.now.waiting) }
+    {
+        self.frozen.last().max(self.active.last_prepared())
+    }
+
+    /// How many bytes all writes have, those that wait too.
+    pub fn size_of_all(&self) -> u64
+        ensures { result ≡ memtable_size (self.now.shown ++ self.now.waiting) }
+    {
+        self.frozen.size().saturating_add(self.active.size_of_all())
+    }
+
+    /// Whether a write waits.
+    pub fn is_waiting(&self) -> bool
+        ensures { IsTrue result ↔ (self.now.waiting ≢ []) }
+    {
+        self.active.is_waiting()
+    }
+
+    /// How many of the shown writes are range deletions.
+    pub fn ranges(&self) -> usize
+        ensures { result ≡ count_by deletes_range self.now.shown }
+    {
+        self.frozen.ranges() + self.active.ranges()
+    }
+
+    /// The writes as a memtable, if none waits: that which has them all, unless some are frozen.
+    pub fn memtable(&self) -> Option<&Memtable>
+        requires { self.now.waiting ≡ [] }
+        ensures { IfSome result (λ memtable. memtable.now ≡ self.now.shown) }
+    {
+        if self.frozen.is_empty() {
+            Some(self.active.memtable())
+        } else {
+            None
+        }
+    }
+
+    /// One memtable of copies of all shown writes.
+    pub fn to_memtable(&self, alloc: Global) -> Result<ActiveMemtable, AllocError>
+        ensures { IfOk result (λ one. one ≡ record { shown = self.now.shown; waiting = [] }) }
+    {
+        let mut one = self.frozen.to_memtable(alloc)?;
+        one.take_shown(&self.active)?;
+        Ok(one)
+    }
+
+    /// What holds of all such memtables: the sequences of their writes rise. Proof step: does nothing when it runs.
+    pub fn recall(&self)
+        ensures { IsRising 0 (self.now.shown ++ self.now.waiting) }
+    {
+        let _ = &self.active;
+    }
+
+    /// Takes a write, which then waits behind the others, as [`ActiveMemtable::prepare`] does. An `Err` changes nothing.
+    pub fn prepare(&mut self, write: &WriteRef<'_>) -> Result<(), AllocError>
+        requires above { last_of 0 (self.old.shown ++ self.old.waiting) < write.now.seq }
+        requires below { write.now.seq < 2 ^ 56 }
+        ensures ok { OnOk result (self.new ≡
+            record { shown = self.old.shown; waiting = self.old.waiting ++ write.now ∷ [] }) }
+        ensures err { OnErr result (self.new ≡ self.old) }
+    {
+        self.active.prepare(write)
+    }
+
+    /// Shows the writes that wait. It takes no memory, and can't fail.
+    pub fn commit(&mut self)
+        ensures { self.new ≡ record { shown = self.old.shown ++ self.old.waiting; waiting = [] } }
+    {
+        self.active.commit();
+    }
+
+    /// Forgets the writes that wait, as [`ActiveMemtable::give_up`] does. It takes no memory.
+    pub fn give_up(&mut self)
+        ensures { self.new ≡ record { shown = self.old.shown; waiting = [] } }
+    {
+        self.active.give_up();
+    }
+
+    /// A share of what is shown, for other threads: it shows the same from now on, whatever is written here. Nothing
+    /// waits in it.
+    ///
+    /// What is shown is frozen. No text is copied, but those of small frozen memtables, which are put together, and of
+    /// the writes that wait. It is refused for want of memory. No write changes here.
+    pub fn share(&mut self, alloc: Global) -> Result<GatheredMemtables, AllocError>
+        ensures shared { IfOk result (λ shared. shared ≡ record { shown = self.old.shown; waiting = [] }) }
+        ensures same { self.new ≡ self.old }
+    {
+        self.frozen.freeze(alloc, &mut self.active)?;
+        self.frozen.join_small(alloc)?;
+        Ok(GatheredMemtables {
+            frozen: self.frozen.shared(alloc)?,
+            active: ActiveMemtable::new(alloc),
+        })
+    }
+
+    /// What the shown writes at or below a sequence together do to a key. It asks the active memtable as
+    /// [`ActiveMemtable::effect`] does, and then the frozen ones, from the newest on, up to the first that puts or
+    /// deletes the key.
+    pub fn effect<O: Operator>(
+        &self,
+        alloc: Global,
+        key: &[u8],
+        at: u64,
+    ) -> Result<Effect, AllocError>
+        ensures { IfOk result (λ effect. effect ≡ effect_on O.meaning self.now.shown key.now at) }
+    {
+        effects_of_parts_compose::<O>();
+        let newer = self.active.effect::<O>(alloc, key, at)?;
+        self.frozen.effect_before::<O>(alloc, key, at, newer)
+    }
+
+    /// The run of the shown writes, as [`Memtable::to_run`] makes it. If some are frozen, it costs a copy of all.
+    pub fn to_run(&self, alloc: Global) -> Result<Run, AllocError>
+        requires { self.now.shown ≢ [] }
+        ensures { IfOk result (λ run. run ≡ flushed self.now.shown) }
+    {
+        if self.frozen.is_empty() {
+            return self.active.to_run(alloc);
+        }
+        self.to_memtable(alloc)?.to_run(alloc)
+    }
+}
