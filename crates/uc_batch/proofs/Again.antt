@@ -1,6 +1,6 @@
 -- What the writer wrote is read again.
 use Rattle.std.proofs.Common.{◌≡◌, ℕ, zero, suc, ◌+◌, ◌-◌, ◌*◌, ◌/◌, ◌%◌, ◌^◌, ◌<◌, ◌≤◌, false, ltb, List, [], ◌∷◌, ◌++◌, length, take, drop, Some, Ok, refl, ap, ◌∙◌, append_assoc, lt-ltb, eq-eqb, arith, inl, inr}
-use Rattle.std.specs.List.{flat_map, AllByRecursion}
+use Rattle.std.specs.List.{flat_map, All, AllByRecursion}
 use Rattle.std.specs.Int.{w32, w64, to_le_bytes, from_le_bytes}
 use Rattle.std.proofs.lemmas.Bool.{le-ltb, cases_lt}
 use Rattle.std.proofs.lemmas.Bool.Decides.{nat_tests}
@@ -10,6 +10,7 @@ use Rattle.std.proofs.lemmas.Nat.{from_le_bytes-to_le_bytes_4, from_le_bytes-to_
 use Rattle.uc_bytes.specs.declared.op.Op.{Op}
 use Rattle.uc_bytes.specs.declared.op.Op.TheVariants.{Put, Delete, Merge, DeleteRange}
 use Rattle.uc_bytes.specs.declared.write.Write.{Write}
+use Rattle.uc_batch.specs.Reads.{◌>>=◌}
 use Rattle.uc_batch.specs.Varint.{varint_from, room_for}
 use Rattle.uc_batch.specs.Records.{string_at, strings_at, body_at, after_family, laid_out, record_at, records_from, operations}
 use Rattle.uc_batch.specs.Batch.{numbered, counted_of, judged, batch_of}
@@ -70,24 +71,40 @@ judged_again last seq (suc count) above room =
     grind (arith, nat_tests)
 
 -- a batch by its parts
+pub whole_by_parts : (last seq count : ℕ) (bytes body : List ℕ) → ltb (length bytes) 12 ≡ false → from_le_bytes w64 (take 8 bytes) ≡ seq → from_le_bytes w32 (take 4 (drop 8 bytes)) ≡ count → drop 12 bytes ≡ body
+    → batch_of last bytes ≡ (judged last seq count >>= λ s. counted_of s count (length bytes) body)
+unfolding batch_of
+whole_by_parts last seq count bytes body long seq-is count-is body-is = rw (long, seq-is, count-is, body-is) refl
+
+-- a batch that is accepted, by its parts
 pub by_parts : (last seq count : ℕ) (bytes body : List ℕ) (writes : List Write) → ltb (length bytes) 12 ≡ false → from_le_bytes w64 (take 8 bytes) ≡ seq → from_le_bytes w32 (take 4 (drop 8 bytes)) ≡ count → drop 12 bytes ≡ body
     → judged last seq count ≡ Ok seq → counted_of seq count (length bytes) body ≡ Ok writes → batch_of last bytes ≡ Ok writes
-unfolding batch_of
-by_parts last seq count bytes body writes long seq-is count-is body-is fine counted = rw (long, seq-is, count-is, body-is, fine, counted) refl
+by_parts last seq count bytes body writes long seq-is count-is body-is fine counted = whole_by_parts last seq count bytes body long seq-is count-is body-is ∙ rw fine counted
 
-counted_again : (seq total : ℕ) (ops : List Op) → AllByRecursion FitsOp ops → counted_of seq (length ops) total (flat_map op_text ops) ≡ Ok (numbered seq ops)
+pub counted_again : (seq total : ℕ) (ops : List Op) → AllByRecursion FitsOp ops → counted_of seq (length ops) total (flat_map op_text ops) ≡ Ok (numbered seq ops)
 unfolding counted_of
 counted_again seq total ops fits = rw (operations_again total ops fits, eq-eqb (length ops) (length ops) refl) refl
 
--- What was written is read again, after any sequence below its own.
-pub batch_again : (last seq : ℕ) (ops : List Op) → FitsBatch seq ops → (0 < length ops → last < seq) → batch_of last (batch_text seq ops) ≡ Ok (numbered seq ops)
-batch_again last seq ops fits above =
+-- what was written is read by its header, of which the sequence takes 8 bytes
+pub text_again : (last seq : ℕ) (ops : List Op) → length ops < 2 ^ 32
+    → batch_of last (batch_text seq ops) ≡ (judged last (from_le_bytes w64 (to_le_bytes w64 seq)) (length ops) >>= λ s. counted_of s (length ops) (length (batch_text seq ops)) (flat_map op_text ops))
+text_again last seq ops few =
     let text = batch_text seq ops in
     let body = flat_map op_text ops in
     let s = to_le_bytes w64 seq in
     let n = to_le_bytes w32 (length ops) in
     let long : ltb (length text) 12 ≡ false = le-ltb _ _ (omega (arith, length-append (s ++ n) body, length-append s n)) in
-    let seq-is : from_le_bytes w64 (take 8 text) ≡ seq = ap (from_le_bytes w64) (ap (take 8) (append_assoc s n body) ∙ take_at s (n ++ body) 8 refl) ∙ from_le_bytes-to_le_bytes_8 seq (omega (arith, fits.begins)) in
-    let count-is : from_le_bytes w32 (take 4 (drop 8 text)) ≡ length ops = ap (λ (l : List ℕ). from_le_bytes w32 (take 4 l)) (ap (drop 8) (append_assoc s n body) ∙ drop_at s (n ++ body) 8 refl) ∙ ap (from_le_bytes w32) (take_at n body 4 refl) ∙ from_le_bytes-to_le_bytes_4 (length ops) fits.few in
+    let seq-is : from_le_bytes w64 (take 8 text) ≡ from_le_bytes w64 s = ap (from_le_bytes w64) (ap (take 8) (append_assoc s n body) ∙ take_at s (n ++ body) 8 refl) in
+    let count-is : from_le_bytes w32 (take 4 (drop 8 text)) ≡ length ops = ap (λ (l : List ℕ). from_le_bytes w32 (take 4 l)) (ap (drop 8) (append_assoc s n body) ∙ drop_at s (n ++ body) 8 refl) ∙ ap (from_le_bytes w32) (take_at n body 4 refl) ∙ from_le_bytes-to_le_bytes_4 (length ops) few in
     let body-is : drop 12 text ≡ body = drop_at (s ++ n) body 12 refl in
-    by_parts last seq (length ops) text body (numbered seq ops) long seq-is count-is body-is (judged_again last seq (length ops) above fits.ends) (counted_again seq (length text) ops (recursion_from_All FitsOp ops fits.strings))
+    whole_by_parts last (from_le_bytes w64 s) (length ops) text body long seq-is count-is body-is
+
+-- it is read, if its sequence is accepted
+pub accepted_again : (last seq : ℕ) (ops : List Op) → seq < 2 ^ 64 → length ops < 2 ^ 32 → All FitsOp ops → judged last seq (length ops) ≡ Ok seq → batch_of last (batch_text seq ops) ≡ Ok (numbered seq ops)
+accepted_again last seq ops small few strings fine =
+    text_again last seq ops few
+    ∙ rw (from_le_bytes-to_le_bytes_8 seq small, fine) (counted_again seq (length (batch_text seq ops)) ops (recursion_from_All FitsOp ops strings))
+
+-- What was written is read again, after any sequence below its own.
+pub batch_again : (last seq : ℕ) (ops : List Op) → FitsBatch seq ops → (0 < length ops → last < seq) → batch_of last (batch_text seq ops) ≡ Ok (numbered seq ops)
+batch_again last seq ops fits above = accepted_again last seq ops (omega (arith, fits.begins)) fits.few fits.strings (judged_again last seq (length ops) above fits.ends)

@@ -4,8 +4,10 @@ pub mod Shorter
 pub mod Counted
 pub mod Text
 pub mod Again
+pub mod Gathered
 pub mod Accepted
 pub mod Found
+pub mod Renumbered
 pub mod Rises
 pub mod Joined
 pub mod Judged

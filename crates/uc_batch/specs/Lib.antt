@@ -5,6 +5,7 @@ pub mod Records
 pub mod Batch
 pub mod Spelling
 pub mod Grammar
+pub mod Gathering
 pub mod Rising
 pub mod WriteLog
 pub mod Log

@@ -1,9 +1,12 @@
 //! What holds of the definitions alone.
-ghost use Rattle.std.specs.Prelude.{◌≡◌, ℕ, ◌<◌, List, length, Ok, Err};
+ghost use Rattle.std.specs.Prelude.{◌≡◌, ℕ, ◌+◌, ◌^◌, ◌<◌, ◌≤◌, List, length, Ok, Err};
 ghost use Rattle.uc_bytes.specs.declared.op.Op.{Op as Operation};
+ghost use Rattle.uc_bytes.specs.declared.write.Write.{Write as Written};
 ghost use Rattle.uc_batch.specs.Batch.{numbered, batch_of};
 ghost use Rattle.uc_logrec.specs.Grammar.{AreBytes};
 ghost use Rattle.uc_batch.specs.declared.error.BatchError.{BatchError as Fault};
+ghost use Rattle.uc_batch.specs.declared.error.BatchError.TheVariants.{SequenceTooLarge};
+ghost use Rattle.uc_batch.specs.Gathering.{FitTogether, numbered_text};
 ghost use Rattle.uc_batch.specs.Grammar.{IsBatch};
 ghost use Rattle.uc_batch.specs.Refusal.{IsRefused};
 ghost use Rattle.uc_batch.specs.Spelling.{batch_text, FitsBatch};
@@ -24,4 +27,18 @@ pub fn written_batch_is_spelled()
 pub fn refusal_stands_in_batch()
     ensures { (last : ℕ) (bytes : List ℕ) (fault : Fault) → AreBytes bytes →
         batch_of last bytes ≡ Err fault → IsRefused last bytes fault }
+{}
+
+/// Operations that were gathered as a batch without a sequence are read with those behind the last one, if so many are
+/// left. Else they are refused for that.
+pub fn gathered_batch_is_read()
+    ensures text { (seq : ℕ) (ops : List Operation) → numbered_text seq ops ≡ batch_text seq ops }
+    ensures read { (last : ℕ) (ops : List Operation) → FitTogether ops → last + length ops < 2 ^ 56 →
+        batch_of last (numbered_text (last + 1) ops) ≡ Ok (numbered (last + 1) ops) }
+    ensures refused { (last : ℕ) (ops : List Operation) → FitTogether ops → last < 2 ^ 56 → 2 ^ 56 ≤ last + length ops →
+        batch_of last (numbered_text (last + 1) ops) ≡ Err SequenceTooLarge }
+    // Whatever the last one is.
+    ensures only { (last : ℕ) (ops : List Operation) (writes : List Written) → FitTogether ops →
+        batch_of last (numbered_text (last + 1) ops) ≡ Ok writes →
+        (writes ≡ numbered (last + 1) ops) × (0 < length ops → last + length ops < 2 ^ 56) }
 {}

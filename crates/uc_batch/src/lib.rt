@@ -2,7 +2,8 @@
 //!
 //! A batch is the payload of one log record: a sequence number, a count, and that many operations (RocksDB,
 //! `write_batch.cc`). Read `error.rt` and `tag.rt` for what a batch may hold, then `records.rt`, `batch_writes.rt` and
-//! `writing.rt`. [`BatchReader`] goes through a log batch by batch and returns borrowed writes.
+//! `writing.rt`. [`WriteBatch`] gathers operations as the bytes of a batch. [`BatchReader`] goes through a log batch by
+//! batch and returns borrowed writes.
 //!
 //! [`Pieces`] takes the bytes of a log as they come from a file or a pipe, a MiB to a piece. [`PieceReader`] goes through
 //! them batch by batch, with the clauses of [`BatchReader`], and lets go of each piece as soon as its batches were read. So a
@@ -18,6 +19,7 @@ mod batch_writes;
 mod cursor;
 mod ended;
 mod error;
+mod gathering;
 mod header;
 mod laws;
 mod log;
@@ -26,6 +28,7 @@ mod payload;
 mod payload_reader;
 mod piece_reader;
 mod pieces;
+mod push_error;
 mod read_error;
 mod reading;
 mod records;
@@ -39,14 +42,19 @@ pub use batch_reader::{Advance, BatchReader};
 pub use batch_writes::{BatchWrites, judge_batch};
 pub use ended::Ended;
 pub use error::BatchError;
+pub use gathering::WriteBatch;
 pub use header::Header;
-pub use laws::{refusal_stands_in_batch, written_batch_is_read, written_batch_is_spelled};
+pub use laws::{
+    gathered_batch_is_read, refusal_stands_in_batch, written_batch_is_read,
+    written_batch_is_spelled,
+};
 pub use log::read_writes;
 pub use mode::Mode;
 pub use piece_reader::PieceReader;
 pub use pieces::Pieces;
+pub use push_error::PushError;
 pub use read_error::ReadError;
 pub use reading::read_batch;
-pub use uc_bytes::{Op, Write};
+pub use uc_bytes::{Op, OpRef, Write};
 pub use writes::Writes;
 pub use writing::{fits_batch, write_batch};

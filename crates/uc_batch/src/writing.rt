@@ -1,12 +1,14 @@
 //! From operations to the text of a batch.
-ghost use Rattle.std.specs.Prelude.{◌≡◌, ◌<◌, ◌≤◌, ◌^◌, ◌++◌, ◌↔◌, length, IsTrue, IfOk, OnOk};
+ghost use Rattle.std.specs.Prelude.{◌≡◌, ◌<◌, ◌≤◌, ◌^◌, ◌∷◌, ◌++◌, ◌↔◌, length, IsTrue, IfOk, OnOk};
+ghost use Rattle.uc_logrec.specs.Log.{Extends};
+ghost use Rattle.uc_batch.specs.Tag.{byte_of};
 ghost use Rattle.uc_batch.specs.Varint.{room_for};
 ghost use Rattle.uc_batch.specs.Spelling.{varint_text, string_text, op_text, batch_text, FitsOp, FitsBatch};
 
 use crate::tag::Tag;
 use crate::varint::MORE_BYTES;
 use std::alloc::{AllocError, Global};
-use uc_bytes::{MAX_SEQUENCE, Op};
+use uc_bytes::{MAX_SEQUENCE, Op, OpKind, OpRef};
 
 /// Greater than every length and every count.
 const LENGTHS: usize = 1 << 32;
@@ -16,7 +18,8 @@ const LENGTHS: usize = 1 << 32;
 fn push_varint(out: &mut Vec<u8>, number: u32, more: u32) -> Result<(), AllocError>
     requires few { more ≤ 4 }
     requires fits { number < room_for more }
-    ensures { OnOk result (out.new.items ≡ out.old.items ++ varint_text more number) }
+    ensures ok { OnOk result (out.new.items ≡ out.old.items ++ varint_text more number) }
+    ensures kept { Extends out.old.items out.new.items }
 {
     if more == 0 || number < 128 {
         out.push(number as u8)?;
@@ -29,49 +32,54 @@ fn push_varint(out: &mut Vec<u8>, number: u32, more: u32) -> Result<(), AllocErr
 /// Writes a length and the bytes at the end.
 fn push_string(out: &mut Vec<u8>, bytes: &[u8]) -> Result<(), AllocError>
     requires { length bytes.now < 2 ^ 32 }
-    ensures { OnOk result (out.new.items ≡ out.old.items ++ string_text bytes.now) }
+    ensures ok { OnOk result (out.new.items ≡ out.old.items ++ string_text bytes.now) }
+    ensures kept { Extends out.old.items out.new.items }
 {
     push_varint(out, bytes.len() as u32, MORE_BYTES)?;
     out.extend_from_slice(bytes)
 }
 
-/// Writes an operation's record at the end.
-fn push_op(out: &mut Vec<u8>, op: &Op) -> Result<(), AllocError>
-    requires { FitsOp op.now }
-    ensures { OnOk result (out.new.items ≡ out.old.items ++ op_text op.now) }
+/// Writes a tag and two strings at the end.
+fn push_pair(out: &mut Vec<u8>, tag: Tag, first: &[u8], second: &[u8]) -> Result<(), AllocError>
+    requires first { length first.now < 2 ^ 32 }
+    requires second { length second.now < 2 ^ 32 }
+    ensures ok { OnOk result
+        (out.new.items ≡ out.old.items ++ byte_of tag ∷ (string_text first.now ++ string_text second.now)) }
+    ensures kept { Extends out.old.items out.new.items }
 {
-    match op {
-        Op::Delete(key) => {
+    out.push(tag.byte())?;
+    push_string(out, first)?;
+    push_string(out, second)
+}
+
+/// Writes an operation's record at the end. An `Err` keeps the bytes that were there.
+pub(crate) fn push_op(out: &mut Vec<u8>, op: &OpRef<'_>) -> Result<(), AllocError>
+    requires { FitsOp op.now }
+    ensures ok { OnOk result (out.new.items ≡ out.old.items ++ op_text op.now) }
+    ensures kept { Extends out.old.items out.new.items }
+{
+    let (kind, first, second) = op.parts();
+    match kind {
+        OpKind::Delete => {
             out.push(Tag::Deletion.byte())?;
-            push_string(out, key.as_slice())
+            push_string(out, first)
         }
-        Op::Put(key, value) => {
-            out.push(Tag::Value.byte())?;
-            push_string(out, key.as_slice())?;
-            push_string(out, value.as_slice())
-        }
-        Op::Merge(key, operand) => {
-            out.push(Tag::Merge.byte())?;
-            push_string(out, key.as_slice())?;
-            push_string(out, operand.as_slice())
-        }
-        Op::DeleteRange(begin, end) => {
-            out.push(Tag::RangeDeletion.byte())?;
-            push_string(out, begin.as_slice())?;
-            push_string(out, end.as_slice())
-        }
+        OpKind::Put => push_pair(out, Tag::Value, first, second),
+        OpKind::Merge => push_pair(out, Tag::Merge, first, second),
+        OpKind::DeleteRange => push_pair(out, Tag::RangeDeletion, first, second),
     }
 }
 
 /// Whether each string of the operation is shorter than 2^32 bytes.
-fn fits_op(op: &Op) -> bool
+pub(crate) fn fits_op(op: &OpRef<'_>) -> bool
     ensures { IsTrue result ↔ FitsOp op.now }
 {
-    match op {
-        Op::Delete(key) => key.len() < LENGTHS,
-        Op::Put(key, value) => key.len() < LENGTHS && value.len() < LENGTHS,
-        Op::Merge(key, operand) => key.len() < LENGTHS && operand.len() < LENGTHS,
-        Op::DeleteRange(begin, end) => begin.len() < LENGTHS && end.len() < LENGTHS,
+    let (kind, first, second) = op.parts();
+    match kind {
+        OpKind::Delete => first.len() < LENGTHS,
+        OpKind::Put | OpKind::Merge | OpKind::DeleteRange => {
+            first.len() < LENGTHS && second.len() < LENGTHS
+        }
     }
 }
 
@@ -81,7 +89,9 @@ pub fn fits_batch(seq: u64, ops: &[Op]) -> bool
     ensures { IsTrue result ↔ FitsBatch seq ops.now }
 {
     let in_range = 1 <= seq && seq <= MAX_SEQUENCE && ops.len() < LENGTHS;
-    in_range && ops.len() as u64 <= MAX_SEQUENCE - seq + 1 && ops.iter().all(|op| fits_op(op))
+    in_range
+        && ops.len() as u64 <= MAX_SEQUENCE - seq + 1
+        && ops.iter().all(|op| fits_op(&OpRef::of(op)))
 }
 
 /// The text of a batch: the sequence of its first operation, how many there are, and each one's record, with plain tags
@@ -94,7 +104,7 @@ pub fn write_batch(alloc: Global, seq: u64, ops: &[Op]) -> Result<Vec<u8>, Alloc
     out.extend_from_slice(&seq.to_le_bytes())?;
     out.extend_from_slice(&(ops.len() as u32).to_le_bytes())?;
     for op in ops {
-        push_op(&mut out, op)?;
+        push_op(&mut out, &OpRef::of(op))?;
     }
     Ok(out)
 }

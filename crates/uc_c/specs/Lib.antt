@@ -4,8 +4,10 @@ pub mod FaultCodes
 pub mod Numbers
 pub mod Opening
 pub mod Writing
+pub mod Batches
 pub mod Room
 pub mod Reading
+pub mod Many
 pub mod Rows
 pub mod Compacting
 pub mod LogWrites

@@ -2,13 +2,15 @@
 use Rattle.std.specs.Prelude.{◌≡◌, ℤ}
 use Rattle.uc_batch.specs.declared.error.BatchError.{BatchError}
 use Rattle.uc_batch.specs.declared.error.BatchError.TheVariants as faults
+use Rattle.uc_batch.specs.declared.push_error.PushError.{PushError}
+use Rattle.uc_batch.specs.declared.push_error.PushError.TheVariants as pushes
 use Rattle.uc_live.specs.declared.open_error.LiveOpenError.{LiveOpenError}
 use Rattle.uc_live.specs.declared.open_error.LiveOpenError.TheVariants as opens
 use Rattle.uc_live.specs.declared.room_error.RoomError.{RoomError}
 use Rattle.uc_live.specs.declared.room_error.RoomError.TheVariants as rooms
 use Rattle.uc_live.specs.declared.write_error.WriteError.{WriteError}
 use Rattle.uc_live.specs.declared.write_error.WriteError.TheVariants as writes
-use Rattle.uc_c.specs.declared.status.TheConstants.{OUT_OF_MEMORY, BAD_OPTION, IDS_SPENT, SEQUENCES_SPENT, TOO_LONG, NOT_A_BATCH, SEQUENCE_BACK}
+use Rattle.uc_c.specs.declared.status.TheConstants.{OUT_OF_MEMORY, BAD_OPTION, IDS_SPENT, SEQUENCES_SPENT, TOO_LONG, NOT_A_BATCH, SEQUENCE_BACK, BATCH_FULL}
 
 abbrev pub RoomSays : RoomError → ℤ → Type 0
 RoomSays rooms.IdsSpent status = status ≡ IDS_SPENT
@@ -27,3 +29,13 @@ WriteSays (writes.Faulty fault) status = BatchSays fault status
 WriteSays writes.SequencesSpent status = status ≡ SEQUENCES_SPENT
 WriteSays writes.TooLong status = status ≡ TOO_LONG
 WriteSays (writes.NoRoom error) status = RoomSays error status
+
+-- Operations that were gathered spell a batch, so it is refused only where too few sequences are left.
+abbrev pub GatheredSays : WriteError → ℤ → Type 0
+GatheredSays (writes.NoRoom error) status = RoomSays error status
+GatheredSays error status = status ≡ SEQUENCES_SPENT
+
+abbrev pub PushSays : PushError → ℤ → Type 0
+PushSays pushes.TooLong status = status ≡ TOO_LONG
+PushSays pushes.Full status = status ≡ BATCH_FULL
+PushSays pushes.Memory status = status ≡ OUT_OF_MEMORY

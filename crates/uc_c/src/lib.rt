@@ -14,16 +14,21 @@
 //! the handle, calls it, puts it back, and answers a status. What is written through an address is written only if the
 //! status is `OK`.
 //!
+//! C gathers operations in a [`BatchHandle`](uc_handle::BatchHandle), which is held in the same way.
+//!
 //! The functions of `logs.rt` need no handle: C keeps a log in a file of its own, appends what they lay out, and walks
 //! over it. Where a walk stops, it tells why through an address.
 //!
-//! Read `status.rt` and `specs/Replies.antt` first, for what the functions answer, then `opening.rt`, `writing.rt`,
-//! `snapshots.rt`, `reading.rt`, `scanning.rt`, `compacting.rt`, `c_report.rt` and, with `specs/LogWalk.antt`,
-//! `logs.rt`.
+//! Read `status.rt` and `specs/Replies.antt` first, for what the functions answer, then `opening.rt`, `batches.rt`,
+//! `writing.rt`, `snapshots.rt`, `reading.rt`, `many.rt`, `scanning.rt`, `compacting.rt`, `c_report.rt` and, with
+//! `specs/LogWalk.antt`, `logs.rt`.
 //!
 //! Tests: its own.
 #![tactic(auto)]
 
+#[cfg(test)]
+mod batch_tests;
+mod batches;
 mod c_ended;
 mod c_log_place;
 mod c_options;
@@ -32,6 +37,7 @@ mod compacting;
 mod fault_codes;
 mod log_step;
 mod logs;
+mod many;
 mod opening;
 mod reading;
 mod room;

@@ -1,8 +1,9 @@
 //! What a function of this library answers.
 ghost use Rattle.std.specs.Prelude.{◌≡◌, List, [], ◌∷◌, ℤ, pos};
 ghost use Rattle.uc_c.specs.declared.status.TheConstants as statuses;
-ghost use Rattle.uc_c.specs.Statuses.{BatchSays, OpenSays, RoomSays, WriteSays};
+ghost use Rattle.uc_c.specs.Statuses.{BatchSays, GatheredSays, OpenSays, PushSays, RoomSays, WriteSays};
 
+use uc_batch::PushError;
 use uc_engine::{BatchError, LiveOpenError, RoomError, WriteError};
 
 /// It did what it was asked.
@@ -56,14 +57,21 @@ pub const LOG_ENDS: i32 = 15;
 /// The sequence of the batch is neither 0 nor above the last one.
 pub const SEQUENCE_BACK: i32 = 16;
 
+/// The keys' lengths don't add up to their bytes, or there aren't as many places for answers as keys.
+pub const BAD_KEYS: i32 = 17;
+
+/// The batch has 2^32 - 1 operations.
+pub const BATCH_FULL: i32 = 18;
+
 /// The statuses have the numbers that `enum ucstore_status` gives them, in its order.
 pub fn statuses_are_numbered()
     ensures first { statuses.OK ∷ statuses.OUT_OF_MEMORY ∷ statuses.NO_STORE ∷ statuses.HAS_STORE ∷ statuses.NOT_FOUND
         ∷ statuses.NOT_PROTECTED ∷ statuses.UNKNOWN_OPERATOR ∷ statuses.BAD_OPTION ∷ statuses.BAD_SIZE ∷ []
         ≡ pos 0 ∷ pos 1 ∷ pos 2 ∷ pos 3 ∷ pos 4 ∷ pos 5 ∷ pos 6 ∷ pos 7 ∷ pos 8 ∷ [] }
     ensures rest { statuses.IDS_SPENT ∷ statuses.SEQUENCES_SPENT ∷ statuses.TOO_LONG ∷ statuses.NOT_A_BATCH
-        ∷ statuses.BAD_PLACE ∷ statuses.ROOM ∷ statuses.LOG_ENDS ∷ statuses.SEQUENCE_BACK ∷ []
-        ≡ pos 9 ∷ pos 10 ∷ pos 11 ∷ pos 12 ∷ pos 13 ∷ pos 14 ∷ pos 15 ∷ pos 16 ∷ [] }
+        ∷ statuses.BAD_PLACE ∷ statuses.ROOM ∷ statuses.LOG_ENDS ∷ statuses.SEQUENCE_BACK ∷ statuses.BAD_KEYS
+        ∷ statuses.BATCH_FULL ∷ []
+        ≡ pos 9 ∷ pos 10 ∷ pos 11 ∷ pos 12 ∷ pos 13 ∷ pos 14 ∷ pos 15 ∷ pos 16 ∷ pos 17 ∷ pos 18 ∷ [] }
 {}
 
 /// The status where there is no room for a run.
@@ -105,5 +113,29 @@ pub fn write_status(error: WriteError) -> i32
         WriteError::SequencesSpent => SEQUENCES_SPENT,
         WriteError::TooLong => TOO_LONG,
         WriteError::NoRoom(error) => room_status(error),
+    }
+}
+
+/// The status for gathered operations that are refused. Their bytes are a batch, so if they aren't taken for what they
+/// are, too few sequences are left.
+pub fn gathered_status(error: WriteError) -> i32
+    ensures { GatheredSays error result }
+{
+    match error {
+        WriteError::NoRoom(error) => room_status(error),
+        WriteError::Faulty(_) => SEQUENCES_SPENT,
+        WriteError::SequencesSpent => SEQUENCES_SPENT,
+        WriteError::TooLong => SEQUENCES_SPENT,
+    }
+}
+
+/// The status for an operation that a batch doesn't take.
+pub fn push_status(error: PushError) -> i32
+    ensures { PushSays error result }
+{
+    match error {
+        PushError::TooLong => TOO_LONG,
+        PushError::Full => BATCH_FULL,
+        PushError::Memory => OUT_OF_MEMORY,
     }
 }

@@ -14,14 +14,14 @@ use crate::status::{
 };
 use crate::writing::{
     ucstore_commit, ucstore_delete, ucstore_delete_range, ucstore_give_up, ucstore_merge,
-    ucstore_prepare, ucstore_put, ucstore_write_bytes,
+    ucstore_prepare_bytes, ucstore_put, ucstore_write_bytes,
 };
 use std::alloc::Global;
 use std::process::Abort;
 use uc_handle::Handle;
 
 /// The operator that joins texts by commas.
-const APPEND: u32 = 0;
+pub(crate) const APPEND: u32 = 0;
 
 /// The operator that keeps the greater text.
 const MAXIMUM: u32 = 2;
@@ -45,7 +45,7 @@ static ROW: [u8; 20] = [
 ];
 
 /// The default options.
-fn usual() -> COptions {
+pub(crate) fn usual() -> COptions {
     let mut options = COptions {
         size: 0,
         write_buffer_size: 0,
@@ -274,7 +274,7 @@ fn refuse_writes(rt: &impl Abort, alloc: Global, store: &mut Handle) {
 fn refuse_steps(rt: &impl Abort, alloc: Global, store: &mut Handle) {
     let mut size = 7;
     assert_eq!(rt;
-        ucstore_prepare(alloc, store, &BATCH, 0, &mut [], &mut size),
+        ucstore_prepare_bytes(alloc, store, &BATCH, 0, &mut [], &mut size),
         NO_STORE
     );
     assert_eq!(rt; size, 7);
@@ -387,7 +387,7 @@ fn record_one(rt: &impl Abort, alloc: Global, store: &mut Handle) {
     let (mut room, mut size, mut seq) = ([0; 27], 7, 7);
     // There is no room for a header in the last six bytes of a block.
     assert_eq!(rt;
-        ucstore_prepare(alloc, store, &BATCH, 32762, &mut room, &mut size),
+        ucstore_prepare_bytes(alloc, store, &BATCH, 32762, &mut room, &mut size),
         ROOM
     );
     assert!(rt; room == [0; 27] && size == 33);
@@ -395,7 +395,7 @@ fn record_one(rt: &impl Abort, alloc: Global, store: &mut Handle) {
     assert_eq!(rt; ucstore_last(alloc, store, &mut seq), OK);
     assert_eq!(rt; seq, 0);
     assert_eq!(rt;
-        ucstore_prepare(alloc, store, &BATCH, 0, &mut room, &mut size),
+        ucstore_prepare_bytes(alloc, store, &BATCH, 0, &mut room, &mut size),
         OK
     );
     assert!(rt; room == LOG && size == 27);
@@ -411,17 +411,17 @@ fn record_one(rt: &impl Abort, alloc: Global, store: &mut Handle) {
 fn refuse_back(rt: &impl Abort, alloc: Global, store: &mut Handle) {
     let (mut room, mut size, mut seq) = ([0; 27], 7, 7);
     assert_eq!(rt;
-        ucstore_prepare(alloc, store, &[1], 0, &mut room, &mut size),
+        ucstore_prepare_bytes(alloc, store, &[1], 0, &mut room, &mut size),
         NOT_A_BATCH
     );
     assert_eq!(rt; ucstore_write_bytes(alloc, store, &BATCH), SEQUENCE_BACK);
     assert_eq!(rt;
-        ucstore_prepare(alloc, store, &BATCH, 0, &mut room, &mut size),
+        ucstore_prepare_bytes(alloc, store, &BATCH, 0, &mut room, &mut size),
         SEQUENCE_BACK
     );
     assert!(rt; room == [0; 27] && size == 7);
     assert_eq!(rt;
-        ucstore_prepare(alloc, store, &UNNUMBERED, 0, &mut room, &mut size),
+        ucstore_prepare_bytes(alloc, store, &UNNUMBERED, 0, &mut room, &mut size),
         OK
     );
     assert_eq!(rt; ucstore_give_up(alloc, store), OK);

@@ -1,17 +1,20 @@
 //! Writes to the store behind a handle.
-ghost use Rattle.std.specs.Prelude.{◌≡◌, ◌⊎◌, Some};
+ghost use Rattle.std.specs.Prelude.{◌≡◌, ◌⊎◌, Some, IfOk, IfErr, option_map};
 ghost use Rattle.uc_bytes.specs.declared.op.Op.TheVariants as ops;
 ghost use Rattle.uc_live.specs.Lives.{committed, unprepared};
 ghost use Rattle.uc_engine.specs.Engines.{with_live};
 ghost use Rattle.uc_c.specs.declared.status.TheConstants.{OK, ROOM};
+ghost use Rattle.uc_c.specs.Batches.{PreparesOps, TakesOps, TellsOps, WritesOps, ops_held};
 ghost use Rattle.uc_c.specs.Replies.{IfHeld};
-ghost use Rattle.uc_c.specs.Writing.{PreparesBatch, Writes, WritesBatch};
+ghost use Rattle.uc_c.specs.Writing.{DeclinesBatch, IsTold, PreparesBatch, Writes, WritesBatch};
 
+use crate::batches::{bytes_of, put_back};
 use crate::room::fill;
-use crate::status::{NO_STORE, OK, ROOM, write_status};
+use crate::status::{NO_STORE, OK, ROOM, gathered_status, write_status};
 use std::alloc::Global;
-use uc_engine::OpRef;
-use uc_handle::Handle;
+use uc_batch::{WriteBatch, gathered_batch_is_read};
+use uc_engine::{Engine, OpRef, WriteError};
+use uc_handle::{BatchHandle, Handle};
 
 /// Writes a batch, given as the bytes that RocksDB writes: 8 bytes for a sequence, 4 for a count, and as many records.
 /// The operations get the batch's sequence and those behind it; if it is 0, those behind the last one. It is refused if
@@ -29,6 +32,34 @@ pub extern "C" fn ucstore_write_bytes(alloc: Global, handle: &mut Handle, batch:
     match done {
         Ok(()) => OK,
         Err(error) => write_status(error),
+    }
+}
+
+/// Writes the operations of a batch: they get the sequences behind the last one. It is refused if too few sequences are
+/// left, if no id is left for a run, and for want of memory. The batch stays as it was.
+#[unsafe(no_mangle)]
+pub extern "C" fn ucstore_write(alloc: Global, handle: &mut Handle, batch: &mut BatchHandle) -> i32
+    ensures writes { WritesOps result handle.old.held handle.new.held (ops_held batch.old.held) }
+    ensures stays { batch.new.held ≡ batch.old.held }
+{
+    let Some(mut engine) = handle.take(alloc) else {
+        return NO_STORE;
+    };
+    let held = batch.take(alloc);
+    let status = write_ops(alloc, &mut engine, &held);
+    put_back(batch, held);
+    handle.put(engine);
+    status
+}
+
+/// Writes the operations of a batch that was taken out of its handle.
+fn write_ops(alloc: Global, engine: &mut Engine, held: &Option<Box<WriteBatch>>) -> i32
+    ensures { TakesOps result (ops_held (option_map (λ b. b.value) held.now)) engine.old engine.new }
+{
+    gathered_batch_is_read();
+    match engine.write_batch(alloc, bytes_of(held)) {
+        Ok(()) => OK,
+        Err(error) => gathered_status(error),
     }
 }
 
@@ -90,11 +121,83 @@ pub extern "C" fn ucstore_delete_range(
     write(alloc, handle, OpRef::delete_range(begin, end))
 }
 
-/// Prepares a batch, so that `ucstore_commit` can take it, and copies the bytes that it adds to a log of so many bytes,
-/// if there is room for them. It says how many these are. If there is too little room, nothing is prepared. It is
-/// refused as `ucstore_write_bytes` would refuse the batch.
+/// Prepares a batch, and copies the record that it adds to a log of so many bytes, if there is room for it, and says how
+/// long that is. If there is too little room, nothing is prepared. Returns the status, or why the batch isn't taken.
+fn prepare(
+    alloc: Global,
+    engine: &mut Engine,
+    batch: &[u8],
+    log_length: u64,
+    room: &mut [u8],
+    size: &mut usize,
+) -> Result<i32, WriteError>
+    ensures ok { IfOk result (λ status.
+        IsTold status log_length batch.now room.old room.new size.new engine.old engine.new) }
+    ensures untold { IfOk result (λ status. (status ≡ OK) ⊎ ((status ≡ ROOM) × (room.new ≡ room.old))) }
+    ensures err { IfErr result (λ error.
+        DeclinesBatch batch.now engine.old engine.new error × (room.new ≡ room.old) × (size.new ≡ size.old)) }
+{
+    let record = engine.prepare_recorded(alloc, log_length, batch)?;
+    *size = record.len();
+    if record.len() > room.len() {
+        engine.give_up();
+        return Ok(ROOM);
+    }
+    fill(room, record.as_slice());
+    Ok(OK)
+}
+
+/// Prepares the operations of a batch, so that `ucstore_commit` can take them, with the sequences behind the last one,
+/// and copies the bytes that they add to a log of so many bytes, if there is room for them. It says how many these are.
+/// If there is too little room, nothing is prepared. It is refused as `ucstore_write` would be. The batch stays as it
+/// was.
 #[unsafe(no_mangle)]
 pub extern "C" fn ucstore_prepare(
+    alloc: Global,
+    handle: &mut Handle,
+    batch: &mut BatchHandle,
+    log_length: u64,
+    room: &mut [u8],
+    size: &mut usize,
+) -> i32
+    ensures prepares { PreparesOps result log_length (ops_held batch.old.held) room.old room.new size.new handle.old.held handle.new.held }
+    ensures stays { batch.new.held ≡ batch.old.held }
+    ensures untold { (result ≡ OK) ⊎ (room.new ≡ room.old) }
+    ensures size_untold { (result ≡ OK) ⊎ ((result ≡ ROOM) ⊎ (size.new ≡ size.old)) }
+{
+    let Some(mut engine) = handle.take(alloc) else {
+        return NO_STORE;
+    };
+    let held = batch.take(alloc);
+    let status = prepare_ops(alloc, &mut engine, &held, log_length, room, size);
+    put_back(batch, held);
+    handle.put(engine);
+    status
+}
+
+/// Prepares the operations of a batch that was taken out of its handle.
+fn prepare_ops(
+    alloc: Global,
+    engine: &mut Engine,
+    held: &Option<Box<WriteBatch>>,
+    log_length: u64,
+    room: &mut [u8],
+    size: &mut usize,
+) -> i32
+    ensures tells { TellsOps result log_length (ops_held (option_map (λ b. b.value) held.now)) room.old room.new size.new engine.old engine.new }
+    ensures untold { (result ≡ OK) ⊎ (room.new ≡ room.old) }
+    ensures size_untold { (result ≡ OK) ⊎ ((result ≡ ROOM) ⊎ (size.new ≡ size.old)) }
+{
+    gathered_batch_is_read();
+    match prepare(alloc, engine, bytes_of(held), log_length, room, size) {
+        Ok(status) => status,
+        Err(error) => gathered_status(error),
+    }
+}
+
+/// Prepares a batch, given as bytes, as `ucstore_prepare` does. It is refused as `ucstore_write_bytes` would refuse it.
+#[unsafe(no_mangle)]
+pub extern "C" fn ucstore_prepare_bytes(
     alloc: Global,
     handle: &mut Handle,
     batch: &[u8],
@@ -109,22 +212,11 @@ pub extern "C" fn ucstore_prepare(
     let Some(mut engine) = handle.take(alloc) else {
         return NO_STORE;
     };
-    match engine.prepare_recorded(alloc, log_length, batch) {
-        Ok(record) => {
-            let fits = record.len() <= room.len();
-            if fits {
-                fill(room, record.as_slice());
-            } else {
-                engine.give_up();
-            }
-            *size = record.len();
-            handle.put(engine);
-            if fits { OK } else { ROOM }
-        }
-        Err(error) => {
-            handle.put(engine);
-            write_status(error)
-        }
+    let told = prepare(alloc, &mut engine, batch, log_length, room, size);
+    handle.put(engine);
+    match told {
+        Ok(status) => status,
+        Err(error) => write_status(error),
     }
 }
 

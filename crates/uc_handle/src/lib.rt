@@ -1,15 +1,18 @@
-//! An engine that C holds, in a struct of one address.
+//! What C holds, in a struct of one address: an engine, and a batch that is gathered.
 //!
 //! C cannot hold a `Box`. So [`Handle`] is a struct of one address, which C sees, and the box behind it, which a
 //! contract sees. An export takes a `&mut Handle`, takes the box out of it, calls the engine, and puts the box back.
-//! No export has a pointer in its contract, and none has a proof of its own that speaks of memory.
+//! No export has a pointer in its contract, and none has a proof of its own that speaks of memory. [`BatchHandle`] is
+//! the same for a batch: no type argument crosses to C.
 //!
-//! Read `handle.rt` first, then `loose.rt`, a box as its address.
+//! Read `handle.rt` first, then `batch_handle.rt`, and `loose.rt`, a box as its address.
 //!
 //! Tests: `uc_c`.
 #![tactic(auto)]
 
+mod batch_handle;
 mod handle;
 mod loose;
 
+pub use batch_handle::BatchHandle;
 pub use handle::Handle;

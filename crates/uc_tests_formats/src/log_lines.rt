@@ -1,4 +1,5 @@
 //! Logs from lines that say what stands in them.
+use crate::gathered::are_gathered;
 use crate::spelled::read_spelled;
 use std::alloc::{AllocError, Global};
 use testkit_data::CaseError;
@@ -58,7 +59,7 @@ fn op_of(alloc: Global, text: &str) -> Result<Op, CaseError> {
     }
 }
 
-/// The batch of changes with commas between them, if they fit one.
+/// The batch of changes with commas between them, if they fit one. One that gathers them is the same.
 pub fn batch_of(alloc: Global, sequence: u64, ops: &str) -> Result<Option<Vec<u8>>, CaseError> {
     let mut list = Vec::new(alloc);
     for op in ops.split(',').filter(|op| !op.is_empty()) {
@@ -67,7 +68,11 @@ pub fn batch_of(alloc: Global, sequence: u64, ops: &str) -> Result<Option<Vec<u8
     if !fits_batch(sequence, &list) {
         return Ok(None);
     }
-    Ok(Some(write_batch(alloc, sequence, &list)?))
+    let batch = write_batch(alloc, sequence, &list)?;
+    if !are_gathered(alloc, &list, &batch)? {
+        return Err(CaseError::Said("gathered the batch has other bytes"));
+    }
+    Ok(Some(batch))
 }
 
 /// The batch of a line: its sequence, and its changes.

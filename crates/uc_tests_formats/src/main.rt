@@ -18,6 +18,7 @@ mod batches;
 mod checksums;
 mod damage;
 mod formats;
+mod gathered;
 mod log_lines;
 mod logs;
 mod payload_ways;

@@ -1,0 +1,43 @@
+-- The values of many keys that stand one behind the other.
+use Rattle.std.specs.Prelude.{◌≡◌, ◌⊎◌, ◌-◌, ◌^◌, ℕ, ℤ, List, [], ◌∷◌, length, take, drop, sum, map, Option, Some, None}
+use Rattle.std.specs.List.{flat_map}
+use Rattle.uc_engine.specs.Engines.{Engined, last_value}
+use Rattle.uc_c.specs.declared.status.TheConstants.{OK, OUT_OF_MEMORY, BAD_KEYS}
+use Rattle.uc_c.specs.Room.{filled}
+
+-- the keys of these lengths
+abbrev pub cut_keys : List ℕ → List ℕ → List (List ℕ)
+cut_keys [] bytes = []
+cut_keys (n ∷ lengths) bytes = take n bytes ∷ cut_keys lengths (drop n bytes)
+
+-- the lengths are those of keys which are all of the bytes, and there are as many places for answers
+abbrev pub AreCut : List ℕ → List ℕ → List ℕ → Type 0
+AreCut keys lengths places = (sum lengths ≡ length keys) × (length places ≡ length lengths)
+
+-- the value of each key at the last sequence
+abbrev pub last_values : Engined → List ℕ → List ℕ → List (Option (List ℕ))
+last_values e lengths keys = map (last_value e) (cut_keys lengths keys)
+
+-- the length of a value; the greatest number if there is none
+abbrev pub length_told : Option (List ℕ) → ℕ
+length_told None = 2 ^ 64 - 1
+length_told (Some value) = length value
+
+-- the bytes of a value, if there is one
+abbrev pub value_bytes : Option (List ℕ) → List ℕ
+value_bytes None = []
+value_bytes (Some value) = value
+
+-- those of the values that are there, one behind the other
+abbrev pub values_bytes : List (Option (List ℕ)) → List ℕ
+values_bytes values = flat_map value_bytes values
+
+-- The values' lengths are told, and as many of their bytes are in the room as fit it, and how many these are.
+pub record AreTold (values : List (Option (List ℕ))) (lengths' room room' : List ℕ) (size' : ℕ) : Type 0 where
+  pub lengths : lengths' ≡ map length_told values
+  pub bytes : room' ≡ filled (values_bytes values) room
+  pub size : size' ≡ length (values_bytes values)
+
+-- the values are told, or the status says that memory was refused
+abbrev pub TellsMany : ℤ → List (Option (List ℕ)) → List ℕ → List ℕ → List ℕ → ℕ → Type 0
+TellsMany status values lengths' room room' size' = ((status ≡ OK) × AreTold values lengths' room room' size') ⊎ (status ≡ OUT_OF_MEMORY)

@@ -1,0 +1,122 @@
+//! Look-ups of many keys at once in the store behind a handle.
+ghost use Rattle.std.specs.Prelude.{◌≡◌, ◌⊎◌, ◌↔◌, ◌++◌, ◌∷◌, [], IsTrue, IfOk, OnOk, length, map, sum};
+ghost use Rattle.uc_c.specs.declared.status.TheConstants.{OK, BAD_KEYS};
+ghost use Rattle.uc_c.specs.Many.{AreCut, TellsMany, last_values, length_told, value_bytes, values_bytes};
+ghost use Rattle.uc_c.specs.Replies.{Answers};
+
+use crate::room::fill;
+use crate::status::{BAD_KEYS, NO_STORE, OK, OUT_OF_MEMORY};
+use std::alloc::{AllocError, Global};
+use uc_engine::{Bytes, Engine};
+use uc_handle::Handle;
+
+/// The length that is told of a key without a value.
+const NO_VALUE: u64 = u64::MAX;
+
+/// What was found for many keys.
+#[derive(Drop)]
+struct Found {
+    // The length of each value, and the bytes of all, one behind the other.
+    lengths: Vec<u64>,
+    bytes: Vec<u8>,
+}
+
+/// Looks keys up at the last sequence, which stand one behind the other, in any order. It tells the length of each
+/// key's value, the greatest number if it has none, copies the values that are there one behind the other, as much of
+/// them as there is room for, and says how many bytes they have. It is refused if the keys' lengths don't add up to
+/// their bytes, if there aren't as many places for answers, and for want of memory.
+#[unsafe(no_mangle)]
+pub extern "C" fn ucstore_get_many(
+    alloc: Global,
+    handle: &mut Handle,
+    keys: &[u8],
+    key_lengths: &[u64],
+    value_lengths: &mut [u64],
+    room: &mut [u8],
+    size: &mut usize,
+) -> i32
+    ensures found { Answers result handle.old.held handle.new.held (λ e.
+        (AreCut keys.now key_lengths.now value_lengths.old
+        × TellsMany result (last_values e key_lengths.now keys.now) value_lengths.new room.old room.new size.new)
+        ⊎ ((result ≡ BAD_KEYS) × ¬ AreCut keys.now key_lengths.now value_lengths.old)) }
+    ensures untold { (result ≡ OK)
+        ⊎ ((value_lengths.new ≡ value_lengths.old) × (room.new ≡ room.old) × (size.new ≡ size.old)) }
+{
+    let Some(engine) = handle.take(alloc) else {
+        return NO_STORE;
+    };
+    if value_lengths.len() != key_lengths.len() || !add_up(key_lengths, keys.len()) {
+        handle.put(engine);
+        return BAD_KEYS;
+    }
+    let found = find(alloc, &engine, keys, key_lengths);
+    handle.put(engine);
+    match found {
+        Ok(found) => {
+            value_lengths.copy_from_slice(&found.lengths);
+            fill(room, &found.bytes);
+            *size = found.bytes.len();
+            OK
+        }
+        Err(_) => OUT_OF_MEMORY,
+    }
+}
+
+/// Whether lengths add up to a number of bytes.
+fn add_up(lengths: &[u64], bytes: usize) -> bool
+    ensures { IsTrue result ↔ (sum lengths.now ≡ bytes) }
+{
+    let mut left = bytes as u64;
+    for length in lengths {
+        let Some(behind) = left.checked_sub(*length) else {
+            return false;
+        };
+        left = behind;
+    }
+    left == 0
+}
+
+/// Looks up keys of lengths that add up to their bytes.
+fn find(
+    alloc: Global,
+    engine: &Engine,
+    keys: &[u8],
+    key_lengths: &[u64],
+) -> Result<Found, AllocError>
+    requires { sum key_lengths.now ≡ length keys.now }
+    ensures lengths { IfOk result (λ found.
+        found.lengths.items ≡ map length_told (last_values engine.now key_lengths.now keys.now)) }
+    ensures bytes { IfOk result (λ found.
+        found.bytes.items ≡ values_bytes (last_values engine.now key_lengths.now keys.now)) }
+{
+    let mut lengths = Vec::new(alloc);
+    let mut bytes = Vec::new(alloc);
+    let mut left = keys;
+    for length in key_lengths {
+        let (key, behind) = left.split_at(*length as usize);
+        push_value(&mut lengths, &mut bytes, &engine.get(alloc, key)?)?;
+        left = behind;
+    }
+    Ok(Found { lengths, bytes })
+}
+
+/// Adds what is found for a key.
+fn push_value(
+    lengths: &mut Vec<u64>,
+    bytes: &mut Vec<u8>,
+    value: &Option<Bytes>,
+) -> Result<(), AllocError>
+    ensures lengths { OnOk result (lengths.new.items ≡ lengths.old.items ++ length_told value.now ∷ []) }
+    ensures bytes { OnOk result (bytes.new.items ≡ bytes.old.items ++ value_bytes value.now) }
+{
+    match value {
+        Some(value) => {
+            lengths.push(value.len() as u64)?;
+            bytes.extend_from_slice(value.as_slice())
+        }
+        None => {
+            lengths.push(NO_VALUE)?;
+            Ok(())
+        }
+    }
+}
