@@ -6,6 +6,7 @@ ghost use Rattle.uc_query_read.specs.Answers.{first_rows, named_keys};
 ghost use Rattle.uc_version_state.specs.Versions.{writes_in};
 
 use std::alloc::{AllocError, Global};
+use std::sync::Arc;
 use uc_bytes::Bytes;
 use uc_memtable::GatheredMemtables;
 use uc_model::effect_continues_value;
@@ -63,6 +64,6 @@ pub(crate) fn last_rows<O: Operator>(
     if gathered.is_empty() {
         return rows_at::<O>(alloc, version, low, high, version.last(), limit);
     }
-    let newer = gathered.to_run(alloc)?;
+    let newer = Arc::new(alloc, gathered.to_run(alloc)?)?;
     rows_behind::<O>(alloc, newer, version, low, high, gathered.last(), limit)
 }
