@@ -2,8 +2,8 @@
  *
  *     play FILE..
  *
- * Each is played as it stands, and with a flush, with all compactions, and with a reopening behind each command. A case that
- * prints something else is printed with its place. */
+ * Each is played as it stands, and with a flush, with all compactions, and with a reopening behind each command. A
+ * case that prints something else is printed with its place. */
 #include <ctype.h>
 #include <stdarg.h>
 #include <stdio.h>
@@ -50,8 +50,21 @@ static size_t snapshot_count;
 /* What is done behind the last line of a batch. */
 static void (*end_batch)(void);
 
+/* The file that is played, and the line at which it is. */
+static const char *file_name, *file_text, *line;
+
+/* The number of a line, from 1. */
+static unsigned number_of(const char *at) {
+    unsigned number = 1;
+    for (const char *place = file_text; place < at; place++) {
+        number += *place == '\n';
+    }
+    return number;
+}
+
+/* Ends with a file that has no cases. */
 static void fault(const char *what) {
-    fprintf(stderr, "play: %s\n", what);
+    fprintf(stderr, "%s:%u: %s\n", file_name, number_of(line), what);
     exit(2);
 }
 
@@ -203,8 +216,9 @@ static void say_value(const uint8_t *value, size_t length) {
 /* Whether a call did what it was asked. Else it says the status' name. */
 static bool is_done(int32_t status) {
     static const char *const names[] = {
-        "ok", "out of memory", "no store", "has store", "not found", "not protected", "unknown operator", "bad option", "bad size",
-        "ids spent", "sequences spent", "too long", "not a batch", "bad place", "room", "log ends", "sequence back",
+        "ok", "out of memory", "no store", "has store", "not found", "not protected", "unknown operator",
+        "bad option", "bad size", "ids spent", "sequences spent", "too long", "not a batch", "bad place", "room",
+        "log ends", "sequence back",
     };
     if (status != UCSTORE_OK) {
         say("error: %s\n", status >= 0 && (size_t)status < sizeof names / sizeof names[0] ? names[status] : "unknown");
@@ -259,7 +273,8 @@ static void set_option(const char *word) {
     } else if (sscanf(word, "write_buffer_size=%llu", &bytes) == 1) {
         o->write_buffer_size = bytes;
     } else if (sscanf(word, "compaction_trigger=%u", &o->compaction_trigger) != 1 &&
-               sscanf(word, "stop_trigger=%u", &o->stop_trigger) != 1 && sscanf(word, "size_ratio=%u", &o->size_ratio) != 1 &&
+               sscanf(word, "stop_trigger=%u", &o->stop_trigger) != 1 &&
+               sscanf(word, "size_ratio=%u", &o->size_ratio) != 1 &&
                sscanf(word, "max_size_amplification_percent=%u", &o->max_size_amplification_percent) != 1 &&
                sscanf(word, "min_merge_width=%u", &o->min_merge_width) != 1 &&
                sscanf(word, "max_merge_width=%u", &o->max_merge_width) != 1 &&
@@ -294,7 +309,8 @@ static void reopen(void) {
     struct ucstore_ended ended = {0, 0, 0};
     is_prepared = false;
     close_store();
-    if (is_done(ucstore_open(&store, merge_operator, &options, history.at, history.size, &ended)) && ended.kind != UCSTORE_CLEAN) {
+    is_done(ucstore_open(&store, merge_operator, &options, history.at, history.size, &ended));
+    if (ended.kind != UCSTORE_CLEAN) {
         say("error: the log isn't clean\n");
     }
 }
@@ -313,7 +329,8 @@ static void compact(void) {
 /* Writes. */
 
 static void prepare(void) {
-    is_prepared = is_done(ucstore_prepare(&store, batch.at, batch.size, history.size, record.at, MOST_BYTES, &record.size));
+    is_prepared = is_done(
+        ucstore_prepare(&store, batch.at, batch.size, history.size, record.at, MOST_BYTES, &record.size));
 }
 
 static void commit(void) {
@@ -437,10 +454,10 @@ static void get(void) {
 static bool fetch(bool bounded, uint64_t limit, uint64_t *rows) {
     uint64_t at = 0;
     size_t size = 0;
-    return is_done(is_at(&at) ? ucstore_scan_at(&store, first.at, first.size, second.at, second.size, bounded, at, limit, room.at,
-                                                MOST_BYTES, &size, rows)
-                              : ucstore_scan(&store, first.at, first.size, second.at, second.size, bounded, limit, room.at,
-                                             MOST_BYTES, &size, rows));
+    return is_done(is_at(&at) ? ucstore_scan_at(&store, first.at, first.size, second.at, second.size, bounded, at,
+                                                limit, room.at, MOST_BYTES, &size, rows)
+                              : ucstore_scan(&store, first.at, first.size, second.at, second.size, bounded, limit,
+                                             room.at, MOST_BYTES, &size, rows));
 }
 
 /* Goes over the rows of a page, which it says unless they are counted. The next one begins behind the last key. */
@@ -594,14 +611,26 @@ static void finish(void) {
     }
 }
 
-/* Does what a line says, which it cuts into its words. */
-static void run_line(char *line) {
-    bool is_indented = *line == ' ';
-    enum kind kind;
+/* Cuts a line into its words. One that is missing spells no text. */
+static void split(char *text) {
+    static char missing[] = "?";
     word_count = 0;
-    for (char *word = strtok(line, " "); word != NULL && word_count < WORDS; word = strtok(NULL, " ")) {
+    for (char *word = strtok(text, " "); word != NULL; word = strtok(NULL, " ")) {
+        if (word_count == WORDS) {
+            fault("a line has too many words");
+        }
         words[word_count++] = word;
     }
+    for (int place = word_count; place < WORDS; place++) {
+        words[place] = missing;
+    }
+}
+
+/* Does what a line says. */
+static void run_line(char *text) {
+    bool is_indented = *text == ' ';
+    enum kind kind;
+    split(text);
     if (is_indented && end_batch != NULL && read_write(&kind)) {
         push_write(kind);
         return;
@@ -620,46 +649,50 @@ static void run_line(char *line) {
     put_behind();
 }
 
-/* Copies a line up to its end, with a number in the place of `#` if there is one. */
-static void fill(char *text, const char *line, const char *number) {
+/* Copies a part of the line, up to its end, with a number in the place of `#` if there is one. */
+static void fill(char *text, const char *part, const char *number) {
     size_t length = strlen(text);
-    for (; *line != '\n'; line++) {
-        bool is_number = number != NULL && *line == '#';
-        length += (size_t)snprintf(text + length, LINE - length, is_number ? "%s" : "%.1s", is_number ? number : line);
+    for (; *part != '\n'; part++) {
+        bool is_number = number != NULL && *part == '#';
+        length += (size_t)snprintf(text + length, LINE - length, is_number ? "%s" : "%.1s", is_number ? number : part);
         if (length >= LINE) {
             fault("a line is too long");
         }
     }
 }
 
-/* Does what a line says: as often as `times` tells, with the number in the place of `#`. */
-static void run_lines(const char *line) {
+/* Does what the line says: as often as `times` tells, with the number in the place of `#`. */
+static void run_times(void) {
     size_t indent = strspn(line, " ");
     unsigned times = 1;
     int skipped = 0;
     bool is_repeated = sscanf(line + indent, "times %u %n", &times, &skipped) == 1;
     for (unsigned place = 0; place < times; place++) {
         char text[LINE] = "", number[LINE];
-        snprintf(text, LINE, "%.*s", (int)indent, line);
+        snprintf(text, LINE, "%s", indent > 0 ? " " : "");
         snprintf(number, LINE, "%03u", place);
         fill(text, line + indent + skipped, is_repeated ? number : NULL);
         run_line(text);
     }
 }
 
-/* Plays a case, and returns where it says what is printed. */
-static const char *play_case(const char *line) {
+static void next_line(void) {
+    line = strchr(line, '\n') + 1;
+}
+
+/* Plays the case that begins at the line, up to what it is to print. */
+static void play_case(void) {
     said.size = 0;
-    for (; strncmp(line, "----\n", 5) != 0; line = strchr(line, '\n') + 1) {
+    for (; strncmp(line, "----\n", 5) != 0; next_line()) {
         if (*line == 0) {
-            fault("a case doesn't end");
+            fault("a case has no line ----");
         }
         if (*line != '#') {
-            run_lines(line);
+            run_times();
         }
     }
     finish();
-    return line + 5;
+    next_line();
 }
 
 /* Prints lines with a mark before each. */
@@ -684,62 +717,66 @@ static void print_difference(const char *wanted, size_t size) {
     print_lines("+ ", came + same, said.size - same);
 }
 
-/* Which line of a text begins at a place, from 1. */
-static unsigned line_number(const char *text, const char *line) {
-    unsigned number = 1;
-    for (; text < line; text++) {
-        number += *text == '\n';
+/* Whether the case that begins at the line prints what it is to print. */
+static bool is_right(void) {
+    static const char *const behind[] = {"nothing", "a flush", "all compactions", "a reopening"};
+    unsigned number = number_of(line);
+    const char *wanted;
+    size_t size;
+    bool is_same;
+    play_case();
+    for (wanted = line; *line != 0 && *line != '\n';) {
+        next_line();
     }
-    return number;
+    size = (size_t)(line - wanted);
+    is_same = said.size == size && memcmp(said.at, wanted, size) == 0;
+    if (!is_same) {
+        printf("%s:%u: with %s behind each command\n", file_name, number, behind[way]);
+        print_difference(wanted, size);
+    }
+    return is_same;
 }
 
-/* Plays the cases of a file, and returns how many print something else. */
-static unsigned play_file(const char *name, const char *text, unsigned *cases) {
-    static const char *const behind[] = {"nothing", "a flush", "all compactions", "a reopening"};
-    unsigned failures = 0;
-    for (const char *line = text; *line != 0;) {
-        const char *begin = line, *wanted;
+/* Plays the cases of the file. Returns how many there are, and adds how many print something else. */
+static unsigned play_file(unsigned *failures) {
+    unsigned cases = 0;
+    for (line = file_text; *line != 0;) {
         if (*line == '#' || *line == '\n') {
-            line = strchr(line, '\n') + 1;
-            continue;
+            next_line();
+        } else {
+            *failures += !is_right();
+            cases++;
         }
-        wanted = line = play_case(line);
-        while (*line != 0 && *line != '\n') {
-            line = strchr(line, '\n') + 1;
-        }
-        if (said.size != (size_t)(line - wanted) || memcmp(said.at, wanted, said.size) != 0) {
-            printf("%s:%u: with %s behind each command\n", name, line_number(text, begin), behind[way]);
-            print_difference(wanted, (size_t)(line - wanted));
-            failures++;
-        }
-        ++*cases;
     }
     ucstore_close(&store);
-    return failures;
+    return cases;
 }
 
 /* Reads a file, and ends its last line. */
-static void read_file(const char *name, struct bytes *text) {
+static void read_file(const char *name) {
+    static struct bytes text;
     FILE *file = fopen(name, "rb");
+    file_name = name;
+    file_text = line = (const char *)text.at;
+    text.size = 0;
     if (file == NULL) {
-        fault("a file can't be opened");
+        fault("the file can't be opened");
     }
-    text->size = fread(text->at, 1, MOST_BYTES, file);
+    text.size = fread(text.at, 1, MOST_BYTES, file);
     fclose(file);
-    push(text, "\n", 2);
+    push(&text, "\n", 2);
 }
 
 int main(int argc, char **argv) {
-    static struct bytes text;
     unsigned cases = 0, failures = 0;
     for (int place = 1; place < argc; place++) {
-        bool has_report;
-        read_file(argv[place], &text);
-        /* What is put behind a command changes how many runs there are. */
-        has_report = strstr((const char *)text.at, "\nreport\n") != NULL;
-        for (int next = NOTHING; next < (has_report ? (int)FLUSH : (int)WAYS); next++) {
+        int ways;
+        read_file(argv[place]);
+        /* How many runs there are depends on what is put behind a command. */
+        ways = strstr(file_text, "\nreport\n") != NULL ? 1 : WAYS;
+        for (int next = 0; next < ways; next++) {
             way = (enum way)next;
-            failures += play_file(argv[place], (const char *)text.at, &cases);
+            cases += play_file(&failures);
         }
     }
     printf("%u cases played, %u failed\n", cases, failures);

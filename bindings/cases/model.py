@@ -1,7 +1,7 @@
 """A plain model of the package `ucstore`, with its names: a store is the list of its writes, and a read folds them.
 
-The files of cases hold what it answers. It knows no memtable, no run and no log: what it prepares for a log is a line that says
-the batch, and its `flush` and `compact` do nothing. So it has no report.
+The files of cases hold what it answers. It knows no memtable, no run and no log: what it prepares for a log is a line
+that says the batch, and its `flush` and `compact` do nothing. So it has no report.
 """
 
 import ast

@@ -17,8 +17,8 @@ sys.path.insert(0, str(FOLDER))
 
 import model  # noqa: E402
 
-# What is put behind each command, if anything. A file with a command `report` is played as it stands alone.
-WAYS = ("", "flush", "compact", "reopen")
+# What is put behind each command.
+WAYS = NOTHING, FLUSH, COMPACTIONS, REOPENING = "nothing", "a flush", "all compactions", "a reopening"
 
 KINDS = {"put": "Put", "merge": "Merge", "delete": "Delete", "range": "DeleteRange"}
 NAMES = ("at", "limit", "sequence")
@@ -51,7 +51,8 @@ def piece_of(text: bytes) -> str:
     """A piece that spells a text: a word, or a quoted one."""
     if WORD.fullmatch(text):
         return text.decode()
-    return '"' + "".join(chr(byte) if 0x20 < byte < 0x7F and byte not in b'"\\' else f"\\x{byte:02x}" for byte in text) + '"'
+    shown = (chr(byte) if 0x20 < byte < 0x7F and byte not in b'"\\' else f"\\x{byte:02x}" for byte in text)
+    return f'"{"".join(shown)}"'
 
 
 def word_of(text: bytes) -> str:
@@ -124,7 +125,13 @@ class Player:
 
     def __init__(self, module: Any, way: str) -> None:
         self.module, self.way, self.store = module, way, None
+        self.is_open = self.is_durable = False
+        self.log = b""
         self.said: List[str] = []
+        self.record: Optional[bytes] = None
+        """What a batch that is prepared adds to the log."""
+        self.sequences: Dict[str, int] = {}
+        """The sequences of snapshots by their names."""
 
     def play(self, case: Case) -> List[str]:
         """What a case prints."""
@@ -135,6 +142,8 @@ class Player:
             except self.module.UcstoreError as error:
                 name = re.sub(r"(?<=.)(?=[A-Z])", " ", type(error).__name__)
                 self.said.append(f"error: {name.lower()}")
+            except (AttributeError, KeyError, TypeError, ValueError) as error:
+                raise ValueError(f"line {case.line}: there is no such command: {' '.join(words)}") from error
             self.put_behind()
         return self.said
 
@@ -155,15 +164,15 @@ class Player:
         """What the way puts behind a command, unless that would give up what is prepared."""
         if not self.is_open or self.record is not None:
             return
-        if self.way in ("flush", "compact"):
+        if self.way in (FLUSH, COMPACTIONS):
             self.store.flush()
-        if self.way == "compact":
+        if self.way == COMPACTIONS:
             self.compact()
-        if self.way == "reopen" and not self.store.snapshots:
+        if self.way == REOPENING and not self.store.snapshots:
             self.reopen()
 
     def create(self, operator: str, *words: str) -> None:
-        self.is_open, self.is_durable = False, "durable" in words or self.way == "reopen"
+        self.is_open, self.is_durable = False, "durable" in words or self.way == REOPENING
         self.log, self.record, self.sequences = b"", None, {}
         self.operator = self.module.Operator[operator.upper()]
         named = (word.split("=") for word in words if "=" in word)
@@ -277,64 +286,64 @@ class Player:
         )
 
 
-def difference(wanted: List[str], came: List[str]) -> Iterator[str]:
-    """The lines of both: with `-` those that were wanted and didn't come, with `+` those that came in their place."""
-    both = min(len(wanted), len(came))
-    front = next((place for place in range(both) if wanted[place] != came[place]), both)
-    back = next((place for place in range(both - front) if wanted[-1 - place] != came[-1 - place]), both - front)
-    yield from (f"  {line}" for line in wanted[:front])
-    yield from (f"- {line}" for line in wanted[front:len(wanted) - back])
-    yield from (f"+ {line}" for line in came[front:len(came) - back])
-    yield from (f"  {line}" for line in wanted[len(wanted) - back:])
+def difference(wanted: List[str], came: List[str]) -> List[str]:
+    """What was wanted and what came, from the first line on that differs."""
+    same = sum(1 for _ in takewhile(lambda pair: pair[0] == pair[1], zip(wanted, came)))
+    marked = (("  ", wanted[:same]), ("- ", wanted[same:]), ("+ ", came[same:]))
+    return [mark + line for mark, lines in marked for line in lines]
 
 
-def has_report(lines: List[str]) -> bool:
-    return "report" in lines
+def is_by_hand(case: Case) -> bool:
+    """Whether what a case prints is worked out by hand: the model has no report."""
+    return case.input == ["report"]
 
 
-def play(file: Path, module: Any, way: str) -> Tuple[int, str]:
-    """How many cases were played, and how those differ that print something else. The model has no report."""
+def play(file: Path, module: Any, way: str) -> Tuple[int, List[str]]:
+    """How many cases were played, and how those differ that print something else."""
     player, count, failures = Player(module, way), 0, []
-    lines = file.read_text().splitlines()
-    for case in cases_of(lines):
-        if module is not model or case.input != ["report"]:
+    for case in cases_of(file.read_text().splitlines()):
+        if module is not model or not is_by_hand(case):
             came = player.play(case)
             count += 1
             if came != case.expected:
-                failures += [f"{file}:{case.line}: {way}", *difference(case.expected, came)]
-    return count, "\n".join(failures)
+                failures.append(f"{file}:{case.line}: with {way} behind each command")
+                failures += difference(case.expected, came)
+    return count, failures
 
 
 def rewritten(lines: List[str]) -> List[str]:
-    """A file's lines with what the model answers. It has no report, so that is taken as it stands."""
-    player, done, found = Player(model, ""), 0, []
+    """A file's lines with what the model prints."""
+    player, done, found = Player(model, NOTHING), 0, []
     for case in cases_of(lines):
         found += lines[done:case.separator + 1]
-        found += case.expected if case.input == ["report"] else player.play(case)
+        found += case.expected if is_by_hand(case) else player.play(case)
         done = case.separator + 1 + len(case.expected)
     return found + lines[done:]
 
 
 class Cases(unittest.TestCase):
-    def play_all(self, module: Any, ways: Tuple[str, ...]) -> int:
+    def play_all(self, module: Any, ways: Iterable[str]) -> int:
+        """Plays all files, and returns how many cases there were. How many runs there are depends on the way."""
         whole = 0
         for file in sorted(FOLDER.glob("*.txt")):
-            for way in ways[:1] if has_report(file.read_text().splitlines()) else ways:
+            has_report = "report" in file.read_text().splitlines()
+            for way in [NOTHING] if has_report else ways:
+                count, failures = play(file, module, way)
+                whole += count
                 with self.subTest(file=file.name, way=way):
-                    count, failures = play(file, module, way)
-                    whole += count
-                    self.assertEqual(failures, "", "\n" + failures)
+                    if failures:
+                        self.fail("\n".join(["", *failures]))
         self.assertGreater(whole, 0)
         return whole
 
     def test_the_library_prints_what_is_expected(self):
-        # The model alone is asked for a file that is rewritten.
+        # A file is rewritten without the library.
         import ucstore
 
         print(f"{self.play_all(ucstore, WAYS)} cases played")
 
     def test_the_model_prints_what_is_expected(self):
-        self.play_all(model, WAYS[:1])
+        self.play_all(model, [NOTHING])
 
 
 if __name__ == "__main__":

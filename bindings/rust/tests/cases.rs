@@ -10,12 +10,23 @@ use ucstore::{Batch, Ended, Error, Operator, Options, Scan, Store};
 const LONG_RUN: usize = 16;
 
 /// What is put behind each command.
-#[derive(Clone, Copy, Debug, PartialEq)]
+#[derive(Clone, Copy, PartialEq)]
 enum Way {
     Nothing,
     Flush,
     Compactions,
     Reopening,
+}
+
+impl Way {
+    fn text(self) -> &'static str {
+        match self {
+            Way::Nothing => "nothing",
+            Way::Flush => "a flush",
+            Way::Compactions => "all compactions",
+            Way::Reopening => "a reopening",
+        }
+    }
 }
 
 /// A case: where it begins in its file, its lines before `----`, and those behind it.
@@ -294,8 +305,15 @@ impl Player {
         match words[0] {
             "put" | "merge" | "delete" | "range" => self.write_one(words),
             "batch" | "prepare" => self.write_some(words, indented),
-            "commit" => Ok(self.commit()),
-            "give" => Ok(self.give_up()),
+            "commit" => {
+                self.commit();
+                Ok(())
+            }
+            "give" => {
+                self.record = None;
+                self.store().give_up();
+                Ok(())
+            }
             "create" => self.create(words),
             "reopen" => self.reopen(),
             "flush" => self.flush(),
@@ -389,11 +407,6 @@ impl Player {
     fn commit(&mut self) {
         self.store().commit();
         self.log.extend(self.record.take().unwrap_or_default());
-    }
-
-    fn give_up(&mut self) {
-        self.record = None;
-        self.store().give_up();
     }
 
     fn take_snapshot(&mut self, name: &str) -> Result<(), Error> {
@@ -516,19 +529,16 @@ fn play(file: &Path, text: &str, way: Way) -> (usize, String) {
         let said = player.play(case);
         let came: Vec<&str> = said.lines().collect();
         if came != case.expected {
-            failures += &format!(
-                "{}:{}: {way:?} behind each command\n",
-                file.display(),
-                case.line
-            );
+            let place = format!("{}:{}", file.display(), case.line);
+            failures += &format!("{place}: with {} behind each command\n", way.text());
             failures += &difference(&case.expected, &came);
         }
     }
     (cases.len(), failures)
 }
 
-/// The ways in which a file is played. What is put behind a command changes how many runs there are, and no type here is a
-/// closed store or a batch that isn't one.
+/// The ways in which a file is played. What is put behind a command changes how many runs there are, and no type here is
+/// a closed store, or a batch that isn't one.
 fn ways_of(text: &str) -> &[Way] {
     let has = |command: &str| {
         text.lines()
