@@ -553,19 +553,27 @@ fn ways_of(text: &str) -> &[Way] {
     }
 }
 
+/// The files of cases, in the order of their names.
+fn files() -> Vec<PathBuf> {
+    let folder = Path::new(env!("CARGO_MANIFEST_DIR")).join("../cases");
+    let entries = fs::read_dir(folder).expect("bindings/cases");
+    let paths = entries.map(|entry| entry.expect("a file").path());
+    let mut files: Vec<PathBuf> = paths
+        .filter(|path| path.extension().is_some_and(|name| name == "txt"))
+        .collect();
+    files.sort();
+    files
+}
+
 #[test]
 fn each_case_prints_what_is_expected() {
-    let folder = PathBuf::from(env!("CARGO_MANIFEST_DIR")).join("../cases");
     let (mut whole, mut failures) = (0, String::new());
-    for entry in fs::read_dir(folder).expect("bindings/cases") {
-        let file = entry.expect("a file").path();
-        if file.extension().is_some_and(|name| name == "txt") {
-            let text = fs::read_to_string(&file).expect("a text");
-            for way in ways_of(&text) {
-                let (count, failed) = play(&file, &text, *way);
-                whole += count;
-                failures += &failed;
-            }
+    for file in files() {
+        let text = fs::read_to_string(&file).expect("a text");
+        for way in ways_of(&text) {
+            let (count, failed) = play(&file, &text, *way);
+            whole += count;
+            failures += &failed;
         }
     }
     assert!(failures.is_empty(), "\n{failures}");
