@@ -162,7 +162,7 @@ try_valgrind() {
     compile_c test
     compile_c play
     "${checked[@]}" "$work/test" $((operations / 50)) "$seed"
-    "${checked[@]}" "$work/play" "$here"/cases/{prepared,refused,reopening,snapshots,unchecked}.txt
+    "${checked[@]}" "$work/play" "$here"/cases/{merges,partial,prepared,reopening,snapshots,unchecked}.txt
 }
 
 try_refused() {
@@ -175,7 +175,7 @@ try_refused() {
 try_rust() {
     cp -r "$here/rust" "$here/cases" "$work"
     rm -rf "$work/rust/target"
-    (cd "$work/rust" && cargo test --offline --quiet -j 1 -- --nocapture)
+    (cd "$work/rust" && cargo test --offline --quiet -j 1)
     expect first.rs "$first" "$(cd "$work/rust" && cargo run --offline --quiet -j 1 --example first)"
     expect 'first.rs, with UCSTORE_LIB_DIR' "$first" "$(cd "$work/rust" &&
         PKG_CONFIG=false UCSTORE_LIB_DIR="$work/usr/lib" cargo run --offline --quiet -j 1 --example first)"

@@ -3,6 +3,7 @@
 use std::collections::HashMap;
 use std::fmt::Write as _;
 use std::fs;
+use std::io::{self, Write as _};
 use std::path::{Path, PathBuf};
 use ucstore::{Batch, Ended, Error, Operator, Options, Scan, Store};
 
@@ -578,5 +579,6 @@ fn each_case_prints_what_is_expected() {
     }
     assert!(failures.is_empty(), "\n{failures}");
     assert!(whole > 0);
-    println!("{whole} cases played");
+    // A test's `println` is held back.
+    writeln!(io::stderr(), "{whole} cases played").expect("a line is printed");
 }

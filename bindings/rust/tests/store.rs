@@ -1,6 +1,7 @@
 //! What each method answers, and what it refuses.
 
 use std::error::Error as StdError;
+use std::io::{self, Write};
 use std::time::Instant;
 use ucstore::{Batch, Ended, Error, Operator, Options, Store};
 
@@ -153,7 +154,8 @@ fn a_million_puts_need_no_other_call() {
             .put((number % 300_000).to_be_bytes(), number.to_be_bytes())
             .unwrap();
     }
-    println!("a million puts in {:.2?}", begun.elapsed());
+    // A test's `println` is held back.
+    writeln!(io::stderr(), "a million puts in {:.2?}", begun.elapsed()).unwrap();
     assert_eq!(
         store.get(7u32.to_be_bytes()).unwrap(),
         Some(900_007u32.to_be_bytes().to_vec())
