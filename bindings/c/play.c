@@ -443,6 +443,9 @@ static void get(void) {
     read_text(words[1], &first);
     status = is_at(&at) ? ucstore_get_at(&store, first.at, first.size, at, room.at, MOST_BYTES, &size)
                         : ucstore_get(&store, first.at, first.size, room.at, MOST_BYTES, &size);
+    if (size > MOST_BYTES) {
+        fault("a value is too large");
+    }
     if (status == UCSTORE_NOT_FOUND) {
         say("no value\n");
     } else if (is_done(status)) {
@@ -454,10 +457,14 @@ static void get(void) {
 static bool fetch(bool bounded, uint64_t limit, uint64_t *rows) {
     uint64_t at = 0;
     size_t size = 0;
-    return is_done(is_at(&at) ? ucstore_scan_at(&store, first.at, first.size, second.at, second.size, bounded, at,
-                                                limit, room.at, MOST_BYTES, &size, rows)
-                              : ucstore_scan(&store, first.at, first.size, second.at, second.size, bounded, limit,
-                                             room.at, MOST_BYTES, &size, rows));
+    int32_t status = is_at(&at) ? ucstore_scan_at(&store, first.at, first.size, second.at, second.size, bounded, at,
+                                                  limit, room.at, MOST_BYTES, &size, rows)
+                                : ucstore_scan(&store, first.at, first.size, second.at, second.size, bounded, limit,
+                                               room.at, MOST_BYTES, &size, rows);
+    if (size > MOST_BYTES) {
+        fault("a page is too large");
+    }
+    return is_done(status);
 }
 
 /* Goes over the rows of a page, which it says unless they are counted. The next one begins behind the last key. */
@@ -540,7 +547,7 @@ static void release(void) {
 static void say_snapshots(void) {
     uint64_t sequences[NAMES] = {0};
     size_t count = 0;
-    if (is_done(ucstore_snapshots(&store, sequences, NAMES, &count))) {
+    if (is_done(ucstore_snapshots(&store, sequences, NAMES, &count)) && count <= NAMES) {
         for (size_t place = 0; place < count; place++) {
             say("%s%llu", place > 0 ? " " : "", (unsigned long long)sequences[place]);
         }
