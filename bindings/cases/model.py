@@ -127,6 +127,9 @@ def merged(operator: Operator, value: Optional[bytes], operand: bytes) -> bytes:
 class Store:
     """A list of writes, of which reads are folds."""
 
+    ended = "clean"
+    """How the log ended that the store was opened from."""
+
     def __init__(self, operator: Operator, options: Options = Options()) -> None:
         if not options.are_in_range():
             raise BadOption()

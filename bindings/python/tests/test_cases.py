@@ -20,7 +20,12 @@ import model  # noqa: E402
 # What is put behind each command.
 WAYS = NOTHING, FLUSH, COMPACTIONS, REOPENING = "nothing", "a flush", "all compactions", "a reopening"
 
+# The operations, the commands that take texts, and those that take words as they stand.
 KINDS = {"put": "Put", "merge": "Merge", "delete": "Delete", "range": "DeleteRange"}
+BY_TEXTS = ("commit", "raw", "get", "scan", "count", "prefix", "flush", "compact", "last", "snapshots", "report")
+BY_WORDS = ("create", "reopen", "close", "give", "snapshot", "release")
+
+# What stands behind the texts of a command, each before a word.
 NAMES = ("at", "limit", "sequence")
 
 PIECE = re.compile(r'(?:(\d+)\*)?(?:u64:(\d+)|"((?:[^"\\]|\\x[0-9a-f]{2})*)"|([\w/.,-]+))(?:\+|$)', re.ASCII)
@@ -143,22 +148,24 @@ class Player:
                 name = re.sub(r"(?<=.)(?=[A-Z])", " ", type(error).__name__)
                 self.said.append(f"error: {name.lower()}")
             except (AttributeError, KeyError, TypeError, ValueError) as error:
-                raise ValueError(f"line {case.line}: there is no such command: {' '.join(words)}") from error
+                raise ValueError(f"the case at line {case.line} can't be played") from error
             self.put_behind()
         return self.said
 
     def call(self, words: List[str], indented: List[List[str]]) -> None:
         command, *rest = words
-        if command in ("create", "reopen", "close", "snapshot", "release", "give"):
-            getattr(self, command)(*rest)
-        elif command in KINDS:
+        if command in KINDS:
             self.write_one(command, self.operation(words))
         elif command in ("batch", "prepare"):
             sequence = int(arguments_of(rest)[1].get("sequence", 0))
             getattr(self, command)([self.operation(line) for line in indented], sequence)
-        else:
+        elif command in BY_TEXTS:
             texts, named = arguments_of(rest)
             getattr(self, command)(*texts, **named)
+        elif command in BY_WORDS:
+            getattr(self, command)(*rest)
+        else:
+            raise ValueError(f"{command} isn't a command")
 
     def put_behind(self) -> None:
         """What the way puts behind a command, unless that would give up what is prepared."""
@@ -186,6 +193,8 @@ class Player:
         self.store.close()
         self.record = None
         self.store = self.module.Store.open(self.operator, self.log, self.options)
+        if str(self.store.ended) != "clean":
+            raise ValueError(f"the log isn't clean: {self.store.ended}")
 
     def close(self) -> None:
         self.is_open = False
