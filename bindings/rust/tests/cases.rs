@@ -137,6 +137,11 @@ fn text_of(mut word: &str) -> Vec<u8> {
     }
 }
 
+/// The texts that words spell.
+fn texts_of(words: &[&str]) -> Vec<Vec<u8>> {
+    words.iter().map(|word| text_of(word)).collect()
+}
+
 /// A piece that spells a text: a word, or a quoted one.
 fn piece_of(text: &[u8]) -> String {
     if !text.is_empty() && text.iter().all(|byte| is_plain(*byte)) {
@@ -195,7 +200,7 @@ fn arguments_of<'a>(words: &[&'a str]) -> Arguments<'a> {
     let is_name = |word: &&str| ["at", "limit", "sequence"].contains(word);
     let (texts, named) = words.split_at(words.iter().position(is_name).unwrap_or(words.len()));
     Arguments {
-        texts: texts.iter().map(|word| text_of(word)).collect(),
+        texts: texts_of(texts),
         named: named.chunks(2).map(|pair| (pair[0], pair[1])).collect(),
     }
 }
@@ -231,7 +236,7 @@ fn set_option(options: &mut Options, word: &str) {
 /// Adds an operation to a batch.
 fn push(batch: &mut Batch, line: &str) {
     let words: Vec<&str> = line.split_whitespace().collect();
-    let texts: Vec<Vec<u8>> = words[1..].iter().map(|word| text_of(word)).collect();
+    let texts = texts_of(&words[1..]);
     match words[0] {
         "put" => batch.put(&texts[0], &texts[1]),
         "merge" => batch.merge(&texts[0], &texts[1]),
@@ -378,7 +383,7 @@ impl Player {
             return self.write_some(&["batch"], &[words.join(" ")]);
         }
         self.record = None;
-        let (texts, store) = (arguments_of(&words[1..]).texts, self.store());
+        let (texts, store) = (texts_of(&words[1..]), self.store());
         match words[0] {
             "put" => store.put(&texts[0], &texts[1]),
             "merge" => store.merge(&texts[0], &texts[1]),
