@@ -543,8 +543,8 @@ fn play(file: &Path, text: &str, way: Way) -> (usize, String) {
     (cases.len(), failures)
 }
 
-/// The ways in which a file is played. What is put behind a command changes how many runs there are, and no type here is
-/// a closed store, or a batch that isn't one.
+/// The ways in which a file is played. How many runs there are depends on the way. No type here is a closed store, or a
+/// batch that isn't one.
 fn ways_of(text: &str) -> &[Way] {
     let has = |command: &str| {
         text.lines()
