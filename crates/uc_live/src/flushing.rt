@@ -21,7 +21,8 @@ use uc_version_state::{no_refusal_is_leave_to_feed, small_writes_fill_one_memtab
 /// How many range deletions an active memtable takes: a lookup asks each of them.
 const MOST_RANGES: usize = 64;
 
-/// Feeds an owner what is gathered, as one run. If some of it is frozen, it costs a copy of all. An `Err` changes nothing.
+/// Feeds an owner what is gathered, as one run. If some of it is frozen, it costs a copy of all. An `Err` changes
+/// nothing.
 fn feed_gathered<O: Operator>(
     owned: &mut Owned<O>,
     alloc: Global,
@@ -31,8 +32,8 @@ fn feed_gathered<O: Operator>(
     requires some { active.now.shown ≢ [] }
     requires small { memtable_size active.now.shown < owned.old.version.limit }
     requires rising { IsRising owned.old.version.last active.now.shown }
-    ensures ok { OnOk result
-        ((feed_refusal owned.old.version active.now.shown ≡ None) × (owned.new ≡ after_feed active.now.shown owned.old)) }
+    ensures ok { OnOk result ((feed_refusal owned.old.version active.now.shown ≡ None)
+        × (owned.new ≡ after_feed active.now.shown owned.old)) }
     ensures err { IfErr result (λ error. (owned.new ≡ owned.old)
         × ((feed_refusal owned.old.version active.now.shown ≡ Some error) ⊎ (error ≡ feed_errors.Memory))) }
 {

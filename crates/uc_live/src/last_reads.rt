@@ -25,8 +25,8 @@ pub(crate) fn last_sequence(version: &Version, gathered: &GatheredMemtables) -> 
     gathered.last()
 }
 
-/// The value that a key has at the last sequence, if it has one. It asks the memtables first, and then the runs, each from
-/// the newest on, up to the first that puts or deletes the key.
+/// The value that a key has at the last sequence, if it has one. It asks the memtables first, and then the runs, each
+/// from the newest on, up to the first that puts or deletes the key.
 pub(crate) fn last_value<O: Operator>(
     alloc: Global,
     version: &Version,
@@ -42,9 +42,9 @@ pub(crate) fn last_value<O: Operator>(
     value_behind::<O>(alloc, version, key, last, newer)
 }
 
-/// The first rows, at most `limit`, of the keys from `low` to below `high`, or to the last one if `high` is `None`, at the
-/// last sequence. It costs a sort of what is gathered, a search in each run, and then a step in each run for each key in
-/// the range up to the last row's.
+/// The first rows, at most `limit`, of the keys from `low` to below `high`, or to the last one if `high` is `None`, at
+/// the last sequence. It costs a sort of what is gathered, a search in each run, and then a step in each run for each
+/// key in the range up to the last row's.
 pub(crate) fn last_rows<O: Operator>(
     alloc: Global,
     version: &Version,

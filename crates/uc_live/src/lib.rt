@@ -6,9 +6,9 @@
 //!
 //! A write has two steps. [`LiveStore::prepare`] and [`LiveStore::prepare_batch`] judge it, number it and take all
 //! memory that it needs (`preparing.rt`); [`LiveStore::commit`] takes it, and can't fail. Reads only read
-//! (`reading.rt`, `last_reads.rt`): the last sequence needs no snapshot. A full memtable becomes a run when the next write comes, and
-//! then runs are compacted while some are picked (`flushing.rt`, `compacting.rt`). Snapshots are counted
-//! (`snapshots.rt`).
+//! (`reading.rt`, `last_reads.rt`): the last sequence needs no snapshot. A full memtable becomes a run when the next
+//! write comes, and then runs are compacted while some are picked (`flushing.rt`, `compacting.rt`). Snapshots are
+//! counted (`snapshots.rt`).
 //!
 //! A [`View`] is what a store holds at a moment, which other threads read while the store goes on (`view.rt`,
 //! `specs/Views.antt`).

@@ -14,8 +14,8 @@ use uc_oper::Operator;
 use uc_query_read::{Answer, Query, Rows, answer_one, equal_values_give_equal_answers, get};
 
 impl<O: Operator> LiveStore<O> {
-    /// The value that a key has at the last sequence, if it has one. It asks the memtables first, and then the runs, each
-    /// from the newest on, up to the first that puts or deletes the key.
+    /// The value that a key has at the last sequence, if it has one. It asks the memtables first, and then the runs,
+    /// each from the newest on, up to the first that puts or deletes the key.
     pub fn get(&self, alloc: Global, key: &[u8]) -> Result<Option<Bytes>, AllocError>
         ensures { IfOk result (λ value.
             value ≡ value_of O.meaning (lives.writes_of self.now) key.now (lives.last self.now)) }

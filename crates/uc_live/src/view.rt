@@ -55,8 +55,8 @@ impl<O: Operator> Drop for View<O> {
 }
 
 impl<O: Operator> LiveStore<O> {
-    /// What it holds now. A batch that is prepared isn't in it, and stays prepared. Nothing is flushed. No run is copied,
-    /// and of what is gathered only what [`GatheredMemtables::share`] says.
+    /// What it holds now. A batch that is prepared isn't in it, and stays prepared. Nothing is flushed. No run is
+    /// copied, and of what is gathered only what [`GatheredMemtables::share`] says.
     ///
     /// It is refused for want of memory. It changes nothing.
     pub fn view(&mut self, alloc: Global) -> Result<View<O>, AllocError>
@@ -121,8 +121,8 @@ impl<O: Operator> View<O> {
         last_value::<O>(alloc, &self.parts.version, &self.parts.gathered, key)
     }
 
-    /// Looks a key up at a sequence. The answer is a value, if the key has one, or `NotProtected` if no snapshot was at the
-    /// sequence.
+    /// Looks a key up at a sequence. The answer is a value, if the key has one, or `NotProtected` if no snapshot was at
+    /// the sequence.
     pub fn get_at(&self, alloc: Global, key: &[u8], at: u64) -> Result<Answer, AllocError>
         ensures { IfOk result (λ answer.
             answer ≡ answer_of O.meaning (views.writes_of self.now) self.now.version.keeps (queries.Get key.now at)) }
@@ -137,8 +137,8 @@ impl<O: Operator> View<O> {
     /// The first rows, at most `limit`, of the keys from `low` to below `high`, or to the last one if `high` is `None`,
     /// at the last sequence.
     ///
-    /// Each scan sorts what is gathered, and a view never flushes it. Where many scans are to come and much is gathered,
-    /// [`settle`](LiveStore::settle) the store before the view is made.
+    /// Each scan sorts what is gathered, and a view never flushes it. Where many scans are to come and much is
+    /// gathered, [`settle`](LiveStore::settle) the store before the view is made.
     pub fn scan(
         &self,
         alloc: Global,
@@ -146,7 +146,8 @@ impl<O: Operator> View<O> {
         high: &Option<Bytes>,
         limit: u64,
     ) -> Result<Rows, AllocError>
-        ensures { IfOk result (λ rows. rows ≡ first_rows O.meaning (views.writes_of self.now) (views.last self.now) limit
+        ensures { IfOk result (λ rows.
+            rows ≡ first_rows O.meaning (views.writes_of self.now) (views.last self.now) limit
             (named_keys (views.writes_of self.now) low.now high.now)) }
     {
         let parts = &self.parts;
