@@ -7,8 +7,9 @@
 # binutils, pkg-config, valgrind, cargo, and a python3 with pip, setuptools and wheel; no network. CC, CXX and PYTHON name
 # others. `needs` alone says what of that is missing, before anything is built.
 #
-# Each language runs its examples, and drawn calls beside a plain dictionary: OPERATIONS (50000) for each of the four operators
-# in C. `refused` refuses each allocation of CALLS (1000) drawn calls. SEED (1) is the seed of what C draws.
+# Each language runs its examples, the cases of bindings/cases, a million puts in a row, and drawn calls beside a plain
+# dictionary: OPERATIONS (50000) for each of the four operators in C. `refused` refuses each allocation of CALLS (1000) drawn
+# calls. SEED (1) is the seed of what C draws.
 set -euo pipefail
 here=$(cd "$(dirname "${BASH_SOURCE[0]}")" && pwd)
 work=$(mktemp -d)
@@ -131,7 +132,7 @@ try_pages() {
 
 try_c() {
     local name
-    for name in first example test; do
+    for name in first example test play million; do
         compile_c "$name"
         compile_cpp "$name"
     done
@@ -139,19 +140,29 @@ try_c() {
     expect 'first.c, as C++' "$first" "$("$work/first_cpp")"
     run_example
     run_long_example
+    "$work/play" "$here"/cases/*.txt
+    "$work/play_cpp" "$here"/cases/*.txt
+    "$work/million"
     "$work/test" "$operations" "$seed"
     "$work/test_cpp" $((operations / 10)) $((seed + 1))
     try_manual
 }
 
 try_sanitizers() {
-    "${cc[@]}" -std=c99 "${strict[@]}" "${sanitizers[@]}" "$here/c/test.c" "${static[@]}" -o "$work/test_san"
+    local name
+    for name in test play; do
+        "${cc[@]}" -std=c99 "${strict[@]}" "${sanitizers[@]}" "$here/c/$name.c" "${static[@]}" -o "$work/${name}_san"
+    done
     "$work/test_san" "$operations" $((seed + 2))
+    "$work/play_san" "$here"/cases/*.txt
 }
 
 try_valgrind() {
+    local checked=(valgrind --quiet --leak-check=full --errors-for-leak-kinds=all --error-exitcode=9)
     compile_c test
-    valgrind --quiet --leak-check=full --errors-for-leak-kinds=all --error-exitcode=9 "$work/test" $((operations / 50)) "$seed"
+    compile_c play
+    "${checked[@]}" "$work/test" $((operations / 50)) "$seed"
+    "${checked[@]}" "$work/play" "$here"/cases/{merges,partial,prepared,reopening,snapshots,unchecked}.txt
 }
 
 try_refused() {
@@ -162,7 +173,7 @@ try_refused() {
 }
 
 try_rust() {
-    cp -r "$here/rust" "$work/rust"
+    cp -r "$here/rust" "$here/cases" "$work"
     rm -rf "$work/rust/target"
     (cd "$work/rust" && cargo test --offline --quiet -j 1)
     expect first.rs "$first" "$(cd "$work/rust" && cargo run --offline --quiet -j 1 --example first)"
@@ -183,7 +194,7 @@ find_python() {
 }
 
 try_python() {
-    local python library
+    local python library tests
     python=$(find_python)
     cp -r "$here/python" "$work/python"
     (cd "$work/python" && "$python" -m pip --quiet --disable-pip-version-check install --no-index --no-build-isolation \
@@ -197,7 +208,9 @@ try_python() {
         "$(env -u LD_LIBRARY_PATH UCSTORE_LIBRARY="$library" "$python" "$work/first.py")"
     cp "$library" "$(dirname "$("$python" -c 'import ucstore; print(ucstore.__file__)')")"
     expect 'first.py, beside its library' "$first" "$(env -u LD_LIBRARY_PATH "$python" "$work/first.py")"
-    (cd "$work" && "$python" "$here/python/tests/test_ucstore.py" --quiet)
+    for tests in test_ucstore test_cases; do
+        (cd "$work" && "$python" "$here/python/tests/$tests.py" --quiet)
+    done
 }
 
 check_needs

@@ -12,10 +12,11 @@
 #include <ucstore.h>
 #include <unistd.h>
 
-/* A line is shorter, so that a word's length is one byte of a batch. */
+/* A line is shorter, and so is a word. */
 enum { LINE = 128, ROOM = 1 << 16 };
 
 static struct ucstore store;
+static struct ucstore_batch batch;
 static FILE *file;
 static uint64_t length;
 
@@ -85,35 +86,26 @@ static void open_store(const char *name) {
     free(log);
 }
 
-/* Writes a batch to the log's file, waits for its device, and takes it into the store. A program that goes on after a failed write has to
+/* Writes the batch to the log's file, waits for its device, and takes it into the store. A program that goes on after a failed write has to
  * cut the record off first, since a second one gets the same sequence, and a log is read up to there. */
-static void write_batch(const uint8_t *batch, size_t batch_length) {
+static void write_batch(void) {
     static uint8_t record[ROOM];
     size_t size = 0;
-    expect(ucstore_prepare(&store, batch, batch_length, length, record, sizeof record, &size) == UCSTORE_OK,
-           "the batch isn't taken");
+    expect(ucstore_prepare(&store, &batch, length, record, sizeof record, &size) == UCSTORE_OK, "the batch isn't taken");
     expect(fwrite(record, 1, size, file) == size && fflush(file) == 0 && fsync(fileno(file)) == 0, "can't write the log");
     length += size;
     ucstore_commit(&store);
+    ucstore_batch_clear(&batch);
 }
 
-/* Counts the words of a line. A batch has 8 bytes for a sequence, where 0 stands for the next one, 4 for the count, low
- * byte first, and a record for each word: the tag 2 of a merge, the word and the operand, each behind its length. */
+/* Counts the words of a line. */
 static void count_words(char *line) {
-    static const uint8_t one[9] = {8, 1};
-    uint8_t batch[12 + LINE * 12] = {0};
-    size_t size = 12;
+    static const uint8_t one[8] = {1};
     for (char *word = strtok(line, " \t\n"); word != NULL; word = strtok(NULL, " \t\n")) {
-        size_t word_length = strlen(word);
-        batch[8]++;
-        batch[size++] = 2;
-        batch[size++] = (uint8_t)word_length;
-        memcpy(batch + size, word, word_length);
-        size += word_length;
-        memcpy(batch + size, one, sizeof one);
-        size += sizeof one;
+        expect(ucstore_batch_merge(&batch, (const uint8_t *)word, strlen(word), one, sizeof one) == UCSTORE_OK,
+               "there is no memory for the batch");
     }
-    write_batch(batch, size);
+    write_batch();
 }
 
 /* Prints the words with their counts, a page of rows at a time. */
@@ -146,6 +138,7 @@ int main(int argc, char **argv) {
         count_words(line);
     }
     print_counts();
+    ucstore_batch_close(&batch);
     expect(ucstore_close(&store) == UCSTORE_OK && fclose(file) == 0, "can't close");
     return 0;
 }

@@ -28,7 +28,7 @@ void __wrap_free(void *block);
 }
 #endif
 
-enum { TEXT = 40, ROOM = 1 << 18, MOST_KEEPS = 4, BATCH = 12 + 20 * (3 + 2 * TEXT), MOST_LOG = 1 << 20 };
+enum { TEXT = 40, ROOM = 1 << 18, MOST_KEEPS = 4, BATCH = 12 + 20 * (3 + 2 * TEXT), MOST_LOG = 1 << 21 };
 
 /* How many allocations are granted before one is refused, if any is, and whether those behind it are too. */
 static bool refuses, lasts, refused;
@@ -75,18 +75,19 @@ static uint64_t draw(uint64_t limit) {
 }
 
 static struct ucstore store;
+static struct ucstore_batch gathered;
 static uint8_t history[MOST_LOG];
 static size_t history_length;
 
 /* The size of the record of what is prepared. */
 static size_t prepared;
 
-/* What reads see of a store: its last sequence, and the rows there and at each snapshot. */
+/* What reads see of a store: its last sequence, and the rows there and at each snapshot. And what is gathered. */
 struct held {
     uint64_t last;
     uint64_t keeps[MOST_KEEPS];
-    size_t keep_count, size;
-    uint8_t rows[ROOM];
+    size_t keep_count, size, batch_length;
+    uint8_t rows[ROOM], batch[BATCH];
 };
 
 static void look(struct held *held) {
@@ -102,12 +103,14 @@ static void look(struct held *held) {
         held->size += size;
         CHECK(held->size <= ROOM);
     }
+    CHECK(ucstore_batch_bytes(&gathered, held->batch, BATCH, &held->batch_length) == UCSTORE_OK && held->batch_length <= BATCH);
 }
 
 static bool is_same(const struct held *one, const struct held *other) {
     return one->last == other->last && one->keep_count == other->keep_count
         && memcmp(one->keeps, other->keeps, one->keep_count * sizeof one->keeps[0]) == 0 && one->size == other->size
-        && memcmp(one->rows, other->rows, one->size) == 0;
+        && memcmp(one->rows, other->rows, one->size) == 0 && one->batch_length == other->batch_length
+        && memcmp(one->batch, other->batch, one->batch_length) == 0;
 }
 
 /* A call with what was drawn for it, so that it can be tried again. */
@@ -118,7 +121,10 @@ struct call {
     uint64_t at;
 };
 
-enum { PUT, DELETE, MERGE, DELETE_RANGE, WRITE, PREPARE, FLUSH, SNAPSHOT, RELEASE, GET, GET_AT, SCAN, SCAN_AT, COMPACT, OPEN, NEXT, KINDS };
+enum {
+    PUT, DELETE, MERGE, DELETE_RANGE, BATCH_PUT, BATCH_DELETE, BATCH_MERGE, BATCH_DELETE_RANGE, WRITE, WRITE_BYTES, PREPARE,
+    PREPARE_BYTES, FLUSH, SNAPSHOT, RELEASE, GET, GET_AT, GET_MANY, SCAN, SCAN_AT, COMPACT, OPEN, NEXT, KINDS
+};
 
 static size_t draw_text(uint8_t *text, size_t most) {
     size_t length = 1 + (size_t)draw(most);
@@ -160,6 +166,10 @@ static void draw_batch(struct call *call) {
     }
 }
 
+static bool gathers(int kind) {
+    return kind >= BATCH_PUT && kind <= BATCH_DELETE_RANGE;
+}
+
 static struct call draw_call(const struct held *held) {
     struct call call;
     memset(&call, 0, sizeof call);
@@ -167,8 +177,13 @@ static struct call draw_call(const struct held *held) {
     if (call.kind == SNAPSHOT && held->keep_count == MOST_KEEPS) {
         call.kind = RELEASE;
     }
+    if (gathers(call.kind) && held->batch_length > BATCH - (3 + 2 * TEXT)) {
+        call.kind = WRITE;
+    }
     call.key_length = draw_key(call.key);
-    call.value_length = call.kind == DELETE_RANGE || call.kind == SCAN || call.kind == SCAN_AT ? draw_key(call.value) : draw_value(call.value);
+    call.value_length = call.kind == DELETE_RANGE || call.kind == BATCH_DELETE_RANGE || call.kind == SCAN || call.kind == SCAN_AT
+        ? draw_key(call.value)
+        : draw_value(call.value);
     draw_batch(&call);
     call.at = held->keep_count > 0 ? held->keeps[draw(held->keep_count)] : 0;
     return call;
@@ -193,7 +208,7 @@ static int32_t try_call(const struct call *call) {
     struct ucstore_log_place place = {0, 0, 0};
     struct ucstore_ended ended = {0, 0, 0};
     size_t size = 0;
-    uint64_t number = 0;
+    uint64_t number = 0, key_lengths[2], lengths[2] = {0, 0};
     bool compacted = false;
     switch (call->kind) {
     case PUT:
@@ -204,11 +219,23 @@ static int32_t try_call(const struct call *call) {
         return ucstore_merge(&store, call->key, call->key_length, call->value, call->value_length);
     case DELETE_RANGE:
         return ucstore_delete_range(&store, call->key, call->key_length, call->value, call->value_length);
+    case BATCH_PUT:
+        return ucstore_batch_put(&gathered, call->key, call->key_length, call->value, call->value_length);
+    case BATCH_DELETE:
+        return ucstore_batch_delete(&gathered, call->key, call->key_length);
+    case BATCH_MERGE:
+        return ucstore_batch_merge(&gathered, call->key, call->key_length, call->value, call->value_length);
+    case BATCH_DELETE_RANGE:
+        return ucstore_batch_delete_range(&gathered, call->key, call->key_length, call->value, call->value_length);
     case WRITE:
+        return ucstore_write(&store, &gathered);
+    case WRITE_BYTES:
         return ucstore_write_bytes(&store, call->batch, call->batch_length);
     case PREPARE:
-        return ucstore_prepare(&store, call->batch, call->batch_length, history_length, history + history_length,
-                               MOST_LOG - history_length, &prepared);
+        return ucstore_prepare(&store, &gathered, history_length, history + history_length, MOST_LOG - history_length, &prepared);
+    case PREPARE_BYTES:
+        return ucstore_prepare_bytes(&store, call->batch, call->batch_length, history_length, history + history_length,
+                                     MOST_LOG - history_length, &prepared);
     case FLUSH:
         return ucstore_flush(&store);
     case SNAPSHOT:
@@ -219,6 +246,10 @@ static int32_t try_call(const struct call *call) {
         return ucstore_get(&store, call->key, call->key_length, room, ROOM, &size);
     case GET_AT:
         return ucstore_get_at(&store, call->key, call->key_length, call->at, room, ROOM, &size);
+    case GET_MANY:
+        key_lengths[0] = 1;
+        key_lengths[1] = call->key_length - 1;
+        return ucstore_get_many(&store, call->key, call->key_length, key_lengths, 2, lengths, 2, room, ROOM, &size);
     case SCAN:
         return ucstore_scan(&store, call->key, call->key_length, call->value, call->value_length, false, UINT64_MAX, room, ROOM,
                             &size, &number);
@@ -274,11 +305,14 @@ static void step(struct held *held) {
     struct call call = draw_call(held);
     int32_t status = with_refusals(&call, held);
     CHECK(status == UCSTORE_OK || status == UCSTORE_NOT_FOUND || status == UCSTORE_NOT_PROTECTED || status == UCSTORE_LOG_ENDS);
-    if (call.kind == PREPARE) {
+    if (call.kind == PREPARE || call.kind == PREPARE_BYTES) {
         /* No read sees it before it is taken. */
         look(&before);
         CHECK(is_same(&before, held));
         commit();
+    }
+    if (call.kind == WRITE) {
+        CHECK(ucstore_batch_clear(&gathered) == UCSTORE_OK);
     }
     look(held);
 }
@@ -308,6 +342,7 @@ static void soak(size_t calls) {
     while (calls-- > 0) {
         step(&held);
     }
+    CHECK(ucstore_batch_close(&gathered) == UCSTORE_OK);
     CHECK(ucstore_close(&store) == UCSTORE_OK && live == 0);
 }
 

@@ -1,5 +1,5 @@
-/* 50,000 drawn operations for each operator, beside a plain dictionary whose copies are the snapshots: writes, batches,
- * snapshots, reads, scans and compactions. Then the log of all batches is opened and walked, whole and torn. The words are
+/* 50,000 drawn operations for each operator, beside a plain dictionary whose copies are the snapshots: writes, batches by
+ * handle and as bytes, snapshots, reads, scans and compactions. Then the log of all batches is opened and walked, whole and torn. The words are
  * how many operations there are, and the seed. */
 #include <stdio.h>
 #include <stdlib.h>
@@ -45,6 +45,10 @@ struct snapshot {
 
 static uint32_t merge_operator;
 static struct ucstore store;
+
+/* Where batches are gathered, one after the other. */
+static struct ucstore_batch gathered;
+
 static struct dictionary now;
 static struct snapshot snapshots[MOST_KEEPS];
 static size_t snapshot_count;
@@ -249,19 +253,68 @@ static void number_batch(uint8_t *batch, size_t size) {
     push_number(batch, &place, back);
     if (back > 0 && batch[8] > 0) {
         CHECK(ucstore_write_bytes(&store, batch, size) == UCSTORE_SEQUENCE_BACK);
-        CHECK(ucstore_prepare(&store, batch, size, history_length, history, 0, &record) == UCSTORE_SEQUENCE_BACK && record == 99);
+        CHECK(ucstore_prepare_bytes(&store, batch, size, history_length, history, 0, &record) == UCSTORE_SEQUENCE_BACK && record == 99);
     }
     place = 0;
     push_number(batch, &place, draw(2) == 0 ? 0 : count + 1);
 }
 
+static int32_t gather(const struct write *w) {
+    switch (w->kind) {
+    case PUT:
+        return ucstore_batch_put(&gathered, w->key, w->key_length, w->value, w->value_length);
+    case DELETE:
+        return ucstore_batch_delete(&gathered, w->key, w->key_length);
+    case MERGE:
+        return ucstore_batch_merge(&gathered, w->key, w->key_length, w->value, w->value_length);
+    default:
+        return ucstore_batch_delete_range(&gathered, w->key, w->key_length, w->value, w->value_length);
+    }
+}
+
+/* Whether what is gathered is a batch of so many operations, with these bytes. */
+static bool is_gathered(uint64_t operations, const uint8_t *batch, size_t size) {
+    uint8_t room[BATCH + 1];
+    size_t told = 99, fits = (size_t)draw(size + 1);
+    uint64_t found = 99;
+    room[fits] = 77;
+    CHECK(ucstore_batch_count(&gathered, &found) == UCSTORE_OK);
+    CHECK(ucstore_batch_bytes(&gathered, room, fits, &told) == UCSTORE_OK);
+    return found == operations && told == size && memcmp(room, batch, fits) == 0 && room[fits] == 77;
+}
+
+/* Gathers writes, which are the batch of these bytes: in the memory of the batch before, or anew. */
+static void gather_all(const struct write *drawn, size_t length, const uint8_t *batch, size_t size) {
+    if (draw(4) == 0) {
+        CHECK(ucstore_batch_close(&gathered) == UCSTORE_OK && gathered.at == NULL);
+    }
+    CHECK(ucstore_batch_clear(&gathered) == UCSTORE_OK);
+    for (size_t place = 0; place < length; place++) {
+        CHECK(gather(&drawn[place]) == UCSTORE_OK);
+    }
+    CHECK(is_gathered(length, batch, size));
+}
+
+/* A record was added to the log. */
+static void recorded(int32_t status, size_t record) {
+    CHECK(status == UCSTORE_OK && record <= MOST_LOG - history_length);
+    history_length += record;
+}
+
 /* Prepares a batch, and adds its record to the log. */
 static void log_batch(const uint8_t *batch, size_t size) {
-    uint8_t *room = history + history_length;
     size_t record = 99;
-    CHECK(ucstore_prepare(&store, batch, size, history_length, room, MOST_LOG - history_length, &record) == UCSTORE_OK);
-    CHECK(record <= MOST_LOG - history_length);
-    history_length += record;
+    int32_t status = ucstore_prepare_bytes(&store, batch, size, history_length, history + history_length,
+                                           MOST_LOG - history_length, &record);
+    recorded(status, record);
+}
+
+/* The same with what is gathered. */
+static void log_gathered(void) {
+    size_t record = 99;
+    int32_t status = ucstore_prepare(&store, &gathered, history_length, history + history_length,
+                                     MOST_LOG - history_length, &record);
+    recorded(status, record);
 }
 
 static void wrote(const struct write *w) {
@@ -283,27 +336,34 @@ static void write_one(void) {
     wrote(&w);
 }
 
-/* A batch: in two steps, or in one. No read sees what is prepared. */
+/* A batch, by its handle or as bytes: in two steps, or in one. No read sees what is prepared. */
 static void write_batch(void) {
     struct write drawn[8];
     uint8_t batch[BATCH] = {0};
     size_t size = 12, length = (size_t)draw(9);
+    bool by_handle = draw(2) == 0;
     uint64_t last = 0;
     for (size_t place = 0; place < length; place++) {
         drawn[place] = draw_write();
         push_record(batch, &size, &drawn[place]);
     }
-    number_batch(batch, size);
-    log_batch(batch, size);
+    gather_all(drawn, length, batch, size);
+    if (by_handle) {
+        log_gathered();
+    } else {
+        number_batch(batch, size);
+        log_batch(batch, size);
+    }
     CHECK(ucstore_last(&store, &last) == UCSTORE_OK && last == count);
     if (draw(2) == 0) {
-        CHECK(ucstore_write_bytes(&store, batch, size) == UCSTORE_OK);
+        CHECK((by_handle ? ucstore_write(&store, &gathered) : ucstore_write_bytes(&store, batch, size)) == UCSTORE_OK);
     }
     CHECK(ucstore_commit(&store) == UCSTORE_OK);
     for (size_t place = 0; place < length; place++) {
         wrote(&drawn[place]);
     }
     memset(batch, 0, 8);
+    CHECK(is_gathered(length, batch, size));
     batch[8]++;
     CHECK(ucstore_write_bytes(&store, batch, size) == UCSTORE_NOT_A_BATCH);
 }
@@ -409,6 +469,33 @@ static void get(void) {
     memset(room, 0xAA, VALUE);
     status = ucstore_get(&store, text, length, room, room_length, &size);
     check_value(status, &now.at[key], room, room_length, size);
+}
+
+/* Looks up a few keys at once, some of them twice. */
+static void get_many(void) {
+    enum { MANY = 9 };
+    static uint8_t room[MANY * VALUE], wanted[MANY * VALUE];
+    uint8_t keys[MANY * TEXT];
+    int drawn[MANY];
+    uint64_t key_lengths[MANY], lengths[MANY];
+    size_t keys_length = 0, wanted_length = 0, size = 99, length = (size_t)draw(MANY + 1),
+           room_length = draw(2) == 0 ? (size_t)draw(100) : sizeof room;
+    for (size_t place = 0; place < length; place++) {
+        drawn[place] = (int)draw(KEYS);
+        key_lengths[place] = key_text(drawn[place], keys + keys_length);
+        keys_length += (size_t)key_lengths[place];
+    }
+    memset(room, 0xAA, sizeof room);
+    CHECK(ucstore_get_many(&store, keys, keys_length, key_lengths, length, lengths, length, room, room_length, &size) == UCSTORE_OK);
+    for (size_t place = 0; place < length; place++) {
+        const struct value *value = &now.at[drawn[place]];
+        CHECK(lengths[place] == (value->held ? value->size : UINT64_MAX));
+        if (value->held) {
+            memcpy(wanted + wanted_length, value->bytes, value->size);
+            wanted_length += value->size;
+        }
+    }
+    CHECK(size == wanted_length && has(room, room_length, sizeof room, wanted, wanted_length));
 }
 
 /* The rows of a scan, one behind the other, as many as fit a room. */
@@ -572,8 +659,10 @@ static void step(void) {
         compact();
     } else if (choice < 64) {
         CHECK(ucstore_flush(&store) == UCSTORE_OK);
-    } else if (choice < 96) {
+    } else if (choice < 92) {
         get();
+    } else if (choice < 96) {
+        get_many();
     } else {
         scan();
     }
@@ -595,6 +684,7 @@ static void soak(uint32_t drawn_operator, size_t operations) {
         CHECK(ucstore_last(&store, &last) == UCSTORE_OK && last == count);
     }
     check_log();
+    CHECK(ucstore_batch_close(&gathered) == UCSTORE_OK && gathered.at == NULL);
     CHECK(ucstore_close(&store) == UCSTORE_OK && store.at == NULL);
     printf("operator %u: %zu operations, %zu writes\n", (unsigned)merge_operator, operations, count);
 }
@@ -602,7 +692,7 @@ static void soak(uint32_t drawn_operator, size_t operations) {
 /* Writes a batch durably, as the header says, with a room that grows. */
 static void write_durably(const uint8_t *batch, size_t size) {
     size_t record = 0, room = 0;
-    while (ucstore_prepare(&store, batch, size, history_length, history + history_length, room, &record) == UCSTORE_ROOM) {
+    while (ucstore_prepare_bytes(&store, batch, size, history_length, history + history_length, room, &record) == UCSTORE_ROOM) {
         CHECK(room < record && record <= MOST_LOG - history_length);
         room = record;
     }
@@ -661,6 +751,7 @@ static void million(void) {
 
 /* Lengths of 0 with null addresses. */
 static void nothing_is_read(void) {
+    struct ucstore_batch batch = {0};
     struct ucstore_options options;
     struct ucstore_ended ended = {7, 7, 7};
     struct ucstore_log_place place = {0, 0, 0};
@@ -669,7 +760,14 @@ static void nothing_is_read(void) {
     CHECK(ucstore_options_init(&options) == UCSTORE_OK);
     CHECK(ucstore_open(&store, UCSTORE_APPEND, &options, NULL, 0, &ended) == UCSTORE_OK && ended.kind == UCSTORE_CLEAN);
     CHECK(ucstore_write_bytes(&store, NULL, 0) == UCSTORE_NOT_A_BATCH);
-    CHECK(ucstore_prepare(&store, NULL, 0, 0, NULL, 0, &size) == UCSTORE_NOT_A_BATCH && size == 99);
+    CHECK(ucstore_prepare_bytes(&store, NULL, 0, 0, NULL, 0, &size) == UCSTORE_NOT_A_BATCH && size == 99);
+    CHECK(ucstore_write(&store, &batch) == UCSTORE_OK && ucstore_last(&store, &rows) == UCSTORE_OK && rows == 0);
+    CHECK(ucstore_batch_put(&batch, NULL, 0, NULL, 0) == UCSTORE_OK && ucstore_batch_merge(&batch, NULL, 0, NULL, 0) == UCSTORE_OK);
+    CHECK(ucstore_batch_delete(&batch, NULL, 0) == UCSTORE_OK && ucstore_batch_delete_range(&batch, NULL, 0, NULL, 0) == UCSTORE_OK);
+    CHECK(ucstore_batch_bytes(&batch, NULL, 0, &size) == UCSTORE_OK && size == 23);
+    CHECK(ucstore_prepare(&store, &batch, 0, NULL, 0, &size) == UCSTORE_ROOM && size == 30);
+    CHECK(ucstore_batch_close(&batch) == UCSTORE_OK && batch.at == NULL);
+    CHECK(ucstore_get_many(&store, NULL, 0, NULL, 0, NULL, 0, NULL, 0, &size) == UCSTORE_OK && size == 0);
     CHECK(ucstore_put(&store, NULL, 0, NULL, 0) == UCSTORE_OK);
     CHECK(ucstore_merge(&store, NULL, 0, NULL, 0) == UCSTORE_OK);
     CHECK(ucstore_get(&store, NULL, 0, NULL, 0, &size) == UCSTORE_OK && size == 1);
@@ -688,8 +786,10 @@ static void nothing_is_read(void) {
 
 /* What a handle without a store answers. */
 static void without_store(void) {
+    struct ucstore_batch batch = {0};
     struct ucstore_report report;
     const uint8_t text[] = {'a'};
+    const uint64_t length = 1;
     uint8_t room[4];
     size_t size = 0, found = 7;
     uint64_t seq = 7;
@@ -700,7 +800,10 @@ static void without_store(void) {
     CHECK(ucstore_merge(&store, text, 1, text, 1) == UCSTORE_NO_STORE);
     CHECK(ucstore_delete_range(&store, text, 1, text, 1) == UCSTORE_NO_STORE);
     CHECK(ucstore_write_bytes(&store, text, 1) == UCSTORE_NO_STORE);
-    CHECK(ucstore_prepare(&store, text, 1, 0, room, sizeof room, &size) == UCSTORE_NO_STORE && size == 0);
+    CHECK(ucstore_write(&store, &batch) == UCSTORE_NO_STORE);
+    CHECK(ucstore_prepare(&store, &batch, 0, room, sizeof room, &size) == UCSTORE_NO_STORE && size == 0);
+    CHECK(ucstore_get_many(&store, text, 1, &length, 1, &seq, 1, room, sizeof room, &size) == UCSTORE_NO_STORE && seq == 7);
+    CHECK(ucstore_prepare_bytes(&store, text, 1, 0, room, sizeof room, &size) == UCSTORE_NO_STORE && size == 0);
     CHECK(ucstore_commit(&store) == UCSTORE_NO_STORE);
     CHECK(ucstore_give_up(&store) == UCSTORE_NO_STORE);
     CHECK(ucstore_flush(&store) == UCSTORE_NO_STORE);
@@ -723,12 +826,13 @@ static void refusals(void) {
     struct ucstore_ended ended = {7, 7, 7};
     struct ucstore_log_place place = {0, 0, 1};
     const uint8_t text[] = {'a'};
+    const uint64_t lengths[] = {2, UINT64_MAX};
     uint8_t room[4];
     size_t size = 0;
     uint64_t seq = 7;
     CHECK(ucstore_version() == UCSTORE_ABI);
     CHECK(strcmp(ucstore_status_text(UCSTORE_ROOM), "the room is too small") == 0);
-    CHECK(strcmp(ucstore_status_text(UCSTORE_SEQUENCE_BACK + 1), ucstore_status_text(-1)) == 0);
+    CHECK(strcmp(ucstore_status_text(UCSTORE_BATCH_FULL + 1), ucstore_status_text(-1)) == 0);
     CHECK(ucstore_log_next(text, 1, &place, room, sizeof room, &size, &seq, &ended) == UCSTORE_BAD_PLACE && place.batches == 1);
     CHECK(ucstore_create(&store, UCSTORE_TAIL, &options) == UCSTORE_BAD_SIZE && store.at == NULL);
     CHECK(ucstore_options_init(&options) == UCSTORE_OK && options.write_buffer_size == 4194304 && options.size == sizeof options);
@@ -750,8 +854,11 @@ static void refusals(void) {
     CHECK(ucstore_snapshot(&store, &seq) == UCSTORE_OK && seq == 1);
     CHECK(ucstore_get_at(&store, text, 1, 1, room, 0, &size) == UCSTORE_OK && size == 0);
     CHECK(ucstore_release(&store, 9) == UCSTORE_NOT_PROTECTED);
+    CHECK(ucstore_get_many(&store, text, 1, lengths, 0, &seq, 0, room, sizeof room, &size) == UCSTORE_BAD_KEYS && size == 0);
+    CHECK(ucstore_get_many(&store, text, 1, lengths, 1, &seq, 1, room, sizeof room, &size) == UCSTORE_BAD_KEYS && seq == 1);
+    CHECK(ucstore_get_many(&store, text, 1, lengths, 2, &seq, 1, room, sizeof room, &size) == UCSTORE_BAD_KEYS && seq == 1);
     CHECK(ucstore_write_bytes(&store, text, 1) == UCSTORE_NOT_A_BATCH);
-    CHECK(ucstore_prepare(&store, text, 1, 0, room, sizeof room, &size) == UCSTORE_NOT_A_BATCH);
+    CHECK(ucstore_prepare_bytes(&store, text, 1, 0, room, sizeof room, &size) == UCSTORE_NOT_A_BATCH);
     CHECK(ucstore_close(&store) == UCSTORE_OK && store.at == NULL);
     CHECK(ucstore_close(&store) == UCSTORE_NO_STORE);
 }

@@ -5,11 +5,15 @@
  *     struct ucstore store = {0};
  *
  * Each function of a store takes the handle's address first, and each but `ucstore_version` answers one of the statuses
- * below. On any status but UCSTORE_OK no write is taken and no output is written, but for what `ucstore_prepare` and
- * `ucstore_log_next` tell.
+ * below. On any status but UCSTORE_OK no write is taken and no output is written, but for what `ucstore_prepare`,
+ * `ucstore_prepare_bytes` and `ucstore_log_next` tell.
  *
  * Writes are gathered in a memtable, which becomes a run when it is full. Runs are compacted then, by the calling thread. Nothing else
  * has to be called for it.
+ *
+ * Operations that go together are gathered in a batch, made of zeros too, which may be written more than once:
+ *
+ *     struct ucstore_batch batch = {0};
  *
  * A store is in memory. To keep it, write each batch in this order, and open the store from the file's bytes the next time:
  * 1. `ucstore_prepare` judges the batch, takes all memory that it needs, and gives its record. If it is refused, the log stays as it is.
@@ -19,10 +23,10 @@
  * What is written otherwise isn't in such a log.
  *
  * What C owes:
- * - It neither copies, changes nor frees what is in a handle, but by these functions. A handle may lie anywhere, and
+ * - It neither copies, changes nor frees what is in a handle or a batch, but by these functions. Each may lie anywhere, and
  *   move between calls. It is closed before it ends.
- * - One call at a time on a handle, reads too. Two handles may be used by two threads at once, and a handle may go from
- *   thread to thread.
+ * - One call at a time on a handle, reads too, and on a batch. Two of them may be used by two threads at once, and each may go
+ *   from thread to thread.
  * - Each address leads to as much memory as its type or its length says. If a length is 0, its address is not read, and may
  *   be null. No other address is null. What a function writes overlaps nothing else that it is given.
  * - What a function writes to has a value of its type before: `bool compacted = false;`.
@@ -49,6 +53,11 @@ struct ucstore {
     void *at;
 };
 
+/* A batch: no operations if it is all zeros. */
+struct ucstore_batch {
+    void *at;
+};
+
 /* What a function answers. */
 enum ucstore_status {
     UCSTORE_OK = 0,                /* It did what it was asked. */
@@ -67,7 +76,9 @@ enum ucstore_status {
     UCSTORE_BAD_PLACE = 13,        /* No walk over a log leads to the place. */
     UCSTORE_ROOM = 14,             /* The room is too small. */
     UCSTORE_LOG_ENDS = 15,         /* No batch comes next in the log. */
-    UCSTORE_SEQUENCE_BACK = 16     /* The sequence of the batch is neither 0 nor above the last one. */
+    UCSTORE_SEQUENCE_BACK = 16,    /* The sequence of the batch is neither 0 nor above the last one. */
+    UCSTORE_BAD_KEYS = 17,         /* The keys' lengths don't add up to their bytes, or there aren't as many places for answers. */
+    UCSTORE_BATCH_FULL = 18        /* The batch has 2^32 - 1 operations. */
 };
 
 /* Which operator merges a key's operands into its value. */
@@ -98,6 +109,8 @@ static inline const char *ucstore_status_text(int32_t status) {
         "the room is too small",
         "no batch comes next in the log",
         "the sequence of the batch is neither 0 nor above the last one",
+        "the keys' lengths don't add up to their bytes, or there aren't as many places for answers",
+        "the batch has 2^32 - 1 operations",
     };
     return status >= 0 && (size_t)status < sizeof texts / sizeof texts[0] ? texts[status] : "unknown status";
 }
@@ -178,6 +191,41 @@ int32_t ucstore_open(struct ucstore *store, uint32_t merge_operator, const struc
  * UCSTORE_NO_STORE. */
 int32_t ucstore_close(struct ucstore *store);
 
+/* Adds to a batch that a key is set to a value. If it is refused, the batch has the operations that it had.
+ * UCSTORE_TOO_LONG, UCSTORE_BATCH_FULL, UCSTORE_OUT_OF_MEMORY. */
+int32_t ucstore_batch_put(struct ucstore_batch *batch, const uint8_t *key, size_t key_length, const uint8_t *value,
+                          size_t value_length);
+
+/* Adds that a key is combined with an operand. The statuses are those of `ucstore_batch_put`. */
+int32_t ucstore_batch_merge(struct ucstore_batch *batch, const uint8_t *key, size_t key_length, const uint8_t *operand,
+                            size_t operand_length);
+
+/* Adds that a key is removed. The statuses are those of `ucstore_batch_put`. */
+int32_t ucstore_batch_delete(struct ucstore_batch *batch, const uint8_t *key, size_t key_length);
+
+/* Adds that each key from `begin` to below `end` is removed, none if `begin` isn't below `end`. The statuses are those of
+ * `ucstore_batch_put`. */
+int32_t ucstore_batch_delete_range(struct ucstore_batch *batch, const uint8_t *begin, size_t begin_length, const uint8_t *end,
+                                   size_t end_length);
+
+/* Removes the operations, and keeps their memory for others. It answers UCSTORE_OK. */
+int32_t ucstore_batch_clear(struct ucstore_batch *batch);
+
+/* Tells how many operations there are. It answers UCSTORE_OK. */
+int32_t ucstore_batch_count(struct ucstore_batch *batch, uint64_t *count);
+
+/* Copies the bytes of the batch, as RocksDB writes it with the sequence 0, as many of them as there is room for, and tells
+ * how many there are. It answers UCSTORE_OK. */
+int32_t ucstore_batch_bytes(struct ucstore_batch *batch, uint8_t *room, size_t room_length, size_t *size);
+
+/* Frees the batch. It is all zeros then, and may gather others. It answers UCSTORE_OK. */
+int32_t ucstore_batch_close(struct ucstore_batch *batch);
+
+/* Writes the operations of a batch, with the sequences after the last one: all of them, or none if it is refused. The
+ * batch stays as it was.
+ * UCSTORE_NO_STORE, UCSTORE_SEQUENCES_SPENT, UCSTORE_IDS_SPENT, UCSTORE_OUT_OF_MEMORY. */
+int32_t ucstore_write(struct ucstore *store, struct ucstore_batch *batch);
+
 /* Writes a batch, as RocksDB writes it: 8 bytes for a sequence, 4 for a count, and as many records. The operations get
  * that sequence and those after it. If it is 0, they get the sequences after the last one. UCSTORE_SEQUENCES_SPENT
  * also says that the batch's own sequence is above 2^56 - 1.
@@ -203,13 +251,18 @@ int32_t ucstore_delete_range(struct ucstore *store, const uint8_t *begin, size_t
 
 /* Prepares a batch, so that `ucstore_commit` can take it. No read sees it before. Copies the bytes that it adds to a
  * log of `log_length` bytes, and tells how many they are: zero bytes up to the next place of a header, if any are
- * needed, and the batch with its sequence. A batch that was prepared before is given up. The head of this file says
- * what to do with the record.
+ * needed, and the batch with its sequence. What was prepared before is given up. The head of this file says what to do
+ * with the record. The batch stays as it was.
  *
  * UCSTORE_ROOM: the record doesn't fit the room. Nothing is prepared or written there, and `size` tells how much room
- * it needs. Else the statuses are those of `ucstore_write_bytes`. */
-int32_t ucstore_prepare(struct ucstore *store, const uint8_t *batch, size_t batch_length, uint64_t log_length,
-                        uint8_t *room, size_t room_length, size_t *size);
+ * it needs. Else the statuses are those of `ucstore_write`. */
+int32_t ucstore_prepare(struct ucstore *store, struct ucstore_batch *batch, uint64_t log_length, uint8_t *room,
+                        size_t room_length, size_t *size);
+
+/* Prepares a batch, given as bytes, as `ucstore_prepare` does. Its statuses are UCSTORE_ROOM and those of
+ * `ucstore_write_bytes`. */
+int32_t ucstore_prepare_bytes(struct ucstore *store, const uint8_t *batch, size_t batch_length, uint64_t log_length,
+                              uint8_t *room, size_t room_length, size_t *size);
 
 /* Takes the batch that is prepared; if there is none, nothing. It takes no memory.
  * UCSTORE_NO_STORE. */
@@ -251,6 +304,15 @@ int32_t ucstore_get(struct ucstore *store, const uint8_t *key, size_t key_length
  * UCSTORE_NO_STORE, UCSTORE_NOT_PROTECTED, UCSTORE_NOT_FOUND, UCSTORE_OUT_OF_MEMORY. */
 int32_t ucstore_get_at(struct ucstore *store, const uint8_t *key, size_t key_length, uint64_t at, uint8_t *room,
                        size_t room_length, size_t *size);
+
+/* Looks up `count` keys at the last sequence, which stand one behind the other, in any order. For each in turn
+ * `value_lengths` tells the length of its value, UINT64_MAX if it has none. The values that are there are copied into the
+ * room one behind the other, as much of them as there is room for, and `size` tells how many bytes they have.
+ * `value_count` is `count`.
+ * UCSTORE_NO_STORE, UCSTORE_BAD_KEYS, UCSTORE_OUT_OF_MEMORY. */
+int32_t ucstore_get_many(struct ucstore *store, const uint8_t *keys, size_t keys_length, const uint64_t *key_lengths,
+                         size_t count, uint64_t *value_lengths, size_t value_count, uint8_t *room, size_t room_length,
+                         size_t *size);
 
 /* Scans the first rows, at most `limit`, of the keys from `low` to below `high`, or to the last one if not `bounded`,
  * at the last sequence. The rows that fit the room are written one behind the other, each as 8 bytes for the key's

@@ -4,6 +4,7 @@ import doctest
 import random
 import struct
 import threading
+import time
 import unittest
 
 import ucstore
@@ -134,6 +135,14 @@ class Calls(unittest.TestCase):
                 store.put(b"%d" % number, b"v")
                 self.assertLess(store.report().runs, 36)
             self.assertEqual(len(list(store)), 3000)
+
+    def test_a_million_puts_need_no_other_call(self):
+        store, begun = self.store, time.monotonic()
+        for number in range(1000000):
+            store[b"%06d" % (number % 300000)] = b"%d" % number
+        print(f"a million puts in {time.monotonic() - begun:.1f} s")
+        self.assertEqual(store[b"000007"], b"900007")
+        self.assertEqual((sum(1 for _ in store), store.last), (300000, 1000000))
 
     def test_a_store_compacts_by_itself_only_if_asked(self):
         with Store(Operator.APPEND, Options(compacts_itself=False)) as store:

@@ -1,6 +1,8 @@
 //! What each method answers, and what it refuses.
 
 use std::error::Error as StdError;
+use std::io::{self, Write};
+use std::time::Instant;
 use ucstore::{Batch, Ended, Error, Operator, Options, Store};
 
 fn empty() -> Store {
@@ -146,16 +148,19 @@ fn a_report_counts() {
 
 #[test]
 fn a_million_puts_need_no_other_call() {
-    let store = empty();
+    let (store, begun) = (empty(), Instant::now());
     for number in 0..1_000_000u32 {
         store
             .put((number % 300_000).to_be_bytes(), number.to_be_bytes())
             .unwrap();
     }
+    // A test's `println` is held back.
+    writeln!(io::stderr(), "a million puts in {:.2?}", begun.elapsed()).unwrap();
     assert_eq!(
         store.get(7u32.to_be_bytes()).unwrap(),
         Some(900_007u32.to_be_bytes().to_vec())
     );
+    assert_eq!(store.scan("", None).count(), 300_000);
     assert_eq!(store.last(), 1_000_000);
 }
 

@@ -1,2 +1,3 @@
 pub mod Laying
 pub mod Beginning
+pub mod Cutting

@@ -2,6 +2,7 @@ pub use Rattle.uc_batch.specs.Log
 pub use Rattle.uc_query_read.specs.Answers
 pub use Rattle.uc_live.specs.LiveOptions
 pub use Rattle.uc_live.specs.Lives
+pub use Rattle.uc_live.specs.Views
 pub use Rattle.uc_live.specs.Going
 pub use Rattle.uc_live.specs.Compacting
 pub use Rattle.uc_live.specs.Writing
@@ -9,4 +10,6 @@ pub use Rattle.uc_live.specs.Snapshots
 pub use Rattle.uc_live.specs.Recording
 pub mod Engines
 pub mod HeldEngines
+pub mod EngineViews
+pub mod HeldEngineViews
 pub mod EngineReports

@@ -2,10 +2,11 @@
 //! them.
 //!
 //! An [`Engine`] is a [`LiveStore`](uc_live::LiveStore) of one of the operators, and which that is. Each method is a
-//! match over the operators, and does what the store's method of the same name does. It starts no thread.
+//! match over the operators, and does what the store's method of the same name does. It starts no thread. An
+//! [`EngineView`] is a [`View`](uc_live::View) in the same way.
 //!
 //! Read `specs/Engines.antt` first, then `operator_kind.rt`, `engine.rt`, `opening.rt`, `writing.rt`, `reading.rt`,
-//! `snapshots.rt` and `compacting.rt`.
+//! `snapshots.rt`, `compacting.rt` and `engine_view.rt`.
 //!
 //! Tests: `uc_tests_engine`.
 //!
@@ -16,6 +17,7 @@
 
 mod compacting;
 mod engine;
+mod engine_view;
 mod opening;
 mod operator_kind;
 mod reading;
@@ -24,6 +26,7 @@ mod snapshots;
 mod writing;
 
 pub use engine::Engine;
+pub use engine_view::EngineView;
 pub use opening::OpenedEngine;
 pub use operator_kind::OperatorKind;
 pub use report::EngineReport;

@@ -4,7 +4,9 @@ ghost use Rattle.uc_fold.specs.Adding.{added as added_totals};
 ghost use Rattle.uc_engine.specs.EngineReports as reports;
 
 use crate::engine::Engine;
+use crate::engine_view::EngineView;
 use uc_fold::Totals;
+use uc_live::Version;
 use uc_version_state::Placed;
 
 /// What an engine holds, in numbers.
@@ -61,18 +63,33 @@ fn total(runs: &[Placed]) -> Totals
     total
 }
 
+/// The report of a version behind which so many writes are gathered, up to a last sequence.
+fn report_with(version: &Version, gathered: usize, last: u64) -> EngineReport
+    ensures { result ≡ reports.report_with version.now gathered last }
+{
+    EngineReport {
+        runs: version.runs().len() as u64,
+        keeps: version.keeps().len() as u64,
+        total: total(version.runs()),
+        gathered: gathered as u64,
+        last,
+    }
+}
+
 impl Engine {
     /// What it holds, in numbers. It looks at each run once, and at no point.
     pub fn report(&self) -> EngineReport
         ensures { result ≡ reports.report_of self.now.live }
     {
-        let version = self.version();
-        EngineReport {
-            runs: version.runs().len() as u64,
-            keeps: version.keeps().len() as u64,
-            total: total(version.runs()),
-            gathered: self.gathered() as u64,
-            last: self.last(),
-        }
+        report_with(self.version(), self.gathered(), self.last())
+    }
+}
+
+impl EngineView {
+    /// What it holds, in numbers, as [`Engine::report`] tells them.
+    pub fn report(&self) -> EngineReport
+        ensures { result ≡ reports.report_seen self.now.seen }
+    {
+        report_with(self.version(), self.gathered(), self.last())
     }
 }

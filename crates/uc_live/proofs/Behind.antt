@@ -35,13 +35,13 @@ flushed_alone ws v = writes_in (record v { runs = record { id = 0; slot = 0; run
 
 module _ (m : Operation) where
   -- a query at a keep has the same answer without what is gathered
-  pub answer_behind : (v : Stored) (gathered waiting : List Write) (query : Query) → AllByRecursion (λ keep. keep ≤ v.last) v.keeps → IsRising v.last (gathered ++ waiting) →
+  pub answer_behind : (v : Stored) (gathered : List Write) (query : Query) → AllByRecursion (λ keep. keep ≤ v.last) v.keeps → IsRising v.last gathered →
       ((writes others : List Write) (keeps : List ℕ) (query : Query) → (Contains keeps (at_of query) → (key : List ℕ) → Reads query key → value_of m writes key (at_of query) ≡ value_of m others key (at_of query)) → answer_of m writes keeps query ≡ answer_of m others keeps query) →
       ((writes later : List Write) (key : List ℕ) (at : ℕ) → AllByRecursion (λ w. at < w.seq) later → value_of m (writes ++ later) key at ≡ value_of m writes key at) →
       answer_of m (writes_in v) v.keeps query ≡ answer_of m (writes_in v ++ gathered) v.keeps query
-  answer_behind v gathered waiting query below rising equal nothing =
+  answer_behind v gathered query below rising equal nothing =
       equal (writes_in v) (writes_in v ++ gathered) v.keeps query
-      (λ kept key reads. sym (nothing (writes_in v) gathered key (at_of query) (all_above v.last (at_of query) gathered (rising_front v.last gathered waiting rising) (kept_below v.last (at_of query) v.keeps below kept))))
+      (λ kept key reads. sym (nothing (writes_in v) gathered key (at_of query) (all_above v.last (at_of query) gathered rising (kept_below v.last (at_of query) v.keeps below kept))))
 
   -- writes with the same effect give the same value behind others
   pub value_alike : (older newer gathered : List Write) (key : List ℕ) (at : ℕ) →

@@ -9,7 +9,7 @@ use Rattle.uc_claims.specs.declared.table.TheConstants.{MOST_SLOTS}
 use Rattle.uc_run.specs.Size.{memtable_size}
 use Rattle.uc_version_state.specs.Versions.{Stored}
 use Rattle.uc_version_state.specs.Flushes.{memtables}
-use Rattle.uc_version_state.specs.Feeds.{memtables_in, fed, begin_above, first_feed_refusal, feed_refusal, MayFeed}
+use Rattle.uc_version_state.specs.Feeds.{memtables_in, begin_above, first_feed_refusal, feed_refusal, MayFeed}
 use Rattle.uc_version_state.specs.Installs.{IdLeft}
 use Rattle.uc_version_state.specs.declared.feed_error.FeedError.{FeedError}
 use Rattle.uc_version_state.specs.declared.feed_error.FeedError.TheVariants.{Back, TooManyRuns, IdsSpent, Memory}
@@ -55,28 +55,27 @@ ids_spent v (inr e) = absurd cc
 module _ {O : Type 0} (i : Inside O) (is : IsLive i) (owner : IsOwner i.owned) (now : Live) (view : live i ≡ now)
     (fills : (limit : ℕ) (us : List Write) → us ≢ [] → memtable_size us < limit → memtables limit us ≡ us ∷ [])
     (leave : (u : Stored) (us : List Write) → IsRising 0 us → (feed_refusal u us ≡ None) ↔ MayFeed u us)
-    (some : now.gathered ≢ []) (free : length now.version.runs < MOST_SLOTS) (ws : List Write) (ws_is : ws ≡ i.active.shown) where
-  rising : IsRising i.owned.version.last ws
-  rising = subst (λ (us : List Write). IsRising i.owned.version.last us) (sym ws_is) (rising-part i.owned.version.last i.active.shown i.active.waiting is.rising)
+    (some : now.gathered ≢ []) (free : length now.version.runs < MOST_SLOTS) where
+  rising : IsRising i.owned.version.last i.active.shown
+  rising = rising-part i.owned.version.last i.active.shown i.active.waiting is.rising
 
-  one : memtables_in i.owned.version ws ≡ ws ∷ []
+  one : memtables_in i.owned.version i.active.shown ≡ i.active.shown ∷ []
   one =
-      let there : ws ≢ [] = λ none. some (sym (ap (λ (l : Live). l.gathered) view) ∙ sym ws_is ∙ none) in
+      let there : i.active.shown ≢ [] = λ none. some (sym (ap (λ (l : Live). l.gathered) view) ∙ none) in
       let small : memtable_size i.active.shown < 2 ^ 64 - 1 = size-part (2 ^ 64 - 1) i.active.shown i.active.waiting is.small in
-      let below : memtable_size ws < i.owned.version.limit =
-      subst (λ n. memtable_size ws < n) (sym is.whole) (subst (λ (us : List Write). memtable_size us < 2 ^ 64 - 1) (sym ws_is) small) in
-      fills i.owned.version.limit ws there below
+      let below : memtable_size i.active.shown < i.owned.version.limit = subst (λ n. memtable_size i.active.shown < n) (sym is.whole) small in
+      fills i.owned.version.limit i.active.shown there below
 
-  refusal : feed_refusal i.owned.version ws ≡ first_feed_refusal i.owned.version.last true true (nat_lt (i.owned.version.next_id + 1) (2 ^ 64))
+  refusal : feed_refusal i.owned.version i.active.shown ≡ first_feed_refusal i.owned.version.last true true (nat_lt (i.owned.version.next_id + 1) (2 ^ 64))
   refusal =
       let v = i.owned.version in
       let room : length v.runs < MOST_SLOTS = subst (λ (l : Live). length l.version.runs < MOST_SLOTS) (sym view) free in
       let few : nat_le (length v.runs + 1) MOST_SLOTS ≡ true = le-leb (length v.runs + 1) MOST_SLOTS (omega (arith, room)) in
-      ap (λ (ms : List (List Write)). first_feed_refusal v.last (begin_above v.last ws) (nat_le (length v.runs + length ms) MOST_SLOTS) (nat_lt (v.next_id + length ms) (2 ^ 64))) one
-      ∙ ap (λ b. first_feed_refusal v.last b (nat_le (length v.runs + 1) MOST_SLOTS) (nat_lt (v.next_id + 1) (2 ^ 64))) (begins v.last ws rising)
+      ap (λ (ms : List (List Write)). first_feed_refusal v.last (begin_above v.last i.active.shown) (nat_le (length v.runs + length ms) MOST_SLOTS) (nat_lt (v.next_id + length ms) (2 ^ 64))) one
+      ∙ ap (λ b. first_feed_refusal v.last b (nat_le (length v.runs + 1) MOST_SLOTS) (nat_lt (v.next_id + 1) (2 ^ 64))) (begins v.last i.active.shown rising)
       ∙ ap (λ b. first_feed_refusal v.last true b (nat_lt (v.next_id + 1) (2 ^ 64))) few
 
-  pub why : (error : FeedError) → (feed_refusal i.owned.version ws ≡ Some error) ⊎ ((feed_refusal i.owned.version ws ≡ None) × (error ≡ Memory)) → Why i.owned.version error
+  pub why : (error : FeedError) → (feed_refusal i.owned.version i.active.shown ≡ Some error) ⊎ (error ≡ Memory) → Why i.owned.version error
   why error (inl e) =
       let v = i.owned.version in
       let told = only_ids v.last (nat_lt (v.next_id + 1) (2 ^ 64)) error (sym refusal ∙ e) in
@@ -84,14 +83,12 @@ module _ {O : Type 0} (i : Inside O) (is : IsLive i) (owner : IsOwner i.owned) (
       let below = owner.version.id_below in
       let greatest : v.next_id ≡ 2 ^ 64 - 1 = omega (arith, above, below) in
       inl (told.0, λ left. left greatest)
-  why error (inr e) = inr e.1
+  why error (inr e) = inr e
 
-  pub flushes : (m : Operation) (owned : Owner) → feed_refusal i.owned.version ws ≡ None → owned ≡ after_feed ws i.owned → Follows m now.version owned.version now.gathered [] []
+  pub flushes : (m : Operation) (owned : Owner) → feed_refusal i.owned.version i.active.shown ≡ None → owned ≡ after_feed i.active.shown i.owned → Follows m now.version owned.version now.gathered [] []
   flushes m owned none e =
       let v = i.owned.version in
-      let may = (leave v ws (rising_from_any v.last ws rising)).0 none in
-      let here : Follows m v (fed ws v) ws [] [] = follows_flush m v ws may in
-      let there : Follows m v owned.version i.active.shown [] [] =
-      subst (λ (us : List Write). Follows m v owned.version us [] []) ws_is
-      (subst (λ (o : Owner). Follows m v o.version ws [] []) (sym e) here) in
-      subst (λ (l : Live). Follows m l.version owned.version l.gathered [] []) view there
+      let may = (leave v i.active.shown (rising_from_any v.last i.active.shown rising)).0 none in
+      let here : Follows m v owned.version i.active.shown [] [] =
+      subst (λ (o : Owner). Follows m v o.version i.active.shown [] []) (sym e) (follows_flush m v i.active.shown may) in
+      subst (λ (l : Live). Follows m l.version owned.version l.gathered [] []) view here

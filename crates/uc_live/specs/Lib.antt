@@ -1,6 +1,8 @@
 pub mod LiveOptions
 pub mod Lives
 pub mod HeldLives
+pub mod Views
+pub mod HeldViews
 pub mod Going
 pub mod Writing
 pub mod Compacting

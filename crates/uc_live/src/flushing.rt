@@ -1,6 +1,11 @@
 //! What is gathered becomes a run.
-ghost use Rattle.std.specs.Prelude.{◌≡◌, ◌≢◌, ◌<◌, [], OnOk, IfErr, length};
+ghost use Rattle.std.specs.Prelude.{◌≡◌, ◌≢◌, ◌<◌, ◌⊎◌, [], Some, None, OnOk, IfErr, length};
+ghost use Rattle.uc_batch.specs.Rising.{IsRising};
 ghost use Rattle.uc_claims.specs.declared.table.TheConstants.{MOST_SLOTS};
+ghost use Rattle.uc_run.specs.Size.{memtable_size};
+ghost use Rattle.uc_version_state.specs.Feeds.{feed_refusal};
+ghost use Rattle.uc_version_state.specs.declared.feed_error.FeedError.TheVariants as feed_errors;
+ghost use Rattle.uc_version.specs.Feeding.{after_feed};
 ghost use Rattle.uc_live.specs.Compacting.{HasNoRoom};
 ghost use Rattle.uc_live.specs.Going.{GoesOn};
 ghost use Rattle.uc_live.specs.Writing.{Prepares};
@@ -8,16 +13,41 @@ ghost use Rattle.uc_live.specs.Writing.{Prepares};
 use crate::live_store::LiveStore;
 use crate::room_error::RoomError;
 use std::alloc::Global;
-use uc_memtable::ActiveMemtable;
+use uc_memtable::GatheredMemtables;
 use uc_oper::Operator;
-use uc_version::FeedError;
+use uc_version::{FeedError, Owned};
 use uc_version_state::{no_refusal_is_leave_to_feed, small_writes_fill_one_memtable};
 
 /// How many range deletions an active memtable takes: a lookup asks each of them.
 const MOST_RANGES: usize = 64;
 
+/// Feeds an owner what is gathered, as one run. If some of it is frozen, it costs a copy of all. An `Err` changes
+/// nothing.
+fn feed_gathered<O: Operator>(
+    owned: &mut Owned<O>,
+    alloc: Global,
+    active: &GatheredMemtables,
+) -> Result<(), FeedError>
+    requires none { active.now.waiting ≡ [] }
+    requires some { active.now.shown ≢ [] }
+    requires small { memtable_size active.now.shown < owned.old.version.limit }
+    requires rising { IsRising owned.old.version.last active.now.shown }
+    ensures ok { OnOk result ((feed_refusal owned.old.version active.now.shown ≡ None)
+        × (owned.new ≡ after_feed active.now.shown owned.old)) }
+    ensures err { IfErr result (λ error. (owned.new ≡ owned.old)
+        × ((feed_refusal owned.old.version active.now.shown ≡ Some error) ⊎ (error ≡ feed_errors.Memory))) }
+{
+    match active.memtable() {
+        Some(memtable) => owned.feed_memtable(alloc, memtable),
+        None => {
+            let all = active.to_memtable(alloc)?;
+            owned.feed_memtable(alloc, all.memtable())
+        }
+    }
+}
+
 impl<O: Operator> LiveStore<O> {
-    /// Makes a run of what is gathered, and begins an active memtable. An `Err` changes nothing.
+    /// Makes a run of what is gathered, and begins anew with memtables without writes. An `Err` changes nothing.
     fn flush_active(&mut self, alloc: Global) -> Result<(), RoomError>
         requires some { self.old.gathered ≢ [] }
         requires none { self.old.prepared ≡ [] }
@@ -30,9 +60,9 @@ impl<O: Operator> LiveStore<O> {
         self.owned.recall();
         no_refusal_is_leave_to_feed();
         small_writes_fill_one_memtable();
-        match self.owned.feed_memtable(alloc, self.active.memtable()) {
+        match feed_gathered(&mut self.owned, alloc, &self.active) {
             Ok(()) => {
-                self.active = ActiveMemtable::new(alloc);
+                self.active = GatheredMemtables::new(alloc);
                 Ok(())
             }
             Err(FeedError::IdsSpent) => Err(RoomError::IdsSpent),

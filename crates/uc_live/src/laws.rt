@@ -12,6 +12,8 @@ ghost use Rattle.uc_live.specs.Lives.{Live, created};
 ghost use Rattle.uc_live.specs.Going.{GoesOn};
 ghost use Rattle.uc_live.specs.Snapshots.{TakesSnapshot, without_snapshot};
 ghost use Rattle.uc_live.specs.Coming.{HasTaken};
+ghost use Rattle.uc_live.specs.Views as views;
+ghost use Rattle.uc_live.specs.Views.{seen_in};
 
 use uc_model::effect_continues_value;
 use uc_oper::Operator;
@@ -51,4 +53,25 @@ pub fn stores_answer_as_their_writes<O: Operator>()
     histories_say_writes_and_keeps::<O>();
     effect_continues_value::<O>();
     equal_values_give_equal_answers::<O>();
+}
+
+/// A view answers as one thread that folds all writes that its store had taken when it was made: at their last
+/// sequence, and at each snapshot that was there then.
+pub fn views_answer_as_their_writes<O: Operator>()
+    ensures last { (l : Live) (ws : List Write) → HasTaken O.meaning l ws → views.last (seen_in l) ≡ last_of 0 ws }
+    ensures value { (l : Live) (ws : List Write) (key : List ℕ) → HasTaken O.meaning l ws →
+        IsRising l.version.last l.gathered →
+        value_of O.meaning (views.writes_of (seen_in l)) key (views.last (seen_in l)) ≡
+        value_of O.meaning ws key (last_of 0 ws) }
+    ensures rows { (l : Live) (ws : List Write) (low : List ℕ) (high : Option (List ℕ)) (limit : ℕ) →
+        HasTaken O.meaning l ws → IsRising l.version.last l.gathered →
+        first_rows O.meaning (views.writes_of (seen_in l)) (views.last (seen_in l)) limit
+        (named_keys (views.writes_of (seen_in l)) low high) ≡
+        first_rows O.meaning ws (last_of 0 ws) limit (named_keys ws low high) }
+    ensures answer { (l : Live) (ws : List Write) (query : Query) → HasTaken O.meaning l ws →
+        IsRising l.version.last l.gathered →
+        answer_of O.meaning (views.writes_of (seen_in l)) (seen_in l).version.keeps query ≡
+        answer_of O.meaning ws l.version.keeps query }
+{
+    stores_answer_as_their_writes::<O>();
 }

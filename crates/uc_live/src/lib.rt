@@ -1,20 +1,23 @@
 //! A store that one owner writes to as to a map: single writes are gathered in a memtable, and it compacts by itself.
 //!
-//! A [`LiveStore`] has a version, and an active memtable before its runs. A contract sees a [`Live`](specs/Lives.antt):
+//! A [`LiveStore`] has a version, and memtables before its runs. A contract sees a [`Live`](specs/Lives.antt):
 //! the version, and the list of the writes that are gathered. Read `specs/Lives.antt` first, then `specs/Going.antt`,
 //! which says how a store goes on, and `live_store.rt`.
 //!
 //! A write has two steps. [`LiveStore::prepare`] and [`LiveStore::prepare_batch`] judge it, number it and take all
 //! memory that it needs (`preparing.rt`); [`LiveStore::commit`] takes it, and can't fail. Reads only read
-//! (`reading.rt`): the last sequence needs no snapshot. A full memtable becomes a run when the next write comes, and
-//! then runs are compacted while some are picked (`flushing.rt`, `compacting.rt`). Snapshots are counted
-//! (`snapshots.rt`).
+//! (`reading.rt`, `last_reads.rt`): the last sequence needs no snapshot. A full memtable becomes a run when the next
+//! write comes, and then runs are compacted while some are picked (`flushing.rt`, `compacting.rt`). Snapshots are
+//! counted (`snapshots.rt`).
+//!
+//! A [`View`] is what a store holds at a moment, which other threads read while the store goes on (`view.rt`,
+//! `specs/Views.antt`).
 //!
 //! A program makes it durable by a log in a file: [`LiveStore::prepare_recorded`] gives what it appends before it
 //! commits (`recording.rt`, `recorded_laws.rt`).
 //!
 //! By the laws of `laws.rt` a store answers as one thread that folds all writes it has taken, whatever it flushed and
-//! compacted.
+//! compacted, and so does a view of it.
 //!
 //! `uc_tests_engine` tries it by way of `uc_engine`.
 //!
@@ -25,6 +28,7 @@
 
 mod compacting;
 mod flushing;
+mod last_reads;
 mod laws;
 mod live_options;
 mod live_store;
@@ -36,11 +40,13 @@ mod recorded_laws;
 mod recording;
 mod room_error;
 mod snapshots;
+mod view;
 mod waiting;
 mod write_error;
 
 pub use laws::{
     created_stores_have_taken_nothing, stores_answer_as_their_writes, taken_writes_add_up,
+    views_answer_as_their_writes,
 };
 pub use live_options::{GREATEST_STOP, LiveOptions};
 pub use live_store::LiveStore;
@@ -52,4 +58,5 @@ pub use uc_batch::{BatchError, Ended};
 pub use uc_bytes::{Bytes, OpRef};
 pub use uc_query_read::{Answer, Rows};
 pub use uc_version::{Options, ReleaseError, Version};
+pub use view::View;
 pub use write_error::WriteError;

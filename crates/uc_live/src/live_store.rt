@@ -6,20 +6,21 @@ ghost use Rattle.uc_live.specs.Lives.{created};
 ghost use Rattle.uc_live.specs.declared.open_error.LiveOpenError.TheVariants.{BadOption, NoRoom};
 ghost use Rattle.uc_live.specs.declared.room_error.RoomError.TheVariants.{Memory};
 
+use crate::last_reads::last_sequence;
 use crate::live_options::LiveOptions;
 use crate::open_error::LiveOpenError;
 use std::alloc::Global;
 use std::marker::Model;
-use uc_memtable::ActiveMemtable;
+use uc_memtable::GatheredMemtables;
 use uc_oper::Operator;
 use uc_version::{Owned, Version};
 use uc_version_state::{feeds_and_keeps_give_versions, opening_gives_a_version};
 
-/// A store with one owner that gathers what is written to it in an active memtable.
+/// A store with one owner that gathers what is written to it in memtables.
 pub struct LiveStore<O: Operator> {
     pub(crate) owned: Owned<O>,
     /// What is gathered, and what is prepared.
-    pub(crate) active: ActiveMemtable,
+    pub(crate) active: GatheredMemtables,
     /// The sequence of each snapshot, the oldest first, as often as it was taken.
     pub(crate) snapshots: Vec<u64>,
     pub(crate) options: LiveOptions,
@@ -75,7 +76,7 @@ impl<O: Operator> LiveStore<O> {
         let owned = Owned::new(alloc, version, options.store)?;
         Ok(LiveStore {
             owned,
-            active: ActiveMemtable::new(alloc),
+            active: GatheredMemtables::new(alloc),
             snapshots: Vec::new(alloc),
             options,
         })
@@ -92,10 +93,7 @@ impl<O: Operator> LiveStore<O> {
     pub fn last(&self) -> u64
         ensures { result ≡ lives.last self.now }
     {
-        if self.active.is_empty() {
-            return self.owned.version().last();
-        }
-        self.active.last()
+        last_sequence(self.owned.version(), &self.active)
     }
 
     /// How many writes are gathered.

@@ -5,28 +5,22 @@ ghost use Rattle.uc_query_read.specs.Answers.{answer_of, first_rows, named_keys}
 ghost use Rattle.uc_query_read.specs.declared.query.Query.TheVariants as queries;
 ghost use Rattle.uc_live.specs.Lives as lives;
 
+use crate::last_reads::{last_rows, last_value};
 use crate::live_store::LiveStore;
 use std::alloc::{AllocError, Global};
 use uc_bytes::Bytes;
-use uc_model::{effect_continues_value, later_writes_change_nothing};
+use uc_model::later_writes_change_nothing;
 use uc_oper::Operator;
-use uc_query_read::{
-    Answer, Query, Rows, answer_one, equal_values_give_equal_answers, get, rows_at, rows_behind,
-    value_behind,
-};
-use uc_run::flush_keeps_every_effect;
+use uc_query_read::{Answer, Query, Rows, answer_one, equal_values_give_equal_answers, get};
 
 impl<O: Operator> LiveStore<O> {
-    /// The value that a key has at the last sequence, if it has one. It asks the active memtable first, and then the
-    /// runs, from the newest on, up to the first that puts or deletes the key.
+    /// The value that a key has at the last sequence, if it has one. It asks the memtables first, and then the runs,
+    /// each from the newest on, up to the first that puts or deletes the key.
     pub fn get(&self, alloc: Global, key: &[u8]) -> Result<Option<Bytes>, AllocError>
         ensures { IfOk result (λ value.
             value ≡ value_of O.meaning (lives.writes_of self.now) key.now (lives.last self.now)) }
     {
-        effect_continues_value::<O>();
-        let last = self.last();
-        let newer = self.active.effect::<O>(alloc, key, last)?;
-        value_behind::<O>(alloc, self.owned.version(), key, last, newer)
+        last_value::<O>(alloc, self.owned.version(), &self.active, key)
     }
 
     /// Looks a key up at a sequence. The answer is a value, if the key has one, or `NotProtected` if no snapshot is at
@@ -54,15 +48,7 @@ impl<O: Operator> LiveStore<O> {
         ensures { IfOk result (λ rows. rows ≡ first_rows O.meaning (lives.writes_of self.now) (lives.last self.now) limit
             (named_keys (lives.writes_of self.now) low.now high.now)) }
     {
-        flush_keeps_every_effect::<O>();
-        equal_values_give_equal_answers::<O>();
-        effect_continues_value::<O>();
-        let version = self.owned.version();
-        if self.active.is_empty() {
-            return rows_at::<O>(alloc, version, low, high, version.last(), limit);
-        }
-        let newer = self.active.to_run(alloc)?;
-        rows_behind::<O>(alloc, newer, version, low, high, self.active.last(), limit)
+        last_rows::<O>(alloc, self.owned.version(), &self.active, low, high, limit)
     }
 
     /// The answer to a query at a snapshot, or `NotProtected` if no snapshot is at its sequence. What is gathered lies

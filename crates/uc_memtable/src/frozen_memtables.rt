@@ -135,8 +135,8 @@ impl FrozenMemtables {
         Ok(())
     }
 
-    /// Freezes what an active memtable shows, if it shows a write. In its place comes one in which copies of the writes that
-    /// wait do so. An `Err` changes nothing.
+    /// Freezes what an active memtable shows, if it shows a write. In its place comes one in which copies of the writes
+    /// that wait do so. An `Err` changes nothing.
     pub(crate) fn freeze(
         &mut self,
         alloc: Global,
@@ -183,7 +183,8 @@ impl FrozenMemtables {
         at: u64,
         newer: Effect,
     ) -> Result<Effect, AllocError>
-        ensures { IfOk result (λ effect. effect ≡ composed O.meaning (effect_on O.meaning self.now key.now at) newer) }
+        ensures { IfOk result (λ effect.
+            effect ≡ composed O.meaning (effect_on O.meaning self.now key.now at) newer) }
     {
         effect_before::<O>(alloc, &self.memtables, key, at, newer)
     }

@@ -1,5 +1,6 @@
 //! [`GatheredMemtables`]: writes that are looked into while more come, and which threads share as they are at a moment.
-ghost use Rattle.std.specs.Prelude.{◌≡◌, ◌≢◌, ◌<◌, ◌^◌, ◌↔◌, ◌∷◌, ◌++◌, [], IsTrue, IfOk, IfSome, OnOk, OnErr, length, count_by};
+ghost use Rattle.std.specs.Prelude.{◌≡◌, ◌≢◌, ◌<◌, ◌^◌, ◌↔◌, ◌∷◌, ◌++◌, [], IsTrue, IfOk, IfSome, OnOk, OnErr};
+ghost use Rattle.std.specs.Prelude.{length, count_by};
 ghost use Rattle.uc_batch.specs.Rising.{IsRising, last_of};
 ghost use Rattle.uc_model.specs.Meaning.{effect_on};
 ghost use Rattle.uc_run.specs.Flush.{flushed};
@@ -141,7 +142,8 @@ impl GatheredMemtables {
         let _ = &self.active;
     }
 
-    /// Takes a write, which then waits behind the others, as [`ActiveMemtable::prepare`] does. An `Err` changes nothing.
+    /// Takes a write, which then waits behind the others, as [`ActiveMemtable::prepare`] does. An `Err` changes
+    /// nothing.
     pub fn prepare(&mut self, write: &WriteRef<'_>) -> Result<(), AllocError>
         requires above { last_of 0 (self.old.shown ++ self.old.waiting) < write.now.seq }
         requires below { write.now.seq < 2 ^ 56 }

@@ -58,7 +58,8 @@ pub(crate) fn copy_of(
     Ok(one)
 }
 
-/// From which place on memtables are put together: the one before it has more than twice the bytes of all from there on.
+/// From which place on memtables are put together: the one before it has more than twice the bytes of all from there
+/// on.
 fn small_from(memtables: &[FrozenMemtable]) -> usize
     ensures { result ≤ length memtables.now }
 {
@@ -95,7 +96,8 @@ fn join_from(
     Ok(())
 }
 
-/// Puts the newest ones together, so that each has more than twice the bytes of the next one. An `Err` leaves them apart.
+/// Puts the newest ones together, so that each has more than twice the bytes of the next one. An `Err` leaves them
+/// apart.
 pub(crate) fn join_small(
     alloc: Global,
     memtables: &mut Vec<FrozenMemtable>,

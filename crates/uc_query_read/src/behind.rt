@@ -54,14 +54,14 @@ pub fn rows_at<O: Operator>(
 }
 
 /// A run before those of a version, which are shared. Its own place is of no account.
-fn runs_behind(alloc: Global, newer: Run, runs: &[Placed]) -> Result<Vec<Placed>, AllocError>
-    ensures { IfOk result (λ all. contents_of all.items ≡ newer ∷ contents_of runs.now) }
+fn runs_behind(alloc: Global, newer: Arc<Run>, runs: &[Placed]) -> Result<Vec<Placed>, AllocError>
+    ensures { IfOk result (λ all. contents_of all.items ≡ arc_value newer ∷ contents_of runs.now) }
 {
     let mut all = Vec::with_capacity(alloc, runs.len().saturating_add(1))?;
     all.push(Placed {
         id: 0,
         slot: 0,
-        run: Arc::new(alloc, newer)?,
+        run: newer,
     })?;
     for placed in runs {
         all.push(placed.shared()?)?;
@@ -72,7 +72,7 @@ fn runs_behind(alloc: Global, newer: Run, runs: &[Placed]) -> Result<Vec<Placed>
 /// The rows of a scan, as [`rows_at`] gives them, of a version behind a run that is newer than all its runs. It copies no run.
 pub fn rows_behind<O: Operator>(
     alloc: Global,
-    newer: Run,
+    newer: Arc<Run>,
     version: &Version,
     low: &[u8],
     high: &Option<Bytes>,
@@ -80,8 +80,8 @@ pub fn rows_behind<O: Operator>(
     limit: u64,
 ) -> Result<Rows, AllocError>
     ensures { IfOk result (λ rows.
-        rows ≡ answers.first_rows O.meaning (writes_of (newer ∷ contents_of version.now.runs)) at limit
-        (named_keys (writes_of (newer ∷ contents_of version.now.runs)) low.now high.now)) }
+        rows ≡ answers.first_rows O.meaning (writes_of (arc_value newer ∷ contents_of version.now.runs)) at limit
+        (named_keys (writes_of (arc_value newer ∷ contents_of version.now.runs)) low.now high.now)) }
 {
     let runs = runs_behind(alloc, newer, version.runs())?;
     rows_of_runs::<O>(alloc, &runs, low, high, at, limit)

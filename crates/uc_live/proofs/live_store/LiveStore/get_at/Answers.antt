@@ -5,7 +5,7 @@ use Rattle.uc_query_read.specs.declared.query.Query.TheVariants.{Get}
 use Rattle.uc_version_state.specs.Versions.{Stored, writes_in}
 use Rattle.uc_live.specs.Lives as lives
 use Rattle.uc_live.specs.Lives.{Live}
-use Rattle.uc_live.proofs.Behind.{answer_behind}
+use Rattle.uc_live.proofs.Behind.{answer_behind, rising_front}
 use Rattle.uc_live.proofs.live_store.LiveStore.get_at.Goals as goal
 
 pub returns : goal.returns
@@ -16,6 +16,6 @@ returns g c =
     let v = c.self.inside.owned.version in
     let active = c.self.inside.active in
     let from_runs = subst (λ (u : Stored). IfOk r (λ answer. answer ≡ answer_of m (writes_in u) u.keeps query)) c.version.ensures c.get.ensures in
-    let same = answer_behind m v active.shown active.waiting query c.recall.ensures.version.keeps_below c.self.invariant.rising c.equal_values_give_equal_answers.ensures c.later_writes_change_nothing.ensures.value in
+    let same = answer_behind m v active.shown query c.recall.ensures.version.keeps_below (rising_front v.last active.shown active.waiting c.self.invariant.rising) c.equal_values_give_equal_answers.ensures c.later_writes_change_nothing.ensures.value in
     subst (λ (l : Live). IfOk r (λ answer. answer ≡ answer_of m (lives.writes_of l) l.version.keeps query)) c.self.view_is
     (subst (λ (expected : Answer). IfOk r (λ answer. answer ≡ expected)) same from_runs)

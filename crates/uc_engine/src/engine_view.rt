@@ -1,0 +1,192 @@
+//! [`EngineView`]: what an engine holds at a moment.
+ghost use Rattle.std.specs.Prelude.{◌≡◌, IfOk, length};
+ghost use Rattle.uc_query_read.specs.declared.query.Query.TheVariants as queries;
+ghost use Rattle.uc_live.specs.Views as views;
+ghost use Rattle.uc_engine.specs.EngineViews.{answer_seen, rows_seen, value_seen, viewed_in};
+
+use crate::engine::{AnyStore, Engine};
+use crate::operator_kind::{LastBytes, OperatorKind, Texts};
+use std::alloc::{AllocError, Global};
+use std::marker::Model;
+use uc_bytes::Bytes;
+use uc_live::{Version, View};
+use uc_oper::{Counter, Maximum};
+use uc_query_read::{Answer, Query, Rows};
+
+/// A view of a store of each operator.
+#[derive(Drop)]
+pub(crate) enum AnyView {
+    /// A view of a store that joins texts.
+    Append(View<Texts>),
+    /// A view of a store that adds numbers.
+    Counter(View<Counter>),
+    /// A view of a store that keeps the greater text.
+    Maximum(View<Maximum>),
+    /// A view of a store that keeps the last bytes.
+    Tail(View<LastBytes>),
+}
+
+/// What an engine holds at a moment. It stays so, whatever happens to the engine, and also when that is dropped. Threads
+/// share it: each read only reads. A contract sees which operator merges, and what the store holds.
+pub struct EngineView {
+    pub(crate) view: AnyView,
+}
+
+impl Model for EngineView {
+    ghost use Rattle.uc_engine.specs.EngineViews.{Viewed};
+    ghost use Rattle.uc_engine.specs.HeldEngineViews.{viewed};
+
+    ghost Value = { Viewed };
+
+    ghost view = { viewed };
+}
+
+// A destructor of its own: where a value is dropped, the proof of a caller has one call, and not one for each field.
+impl Drop for EngineView {
+    fn drop(self) {
+        let EngineView { view: _ } = self;
+    }
+}
+
+impl Engine {
+    /// What it holds now, as `LiveStore::view` gives it. What is prepared isn't in it. It is refused for want of memory.
+    /// It changes nothing.
+    pub fn view(&mut self, alloc: Global) -> Result<EngineView, AllocError>
+        ensures view { IfOk result (λ view. view ≡ viewed_in self.old) }
+        ensures same { self.new ≡ self.old }
+    {
+        let view = match &mut self.store {
+            AnyStore::Append(store) => AnyView::Append(store.view(alloc)?),
+            AnyStore::Counter(store) => AnyView::Counter(store.view(alloc)?),
+            AnyStore::Maximum(store) => AnyView::Maximum(store.view(alloc)?),
+            AnyStore::Tail(store) => AnyView::Tail(store.view(alloc)?),
+        };
+        Ok(EngineView { view })
+    }
+}
+
+impl EngineView {
+    /// The view again, for another thread. It takes no memory, and is refused only if 2^63 views of the moment are there.
+    pub fn again(&self) -> Result<EngineView, AllocError>
+        ensures { IfOk result (λ again. again ≡ self.now) }
+    {
+        let view = match &self.view {
+            AnyView::Append(view) => AnyView::Append(view.again()?),
+            AnyView::Counter(view) => AnyView::Counter(view.again()?),
+            AnyView::Maximum(view) => AnyView::Maximum(view.again()?),
+            AnyView::Tail(view) => AnyView::Tail(view.again()?),
+        };
+        Ok(EngineView { view })
+    }
+
+    /// Which operator merges.
+    pub fn kind(&self) -> OperatorKind
+        ensures { result ≡ self.now.kind }
+    {
+        match &self.view {
+            AnyView::Append(_) => OperatorKind::Append,
+            AnyView::Counter(_) => OperatorKind::Counter,
+            AnyView::Maximum(_) => OperatorKind::Maximum,
+            AnyView::Tail(_) => OperatorKind::Tail,
+        }
+    }
+
+    /// What its runs hold.
+    pub(crate) fn version(&self) -> &Version
+        ensures { result.now ≡ self.now.seen.version }
+    {
+        match &self.view {
+            AnyView::Append(view) => view.version(),
+            AnyView::Counter(view) => view.version(),
+            AnyView::Maximum(view) => view.version(),
+            AnyView::Tail(view) => view.version(),
+        }
+    }
+
+    /// The last sequence; 0 if nothing was written.
+    pub fn last(&self) -> u64
+        ensures { result ≡ views.last self.now.seen }
+    {
+        match &self.view {
+            AnyView::Append(view) => view.last(),
+            AnyView::Counter(view) => view.last(),
+            AnyView::Maximum(view) => view.last(),
+            AnyView::Tail(view) => view.last(),
+        }
+    }
+
+    /// How many writes are gathered.
+    pub fn gathered(&self) -> usize
+        ensures { result ≡ length self.now.seen.gathered }
+    {
+        match &self.view {
+            AnyView::Append(view) => view.gathered(),
+            AnyView::Counter(view) => view.gathered(),
+            AnyView::Maximum(view) => view.gathered(),
+            AnyView::Tail(view) => view.gathered(),
+        }
+    }
+
+    /// The sequences that snapshots protected, which rise, each once.
+    pub fn keeps(&self) -> &[u64]
+        ensures { result.now ≡ self.now.seen.version.keeps }
+    {
+        self.version().keeps()
+    }
+
+    /// The value that a key has at the last sequence, if it has one.
+    pub fn get(&self, alloc: Global, key: &[u8]) -> Result<Option<Bytes>, AllocError>
+        ensures { IfOk result (λ value. value ≡ value_seen self.now key.now) }
+    {
+        match &self.view {
+            AnyView::Append(view) => view.get(alloc, key),
+            AnyView::Counter(view) => view.get(alloc, key),
+            AnyView::Maximum(view) => view.get(alloc, key),
+            AnyView::Tail(view) => view.get(alloc, key),
+        }
+    }
+
+    /// Looks a key up at a sequence. The answer is a value, if the key has one, or `NotProtected` if no snapshot was at
+    /// the sequence.
+    pub fn get_at(&self, alloc: Global, key: &[u8], at: u64) -> Result<Answer, AllocError>
+        ensures { IfOk result (λ answer. answer ≡ answer_seen self.now (queries.Get key.now at)) }
+    {
+        match &self.view {
+            AnyView::Append(view) => view.get_at(alloc, key, at),
+            AnyView::Counter(view) => view.get_at(alloc, key, at),
+            AnyView::Maximum(view) => view.get_at(alloc, key, at),
+            AnyView::Tail(view) => view.get_at(alloc, key, at),
+        }
+    }
+
+    /// The first rows, at most `limit`, of the keys from `low` to below `high`, or to the last one if `high` is `None`,
+    /// at the last sequence. Each scan sorts what is gathered.
+    pub fn scan(
+        &self,
+        alloc: Global,
+        low: &[u8],
+        high: &Option<Bytes>,
+        limit: u64,
+    ) -> Result<Rows, AllocError>
+        ensures { IfOk result (λ rows. rows ≡ rows_seen self.now low.now high.now limit) }
+    {
+        match &self.view {
+            AnyView::Append(view) => view.scan(alloc, low, high, limit),
+            AnyView::Counter(view) => view.scan(alloc, low, high, limit),
+            AnyView::Maximum(view) => view.scan(alloc, low, high, limit),
+            AnyView::Tail(view) => view.scan(alloc, low, high, limit),
+        }
+    }
+
+    /// The answer to a query at a snapshot, or `NotProtected` if no snapshot was at its sequence.
+    pub fn answer(&self, alloc: Global, query: &Query) -> Result<Answer, AllocError>
+        ensures { IfOk result (λ answer. answer ≡ answer_seen self.now query.now) }
+    {
+        match &self.view {
+            AnyView::Append(view) => view.answer(alloc, query),
+            AnyView::Counter(view) => view.answer(alloc, query),
+            AnyView::Maximum(view) => view.answer(alloc, query),
+            AnyView::Tail(view) => view.answer(alloc, query),
+        }
+    }
+}

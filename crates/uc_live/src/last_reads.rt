@@ -1,0 +1,69 @@
+//! Reads at the last sequence, of a version and of the writes that are gathered behind it.
+ghost use Rattle.std.specs.Prelude.{◌≡◌, ◌++◌, IfOk};
+ghost use Rattle.uc_batch.specs.Rising.{IsRising, last_of};
+ghost use Rattle.uc_model.specs.Meaning.{value_of};
+ghost use Rattle.uc_query_read.specs.Answers.{first_rows, named_keys};
+ghost use Rattle.uc_version_state.specs.Versions.{writes_in};
+
+use std::alloc::{AllocError, Global};
+use std::sync::Arc;
+use uc_bytes::Bytes;
+use uc_memtable::GatheredMemtables;
+use uc_model::effect_continues_value;
+use uc_oper::Operator;
+use uc_query_read::{Rows, equal_values_give_equal_answers, rows_at, rows_behind, value_behind};
+use uc_run::flush_keeps_every_effect;
+use uc_version::Version;
+
+/// The last sequence; 0 if nothing was written.
+pub(crate) fn last_sequence(version: &Version, gathered: &GatheredMemtables) -> u64
+    ensures { result ≡ last_of version.now.last gathered.now.shown }
+{
+    if gathered.is_empty() {
+        return version.last();
+    }
+    gathered.last()
+}
+
+/// The value that a key has at the last sequence, if it has one. It asks the memtables first, and then the runs, each
+/// from the newest on, up to the first that puts or deletes the key.
+pub(crate) fn last_value<O: Operator>(
+    alloc: Global,
+    version: &Version,
+    gathered: &GatheredMemtables,
+    key: &[u8],
+) -> Result<Option<Bytes>, AllocError>
+    ensures { IfOk result (λ value. value ≡ value_of O.meaning
+        (writes_in version.now ++ gathered.now.shown) key.now (last_of version.now.last gathered.now.shown)) }
+{
+    effect_continues_value::<O>();
+    let last = last_sequence(version, gathered);
+    let newer = gathered.effect::<O>(alloc, key, last)?;
+    value_behind::<O>(alloc, version, key, last, newer)
+}
+
+/// The first rows, at most `limit`, of the keys from `low` to below `high`, or to the last one if `high` is `None`, at
+/// the last sequence. It costs a sort of what is gathered, a search in each run, and then a step in each run for each
+/// key in the range up to the last row's.
+pub(crate) fn last_rows<O: Operator>(
+    alloc: Global,
+    version: &Version,
+    gathered: &GatheredMemtables,
+    low: &[u8],
+    high: &Option<Bytes>,
+    limit: u64,
+) -> Result<Rows, AllocError>
+    requires { IsRising version.now.last gathered.now.shown }
+    ensures { IfOk result (λ rows. rows ≡ first_rows O.meaning
+        (writes_in version.now ++ gathered.now.shown) (last_of version.now.last gathered.now.shown) limit
+        (named_keys (writes_in version.now ++ gathered.now.shown) low.now high.now)) }
+{
+    flush_keeps_every_effect::<O>();
+    equal_values_give_equal_answers::<O>();
+    effect_continues_value::<O>();
+    if gathered.is_empty() {
+        return rows_at::<O>(alloc, version, low, high, version.last(), limit);
+    }
+    let newer = Arc::new(alloc, gathered.to_run(alloc)?)?;
+    rows_behind::<O>(alloc, newer, version, low, high, gathered.last(), limit)
+}

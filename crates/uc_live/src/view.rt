@@ -1,0 +1,168 @@
+//! [`View`]: what a live store holds at a moment.
+ghost use Rattle.std.specs.Prelude.{◌≡◌, IfOk, length};
+ghost use Rattle.uc_batch.specs.Rising.{IsRising};
+ghost use Rattle.uc_model.specs.Meaning.{value_of};
+ghost use Rattle.uc_query_read.specs.Answers.{answer_of, first_rows, named_keys};
+ghost use Rattle.uc_query_read.specs.declared.query.Query.TheVariants as queries;
+ghost use Rattle.uc_live.specs.Views as views;
+ghost use Rattle.uc_live.specs.Views.{seen_in};
+
+use crate::last_reads::{last_rows, last_sequence, last_value};
+use crate::live_store::LiveStore;
+use std::alloc::{AllocError, Global};
+use std::marker::{Model, PhantomData};
+use std::sync::Arc;
+use uc_bytes::Bytes;
+use uc_memtable::GatheredMemtables;
+use uc_model::later_writes_change_nothing;
+use uc_oper::Operator;
+use uc_query_read::{Answer, Query, Rows, answer_one, equal_values_give_equal_answers, get};
+use uc_version::Version;
+
+/// The parts of a view, which it shares.
+#[derive(Drop)]
+struct ViewParts {
+    version: Version,
+    gathered: GatheredMemtables,
+}
+
+/// What a live store holds at a moment. It stays so, whatever is written to the store, flushed and compacted, and also
+/// when the store is dropped. Threads share it: each read only reads.
+pub struct View<O: Operator> {
+    parts: Arc<ViewParts>,
+    operator: PhantomData<O>,
+}
+
+impl<O: Operator> Model for View<O> {
+    ghost use Rattle.uc_live.specs.Views.{Seen};
+    ghost use Rattle.uc_live.specs.HeldViews.{seen, IsSeen};
+
+    ghost Value = { Seen };
+
+    ghost view = { seen };
+
+    ghost invariant = { IsSeen };
+}
+
+// A destructor of its own: where a value is dropped, the proof of a caller has one call, and not one for each field.
+impl<O: Operator> Drop for View<O> {
+    fn drop(self) {
+        let View {
+            parts: _,
+            operator: _,
+        } = self;
+    }
+}
+
+impl<O: Operator> LiveStore<O> {
+    /// What it holds now. A batch that is prepared isn't in it, and stays prepared. Nothing is flushed. No run is
+    /// copied, and of what is gathered only what [`GatheredMemtables::share`] says.
+    ///
+    /// It is refused for want of memory. It changes nothing.
+    pub fn view(&mut self, alloc: Global) -> Result<View<O>, AllocError>
+        ensures view { IfOk result (λ view. view ≡ seen_in self.old) }
+        ensures same { self.new ≡ self.old }
+    {
+        let version = self.owned.version().shared(alloc)?;
+        let gathered = self.active.share(alloc)?;
+        let parts = Arc::new(alloc, ViewParts { version, gathered })?;
+        Ok(View {
+            parts,
+            operator: PhantomData,
+        })
+    }
+}
+
+impl<O: Operator> View<O> {
+    /// The view again, for another thread. It shares all parts, and takes no memory. It is refused if 2^63 views of the
+    /// moment are there.
+    pub fn again(&self) -> Result<View<O>, AllocError>
+        ensures { IfOk result (λ again. again ≡ self.now) }
+    {
+        Ok(View {
+            parts: self.parts.clone()?,
+            operator: PhantomData,
+        })
+    }
+
+    /// What the runs hold. What is gathered isn't in it.
+    pub fn version(&self) -> &Version
+        ensures { result.now ≡ self.now.version }
+    {
+        &self.parts.version
+    }
+
+    /// The last sequence; 0 if nothing was written.
+    pub fn last(&self) -> u64
+        ensures { result ≡ views.last self.now }
+    {
+        last_sequence(&self.parts.version, &self.parts.gathered)
+    }
+
+    /// How many writes are gathered.
+    pub fn gathered(&self) -> usize
+        ensures { result ≡ length self.now.gathered }
+    {
+        self.parts.gathered.len()
+    }
+
+    /// What holds of every view: what is gathered lies behind the runs. Proof step: does nothing when it runs.
+    pub fn recall(&self)
+        ensures { IsRising self.now.version.last self.now.gathered }
+    {
+        let _ = &self.parts;
+    }
+
+    /// The value that a key has at the last sequence, if it has one, as [`LiveStore::get`] finds it.
+    pub fn get(&self, alloc: Global, key: &[u8]) -> Result<Option<Bytes>, AllocError>
+        ensures { IfOk result (λ value.
+            value ≡ value_of O.meaning (views.writes_of self.now) key.now (views.last self.now)) }
+    {
+        last_value::<O>(alloc, &self.parts.version, &self.parts.gathered, key)
+    }
+
+    /// Looks a key up at a sequence. The answer is a value, if the key has one, or `NotProtected` if no snapshot was at
+    /// the sequence.
+    pub fn get_at(&self, alloc: Global, key: &[u8], at: u64) -> Result<Answer, AllocError>
+        ensures { IfOk result (λ answer.
+            answer ≡ answer_of O.meaning (views.writes_of self.now) self.now.version.keeps (queries.Get key.now at)) }
+    {
+        later_writes_change_nothing::<O>();
+        equal_values_give_equal_answers::<O>();
+        let version = &self.parts.version;
+        version.recall();
+        get::<O>(alloc, version, key, at)
+    }
+
+    /// The first rows, at most `limit`, of the keys from `low` to below `high`, or to the last one if `high` is `None`,
+    /// at the last sequence.
+    ///
+    /// Each scan sorts what is gathered, and a view never flushes it. Where many scans are to come and much is
+    /// gathered, [`settle`](LiveStore::settle) the store before the view is made.
+    pub fn scan(
+        &self,
+        alloc: Global,
+        low: &[u8],
+        high: &Option<Bytes>,
+        limit: u64,
+    ) -> Result<Rows, AllocError>
+        ensures { IfOk result (λ rows.
+            rows ≡ first_rows O.meaning (views.writes_of self.now) (views.last self.now) limit
+            (named_keys (views.writes_of self.now) low.now high.now)) }
+    {
+        let parts = &self.parts;
+        last_rows::<O>(alloc, &parts.version, &parts.gathered, low, high, limit)
+    }
+
+    /// The answer to a query at a snapshot, or `NotProtected` if no snapshot was at its sequence.
+    pub fn answer(&self, alloc: Global, query: &Query) -> Result<Answer, AllocError>
+        ensures { IfOk result (λ answer.
+            answer ≡ answer_of O.meaning (views.writes_of self.now) self.now.version.keeps query.now) }
+    {
+        later_writes_change_nothing::<O>();
+        equal_values_give_equal_answers::<O>();
+        let version = &self.parts.version;
+        version.recall();
+        answer_one::<O>(alloc, version, query)
+    }
+}
