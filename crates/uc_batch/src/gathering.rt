@@ -14,8 +14,8 @@ use uc_bytes::OpRef;
 /// Where a batch's header has the count, behind the sequence.
 const COUNT_PLACE: usize = 8;
 
-/// Operations that are gathered as the bytes of a batch without a sequence: it is 0, as in a batch that a program builds
-/// with RocksDB's class of this name. Whoever takes the batch numbers them.
+/// Operations that are gathered as the bytes of a batch without a sequence: it is 0, as in a batch that a program
+/// builds with RocksDB's class of this name. Whoever takes the batch numbers them.
 ///
 /// A contract sees it as the list of the operations.
 #[derive(Debug, Drop)]

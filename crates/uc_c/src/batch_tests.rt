@@ -1,4 +1,5 @@
-//! Batches that C holds, and look-ups of many keys: each export where it does what it is asked, and where it is refused.
+//! Batches that C holds, and look-ups of many keys: each export where it does what it is asked, and where it is
+//! refused.
 
 use crate::batches::{
     ucstore_batch_bytes, ucstore_batch_clear, ucstore_batch_close, ucstore_batch_count,

@@ -121,8 +121,8 @@ pub extern "C" fn ucstore_delete_range(
     write(alloc, handle, OpRef::delete_range(begin, end))
 }
 
-/// Prepares a batch, and copies the record that it adds to a log of so many bytes, if there is room for it, and says how
-/// long that is. If there is too little room, nothing is prepared. Returns the status, or why the batch isn't taken.
+/// Prepares a batch, and copies the record that it adds to a log of so many bytes, if there is room for it, and says
+/// how long that is. If there is too little room, nothing is prepared. Returns the status, or why the batch isn't taken.
 fn prepare(
     alloc: Global,
     engine: &mut Engine,
@@ -160,7 +160,8 @@ pub extern "C" fn ucstore_prepare(
     room: &mut [u8],
     size: &mut usize,
 ) -> i32
-    ensures prepares { PreparesOps result log_length (ops_held batch.old.held) room.old room.new size.new handle.old.held handle.new.held }
+    ensures prepares { PreparesOps result log_length (ops_held batch.old.held) room.old room.new size.new
+        handle.old.held handle.new.held }
     ensures stays { batch.new.held ≡ batch.old.held }
     ensures untold { (result ≡ OK) ⊎ (room.new ≡ room.old) }
     ensures size_untold { (result ≡ OK) ⊎ ((result ≡ ROOM) ⊎ (size.new ≡ size.old)) }
@@ -184,7 +185,8 @@ fn prepare_ops(
     room: &mut [u8],
     size: &mut usize,
 ) -> i32
-    ensures tells { TellsOps result log_length (ops_held (option_map (λ b. b.value) held.now)) room.old room.new size.new engine.old engine.new }
+    ensures tells { TellsOps result log_length (ops_held (option_map (λ b. b.value) held.now)) room.old room.new size.new
+        engine.old engine.new }
     ensures untold { (result ≡ OK) ⊎ (room.new ≡ room.old) }
     ensures size_untold { (result ≡ OK) ⊎ ((result ≡ ROOM) ⊎ (size.new ≡ size.old)) }
 {

@@ -28,7 +28,8 @@ fn has_bytes(batch: &WriteBatch, ops: &[Op], bytes: &[u8]) -> bool {
         && batch.is_empty() == ops.is_empty()
 }
 
-/// Whether operations that are gathered are these bytes, whatever their sequence is: also in a batch that had others before.
+/// Whether operations that are gathered are these bytes, whatever their sequence is. So they are in a batch that had
+/// others before.
 pub fn are_gathered(alloc: Global, ops: &[Op], bytes: &[u8]) -> Result<bool, CaseError> {
     let mut batch = WriteBatch::new(alloc)?;
     let is_empty = has_bytes(&batch, &[], &[0; 12]);
