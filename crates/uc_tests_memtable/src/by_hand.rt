@@ -1,11 +1,21 @@
-//! Each method, called once.
-use crate::both::prepare;
-use std::alloc::Global;
+//! Each method of an active memtable, called once.
+use std::alloc::{AllocError, Global};
 use std::process::Abort;
 use std::test::Fail;
-use uc_bytes::{OpRef, WriteRef};
+use uc_bytes::{MAX_SEQUENCE, OpRef, WriteRef};
 use uc_memtable::ActiveMemtable;
 use uc_oper::{Append, Effect};
+
+/// Takes a write whose sequence is above the last.
+fn prepare(
+    rt: &impl Abort,
+    memtable: &mut ActiveMemtable,
+    write: &WriteRef<'_>,
+) -> Result<(), AllocError> {
+    assert!(rt; memtable.last_prepared() < write.seq());
+    assert!(rt; write.seq() <= MAX_SEQUENCE);
+    memtable.prepare(write)
+}
 
 /// Two writes of a key, and a range deletion over another.
 fn take_writes(rt: &impl Abort, memtable: &mut ActiveMemtable) -> Result<(), Fail> {

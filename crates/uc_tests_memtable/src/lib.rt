@@ -1,7 +1,7 @@
-//! A memtable that is looked into while it takes writes, beside a plain list.
+//! Memtables that are looked into while they take writes, beside a plain list.
 //!
-//! `drawn.rt` draws writes, `both.rt` has a memtable and the list of the same writes, `beside_list.rt` plays drawn ones, and
-//! `by_hand.rt` calls each method once.
+//! `drawn.rt` draws writes, `both.rt` has memtables and the list of the same writes, `beside_list.rt` plays drawn ones,
+//! and `by_hand.rt` and `shares.rt` call each method once.
 #![tactic(auto)]
 
 #[cfg(test)]
@@ -12,3 +12,5 @@ mod both;
 mod by_hand;
 #[cfg(test)]
 mod drawn;
+#[cfg(test)]
+mod shares;
