@@ -26,9 +26,9 @@ found_more e lengths i keys lt =
     let n = get_or lengths i 0 in
     let value = last_value e (take n (drop (sum before) keys)) in
     let values : last_values e (take (i + 1) lengths) keys ≡ last_values e before keys ++ value ∷ [] =
-        ap (λ (ns : List ℕ). last_values e ns keys) (take_more lengths i 0 lt)
-        ∙ ap (map (last_value e)) (cut_more before n keys)
-        ∙ map-append (last_value e) (cut_keys before keys) (take n (drop (sum before) keys) ∷ [])
+    ap (λ (ns : List ℕ). last_values e ns keys) (take_more lengths i 0 lt)
+    ∙ ap (map (last_value e)) (cut_more before n keys)
+    ∙ map-append (last_value e) (cut_keys before keys) (take n (drop (sum before) keys) ∷ [])
     in (
       ap (λ (k : ℕ). drop k keys) (sum_by_more (λ (x : ℕ). x) lengths i 0 lt) ∙ sym (drop-drop n (sum before) keys),
       ap (map length_told) values ∙ map-append length_told (last_values e before keys) (value ∷ []),

@@ -1,3 +1,4 @@
 pub mod Laying
 pub mod Beginning
 pub mod Cutting
+pub mod Taking

@@ -59,11 +59,11 @@ WritesOps status old new ops = Becomes status old new (TakesOps status ops)
 
 module _ (status : ℤ) (len : ℕ) (ops : List Op) (room room' : List ℕ) (size' : ℕ) where
   -- The operations wait, and their record is in the room; or it doesn't fit, and nothing waits; or the status says why
-  -- they don't wait.
-  abbrev pub TellsOps : Engined → Engined → Type 0
-  TellsOps e e' =
-      (IsTold status len (batch_text 0 ops) room room' size' e e' × ((status ≡ OK) → ArePrepared ops e e'))
-      ⊎ DeclinesOps status ops e e'
+  -- they aren't taken.
+  pub record TellsOps (e e' : Engined) : Type 0 where
+    pub tells :
+        (IsTold status len (batch_text 0 ops) room room' size' e e' × ((status ≡ OK) → ArePrepared ops e e'))
+        ⊎ DeclinesOps status ops e e'
 
   -- so it is with the store, if there is one
   abbrev pub PreparesOps : Option Engined → Option Engined → Type 0

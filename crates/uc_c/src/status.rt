@@ -123,9 +123,7 @@ pub fn gathered_status(error: WriteError) -> i32
 {
     match error {
         WriteError::NoRoom(error) => room_status(error),
-        WriteError::Faulty(_) => SEQUENCES_SPENT,
-        WriteError::SequencesSpent => SEQUENCES_SPENT,
-        WriteError::TooLong => SEQUENCES_SPENT,
+        _ => SEQUENCES_SPENT,
     }
 }
 
