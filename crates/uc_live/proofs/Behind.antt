@@ -13,10 +13,6 @@ use Rattle.uc_query_read.specs.declared.query.Query.{Query}
 use Rattle.uc_query_read.specs.Query.{at_of}
 use Rattle.uc_version_state.specs.Versions.{Stored, writes_in}
 
-pub rising_front : (last : ℕ) (ws vs : List Write) → IsRising last (ws ++ vs) → IsRising last ws
-rising_front last [] vs h = tt
-rising_front last (w ∷ ws) vs h = (h.0, h.1, rising_front w.seq ws vs h.2)
-
 all_above : (last at : ℕ) (ws : List Write) → IsRising last ws → at ≤ last → AllByRecursion (λ w. at < w.seq) ws
 all_above last at [] rise le = tt
 all_above last at (w ∷ ws) rise le = (omega (arith, rise.0), all_above w.seq at ws rise.2 (omega (arith, rise.0)))

@@ -7,6 +7,7 @@ use Rattle.uc_oper.specs.Operation.{Operation}
 use Rattle.uc_batch.specs.Rising.{IsRising}
 use Rattle.uc_claims.specs.declared.table.TheConstants.{MOST_SLOTS}
 use Rattle.uc_run.specs.Size.{memtable_size}
+use Rattle.uc_memtable.proofs.RisingParts.{rising_front}
 use Rattle.uc_version_state.specs.Versions.{Stored}
 use Rattle.uc_version_state.specs.Flushes.{memtables}
 use Rattle.uc_version_state.specs.Feeds.{memtables_in, begin_above, first_feed_refusal, feed_refusal, MayFeed}
@@ -21,7 +22,7 @@ use Rattle.uc_live.specs.Going.{Follows}
 use Rattle.uc_live.specs.declared.live_store.LiveStore.TheInside.{Inside}
 use Rattle.uc_live.specs.HeldLives.{IsLive, live}
 use Rattle.uc_live.proofs.Going.{follows_flush}
-use Rattle.uc_live.proofs.Held.{rising-part, size-part}
+use Rattle.uc_live.proofs.Held.{size-part}
 
 begins : (last : ℕ) (ws : List Write) → IsRising last ws → begin_above last ws ≡ true
 begins last [] h = refl
@@ -57,7 +58,7 @@ module _ {O : Type 0} (i : Inside O) (is : IsLive i) (owner : IsOwner i.owned) (
     (leave : (u : Stored) (us : List Write) → IsRising 0 us → (feed_refusal u us ≡ None) ↔ MayFeed u us)
     (some : now.gathered ≢ []) (free : length now.version.runs < MOST_SLOTS) where
   rising : IsRising i.owned.version.last i.active.shown
-  rising = rising-part i.owned.version.last i.active.shown i.active.waiting is.rising
+  rising = rising_front i.owned.version.last i.active.shown i.active.waiting is.rising
 
   one : memtables_in i.owned.version i.active.shown ≡ i.active.shown ∷ []
   one =

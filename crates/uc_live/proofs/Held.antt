@@ -7,6 +7,7 @@ use Rattle.uc_oper.specs.Operation.{Operation}
 use Rattle.uc_batch.specs.Rising.{IsRising}
 use Rattle.uc_run.specs.Size.{memtable_size}
 use Rattle.uc_memtable.specs.Gathering.{Gathering}
+use Rattle.uc_memtable.proofs.RisingParts.{rising_front}
 use Rattle.uc_version_state.specs.declared.stretch.Stretch.{Stretch}
 use Rattle.uc_version_state.specs.Picks.{picked}
 use Rattle.uc_version_state.specs.Feeds.{fed, memtables_in}
@@ -28,12 +29,8 @@ use Rattle.uc_live.proofs.Going.{follows_none}
 
 -- ---- lists of writes
 
-pub rising-part : (last : ℕ) (ws vs : List Write) → IsRising last (ws ++ vs) → IsRising last ws
-rising-part last [] vs h = tt
-rising-part last (w ∷ ws) vs h = (h.0, h.1, rising-part w.seq ws vs h.2)
-
 rising-first : (last : ℕ) (ws vs : List Write) → IsRising last (ws ++ vs) → IsRising last (ws ++ [])
-rising-first last ws vs h = subst (λ (us : List Write). IsRising last us) (sym (append-nil ws)) (rising-part last ws vs h)
+rising-first last ws vs h = subst (λ (us : List Write). IsRising last us) (sym (append-nil ws)) (rising_front last ws vs h)
 
 pub size-part : (n : ℕ) (ws vs : List Write) → memtable_size (ws ++ vs) < n → memtable_size ws < n
 size-part n ws vs lt = let le = grows_by ws vs in omega (arith, le, lt)

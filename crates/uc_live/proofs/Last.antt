@@ -1,5 +1,5 @@
 -- The last sequence of a store that goes on, and what is prepared behind it.
-use Rattle.std.proofs.Common.{◌≡◌, ℕ, ◌-◌, ◌^◌, ◌<◌, ◌≤◌, List, [], ◌∷◌, ◌++◌, fold, append_assoc, refl, sym, ap, ◌∙◌, subst, arith}
+use Rattle.std.proofs.Common.{◌≡◌, ◌-◌, ◌^◌, ◌<◌, ◌≤◌, List, [], ◌∷◌, ◌++◌, fold, append_assoc, refl, sym, ap, ◌∙◌, subst}
 use Rattle.std.specs.List.{flat_map}
 use Rattle.std.proofs.lemmas.List.{append-nil}
 use Rattle.uc_bytes.specs.declared.write.Write.{Write}
@@ -8,6 +8,7 @@ use Rattle.uc_batch.specs.Rising.{IsRising, last_of}
 use Rattle.uc_batch.proofs.Rises.{last_of-append, rising-append}
 use Rattle.uc_run.specs.Size.{memtable_size}
 use Rattle.uc_memtable.specs.Gathering.{Gathering}
+use Rattle.uc_memtable.proofs.RisingParts.{rising_front, rising_lower, last_low}
 use Rattle.uc_version_state.specs.Versions.{Stored}
 use Rattle.uc_version_state.specs.Feeds.{fed}
 use Rattle.uc_version_state.specs.Installs.{installed}
@@ -22,7 +23,7 @@ use Rattle.uc_live.specs.Going.{Follows}
 use Rattle.uc_live.specs.Writing.{Prepares}
 use Rattle.uc_live.specs.declared.live_store.LiveStore.TheInside.{Inside}
 use Rattle.uc_live.specs.HeldLives.{IsLive, live}
-use Rattle.uc_live.proofs.Held.{prepared_is, rising-part}
+use Rattle.uc_live.proofs.Held.{prepared_is}
 
 last_after : (v : Stored) (es : List Event) → (fold after v es).last ≡ last_of v.last (flat_map writes_brought es)
 last_after v [] = refl
@@ -39,14 +40,6 @@ last_follows m v v' g g' ws follows =
     ∙ ap (λ n. last_of n g') (last_after v es)
     ∙ sym (last_of-append v.last (flat_map writes_brought es) g')
     ∙ ap (last_of v.last) follows.writes
-
-last_low : (n : ℕ) (ws : List Write) → last_of 0 ws ≤ last_of n ws
-last_low n [] = omega arith
-last_low n (w ∷ ws) = omega arith
-
-rising_lower : (a b : ℕ) (ws : List Write) → a ≤ b → IsRising b ws → IsRising a ws
-rising_lower a b [] le h = tt
-rising_lower a b (w ∷ ws) le h = let above : b < w.seq = h.0 in (omega (arith, le, above), h.1, h.2)
 
 -- a store that only made room, in which nothing waits
 module _ {O : Type 0} (m : Operation) (i : Inside O) (old now : Live) (view : live i ≡ now) (prepares : Prepares m old now []) where
@@ -86,5 +79,5 @@ module _ {O : Type 0} (m : Operation) (i : Inside O) (old now : Live) (view : li
 pub last_limited : {O : Type 0} (i : Inside O) → IsLive i → IsOwner i.owned → (active : Gathering) → active ≡ record i.active { waiting = [] } → last (live (record i { active = active })) < 2 ^ 56
 last_limited i is owner active e =
     let v = i.owned.version in
-    let here = last_limit v.last i.active.shown owner.version.last_below (rising-part v.last i.active.shown i.active.waiting is.rising) in
+    let here = last_limit v.last i.active.shown owner.version.last_below (rising_front v.last i.active.shown i.active.waiting is.rising) in
     subst (λ (g : Gathering). last_of v.last g.shown < 2 ^ 56) (sym e) here

@@ -1,5 +1,5 @@
 -- Writes that are prepared one by one.
-use Rattle.std.proofs.Common.{◌≡◌, ◌≢◌, ◌-◌, ◌^◌, ◌<◌, List, [], ◌∷◌, ◌++◌, append_assoc, refl, sym, ap, ◌∙◌, subst}
+use Rattle.std.proofs.Common.{◌≡◌, ◌-◌, ◌^◌, ◌<◌, List, [], ◌∷◌, ◌++◌, append_assoc, refl, sym, ap, ◌∙◌, subst}
 use Rattle.std.proofs.lemmas.List.{append-nil}
 use Rattle.uc_bytes.specs.declared.write.Write.{Write}
 use Rattle.uc_batch.specs.Rising.{IsRising, last_of}
@@ -41,8 +41,3 @@ pub all_prepared : (start now : Gathering) (writes done rest : List Write) → H
 all_prepared start now writes done rest has none =
     let all : done ≡ writes = sym (has.1 ∙ ap (λ (ws : List Write). done ++ ws) none ∙ append-nil done) in
     has.0 ∙ ap (λ (ws : List Write). with_more start ws) all
-
--- where nothing is some, there is nothing
-pub none_waits : (ws : List Write) → (ws ≢ [] → ⊥) → ws ≡ []
-none_waits [] h = refl
-none_waits (w ∷ ws) h = absurd (h (λ (e : w ∷ ws ≡ []). absurd cc))

@@ -28,7 +28,6 @@ fn feed_gathered<O: Operator>(
     alloc: Global,
     active: &GatheredMemtables,
 ) -> Result<(), FeedError>
-    requires none { active.now.waiting ≡ [] }
     requires some { active.now.shown ≢ [] }
     requires small { memtable_size active.now.shown < owned.old.version.limit }
     requires rising { IsRising owned.old.version.last active.now.shown }

@@ -101,6 +101,11 @@ held_of m is = record {
   all_counted = is.all_ranges_counted;
 }
 
+-- where nothing is some, there is nothing
+pub none_waits : (ws : List Write) → (ws ≢ [] → ⊥) → ws ≡ []
+none_waits [] h = refl
+none_waits (w ∷ ws) h = absurd (h (λ (e : w ∷ ws ≡ []). absurd cc))
+
 -- whether some wait is told by how many are shown
 module _ (n : ℕ) (ws waiting : List Write) (dropped : drop n ws ≡ waiting) where
   some_wait : (b : Bool) → ltb n (length ws) ≡ b → waiting ≢ [] → b ≡ true

@@ -114,12 +114,11 @@ impl GatheredMemtables {
         self.frozen.ranges() + self.active.ranges()
     }
 
-    /// The writes as a memtable, if none waits: that which has them all, unless some are frozen.
+    /// The memtable that has all shown writes and no other: there is one if none is frozen and none waits.
     pub fn memtable(&self) -> Option<&Memtable>
-        requires { self.now.waiting ≡ [] }
         ensures { IfSome result (λ memtable. memtable.now ≡ self.now.shown) }
     {
-        if self.frozen.is_empty() {
+        if self.frozen.is_empty() && !self.active.is_waiting() {
             Some(self.active.memtable())
         } else {
             None

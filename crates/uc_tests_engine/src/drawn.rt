@@ -1,16 +1,16 @@
 //! Drawn calls of an engine, and the answers of the plain program all along.
+use crate::alike::reads_alike;
 use crate::given::{empty, small};
 use crate::plain::Plain;
 use std::alloc::{AllocError, Global};
 use std::test::Fail;
 use uc_batch::{fits_batch, write_batch};
-use uc_bytes::{Bytes, Op};
-use uc_engine::{Answer, Engine, LiveOptions, OpRef, OperatorKind, Options};
-use uc_query_read::Query;
-use uc_tests_shared::dice::{Dice, KEYS};
+use uc_bytes::Op;
+use uc_engine::{Engine, LiveOptions, OpRef, OperatorKind, Options};
+use uc_tests_shared::dice::Dice;
 
 /// Each operator.
-static KINDS: [OperatorKind; 4] = [
+pub(crate) static KINDS: [OperatorKind; 4] = [
     OperatorKind::Append,
     OperatorKind::Counter,
     OperatorKind::Maximum,
@@ -18,7 +18,7 @@ static KINDS: [OperatorKind; 4] = [
 ];
 
 /// How many calls are drawn for each operator.
-const CALLS: u64 = 120;
+pub(crate) const CALLS: u64 = 120;
 
 /// Writes a drawn operation.
 fn write_drawn(
@@ -130,7 +130,7 @@ fn tidy(alloc: Global, dice: &mut Dice, engine: &mut Engine) -> Result<(), Fail>
 }
 
 /// Makes a drawn call.
-fn call(
+pub(crate) fn call(
     alloc: Global,
     dice: &mut Dice,
     engine: &mut Engine,
@@ -148,100 +148,6 @@ fn call(
     } else {
         tidy(alloc, dice, engine)
     }
-}
-
-/// Whether a key has the plain program's answer at a sequence.
-fn looks_up_alike(
-    alloc: Global,
-    engine: &Engine,
-    plain: &Plain,
-    key: &[u8],
-    at: u64,
-) -> Result<bool, Fail> {
-    let query = Query::Get {
-        key: Bytes::from_slice(alloc, key)?,
-        at,
-    };
-    let wanted = plain.answer(alloc, &plain.keeps, &query)?;
-    Ok(engine.get_at(alloc, key, at)? == wanted)
-}
-
-/// Whether a key has the plain program's answer at the last sequence.
-fn looks_up_last(alloc: Global, engine: &Engine, plain: &Plain, key: &[u8]) -> Result<bool, Fail> {
-    let at = plain.last();
-    let query = Query::Get {
-        key: Bytes::from_slice(alloc, key)?,
-        at,
-    };
-    let wanted = plain.answer(alloc, &[at], &query)?;
-    Ok(Answer::Value(engine.get(alloc, key)?) == wanted)
-}
-
-/// A drawn scan at a sequence.
-fn drawn_scan(alloc: Global, dice: &mut Dice, at: u64) -> Result<Query, Fail> {
-    let high = KEYS[dice.roll(4) as usize];
-    Ok(Query::Scan {
-        low: Bytes::from_slice(alloc, b"a")?,
-        high: Some(Bytes::from_slice(alloc, high)?),
-        at,
-        limit: dice.roll(5),
-    })
-}
-
-/// Whether a drawn scan has the plain program's answer at a sequence.
-fn scans_alike(
-    alloc: Global,
-    dice: &mut Dice,
-    engine: &Engine,
-    plain: &Plain,
-    at: u64,
-) -> Result<bool, Fail> {
-    let query = drawn_scan(alloc, dice, at)?;
-    let wanted = plain.answer(alloc, &plain.keeps, &query)?;
-    Ok(engine.answer(alloc, &query)? == wanted)
-}
-
-/// The rows of a scan at the last sequence.
-fn last_rows(alloc: Global, engine: &Engine, query: &Query) -> Result<Answer, Fail> {
-    match query {
-        Query::Scan {
-            low,
-            high,
-            limit,
-            ..
-        } => Ok(Answer::Rows(engine.scan(alloc, low.as_slice(), high, *limit)?)),
-        Query::Get { at, .. } => Ok(Answer::NotProtected(*at)),
-    }
-}
-
-/// Whether a drawn scan has the plain program's rows at the last sequence.
-fn scans_last(
-    alloc: Global,
-    dice: &mut Dice,
-    engine: &Engine,
-    plain: &Plain,
-) -> Result<bool, Fail> {
-    let at = plain.last();
-    let query = drawn_scan(alloc, dice, at)?;
-    let wanted = plain.answer(alloc, &[at], &query)?;
-    Ok(last_rows(alloc, engine, &query)? == wanted)
-}
-
-/// Whether the engine reads as the plain program does, at a drawn sequence and at the last one.
-fn reads_alike(
-    alloc: Global,
-    dice: &mut Dice,
-    engine: &Engine,
-    plain: &Plain,
-) -> Result<bool, Fail> {
-    let at = dice.roll(plain.last().saturating_add(2));
-    let key = KEYS[dice.roll(4) as usize];
-    Ok(
-        looks_up_alike(alloc, engine, plain, key, at)?
-            && scans_alike(alloc, dice, engine, plain, at)?
-            && looks_up_last(alloc, engine, plain, key)?
-            && scans_last(alloc, dice, engine, plain)?,
-    )
 }
 
 /// Makes drawn calls, and reads behind each.
@@ -263,7 +169,7 @@ fn plays(
 }
 
 /// Options that gather some writes, compact by themselves, and stop early.
-fn gathering() -> LiveOptions {
+pub(crate) fn gathering() -> LiveOptions {
     LiveOptions {
         store: Options {
             memtable: 100,

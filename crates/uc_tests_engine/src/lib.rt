@@ -2,10 +2,13 @@
 //!
 //! `worked.rt` has the values that are worked out by hand for each operator, and `given.rt` the engines and bytes that
 //! tests begin with. `writes.rt`, `batches.rt`, `steps.rt`, `reads.rt`, `snapshots.rt`, `compactions.rt` and
-//! `openings.rt` try each call on its happy path and each refusal. `drawn.rt` plays drawn calls beside the plain
-//! program of `plain.rt`.
+//! `openings.rt` try each call on its happy path and each refusal, and `views.rt` views, also in several threads.
+//! `drawn.rt` plays drawn calls beside the plain program of `plain.rt`, and `drawn_views.rt` takes views meanwhile;
+//! `alike.rt` compares.
 #![tactic(auto)]
 
+#[cfg(test)]
+mod alike;
 #[cfg(test)]
 mod batches;
 #[cfg(test)]
@@ -13,17 +16,23 @@ mod compactions;
 #[cfg(test)]
 mod drawn;
 #[cfg(test)]
+mod drawn_views;
+#[cfg(test)]
 mod given;
 #[cfg(test)]
 mod openings;
 #[cfg(test)]
 mod plain;
 #[cfg(test)]
+mod readable;
+#[cfg(test)]
 mod reads;
 #[cfg(test)]
 mod snapshots;
 #[cfg(test)]
 mod steps;
+#[cfg(test)]
+mod views;
 #[cfg(test)]
 mod worked;
 #[cfg(test)]

@@ -15,12 +15,18 @@ pub(crate) struct Plain {
     pub(crate) keeps: Vec<u64>,
 }
 
-/// Copies of writes, and one more behind them.
-fn with_write(alloc: Global, writes: &Writes, seq: u64, op: Op) -> Result<Writes, Fail> {
+/// Copies of writes.
+fn copies(alloc: Global, writes: &Writes) -> Result<Vec<Write>, AllocError> {
     let mut all = Vec::new(alloc);
     for write in writes.list() {
         all.push(write.clone()?)?;
     }
+    Ok(all)
+}
+
+/// Copies of writes, and one more behind them.
+fn with_write(alloc: Global, writes: &Writes, seq: u64, op: Op) -> Result<Writes, Fail> {
+    let mut all = copies(alloc, writes)?;
     all.push(Write { seq, op })?;
     Ok(Writes::of(all).ok_or("sequences don't rise")?)
 }
@@ -34,6 +40,16 @@ impl Plain {
             kind,
             writes,
             keeps,
+        })
+    }
+
+    /// A copy.
+    pub(crate) fn copy(&self, alloc: Global) -> Result<Plain, Fail> {
+        let writes = Writes::of(copies(alloc, &self.writes)?).ok_or("sequences don't rise")?;
+        Ok(Plain {
+            kind: self.kind,
+            writes,
+            keeps: self.keeps.to_vec(alloc)?,
         })
     }
 

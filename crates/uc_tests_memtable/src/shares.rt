@@ -108,11 +108,6 @@ fn run_of(alloc: Global, memtables: &GatheredMemtables) -> Result<(u64, u64, u64
     Ok((run.low_seq(), run.high_seq(), run.points()))
 }
 
-/// Whether the writes are those of one memtable.
-fn is_one(memtables: &GatheredMemtables) -> bool {
-    !memtables.is_waiting() && memtables.memtable().is_some()
-}
-
 #[test]
 fn all_memtables_become_one_run(rt: HostRuntime) -> Result<(), Fail> {
     let mut memtables = GatheredMemtables::new(rt.alloc());
@@ -121,11 +116,11 @@ fn all_memtables_become_one_run(rt: HostRuntime) -> Result<(), Fail> {
         &mut memtables,
         &WriteRef::new(3, OpRef::put(b"k", b"a")),
     )?;
-    assert!(rt; is_one(&memtables));
+    assert!(rt; memtables.memtable().is_some());
     assert_eq!(rt; run_of(rt.alloc(), &memtables)?, (3, 3, 1));
     let shared = memtables.share(rt.alloc())?;
     take(&rt, &mut memtables, &WriteRef::new(5, OpRef::delete(b"k")))?;
-    assert!(rt; !is_one(&memtables));
+    assert!(rt; memtables.memtable().is_none());
     assert_eq!(rt; run_of(rt.alloc(), &memtables)?, (3, 5, 2));
     assert_eq!(rt; run_of(rt.alloc(), &shared)?, (3, 3, 1));
     Ok(())

@@ -3,9 +3,10 @@ use Rattle.uc_query_read.specs.Answers.{answer_of}
 use Rattle.uc_query_read.specs.declared.answer.Answer.{Answer}
 use Rattle.uc_query_read.specs.declared.query.Query.TheVariants.{Get}
 use Rattle.uc_version_state.specs.Versions.{Stored, writes_in}
+use Rattle.uc_memtable.proofs.RisingParts.{rising_front}
 use Rattle.uc_live.specs.Lives as lives
 use Rattle.uc_live.specs.Lives.{Live}
-use Rattle.uc_live.proofs.Behind.{answer_behind, rising_front}
+use Rattle.uc_live.proofs.Behind.{answer_behind}
 use Rattle.uc_live.proofs.live_store.LiveStore.get_at.Goals as goal
 
 pub returns : goal.returns

@@ -1,7 +1,7 @@
 use Rattle.std.proofs.Common.{subst, sym}
 use Rattle.uc_batch.specs.Rising.{IsRising}
+use Rattle.uc_memtable.proofs.RisingParts.{rising_front}
 use Rattle.uc_version_state.specs.Versions.{Stored}
-use Rattle.uc_live.proofs.Behind.{rising_front}
 use Rattle.uc_live.proofs.live_store.LiveStore.scan.Goals as goal
 
 pub last_rows-requires : goal.last_rows-requires

@@ -1,7 +1,7 @@
 use Rattle.std.proofs.Common.{◌≡◌, [], sym, ap, ◌∙◌}
 use Rattle.std.proofs.lemmas.Bool.{false≢true}
+use Rattle.uc_memtable.proofs.Gathered.{none_waits}
 use Rattle.uc_live.specs.Lives.{Live}
-use Rattle.uc_live.proofs.Prepared.{none_waits}
 use Rattle.uc_live.proofs.live_store.LiveStore.settle.Goals as goal
 
 pub returns-then-not-is_waiting : goal.returns-then-not-is_waiting

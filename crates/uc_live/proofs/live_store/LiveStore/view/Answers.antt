@@ -1,9 +1,9 @@
 use Rattle.std.proofs.Common.{◌≡◌, ◌∙◌, subst, sym}
 use Rattle.uc_batch.specs.Rising.{IsRising}
 use Rattle.uc_memtable.specs.Gathering.{Gathering}
+use Rattle.uc_memtable.proofs.RisingParts.{rising_front}
 use Rattle.uc_version_state.specs.Versions.{Stored}
 use Rattle.uc_live.specs.declared.view.ViewParts.{ViewParts}
-use Rattle.uc_live.proofs.Behind.{rising_front}
 use Rattle.uc_live.proofs.live_store.LiveStore.view.Goals as goal
 
 pub invariant_of-result : goal.invariant_of-result
