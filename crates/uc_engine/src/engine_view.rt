@@ -134,6 +134,18 @@ impl EngineView {
         self.version().keeps()
     }
 
+    /// Sorts what is gathered, once, so that the scans of this view and of those that are made of it don't. No read changes.
+    pub fn sort(&mut self, alloc: Global) -> Result<(), AllocError>
+        ensures { self.new ≡ self.old }
+    {
+        match &mut self.view {
+            AnyView::Append(view) => view.sort(alloc),
+            AnyView::Counter(view) => view.sort(alloc),
+            AnyView::Maximum(view) => view.sort(alloc),
+            AnyView::Tail(view) => view.sort(alloc),
+        }
+    }
+
     /// The value that a key has at the last sequence, if it has one.
     pub fn get(&self, alloc: Global, key: &[u8]) -> Result<Option<Bytes>, AllocError>
         ensures { IfOk result (λ value. value ≡ value_seen self.now key.now) }
@@ -160,7 +172,7 @@ impl EngineView {
     }
 
     /// The first rows, at most `limit`, of the keys from `low` to below `high`, or to the last one if `high` is `None`,
-    /// at the last sequence. Each scan sorts what is gathered.
+    /// at the last sequence. A scan sorts what is gathered, unless that is [sorted](EngineView::sort).
     pub fn scan(
         &self,
         alloc: Global,

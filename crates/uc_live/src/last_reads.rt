@@ -1,8 +1,10 @@
 //! Reads at the last sequence, of a version and of the writes that are gathered behind it.
-ghost use Rattle.std.specs.Prelude.{◌≡◌, ◌++◌, IfOk};
+ghost use Rattle.std.specs.Prelude.{◌≡◌, ◌≢◌, ◌++◌, [], IfOk};
+ghost use Rattle.std.specs.Arc.{arc_value};
 ghost use Rattle.uc_batch.specs.Rising.{IsRising, last_of};
 ghost use Rattle.uc_model.specs.Meaning.{value_of};
 ghost use Rattle.uc_query_read.specs.Answers.{first_rows, named_keys};
+ghost use Rattle.uc_run.specs.Flush.{flushed};
 ghost use Rattle.uc_version_state.specs.Versions.{writes_in};
 
 use std::alloc::{AllocError, Global};
@@ -12,7 +14,7 @@ use uc_memtable::GatheredMemtables;
 use uc_model::effect_continues_value;
 use uc_oper::Operator;
 use uc_query_read::{Rows, equal_values_give_equal_answers, rows_at, rows_behind, value_behind};
-use uc_run::flush_keeps_every_effect;
+use uc_run::{Run, flush_keeps_every_effect};
 use uc_version::Version;
 
 /// The last sequence; 0 if nothing was written.
@@ -42,6 +44,37 @@ pub(crate) fn last_value<O: Operator>(
     value_behind::<O>(alloc, version, key, last, newer)
 }
 
+/// The run of what is gathered. It costs a sort.
+pub(crate) fn sorted(alloc: Global, gathered: &GatheredMemtables) -> Result<Arc<Run>, AllocError>
+    requires { gathered.now.shown ≢ [] }
+    ensures { IfOk result (λ run. arc_value run ≡ flushed gathered.now.shown) }
+{
+    Ok(Arc::new(alloc, gathered.to_run(alloc)?)?)
+}
+
+/// The rows of a scan at the last sequence, as [`last_rows`] finds them, with the run of what is gathered.
+pub(crate) fn sorted_rows<O: Operator>(
+    alloc: Global,
+    version: &Version,
+    gathered: &GatheredMemtables,
+    newer: Arc<Run>,
+    low: &[u8],
+    high: &Option<Bytes>,
+    limit: u64,
+) -> Result<Rows, AllocError>
+    requires some { gathered.now.shown ≢ [] }
+    requires rising { IsRising version.now.last gathered.now.shown }
+    requires newer { arc_value newer ≡ flushed gathered.now.shown }
+    ensures { IfOk result (λ rows. rows ≡ first_rows O.meaning
+        (writes_in version.now ++ gathered.now.shown) (last_of version.now.last gathered.now.shown) limit
+        (named_keys (writes_in version.now ++ gathered.now.shown) low.now high.now)) }
+{
+    flush_keeps_every_effect::<O>();
+    equal_values_give_equal_answers::<O>();
+    effect_continues_value::<O>();
+    rows_behind::<O>(alloc, newer, version, low, high, gathered.last(), limit)
+}
+
 /// The first rows, at most `limit`, of the keys from `low` to below `high`, or to the last one if `high` is `None`, at
 /// the last sequence. It costs a sort of what is gathered, a search in each run, and then a step in each run for each
 /// key in the range up to the last row's.
@@ -58,12 +91,9 @@ pub(crate) fn last_rows<O: Operator>(
         (writes_in version.now ++ gathered.now.shown) (last_of version.now.last gathered.now.shown) limit
         (named_keys (writes_in version.now ++ gathered.now.shown) low.now high.now)) }
 {
-    flush_keeps_every_effect::<O>();
-    equal_values_give_equal_answers::<O>();
-    effect_continues_value::<O>();
     if gathered.is_empty() {
         return rows_at::<O>(alloc, version, low, high, version.last(), limit);
     }
-    let newer = Arc::new(alloc, gathered.to_run(alloc)?)?;
-    rows_behind::<O>(alloc, newer, version, low, high, gathered.last(), limit)
+    let newer = sorted(alloc, gathered)?;
+    sorted_rows::<O>(alloc, version, gathered, newer, low, high, limit)
 }

@@ -7,7 +7,7 @@ ghost use Rattle.uc_query_read.specs.declared.query.Query.TheVariants as queries
 ghost use Rattle.uc_live.specs.Views as views;
 ghost use Rattle.uc_live.specs.Views.{seen_in};
 
-use crate::last_reads::{last_rows, last_sequence, last_value};
+use crate::last_reads::{last_rows, last_sequence, last_value, sorted, sorted_rows};
 use crate::live_store::LiveStore;
 use std::alloc::{AllocError, Global};
 use std::marker::{Model, PhantomData};
@@ -17,6 +17,7 @@ use uc_memtable::GatheredMemtables;
 use uc_model::later_writes_change_nothing;
 use uc_oper::Operator;
 use uc_query_read::{Answer, Query, Rows, answer_one, equal_values_give_equal_answers, get};
+use uc_run::Run;
 use uc_version::Version;
 
 /// The parts of a view, which it shares.
@@ -30,6 +31,8 @@ struct ViewParts {
 /// when the store is dropped. Threads share it: each read only reads.
 pub struct View<O: Operator> {
     parts: Arc<ViewParts>,
+    /// The run of what is gathered, if [`sort`](View::sort) has made it.
+    sorted: Option<Arc<Run>>,
     operator: PhantomData<O>,
 }
 
@@ -49,6 +52,7 @@ impl<O: Operator> Drop for View<O> {
     fn drop(self) {
         let View {
             parts: _,
+            sorted: _,
             operator: _,
         } = self;
     }
@@ -68,6 +72,7 @@ impl<O: Operator> LiveStore<O> {
         let parts = Arc::new(alloc, ViewParts { version, gathered })?;
         Ok(View {
             parts,
+            sorted: None,
             operator: PhantomData,
         })
     }
@@ -79,10 +84,25 @@ impl<O: Operator> View<O> {
     pub fn again(&self) -> Result<View<O>, AllocError>
         ensures { IfOk result (λ again. again ≡ self.now) }
     {
+        let sorted = match &self.sorted {
+            Some(run) => Some(run.clone()?),
+            None => None,
+        };
         Ok(View {
             parts: self.parts.clone()?,
+            sorted,
             operator: PhantomData,
         })
+    }
+
+    /// Sorts what is gathered, once, so that the scans of this view and of those that are made of it don't. No read changes.
+    pub fn sort(&mut self, alloc: Global) -> Result<(), AllocError>
+        ensures { self.new ≡ self.old }
+    {
+        if self.sorted.is_none() && !self.parts.gathered.is_empty() {
+            self.sorted = Some(sorted(alloc, &self.parts.gathered)?);
+        }
+        Ok(())
     }
 
     /// What the runs hold. What is gathered isn't in it.
@@ -137,8 +157,7 @@ impl<O: Operator> View<O> {
     /// The first rows, at most `limit`, of the keys from `low` to below `high`, or to the last one if `high` is `None`,
     /// at the last sequence.
     ///
-    /// Each scan sorts what is gathered, and a view never flushes it. Where many scans are to come and much is
-    /// gathered, [`settle`](LiveStore::settle) the store before the view is made.
+    /// A scan sorts what is gathered, unless that is [sorted](View::sort).
     pub fn scan(
         &self,
         alloc: Global,
@@ -151,7 +170,21 @@ impl<O: Operator> View<O> {
             (named_keys (views.writes_of self.now) low.now high.now)) }
     {
         let parts = &self.parts;
-        last_rows::<O>(alloc, &parts.version, &parts.gathered, low, high, limit)
+        match &self.sorted {
+            Some(run) => {
+                let newer = run.clone()?;
+                sorted_rows::<O>(
+                    alloc,
+                    &parts.version,
+                    &parts.gathered,
+                    newer,
+                    low,
+                    high,
+                    limit,
+                )
+            }
+            None => last_rows::<O>(alloc, &parts.version, &parts.gathered, low, high, limit),
+        }
     }
 
     /// The answer to a query at a snapshot, or `NotProtected` if no snapshot was at its sequence.

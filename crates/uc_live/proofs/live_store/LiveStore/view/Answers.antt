@@ -12,6 +12,7 @@ invariant_of-result g c =
     let active = c.self.inside.active in
     let version : c.in_ok-version.version ≡ v = c.in_ok-version.ensures ∙ c.version.ensures in
     let front = rising_front v.last active.shown active.waiting c.self.invariant.rising in
-    subst (λ (p : ViewParts). IsRising p.version.last p.gathered.shown) (sym c.in_ok-parts.ensures.ok)
+    let rising = subst (λ (p : ViewParts). IsRising p.version.last p.gathered.shown) (sym c.in_ok-parts.ensures.ok)
     (subst (λ (u : Stored). IsRising u.last c.in_ok-gathered.gathered.shown) (sym version)
-    (subst (λ (a : Gathering). IsRising v.last a.shown) (sym c.in_ok-gathered.ensures.shared) front))
+    (subst (λ (a : Gathering). IsRising v.last a.shown) (sym c.in_ok-gathered.ensures.shared) front)) in
+    record { rising = rising; sorted_is = tt }

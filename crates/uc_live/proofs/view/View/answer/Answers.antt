@@ -17,7 +17,7 @@ returns g c =
     let parts = c.deref.result.now in
     let v = parts.version in
     let shown = parts.gathered.shown in
-    let rising : IsRising v.last shown = subst (λ (p : ViewParts). IsRising p.version.last p.gathered.shown) (sym c.deref.ensures) c.self.invariant in
+    let rising : IsRising v.last shown = subst (λ (p : ViewParts). IsRising p.version.last p.gathered.shown) (sym c.deref.ensures) c.self.invariant.rising in
     let same = answer_behind m v shown query c.recall.ensures.keeps_below rising c.equal_values_give_equal_answers.ensures c.later_writes_change_nothing.ensures.value in
     let answered = subst (λ (expected : Answer). IfOk r (λ answer. answer ≡ expected)) same c.answer_one.ensures in
     subst (λ (s : Seen). IfOk r (λ answer. answer ≡ answer_of m (views.writes_of s) s.version.keeps query)) c.self.view_is

@@ -1,11 +1,11 @@
-use Rattle.std.proofs.Common.{◌≡◌, ◌≢◌, ℕ, true, List, [], ◌∷◌, ◌++◌, IfOk, ap, ◌∙◌, subst}
+use Rattle.std.proofs.Common.{◌≡◌, ℕ, List, ◌∷◌, ◌++◌, IfOk, ap, ◌∙◌, subst}
 use Rattle.uc_batch.specs.Rising.{last_of}
 use Rattle.uc_query_read.specs.Answers.{first_rows, named_keys}
 use Rattle.uc_version_state.specs.Versions.{writes_in}
 use Rattle.uc_version_state.proofs.Memtables.{last_of_some, rising_from_any}
 use Rattle.uc_live.proofs.Taken.{rows_alike}
 use Rattle.uc_live.proofs.Behind.{flushed_before, flushed_alone, value_alike}
-use Rattle.uc_live.proofs.last_reads.last_rows.Goals as goal
+use Rattle.uc_live.proofs.last_reads.sorted_rows.Goals as goal
 
 pub returns : goal.returns
 returns g c =
@@ -17,11 +17,11 @@ returns g c =
     let v = c.args.version.now in
     let shown = c.args.gathered.now.shown in
     let at = last_of 0 shown in
-    let some : shown ≢ [] = λ e. let empty : c.is_empty.result ≡ true = c.is_empty.ensures.1 e in absurd cc in
-    let rising = rising_from_any v.last shown c.requires in
-    let of_run = subst (λ run. IfOk r (λ rows. rows ≡ first_rows m (writes_in (record v { runs = record { id = 0; slot = 0; run = run } ∷ v.runs })) c.last-2.result limit
-    (named_keys (writes_in (record v { runs = record { id = 0; slot = 0; run = run } ∷ v.runs })) low high))) c.in_ok-newer.ensures c.rows_behind.ensures in
-    let at_last = subst (λ (n : ℕ). IfOk r (λ rows. rows ≡ first_rows m (flushed_before shown v) n limit (named_keys (flushed_before shown v) low high))) c.last-2.ensures of_run in
+    let some = c.requires.some in
+    let rising = rising_from_any v.last shown c.requires.rising in
+    let of_run = subst (λ run. IfOk r (λ rows. rows ≡ first_rows m (writes_in (record v { runs = record { id = 0; slot = 0; run = run } ∷ v.runs })) c.last.result limit
+    (named_keys (writes_in (record v { runs = record { id = 0; slot = 0; run = run } ∷ v.runs })) low high))) c.requires.newer c.rows_behind.ensures in
+    let at_last = subst (λ (n : ℕ). IfOk r (λ rows. rows ≡ first_rows m (flushed_before shown v) n limit (named_keys (flushed_before shown v) low high))) c.last.ensures of_run in
     let same = rows_alike m (flushed_before shown v) (writes_in v ++ shown) low high at limit c.equal_values_give_equal_answers.ensures
     (λ key. value_alike m (writes_in v) (flushed_alone shown v) shown key at c.effect_continues_value.ensures.none (c.flush_keeps_every_effect.ensures shown key at rising some)) in
     let last = last_of_some v.last shown some in
