@@ -122,7 +122,8 @@ pub extern "C" fn ucstore_delete_range(
 }
 
 /// Prepares a batch, and copies the record that it adds to a log of so many bytes, if there is room for it, and says
-/// how long that is. If there is too little room, nothing is prepared. Returns the status, or why the batch isn't taken.
+/// how long that is. If there is too little room, nothing is prepared. Returns the status, or why the batch isn't
+/// taken.
 fn prepare(
     alloc: Global,
     engine: &mut Engine,
@@ -185,8 +186,8 @@ fn prepare_ops(
     room: &mut [u8],
     size: &mut usize,
 ) -> i32
-    ensures tells { TellsOps result log_length (ops_held (option_map (λ b. b.value) held.now)) room.old room.new size.new
-        engine.old engine.new }
+    ensures tells { TellsOps result log_length (ops_held (option_map (λ b. b.value) held.now))
+        room.old room.new size.new engine.old engine.new }
     ensures untold { (result ≡ OK) ⊎ (room.new ≡ room.old) }
     ensures size_untold { (result ≡ OK) ⊎ ((result ≡ ROOM) ⊎ (size.new ≡ size.old)) }
 {
