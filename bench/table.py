@@ -59,8 +59,8 @@ def deleted(work, how, label, kind, baseline):
 
 
 def from_c(label, work, part, baseline, name):
-    """A line of a store that is called from C, and compacted behind 240 batches."""
-    return Line("c", label, work, (f"{part}, compacted behind 240",), baseline, name=name)
+    """A line of a store that is called from C, and compacts by itself."""
+    return Line("c", label, work, (f"{part}, batches of 1,000",), baseline, name=name)
 
 
 def pins(label, work, readers, name, **options):
@@ -154,10 +154,8 @@ LINES = (
     Line("live", "lookups meanwhile, p50 to p99.9", "lookups beside feeds", ("median", "99", "99.9"), "RocksDB", NS,
          shown="µs", style="range", name="lookups beside feeds"),
     Line("live", "a keep meanwhile", "a publication", baseline=OURS, units=("µs",)),
-    from_c("writes from C, compacted behind every 240th batch", "writes from C", "counters", "RocksDB",
-           "writes from C, compacted every 240th"),
-    Line("c", "behind each", "writes from C", ("counters, compacted behind 1",), "RocksDB",
-         name="writes from C, compacted each batch"),
+    from_c("writes from C, in batches of 1,000", "writes from C", "counters", "RocksDB", "writes from C, batches of 1,000"),
+    Line("c", "one by one", "writes from C", ("counters, one by one",), "RocksDB", name="writes from C, one by one"),
     from_c("a million lookups", "lookups from C", "counters", "RocksDB", "lookups from C"),
     from_c("10,000 scans", "scans from C", "counters", "RocksDB", "scans from C"),
     Line("shared", "batch, 2 workers, 1 compactor", "batches", ("workers 2 beside 1",), "RocksDB",

@@ -1,17 +1,11 @@
 /* The store of this repository, by its C library. It has no threads: it compacts by itself, on the caller's. A batch of one
- * write is one call for that, without the bytes of a batch. */
+ * write is one call for that, without a batch. */
 #include "store.h"
 
 #include <string.h>
 #include <ucstore.h>
 
-/* A record of a batch: its tag, and the key and the number, each behind its length. */
-enum { HEADER = 12, RECORD = 3 + KEY + NUMBER, PUT = 1, MERGE = 2, PAGE = 64 };
-
-struct batch {
-    uint8_t *bytes;
-    size_t size, room;
-};
+enum { PAGE = 64 };
 
 struct write {
     bool merges;
@@ -20,7 +14,7 @@ struct write {
 
 static struct ucstore store;
 /* One of them is there: `writes` if each batch has one write. */
-static struct batch *batches;
+static struct ucstore_batch *batches;
 static struct write *writes;
 static size_t batch_count;
 static uint64_t snapshot;
@@ -39,28 +33,10 @@ void open_store(const struct settings *settings, size_t count) {
     if (settings->size == 1) {
         writes = (struct write *)calloc(count, sizeof *writes);
     } else {
-        batches = (struct batch *)calloc(count, sizeof *batches);
+        batches = (struct ucstore_batch *)calloc(count, sizeof *batches);
     }
     expect(writes != NULL || batches != NULL, "there is no memory for batches");
     batch_count = count;
-}
-
-/* The header of a batch has 8 bytes for a sequence, where 0 stands for the next one, and 4 for the count. */
-static void count_up(uint8_t *count) {
-    for (int place = 0; ++count[place] == 0; place++) {
-    }
-}
-
-static void make_room(struct batch *batch) {
-    if (batch->size + RECORD > batch->room) {
-        batch->room = 2 * batch->room + HEADER + RECORD;
-        batch->bytes = (uint8_t *)realloc(batch->bytes, batch->room);
-        expect(batch->bytes != NULL, "there is no memory for a batch");
-    }
-    if (batch->size == 0) {
-        memset(batch->bytes, 0, HEADER);
-        batch->size = HEADER;
-    }
 }
 
 static void keep_write(struct write *write, bool merges, const uint8_t *key, const uint8_t *number) {
@@ -69,24 +45,15 @@ static void keep_write(struct write *write, bool merges, const uint8_t *key, con
     memcpy(write->number, number, NUMBER);
 }
 
-static void add_record(struct batch *batch, bool merges, const uint8_t *key, const uint8_t *number) {
-    uint8_t *record;
-    make_room(batch);
-    record = batch->bytes + batch->size;
-    record[0] = merges ? MERGE : PUT;
-    record[1] = KEY;
-    memcpy(record + 2, key, KEY);
-    record[2 + KEY] = NUMBER;
-    memcpy(record + 3 + KEY, number, NUMBER);
-    batch->size += RECORD;
-    count_up(batch->bytes + 8);
+static void add_operation(struct ucstore_batch *batch, bool merges, const uint8_t *key, const uint8_t *number) {
+    expect_ok((merges ? ucstore_batch_merge : ucstore_batch_put)(batch, key, KEY, number, NUMBER), "a batch takes no write");
 }
 
 void add_write(size_t place, bool merges, const uint8_t *key, const uint8_t *number) {
     if (writes != NULL) {
         keep_write(&writes[place], merges, key, number);
     } else {
-        add_record(&batches[place], merges, key, number);
+        add_operation(&batches[place], merges, key, number);
     }
 }
 
@@ -95,7 +62,7 @@ void write_batch(size_t place) {
         const struct write *one = &writes[place];
         expect_ok((one->merges ? ucstore_merge : ucstore_put)(&store, one->key, KEY, one->number, NUMBER), "nothing is written");
     } else {
-        expect_ok(ucstore_write_bytes(&store, batches[place].bytes, batches[place].size), "a batch isn't written");
+        expect_ok(ucstore_write(&store, &batches[place]), "a batch isn't written");
     }
 }
 
@@ -159,7 +126,7 @@ uint64_t count_runs(void) {
 
 void close_store(void) {
     for (size_t place = 0; batches != NULL && place < batch_count; place++) {
-        free(batches[place].bytes);
+        expect_ok(ucstore_batch_close(&batches[place]), "a batch isn't freed");
     }
     free(batches);
     free(writes);
