@@ -254,32 +254,6 @@ def feed_rows(results, baseline):
     return [(size, found(results, "live", "feeds", f"batches of {NAMES.get(size, size)}", "ns", baseline)) for size in FEEDS]
 
 
-def draw_feeds(results):
-    top, bottom, left, right = 66, 350, 78, 786
-    drawing = Drawing(800, 404, "What a write costs by the writes of a feed")
-    drawing.legend(78, 44, "circle", OURS_COLOUR, "solid", "ours, each feed a run")
-    drawing.legend(262, 44, "square", OTHER_COLOUR, "dashed", "RocksDB, a flush behind each batch")
-    drawing.legend(530, 44, "diamond", OTHER_COLOUR, "dotted", "RocksDB, none")
-    drawing.legend(672, 44, "triangle", RUST_COLOUR, "dotted", "BTreeMap")
-    drawing.text(18, (top + bottom) / 2, "nanoseconds a write, logarithmic", "middle", turned=True)
-    x, y = Scale(1, 10000, left + 30, right - 30, True), Scale(100, 1000000, bottom, top, True)
-    ticks = (100, 1000, 10000, 100000, 1000000)
-    drawing.across(x, FEEDS, top, bottom, [f"{size:,}" for size in FEEDS])
-    drawing.along(y, ticks, left, right, [f"{tick:,}" for tick in ticks])
-    drawing.frame(left, top, right, bottom)
-    drawing.text((left + right) / 2, bottom + 36, "writes a feed, logarithmic", "middle")
-    ours = feed_rows(results, "RocksDB")
-    drawing.series([(x(size), y(row["ours"]["value"])) for size, row in ours], "circle", OURS_COLOUR, "solid")
-    for baseline, shape, colour, dash in (
-        ("RocksDB+flush", "square", OTHER_COLOUR, "dashed"),
-        ("RocksDB", "diamond", OTHER_COLOUR, "dotted"),
-        ("BTreeMap", "triangle", RUST_COLOUR, "dotted"),
-    ):
-        rows = feed_rows(results, baseline)
-        drawing.series([(x(size), y(row["baseline"]["value"])) for size, row in rows], shape, colour, dash)
-    return drawing.whole()
-
-
 def figures_of(results):
     """The text of each figure by its file's name."""
     return {
@@ -287,5 +261,4 @@ def figures_of(results):
         "pins.svg": draw_pins(results),
         "ranges.svg": draw_ranges(results),
         "batch.svg": draw_batch(results),
-        "feeds.svg": draw_feeds(results),
     }
