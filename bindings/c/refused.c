@@ -28,7 +28,7 @@ void __wrap_free(void *block);
 }
 #endif
 
-enum { TEXT = 40, ROOM = 1 << 18, MOST_KEEPS = 4, BATCH = 12 + 20 * (3 + 2 * TEXT), MOST_LOG = 1 << 21 };
+enum { TEXT = 40, ROOM = 1 << 18, KEYS = 84, MOST_KEEPS = 4, BATCH = 12 + 20 * (3 + 2 * TEXT), MOST_LOG = 1 << 21 };
 
 /* How many allocations are granted before one is refused, if any is, and whether those behind it are too. */
 static bool refuses, lasts, refused;
@@ -76,19 +76,53 @@ static uint64_t draw(uint64_t limit) {
 
 static struct ucstore store;
 static struct ucstore_batch gathered;
+
+/* A view, and another handle of it. */
+static struct ucstore_view shown, again;
+
 static uint8_t history[MOST_LOG];
 static size_t history_length;
 
 /* The size of the record of what is prepared. */
 static size_t prepared;
 
-/* What reads see of a store: its last sequence, and the rows there and at each snapshot. And what is gathered. */
+/* All keys of one to three letters, one behind the other. */
+static uint8_t keys[3 * KEYS];
+static uint64_t key_lengths[KEYS];
+static size_t keys_length;
+
+/* What reads see of a store: its last sequence, and the rows there and at each snapshot. And what is gathered, which views there
+ * are, and the values that they show: no scan, which would sort before the one that is tried. */
 struct held {
     uint64_t last;
-    uint64_t keeps[MOST_KEEPS];
-    size_t keep_count, size, batch_length;
-    uint8_t rows[ROOM], batch[BATCH];
+    uint64_t keeps[MOST_KEEPS], value_lengths[KEYS];
+    size_t keep_count, size, batch_length, values_length;
+    bool is_shown, is_again;
+    uint8_t rows[ROOM], batch[BATCH], values[ROOM];
 };
+
+static void lay_out_keys(void) {
+    size_t count = 0;
+    for (int letters = 1; letters <= 3; letters++) {
+        for (int number = 0; number < 1 << (2 * letters); number++) {
+            key_lengths[count++] = (uint64_t)letters;
+            for (int place = 0; place < letters; place++) {
+                keys[keys_length++] = (uint8_t)('a' + (number >> (2 * place)) % 4);
+            }
+        }
+    }
+    CHECK(count == KEYS);
+}
+
+static void look_at_views(struct held *held) {
+    held->is_shown = shown.at != NULL;
+    held->is_again = again.at != NULL;
+    held->values_length = 0;
+    if (held->is_shown) {
+        CHECK(ucstore_view_get_many(&shown, keys, keys_length, key_lengths, KEYS, held->value_lengths, KEYS, held->values, ROOM,
+                                    &held->values_length) == UCSTORE_OK && held->values_length <= ROOM);
+    }
+}
 
 static void look(struct held *held) {
     static const uint8_t none[1] = {0};
@@ -104,13 +138,20 @@ static void look(struct held *held) {
         CHECK(held->size <= ROOM);
     }
     CHECK(ucstore_batch_bytes(&gathered, held->batch, BATCH, &held->batch_length) == UCSTORE_OK && held->batch_length <= BATCH);
+    look_at_views(held);
+}
+
+static bool are_same_views(const struct held *one, const struct held *other) {
+    return one->is_shown == other->is_shown && one->is_again == other->is_again && one->values_length == other->values_length
+        && memcmp(one->values, other->values, one->values_length) == 0
+        && (!one->is_shown || memcmp(one->value_lengths, other->value_lengths, sizeof one->value_lengths) == 0);
 }
 
 static bool is_same(const struct held *one, const struct held *other) {
     return one->last == other->last && one->keep_count == other->keep_count
         && memcmp(one->keeps, other->keeps, one->keep_count * sizeof one->keeps[0]) == 0 && one->size == other->size
         && memcmp(one->rows, other->rows, one->size) == 0 && one->batch_length == other->batch_length
-        && memcmp(one->batch, other->batch, one->batch_length) == 0;
+        && memcmp(one->batch, other->batch, one->batch_length) == 0 && are_same_views(one, other);
 }
 
 /* A call with what was drawn for it, so that it can be tried again. */
@@ -123,7 +164,8 @@ struct call {
 
 enum {
     PUT, DELETE, MERGE, DELETE_RANGE, BATCH_PUT, BATCH_DELETE, BATCH_MERGE, BATCH_DELETE_RANGE, WRITE, WRITE_BYTES, PREPARE,
-    PREPARE_BYTES, FLUSH, SNAPSHOT, RELEASE, GET, GET_AT, GET_MANY, SCAN, SCAN_AT, COMPACT, OPEN, NEXT, KINDS
+    PREPARE_BYTES, FLUSH, SNAPSHOT, RELEASE, GET, GET_AT, GET_MANY, SCAN, SCAN_AT, VIEW, VIEW_AGAIN, VIEW_GET, VIEW_GET_AT,
+    VIEW_GET_MANY, VIEW_SCAN, VIEW_SCAN_AT, VIEW_CLOSE, COMPACT, OPEN, NEXT, KINDS
 };
 
 static size_t draw_text(uint8_t *text, size_t most) {
@@ -208,7 +250,7 @@ static int32_t try_call(const struct call *call) {
     struct ucstore_log_place place = {0, 0, 0};
     struct ucstore_ended ended = {0, 0, 0};
     size_t size = 0;
-    uint64_t number = 0, key_lengths[2], lengths[2] = {0, 0};
+    uint64_t number = 0, parts[2] = {1, call->key_length - 1}, lengths[2] = {0, 0};
     bool compacted = false;
     switch (call->kind) {
     case PUT:
@@ -247,15 +289,32 @@ static int32_t try_call(const struct call *call) {
     case GET_AT:
         return ucstore_get_at(&store, call->key, call->key_length, call->at, room, ROOM, &size);
     case GET_MANY:
-        key_lengths[0] = 1;
-        key_lengths[1] = call->key_length - 1;
-        return ucstore_get_many(&store, call->key, call->key_length, key_lengths, 2, lengths, 2, room, ROOM, &size);
+        return ucstore_get_many(&store, call->key, call->key_length, parts, 2, lengths, 2, room, ROOM, &size);
     case SCAN:
         return ucstore_scan(&store, call->key, call->key_length, call->value, call->value_length, false, UINT64_MAX, room, ROOM,
                             &size, &number);
     case SCAN_AT:
         return ucstore_scan_at(&store, call->key, call->key_length, call->value, call->value_length, false, call->at,
                                UINT64_MAX, room, ROOM, &size, &number);
+    case VIEW:
+        return ucstore_view(&store, &shown);
+    case VIEW_AGAIN:
+        return ucstore_view_again(&shown, &again);
+    case VIEW_GET:
+        return ucstore_view_get(&shown, call->key, call->key_length, room, ROOM, &size);
+    case VIEW_GET_AT:
+        return ucstore_view_get_at(&shown, call->key, call->key_length, call->at, room, ROOM, &size);
+    case VIEW_GET_MANY:
+        return ucstore_view_get_many(&shown, call->key, call->key_length, parts, 2, lengths, 2, room, ROOM, &size);
+    case VIEW_SCAN:
+        return ucstore_view_scan(&shown, call->key, call->key_length, call->value, call->value_length, false, UINT64_MAX, room,
+                                 ROOM, &size, &number);
+    case VIEW_SCAN_AT:
+        return ucstore_view_scan_at(&again, call->key, call->key_length, call->value, call->value_length, false, call->at,
+                                    UINT64_MAX, room, ROOM, &size, &number);
+    case VIEW_CLOSE:
+        ucstore_view_close(&again);
+        return ucstore_view_close(&shown);
     case COMPACT:
         return ucstore_compact(&store, &compacted);
     case OPEN:
@@ -304,7 +363,8 @@ static void step(struct held *held) {
     static struct held before;
     struct call call = draw_call(held);
     int32_t status = with_refusals(&call, held);
-    CHECK(status == UCSTORE_OK || status == UCSTORE_NOT_FOUND || status == UCSTORE_NOT_PROTECTED || status == UCSTORE_LOG_ENDS);
+    CHECK(status == UCSTORE_OK || status == UCSTORE_NOT_FOUND || status == UCSTORE_NOT_PROTECTED || status == UCSTORE_LOG_ENDS
+          || status == UCSTORE_NO_VIEW || status == UCSTORE_HAS_VIEW);
     if (call.kind == PREPARE || call.kind == PREPARE_BYTES) {
         /* No read sees it before it is taken. */
         look(&before);
@@ -343,12 +403,16 @@ static void soak(size_t calls) {
         step(&held);
     }
     CHECK(ucstore_batch_close(&gathered) == UCSTORE_OK);
-    CHECK(ucstore_close(&store) == UCSTORE_OK && live == 0);
+    CHECK(ucstore_close(&store) == UCSTORE_OK);
+    ucstore_view_close(&again);
+    ucstore_view_close(&shown);
+    CHECK(live == 0);
 }
 
 int main(int argc, char **argv) {
     size_t calls = argc > 1 ? (size_t)strtoull(argv[1], NULL, 10) : 1000;
     state = argc > 2 ? strtoull(argv[2], NULL, 10) : 1;
+    lay_out_keys();
     soak(calls);
     lasts = true;
     soak(calls);

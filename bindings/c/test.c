@@ -1,6 +1,6 @@
-/* 50,000 drawn operations for each operator, beside a plain dictionary whose copies are the snapshots: writes, batches by
- * handle and as bytes, snapshots, reads, scans and compactions. Then the log of all batches is opened and walked, whole and torn. The words are
- * how many operations there are, and the seed. */
+/* 50,000 drawn operations for each operator, beside a plain dictionary whose copies are the snapshots and the views: writes,
+ * batches by handle and as bytes, snapshots, views, reads, scans and compactions. Then the log of all batches is opened and
+ * walked, whole and torn. The words are how many operations there are, and the seed. */
 #include <stdio.h>
 #include <stdlib.h>
 #include <string.h>
@@ -14,7 +14,7 @@
         }                                                            \
     } while (0)
 
-enum { TEXT = 12, VALUE = 1 << 12, KEYS = 100, MOST_KEEPS = 12, BATCH = 12 + 9 * (3 + 2 * TEXT), MOST_LOG = 1 << 24 };
+enum { TEXT = 12, VALUE = 1 << 12, KEYS = 100, MOST_KEEPS = 12, MOST_VIEWS = 4, BATCH = 12 + 9 * (3 + 2 * TEXT), MOST_LOG = 1 << 24 };
 
 /* The kinds of writes are the tags of RocksDB's batches (`dbformat.h`). */
 enum kind { DELETE = 0, PUT = 1, MERGE = 2, DELETE_RANGE = 15 };
@@ -43,15 +43,23 @@ struct snapshot {
     struct dictionary held;
 };
 
+/* What is read: the store, or a view of it. */
+struct moment {
+    struct ucstore_view view;
+    uint64_t last;
+    struct dictionary now;
+    struct snapshot snapshots[MOST_KEEPS];
+    size_t snapshot_count;
+};
+
 static uint32_t merge_operator;
 static struct ucstore store;
 
 /* Where batches are gathered, one after the other. */
 static struct ucstore_batch gathered;
 
-static struct dictionary now;
-static struct snapshot snapshots[MOST_KEEPS];
-static size_t snapshot_count;
+/* What the store should hold, and what each view should. */
+static struct moment live, views[MOST_VIEWS];
 
 /* All writes, in order, and a log with a batch for each call. */
 static struct write *writes;
@@ -188,6 +196,41 @@ static void copy(struct dictionary *to, const struct dictionary *from) {
     }
 }
 
+static void copy_snapshot(struct snapshot *to, const struct snapshot *from) {
+    to->at = from->at;
+    to->taken = from->taken;
+    copy(&to->held, &from->held);
+}
+
+static void copy_moment(struct moment *to, const struct moment *from) {
+    to->last = from->last;
+    copy(&to->now, &from->now);
+    to->snapshot_count = from->snapshot_count;
+    for (size_t place = 0; place < from->snapshot_count; place++) {
+        copy_snapshot(&to->snapshots[place], &from->snapshots[place]);
+    }
+}
+
+/* Views. */
+
+/* Takes a view, closes one, or puts one behind another handle too. */
+static void view(void) {
+    uint64_t one = draw(MOST_VIEWS), behind = 1 + draw(MOST_VIEWS - 1);
+    struct moment *drawn = &views[one], *other = &views[(one + behind) % MOST_VIEWS];
+    if (drawn->view.at == NULL) {
+        CHECK(ucstore_view(&store, &drawn->view) == UCSTORE_OK && drawn->view.at != NULL);
+        copy_moment(drawn, &live);
+    } else if (draw(2) == 0) {
+        CHECK(ucstore_view_close(&drawn->view) == UCSTORE_OK && drawn->view.at == NULL);
+    } else if (other->view.at == NULL) {
+        CHECK(ucstore_view_again(&drawn->view, &other->view) == UCSTORE_OK && other->view.at != NULL);
+        copy_moment(other, drawn);
+    } else {
+        CHECK(ucstore_view(&store, &drawn->view) == UCSTORE_HAS_VIEW);
+        CHECK(ucstore_view_again(&drawn->view, &other->view) == UCSTORE_HAS_VIEW);
+    }
+}
+
 /* Writes. */
 
 static size_t draw_key(uint8_t *text) {
@@ -319,8 +362,9 @@ static void log_gathered(void) {
 
 static void wrote(const struct write *w) {
     CHECK(count < most_writes);
-    apply(&now, w);
+    apply(&live.now, w);
     writes[count++] = *w;
+    live.last = count;
 }
 
 /* A write that stands in the log as a batch of its own. What is prepared for that is given up by the write. */
@@ -355,6 +399,7 @@ static void write_batch(void) {
         log_batch(batch, size);
     }
     CHECK(ucstore_last(&store, &last) == UCSTORE_OK && last == count);
+    view();
     if (draw(2) == 0) {
         CHECK((by_handle ? ucstore_write(&store, &gathered) : ucstore_write_bytes(&store, batch, size)) == UCSTORE_OK);
     }
@@ -370,43 +415,40 @@ static void write_batch(void) {
 
 /* Snapshots. */
 
-static struct snapshot *snapshot_at(uint64_t at) {
-    for (size_t place = 0; place < snapshot_count; place++) {
-        if (snapshots[place].at == at) {
-            return &snapshots[place];
+static struct snapshot *snapshot_at(struct moment *of, uint64_t at) {
+    for (size_t place = 0; place < of->snapshot_count; place++) {
+        if (of->snapshots[place].at == at) {
+            return &of->snapshots[place];
         }
     }
     return NULL;
 }
 
 /* A sequence: mostly that of a snapshot. */
-static uint64_t draw_sequence(void) {
-    return snapshot_count > 0 && draw(8) != 0 ? snapshots[draw(snapshot_count)].at : draw(count + 2);
+static uint64_t draw_sequence(struct moment *of) {
+    return of->snapshot_count > 0 && draw(8) != 0 ? of->snapshots[draw(of->snapshot_count)].at : draw(of->last + 2);
 }
 
 static void take(void) {
     uint64_t at = UINT64_MAX;
-    if (snapshot_count < MOST_KEEPS) {
+    if (live.snapshot_count < MOST_KEEPS) {
         CHECK(ucstore_snapshot(&store, &at) == UCSTORE_OK && at == count);
-        if (snapshot_at(at) == NULL) {
-            snapshots[snapshot_count].at = at;
-            snapshots[snapshot_count].taken = 0;
-            copy(&snapshots[snapshot_count].held, &now);
-            snapshot_count++;
+        if (snapshot_at(&live, at) == NULL) {
+            struct snapshot *taken = &live.snapshots[live.snapshot_count++];
+            taken->at = at;
+            taken->taken = 0;
+            copy(&taken->held, &live.now);
         }
-        snapshot_at(at)->taken++;
+        snapshot_at(&live, at)->taken++;
     }
 }
 
 static void release(void) {
-    uint64_t at = draw_sequence();
-    struct snapshot *snapshot = snapshot_at(at);
+    uint64_t at = draw_sequence(&live);
+    struct snapshot *snapshot = snapshot_at(&live, at);
     CHECK(ucstore_release(&store, at) == (snapshot != NULL ? UCSTORE_OK : UCSTORE_NOT_PROTECTED));
     if (snapshot != NULL && --snapshot->taken == 0) {
-        struct snapshot *last = &snapshots[--snapshot_count];
-        snapshot->at = last->at;
-        snapshot->taken = last->taken;
-        copy(&snapshot->held, &last->held);
+        copy_snapshot(snapshot, &live.snapshots[--live.snapshot_count]);
     }
 }
 
@@ -414,19 +456,32 @@ static void check_snapshots(void) {
     uint64_t room[MOST_KEEPS + 1];
     size_t found = 99, fits = (size_t)draw(MOST_KEEPS + 1);
     room[fits] = 77;
-    CHECK(ucstore_snapshots(&store, room, fits, &found) == UCSTORE_OK && found == snapshot_count && room[fits] == 77);
+    CHECK(ucstore_snapshots(&store, room, fits, &found) == UCSTORE_OK && found == live.snapshot_count && room[fits] == 77);
     for (size_t place = 0; place < found && place < fits; place++) {
-        CHECK(snapshot_at(room[place]) != NULL && (place == 0 || room[place - 1] < room[place]));
+        CHECK(snapshot_at(&live, room[place]) != NULL && (place == 0 || room[place - 1] < room[place]));
     }
 }
 
-static void check_report(void) {
+/* The store, or a view that is there. */
+static struct moment *draw_moment(void) {
+    struct moment *drawn = &views[draw(MOST_VIEWS)];
+    return draw(2) == 0 || drawn->view.at == NULL ? &live : drawn;
+}
+
+static int32_t report_of(struct moment *of, struct ucstore_report *report) {
+    return of == &live ? ucstore_report(&store, report) : ucstore_view_report(&of->view, report);
+}
+
+static void check_report(struct moment *of) {
     struct ucstore_report report;
+    uint64_t last = 99;
     report.size = sizeof report - 1;
-    CHECK(ucstore_report(&store, &report) == UCSTORE_BAD_SIZE);
+    CHECK(report_of(of, &report) == UCSTORE_BAD_SIZE);
     report.size = sizeof report;
-    CHECK(ucstore_report(&store, &report) == UCSTORE_OK && report.size == sizeof report);
-    CHECK(report.snapshots == snapshot_count && report.last == count && report.gathered <= count && report.runs <= 36);
+    CHECK(report_of(of, &report) == UCSTORE_OK && report.size == sizeof report);
+    CHECK(report.snapshots == of->snapshot_count && report.last == of->last);
+    CHECK(report.gathered <= of->last && report.runs <= 36);
+    CHECK((of == &live ? ucstore_last(&store, &last) : ucstore_view_last(&of->view, &last)) == UCSTORE_OK && last == of->last);
 }
 
 /* Reads. */
@@ -450,16 +505,17 @@ static void check_value(int32_t status, const struct value *value, const uint8_t
     }
 }
 
-static void get(void) {
+static void get(struct moment *of) {
     static uint8_t room[VALUE];
     uint8_t text[TEXT];
     int key = (int)draw(KEYS);
     size_t length = key_text(key, text), size = 99, room_length = draw(4) == 0 ? (size_t)draw(16) : (size_t)VALUE;
-    uint64_t at = draw_sequence();
-    struct snapshot *snapshot = snapshot_at(at);
+    uint64_t at = draw_sequence(of);
+    struct snapshot *snapshot = snapshot_at(of, at);
     int32_t status;
     memset(room, 0xAA, VALUE);
-    status = ucstore_get_at(&store, text, length, at, room, room_length, &size);
+    status = of == &live ? ucstore_get_at(&store, text, length, at, room, room_length, &size)
+                         : ucstore_view_get_at(&of->view, text, length, at, room, room_length, &size);
     if (snapshot == NULL) {
         CHECK(status == UCSTORE_NOT_PROTECTED && size == 99 && has(room, 0, VALUE, room, 0));
     } else {
@@ -467,12 +523,13 @@ static void get(void) {
     }
     size = 99;
     memset(room, 0xAA, VALUE);
-    status = ucstore_get(&store, text, length, room, room_length, &size);
-    check_value(status, &now.at[key], room, room_length, size);
+    status = of == &live ? ucstore_get(&store, text, length, room, room_length, &size)
+                         : ucstore_view_get(&of->view, text, length, room, room_length, &size);
+    check_value(status, &of->now.at[key], room, room_length, size);
 }
 
 /* Looks up a few keys at once, some of them twice. */
-static void get_many(void) {
+static void get_many(struct moment *of) {
     enum { MANY = 9 };
     static uint8_t room[MANY * VALUE], wanted[MANY * VALUE];
     uint8_t keys[MANY * TEXT];
@@ -480,15 +537,19 @@ static void get_many(void) {
     uint64_t key_lengths[MANY], lengths[MANY];
     size_t keys_length = 0, wanted_length = 0, size = 99, length = (size_t)draw(MANY + 1),
            room_length = draw(2) == 0 ? (size_t)draw(100) : sizeof room;
+    int32_t status;
     for (size_t place = 0; place < length; place++) {
         drawn[place] = (int)draw(KEYS);
         key_lengths[place] = key_text(drawn[place], keys + keys_length);
         keys_length += (size_t)key_lengths[place];
     }
     memset(room, 0xAA, sizeof room);
-    CHECK(ucstore_get_many(&store, keys, keys_length, key_lengths, length, lengths, length, room, room_length, &size) == UCSTORE_OK);
+    status = of == &live ? ucstore_get_many(&store, keys, keys_length, key_lengths, length, lengths, length, room, room_length, &size)
+                         : ucstore_view_get_many(&of->view, keys, keys_length, key_lengths, length, lengths, length, room,
+                                                 room_length, &size);
+    CHECK(status == UCSTORE_OK);
     for (size_t place = 0; place < length; place++) {
-        const struct value *value = &now.at[drawn[place]];
+        const struct value *value = &of->now.at[drawn[place]];
         CHECK(lengths[place] == (value->held ? value->size : UINT64_MAX));
         if (value->held) {
             memcpy(wanted + wanted_length, value->bytes, value->size);
@@ -532,19 +593,21 @@ static void push_rows(const struct dictionary *held, const struct write *range, 
     }
 }
 
-static void scan(void) {
+static void scan(struct moment *of) {
     static struct rows wanted;
     static uint8_t room[KEYS * VALUE];
     struct write range;
     size_t size = 99, room_length = draw(2) == 0 ? (size_t)draw(400) : sizeof room;
-    uint64_t at = draw_sequence(), limit = draw(2) == 0 ? draw(6) : UINT64_MAX, shown = 99;
+    uint64_t at = draw_sequence(of), limit = draw(2) == 0 ? draw(6) : UINT64_MAX, shown = 99;
     bool bounded = draw(2) == 0;
-    struct snapshot *snapshot = snapshot_at(at);
+    struct snapshot *snapshot = snapshot_at(of, at);
     int32_t status;
     range.key_length = draw_key(range.key);
     range.value_length = draw_key(range.value);
-    status = ucstore_scan_at(&store, range.key, range.key_length, range.value, range.value_length, bounded, at, limit, room,
-                             room_length, &size, &shown);
+    status = of == &live ? ucstore_scan_at(&store, range.key, range.key_length, range.value, range.value_length, bounded, at,
+                                           limit, room, room_length, &size, &shown)
+                         : ucstore_view_scan_at(&of->view, range.key, range.key_length, range.value, range.value_length,
+                                                bounded, at, limit, room, room_length, &size, &shown);
     if (snapshot == NULL) {
         CHECK(status == UCSTORE_NOT_PROTECTED && size == 99 && shown == 99);
     } else {
@@ -552,10 +615,12 @@ static void scan(void) {
         CHECK(status == UCSTORE_OK && shown == wanted.count && size == wanted.size);
         CHECK(memcmp(room, wanted.bytes, wanted.fits) == 0);
     }
-    push_rows(&now, &range, bounded, limit, room_length, &wanted);
-    CHECK(ucstore_scan(&store, range.key, range.key_length, range.value, range.value_length, bounded, limit, room, room_length, &size,
-                       &shown) == UCSTORE_OK);
-    CHECK(shown == wanted.count && size == wanted.size && memcmp(room, wanted.bytes, wanted.fits) == 0);
+    push_rows(&of->now, &range, bounded, limit, room_length, &wanted);
+    status = of == &live ? ucstore_scan(&store, range.key, range.key_length, range.value, range.value_length, bounded, limit,
+                                        room, room_length, &size, &shown)
+                         : ucstore_view_scan(&of->view, range.key, range.key_length, range.value, range.value_length, bounded,
+                                             limit, room, room_length, &size, &shown);
+    CHECK(status == UCSTORE_OK && shown == wanted.count && size == wanted.size && memcmp(room, wanted.bytes, wanted.fits) == 0);
 }
 
 /* Logs. */
@@ -644,7 +709,7 @@ static void check_log(void) {
 }
 
 static void step(void) {
-    uint64_t choice = draw(100);
+    uint64_t choice = draw(104);
     if (choice < 40) {
         write_one();
     } else if (choice < 48) {
@@ -654,17 +719,33 @@ static void step(void) {
     } else if (choice < 62) {
         release();
         check_snapshots();
-        check_report();
+        check_report(draw_moment());
     } else if (choice < 63) {
         compact();
     } else if (choice < 64) {
         CHECK(ucstore_flush(&store) == UCSTORE_OK);
     } else if (choice < 92) {
-        get();
+        get(draw_moment());
     } else if (choice < 96) {
-        get_many();
+        get_many(draw_moment());
+    } else if (choice < 100) {
+        scan(draw_moment());
     } else {
-        scan();
+        view();
+    }
+}
+
+/* Closes the views. They still show what they did. */
+static void close_views(void) {
+    for (size_t place = 0; place < MOST_VIEWS; place++) {
+        struct moment *of = &views[place];
+        if (of->view.at != NULL) {
+            check_report(of);
+            get(of);
+            scan(of);
+            CHECK(ucstore_view_close(&of->view) == UCSTORE_OK);
+        }
+        CHECK(ucstore_view_close(&of->view) == UCSTORE_NO_VIEW);
     }
 }
 
@@ -673,8 +754,7 @@ static void soak(uint32_t drawn_operator, size_t operations) {
     uint64_t last = 0;
     merge_operator = drawn_operator;
     count = history_length = 0;
-    memset(&now, 0, sizeof now);
-    snapshot_count = 0;
+    memset(&live, 0, sizeof live);
     CHECK(ucstore_options_init(&options) == UCSTORE_OK);
     options.write_buffer_size = 64;
     options.compacts_itself = (uint32_t)draw(2);
@@ -686,6 +766,7 @@ static void soak(uint32_t drawn_operator, size_t operations) {
     check_log();
     CHECK(ucstore_batch_close(&gathered) == UCSTORE_OK && gathered.at == NULL);
     CHECK(ucstore_close(&store) == UCSTORE_OK && store.at == NULL);
+    close_views();
     printf("operator %u: %zu operations, %zu writes\n", (unsigned)merge_operator, operations, count);
 }
 
@@ -729,29 +810,10 @@ static void durable(void) {
     CHECK(ucstore_close(&store) == UCSTORE_OK);
 }
 
-/* A million single writes with the usual options, and no other call. */
-static void million(void) {
-    struct ucstore_options options;
-    uint8_t key[8] = {0}, value[8];
-    size_t size = 0, place;
-    CHECK(ucstore_options_init(&options) == UCSTORE_OK);
-    CHECK(ucstore_create(&store, UCSTORE_COUNTER, &options) == UCSTORE_OK);
-    for (uint64_t done = 0; done < 1000000; done++) {
-        place = 0;
-        push_number(key, &place, done % 300000);
-        place = 0;
-        push_number(value, &place, done);
-        CHECK(ucstore_put(&store, key, sizeof key, value, sizeof value) == UCSTORE_OK);
-    }
-    place = 0;
-    push_number(key, &place, 7);
-    CHECK(ucstore_get(&store, key, sizeof key, value, sizeof value, &size) == UCSTORE_OK && size == 8 && number(value) == 900007);
-    CHECK(ucstore_close(&store) == UCSTORE_OK);
-}
-
 /* Lengths of 0 with null addresses. */
 static void nothing_is_read(void) {
     struct ucstore_batch batch = {0};
+    struct ucstore_view shown = {0};
     struct ucstore_options options;
     struct ucstore_ended ended = {7, 7, 7};
     struct ucstore_log_place place = {0, 0, 0};
@@ -778,6 +840,13 @@ static void nothing_is_read(void) {
     CHECK(ucstore_scan_at(&store, NULL, 0, NULL, 0, true, 2, 9, NULL, 0, &size, &rows) == UCSTORE_OK && size == 0 && rows == 0);
     CHECK(ucstore_scan_at(&store, NULL, 0, NULL, 0, false, 2, 9, NULL, 0, &size, &rows) == UCSTORE_OK && size == 17 && rows == 0);
     CHECK(ucstore_scan(&store, NULL, 0, NULL, 0, false, 9, NULL, 0, &size, &rows) == UCSTORE_OK && size == 17 && rows == 0);
+    CHECK(ucstore_view(&store, &shown) == UCSTORE_OK);
+    CHECK(ucstore_view_get_many(&shown, NULL, 0, NULL, 0, NULL, 0, NULL, 0, &size) == UCSTORE_OK && size == 0);
+    CHECK(ucstore_view_get(&shown, NULL, 0, NULL, 0, &size) == UCSTORE_OK && size == 1);
+    CHECK(ucstore_view_get_at(&shown, NULL, 0, 0, NULL, 0, &size) == UCSTORE_NOT_PROTECTED);
+    CHECK(ucstore_view_scan_at(&shown, NULL, 0, NULL, 0, true, 2, 9, NULL, 0, &size, &rows) == UCSTORE_OK && size == 0);
+    CHECK(ucstore_view_scan(&shown, NULL, 0, NULL, 0, false, 9, NULL, 0, &size, &rows) == UCSTORE_OK && size == 17 && rows == 0);
+    CHECK(ucstore_view_close(&shown) == UCSTORE_OK && shown.at == NULL);
     CHECK(ucstore_delete_range(&store, NULL, 0, NULL, 0) == UCSTORE_OK);
     CHECK(ucstore_delete(&store, NULL, 0) == UCSTORE_OK);
     CHECK(ucstore_log_next(NULL, 0, &place, NULL, 0, &size, &rows, &ended) == UCSTORE_LOG_ENDS && ended.kind == UCSTORE_CLEAN);
@@ -820,6 +889,28 @@ static void without_store(void) {
     CHECK(ucstore_close(&store) == UCSTORE_NO_STORE);
 }
 
+/* What a handle without a view answers. */
+static void without_view(void) {
+    struct ucstore_view none = {0}, other = {0};
+    struct ucstore_report report;
+    const uint8_t text[] = {'a'};
+    const uint64_t length = 1;
+    uint8_t room[4];
+    size_t size = 0;
+    uint64_t seq = 7;
+    report.size = sizeof report;
+    CHECK(ucstore_view(&store, &none) == UCSTORE_NO_STORE && none.at == NULL);
+    CHECK(ucstore_view_again(&none, &other) == UCSTORE_NO_VIEW && other.at == NULL);
+    CHECK(ucstore_view_last(&none, &seq) == UCSTORE_NO_VIEW);
+    CHECK(ucstore_view_report(&none, &report) == UCSTORE_NO_VIEW);
+    CHECK(ucstore_view_get(&none, text, 1, room, sizeof room, &size) == UCSTORE_NO_VIEW);
+    CHECK(ucstore_view_get_at(&none, text, 1, 0, room, sizeof room, &size) == UCSTORE_NO_VIEW);
+    CHECK(ucstore_view_get_many(&none, text, 1, &length, 1, &seq, 1, room, sizeof room, &size) == UCSTORE_NO_VIEW);
+    CHECK(ucstore_view_scan(&none, text, 1, text, 1, false, 9, room, sizeof room, &size, &seq) == UCSTORE_NO_VIEW);
+    CHECK(ucstore_view_scan_at(&none, text, 1, text, 1, false, 0, 9, room, sizeof room, &size, &seq) == UCSTORE_NO_VIEW);
+    CHECK(ucstore_view_close(&none) == UCSTORE_NO_VIEW && seq == 7 && size == 0);
+}
+
 /* What is refused. */
 static void refusals(void) {
     struct ucstore_options options;
@@ -832,7 +923,7 @@ static void refusals(void) {
     uint64_t seq = 7;
     CHECK(ucstore_version() == UCSTORE_ABI);
     CHECK(strcmp(ucstore_status_text(UCSTORE_ROOM), "the room is too small") == 0);
-    CHECK(strcmp(ucstore_status_text(UCSTORE_BATCH_FULL + 1), ucstore_status_text(-1)) == 0);
+    CHECK(strcmp(ucstore_status_text(UCSTORE_HAS_VIEW + 1), ucstore_status_text(-1)) == 0);
     CHECK(ucstore_log_next(text, 1, &place, room, sizeof room, &size, &seq, &ended) == UCSTORE_BAD_PLACE && place.batches == 1);
     CHECK(ucstore_create(&store, UCSTORE_TAIL, &options) == UCSTORE_BAD_SIZE && store.at == NULL);
     CHECK(ucstore_options_init(&options) == UCSTORE_OK && options.write_buffer_size == 4194304 && options.size == sizeof options);
@@ -875,12 +966,10 @@ int main(int argc, char **argv) {
     history = (uint8_t *)malloc(MOST_LOG);
     CHECK(writes != NULL && history != NULL);
     without_store();
+    without_view();
     refusals();
     nothing_is_read();
     durable();
-    if (operations >= 50000) {
-        million();
-    }
     for (uint32_t one = UCSTORE_APPEND; one <= UCSTORE_TAIL; one++) {
         soak(one, operations);
     }

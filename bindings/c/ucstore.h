@@ -15,6 +15,14 @@
  *
  *     struct ucstore_batch batch = {0};
  *
+ * A view is what a store held at a moment, made of zeros too:
+ *
+ *     struct ucstore_view view = {0};
+ *
+ * Nothing that becomes of the store changes it, not even its close. Each thread reads a view behind a handle of its own, while another
+ * one writes. It copies no run, and keeps the memory of those that it shows until it is closed. A snapshot is read through its store
+ * alone, and has only a number: each compaction keeps what is read at it, until it is released.
+ *
  * A store is in memory. To keep it, write each batch in this order, and open the store from the file's bytes the next time:
  * 1. `ucstore_prepare` judges the batch, takes all memory that it needs, and gives its record. If it is refused, the log stays as it is.
  * 2. Append the record to the file, and sync it. If that fails, cut the file back to where the record begins, and `ucstore_give_up`.
@@ -23,10 +31,10 @@
  * What is written otherwise isn't in such a log.
  *
  * What C owes:
- * - It neither copies, changes nor frees what is in a handle or a batch, but by these functions. Each may lie anywhere, and
+ * - It neither copies, changes nor frees what is in a handle, a batch or a view, but by these functions. Each may lie anywhere, and
  *   move between calls. It is closed before it ends.
- * - One call at a time on a handle, reads too, and on a batch. Two of them may be used by two threads at once, and each may go
- *   from thread to thread.
+ * - One call at a time on a handle, reads too, on a batch, and on a view. Two of them may be used by two threads at once, and each may
+ *   go from thread to thread.
  * - Each address leads to as much memory as its type or its length says. If a length is 0, its address is not read, and may
  *   be null. No other address is null. What a function writes overlaps nothing else that it is given.
  * - What a function writes to has a value of its type before: `bool compacted = false;`.
@@ -58,6 +66,11 @@ struct ucstore_batch {
     void *at;
 };
 
+/* A view: none if it is all zeros. */
+struct ucstore_view {
+    void *at;
+};
+
 /* What a function answers. */
 enum ucstore_status {
     UCSTORE_OK = 0,                /* It did what it was asked. */
@@ -78,7 +91,9 @@ enum ucstore_status {
     UCSTORE_LOG_ENDS = 15,         /* No batch comes next in the log. */
     UCSTORE_SEQUENCE_BACK = 16,    /* The sequence of the batch is neither 0 nor above the last one. */
     UCSTORE_BAD_KEYS = 17,         /* The keys' lengths don't add up to their bytes, or there aren't as many places for answers. */
-    UCSTORE_BATCH_FULL = 18        /* The batch has 2^32 - 1 operations. */
+    UCSTORE_BATCH_FULL = 18,       /* The batch has 2^32 - 1 operations. */
+    UCSTORE_NO_VIEW = 19,          /* The handle has no view. */
+    UCSTORE_HAS_VIEW = 20          /* The handle has a view already. */
 };
 
 /* Which operator merges a key's operands into its value. */
@@ -111,6 +126,8 @@ static inline const char *ucstore_status_text(int32_t status) {
         "the sequence of the batch is neither 0 nor above the last one",
         "the keys' lengths don't add up to their bytes, or there aren't as many places for answers",
         "the batch has 2^32 - 1 operations",
+        "the handle has no view",
+        "the handle has a view already",
     };
     return status >= 0 && (size_t)status < sizeof texts / sizeof texts[0] ? texts[status] : "unknown status";
 }
@@ -328,6 +345,55 @@ int32_t ucstore_scan(struct ucstore *store, const uint8_t *low, size_t low_lengt
 int32_t ucstore_scan_at(struct ucstore *store, const uint8_t *low, size_t low_length, const uint8_t *high, size_t high_length,
                         bool bounded, uint64_t at, uint64_t limit, uint8_t *room, size_t room_length, size_t *size,
                         uint64_t *rows);
+
+/* Puts a view behind its handle that shows what the store holds now. What is prepared isn't in it, and stays so.
+ * UCSTORE_HAS_VIEW, UCSTORE_NO_STORE, UCSTORE_OUT_OF_MEMORY. */
+int32_t ucstore_view(struct ucstore *store, struct ucstore_view *view);
+
+/* Puts the view behind another handle too, for another thread. Nothing is copied. Each of the two is closed.
+ * UCSTORE_HAS_VIEW, UCSTORE_NO_VIEW, UCSTORE_OUT_OF_MEMORY. */
+int32_t ucstore_view_again(struct ucstore_view *view, struct ucstore_view *again);
+
+/* Looks a key up in a view, as `ucstore_get` does in a store.
+ * UCSTORE_NO_VIEW, UCSTORE_NOT_FOUND, UCSTORE_OUT_OF_MEMORY. */
+int32_t ucstore_view_get(struct ucstore_view *view, const uint8_t *key, size_t key_length, uint8_t *room, size_t room_length,
+                         size_t *size);
+
+/* Looks a key up in a view at a snapshot that the store had then, as `ucstore_get_at` does.
+ * UCSTORE_NO_VIEW, UCSTORE_NOT_PROTECTED, UCSTORE_NOT_FOUND, UCSTORE_OUT_OF_MEMORY. */
+int32_t ucstore_view_get_at(struct ucstore_view *view, const uint8_t *key, size_t key_length, uint64_t at, uint8_t *room,
+                            size_t room_length, size_t *size);
+
+/* Looks up `count` keys in a view, as `ucstore_get_many` does in a store.
+ * UCSTORE_NO_VIEW, UCSTORE_BAD_KEYS, UCSTORE_OUT_OF_MEMORY. */
+int32_t ucstore_view_get_many(struct ucstore_view *view, const uint8_t *keys, size_t keys_length, const uint64_t *key_lengths,
+                              size_t count, uint64_t *value_lengths, size_t value_count, uint8_t *room, size_t room_length,
+                              size_t *size);
+
+/* Scans a view, as `ucstore_scan` does a store. The first scan behind a handle sorts what no run has yet, also for the handles that
+ * are made of it later by `ucstore_view_again`.
+ * UCSTORE_NO_VIEW, UCSTORE_OUT_OF_MEMORY. */
+int32_t ucstore_view_scan(struct ucstore_view *view, const uint8_t *low, size_t low_length, const uint8_t *high,
+                          size_t high_length, bool bounded, uint64_t limit, uint8_t *room, size_t room_length, size_t *size,
+                          uint64_t *rows);
+
+/* Scans a view at a snapshot that the store had then, as `ucstore_view_scan` does.
+ * UCSTORE_NO_VIEW, UCSTORE_NOT_PROTECTED, UCSTORE_OUT_OF_MEMORY. */
+int32_t ucstore_view_scan_at(struct ucstore_view *view, const uint8_t *low, size_t low_length, const uint8_t *high,
+                             size_t high_length, bool bounded, uint64_t at, uint64_t limit, uint8_t *room,
+                             size_t room_length, size_t *size, uint64_t *rows);
+
+/* Tells the last sequence that the view shows: 0 if nothing was written.
+ * UCSTORE_NO_VIEW. */
+int32_t ucstore_view_last(struct ucstore_view *view, uint64_t *seq);
+
+/* Tells what the view holds, in numbers, as `ucstore_report` does of a store.
+ * UCSTORE_NO_VIEW, UCSTORE_BAD_SIZE. */
+int32_t ucstore_view_report(struct ucstore_view *view, struct ucstore_report *report);
+
+/* Frees the view. Its other handles keep it.
+ * UCSTORE_NO_VIEW. */
+int32_t ucstore_view_close(struct ucstore_view *view);
 
 /* Compacts the runs that are picked next, if there are any, and tells whether there were. A store that compacts by
  * itself needs no such call.

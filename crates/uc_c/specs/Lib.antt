@@ -3,6 +3,7 @@ pub mod Replies
 pub mod FaultCodes
 pub mod Numbers
 pub mod Opening
+pub mod Views
 pub mod Writing
 pub mod Batches
 pub mod Room

@@ -1,7 +1,6 @@
 -- The values of many keys that stand one behind the other.
 use Rattle.std.specs.Prelude.{◌≡◌, ◌⊎◌, ◌-◌, ◌^◌, ℕ, ℤ, List, [], ◌∷◌, length, take, drop, sum, map, Option, Some, None}
 use Rattle.std.specs.List.{flat_map}
-use Rattle.uc_engine.specs.Engines.{Engined, last_value}
 use Rattle.uc_c.specs.declared.status.TheConstants.{OK, OUT_OF_MEMORY, BAD_KEYS}
 use Rattle.uc_c.specs.Room.{filled}
 
@@ -14,9 +13,9 @@ cut_keys (n ∷ lengths) bytes = take n bytes ∷ cut_keys lengths (drop n bytes
 abbrev pub AreCut : List ℕ → List ℕ → List ℕ → Type 0
 AreCut keys lengths places = (sum lengths ≡ length keys) × (length places ≡ length lengths)
 
--- the value of each key at the last sequence
-abbrev pub last_values : Engined → List ℕ → List ℕ → List (Option (List ℕ))
-last_values e lengths keys = map (last_value e) (cut_keys lengths keys)
+-- the value of each key
+abbrev pub values_of : (List ℕ → Option (List ℕ)) → List ℕ → List ℕ → List (Option (List ℕ))
+values_of value lengths keys = map value (cut_keys lengths keys)
 
 -- the length of a value; the greatest number if there is none
 abbrev pub length_told : Option (List ℕ) → ℕ
@@ -41,3 +40,10 @@ pub record AreTold (values : List (Option (List ℕ))) (lengths' room room' : Li
 -- the values are told, or the status says that memory was refused
 abbrev pub TellsMany : ℤ → List (Option (List ℕ)) → List ℕ → List ℕ → List ℕ → ℕ → Type 0
 TellsMany status values lengths' room room' size' = ((status ≡ OK) × AreTold values lengths' room room' size') ⊎ (status ≡ OUT_OF_MEMORY)
+
+module _ (status : ℤ) (value : List ℕ → Option (List ℕ)) (keys lengths places places' room room' : List ℕ) (size' : ℕ) where
+  -- So it is with the value of each key; or the status says that the lengths aren't those of the keys.
+  abbrev pub FoundMany : Type 0
+  FoundMany =
+      (AreCut keys lengths places × TellsMany status (values_of value lengths keys) places' room room' size')
+      ⊎ ((status ≡ BAD_KEYS) × ¬ AreCut keys lengths places)

@@ -10,7 +10,7 @@ use Rattle.uc_engine.specs.declared.operator_kind.OperatorKind.{OperatorKind}
 use Rattle.uc_engine.specs.Engines.{Engined, kind_numbered, meaning_of}
 use Rattle.uc_c.specs.declared.c_options.COptions.{COptions}
 use Rattle.uc_c.specs.declared.c_options.TheConstants.{OPTIONS_SIZE}
-use Rattle.uc_c.specs.declared.status.TheConstants.{OK, NO_STORE, HAS_STORE, UNKNOWN_OPERATOR, BAD_SIZE}
+use Rattle.uc_c.specs.declared.status.TheConstants.{OK, HAS_STORE, UNKNOWN_OPERATOR, BAD_SIZE}
 use Rattle.uc_c.specs.Numbers.{options_in}
 use Rattle.uc_c.specs.Statuses.{OpenSays}
 use Rattle.uc_c.specs.Replies.{Names}
@@ -47,7 +47,3 @@ module _ (status : ℤ) (old new : Option Engined) where
   abbrev pub Opens : ℕ → COptions → List ℕ → Type 0
   Opens operator c log = PutsNumbered
       (λ kind e. GoesOn (meaning_of kind) (created (options_in c)) e.live (log_writes log).list × (e.live.prepared ≡ [])) operator c
-
-  -- there is no store any more, and the status says whether there was one
-  abbrev pub Closes : Type 0
-  Closes = (new ≡ None) × MatchOption old (status ≡ NO_STORE) (λ _. status ≡ OK)

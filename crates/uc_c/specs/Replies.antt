@@ -1,19 +1,28 @@
--- What the functions answer, and what is behind the handle before and after. E is what an engine is to a contract.
+-- What the functions answer, and what is behind the handle before and after. E is what an engine is to a contract, or a view.
 use Rattle.std.specs.Prelude.{◌≡◌, ℤ, Option, None, ◌⊎◌, MatchOption, IsSomeAnd}
 use Rattle.uc_c.specs.declared.status.TheConstants.{OK, NO_STORE}
 
-module _ {E : Type 0} (status : ℤ) (old new : Option E) where
-  -- there was no store, and there is none
-  abbrev pub Lacks : Type 0
-  Lacks = (status ≡ NO_STORE) × (new ≡ None)
+module _ {E : Type 0} (lack status : ℤ) (old new : Option E) where
+  -- P holds of what is held, if anything is. Else the status says so, and nothing is.
+  abbrev pub IfThere : (E → Type 0) → Type 0
+  IfThere P = MatchOption old ((status ≡ lack) × (new ≡ None)) P
 
+  -- it is read, and stays as it was
+  abbrev pub IsRead : (E → Type 0) → Type 0
+  IsRead P = IfThere (λ e. (new ≡ old) × P e)
+
+  -- nothing is held any more, and the status says whether anything was
+  abbrev pub Closes : Type 0
+  Closes = (new ≡ None) × MatchOption old (status ≡ lack) (λ _. status ≡ OK)
+
+module _ {E : Type 0} (status : ℤ) (old new : Option E) where
   -- P holds of the store, if there is one
   abbrev pub IfHeld : (E → Type 0) → Type 0
-  IfHeld P = MatchOption old Lacks P
+  IfHeld P = IfThere NO_STORE status old new P
 
   -- the store is read, and stays as it was
   abbrev pub Answers : (E → Type 0) → Type 0
-  Answers P = IfHeld (λ e. (new ≡ old) × P e)
+  Answers P = IsRead NO_STORE status old new P
 
   -- P holds of the store before and after, if there is one
   abbrev pub Becomes : (E → E → Type 0) → Type 0

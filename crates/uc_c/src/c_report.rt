@@ -1,15 +1,15 @@
-//! [`CReport`]: what a store holds, in numbers, as C sees it.
+//! [`CReport`]: what a store holds, or a view, in numbers, as C sees it.
 ghost use Rattle.std.specs.Prelude.{◌≡◌, ◌⊎◌};
-ghost use Rattle.uc_engine.specs.EngineReports.{report_of};
-ghost use Rattle.uc_c.specs.declared.status.TheConstants.{OK};
+ghost use Rattle.uc_engine.specs.EngineReports.{report_of, report_seen};
+ghost use Rattle.uc_c.specs.declared.status.TheConstants.{OK, NO_VIEW};
 ghost use Rattle.uc_c.specs.Numbers.{Reports};
-ghost use Rattle.uc_c.specs.Replies.{Answers};
+ghost use Rattle.uc_c.specs.Replies.{Answers, IsRead};
 
-use crate::status::{BAD_SIZE, NO_STORE, OK};
+use crate::status::{BAD_SIZE, NO_STORE, NO_VIEW, OK};
 use std::alloc::Global;
 use std::mem::size_of;
 use uc_engine::EngineReport;
-use uc_handle::Handle;
+use uc_handle::{Handle, ViewHandle};
 
 /// How many bytes the struct has.
 pub const REPORT_SIZE: usize = 64;
@@ -71,6 +71,33 @@ pub extern "C" fn ucstore_report(alloc: Global, handle: &mut Handle, report: &mu
     };
     let found = engine.report();
     handle.put(engine);
+    tell(found, report)
+}
+
+/// Tells what the view holds, in numbers, as `ucstore_report` does.
+#[unsafe(no_mangle)]
+pub extern "C" fn ucstore_view_report(
+    alloc: Global,
+    view: &mut ViewHandle,
+    report: &mut CReport,
+) -> i32
+    ensures reports { IsRead NO_VIEW result view.old.held view.new.held (λ v.
+        Reports result (report_seen v.seen) report.old report.new) }
+    ensures untold { (result ≡ OK) ⊎ (report.new ≡ report.old) }
+{
+    let Some(held) = view.take(alloc) else {
+        return NO_VIEW;
+    };
+    let found = held.report();
+    view.put(held);
+    tell(found, report)
+}
+
+/// Tells a report, if C knows its size.
+fn tell(found: EngineReport, report: &mut CReport) -> i32
+    ensures reports { Reports result found report.old report.new }
+    ensures untold { (result ≡ OK) ⊎ (report.new ≡ report.old) }
+{
     if report.size != REPORT_SIZE {
         return BAD_SIZE;
     }

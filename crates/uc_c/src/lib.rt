@@ -14,14 +14,15 @@
 //! the handle, calls it, puts it back, and answers a status. What is written through an address is written only if the
 //! status is `OK`.
 //!
-//! C gathers operations in a [`BatchHandle`](uc_handle::BatchHandle), which is held in the same way.
+//! C gathers operations in a [`BatchHandle`](uc_handle::BatchHandle), which is held in the same way, and so is a view, in a
+//! [`ViewHandle`](uc_handle::ViewHandle). Stores and views are read by the same functions, over [`Readable`](readable::Readable).
 //!
 //! The functions of `logs.rt` need no handle: C keeps a log in a file of its own, appends what they lay out, and walks
 //! over it. Where a walk stops, it tells why through an address.
 //!
 //! Read `status.rt` and `specs/Replies.antt` first, for what the functions answer, then `opening.rt`, `batches.rt`,
-//! `writing.rt`, `snapshots.rt`, `reading.rt`, `many.rt`, `scanning.rt`, `compacting.rt`, `c_report.rt` and, with
-//! `specs/LogWalk.antt`, `logs.rt`.
+//! `writing.rt`, `snapshots.rt`, `readable.rt`, `reading.rt`, `many.rt`, `scanning.rt`, `views.rt`, `view_reading.rt`,
+//! `compacting.rt`, `c_report.rt` and, with `specs/LogWalk.antt`, `logs.rt`.
 //!
 //! Tests: its own.
 #![tactic(auto)]
@@ -39,6 +40,7 @@ mod log_step;
 mod logs;
 mod many;
 mod opening;
+mod readable;
 mod reading;
 mod room;
 mod scanning;
@@ -47,6 +49,10 @@ mod status;
 #[cfg(test)]
 mod tests;
 mod version;
+mod view_reading;
+#[cfg(test)]
+mod view_tests;
+mod views;
 #[cfg(test)]
 mod walk_tests;
 mod writing;

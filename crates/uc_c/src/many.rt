@@ -1,13 +1,16 @@
-//! Look-ups of many keys at once in the store behind a handle.
+//! Look-ups of many keys at once in the store behind a handle, and in what else is [`Readable`].
 ghost use Rattle.std.specs.Prelude.{◌≡◌, ◌⊎◌, ◌↔◌, ◌++◌, ◌∷◌, [], IsTrue, IfOk, OnOk, length, map, sum};
-ghost use Rattle.uc_c.specs.declared.status.TheConstants.{OK, BAD_KEYS};
-ghost use Rattle.uc_c.specs.Many.{AreCut, TellsMany, last_values, length_told, value_bytes, values_bytes};
+ghost use Rattle.uc_engine.specs.Engines.{last_value};
+ghost use Rattle.uc_engine.specs.EngineViews.{value_seen};
+ghost use Rattle.uc_c.specs.declared.status.TheConstants.{OK};
+ghost use Rattle.uc_c.specs.Many.{FoundMany, length_told, value_bytes, values_bytes, values_of};
 ghost use Rattle.uc_c.specs.Replies.{Answers};
 
+use crate::readable::Readable;
 use crate::room::fill;
 use crate::status::{BAD_KEYS, NO_STORE, OK, OUT_OF_MEMORY};
 use std::alloc::{AllocError, Global};
-use uc_engine::{Bytes, Engine};
+use uc_engine::Bytes;
 use uc_handle::Handle;
 
 /// The length that is told of a key without a value.
@@ -36,22 +39,46 @@ pub extern "C" fn ucstore_get_many(
     size: &mut usize,
 ) -> i32
     ensures found { Answers result handle.old.held handle.new.held (λ e.
-        (AreCut keys.now key_lengths.now value_lengths.old
-        × TellsMany result (last_values e key_lengths.now keys.now) value_lengths.new room.old room.new size.new)
-        ⊎ ((result ≡ BAD_KEYS) × ¬ AreCut keys.now key_lengths.now value_lengths.old)) }
+        FoundMany result (last_value e) keys.now key_lengths.now value_lengths.old value_lengths.new
+        room.old room.new size.new) }
     ensures untold { (result ≡ OK)
         ⊎ ((value_lengths.new ≡ value_lengths.old) × (room.new ≡ room.old) × (size.new ≡ size.old)) }
 {
     let Some(engine) = handle.take(alloc) else {
         return NO_STORE;
     };
+    let status = look_up_many(
+        alloc,
+        &*engine,
+        keys,
+        key_lengths,
+        value_lengths,
+        room,
+        size,
+    );
+    handle.put(engine);
+    status
+}
+
+/// Looks keys up at the last sequence, as `ucstore_get_many` does.
+pub fn look_up_many<R: Readable>(
+    alloc: Global,
+    source: &R,
+    keys: &[u8],
+    key_lengths: &[u64],
+    value_lengths: &mut [u64],
+    room: &mut [u8],
+    size: &mut usize,
+) -> i32
+    ensures found { FoundMany result (value_seen (R.viewed source.now)) keys.now key_lengths.now
+        value_lengths.old value_lengths.new room.old room.new size.new }
+    ensures untold { (result ≡ OK)
+        ⊎ ((value_lengths.new ≡ value_lengths.old) × (room.new ≡ room.old) × (size.new ≡ size.old)) }
+{
     if value_lengths.len() != key_lengths.len() || !add_up(key_lengths, keys.len()) {
-        handle.put(engine);
         return BAD_KEYS;
     }
-    let found = find(alloc, &engine, keys, key_lengths);
-    handle.put(engine);
-    match found {
+    match find(alloc, source, keys, key_lengths) {
         Ok(found) => {
             value_lengths.copy_from_slice(&found.lengths);
             fill(room, &found.bytes);
@@ -77,24 +104,24 @@ fn add_up(lengths: &[u64], bytes: usize) -> bool
 }
 
 /// Looks up keys of lengths that add up to their bytes.
-fn find(
+fn find<R: Readable>(
     alloc: Global,
-    engine: &Engine,
+    source: &R,
     keys: &[u8],
     key_lengths: &[u64],
 ) -> Result<Found, AllocError>
     requires { sum key_lengths.now ≡ length keys.now }
     ensures lengths { IfOk result (λ found.
-        found.lengths.items ≡ map length_told (last_values engine.now key_lengths.now keys.now)) }
+        found.lengths.items ≡ map length_told (values_of (value_seen (R.viewed source.now)) key_lengths.now keys.now)) }
     ensures bytes { IfOk result (λ found.
-        found.bytes.items ≡ values_bytes (last_values engine.now key_lengths.now keys.now)) }
+        found.bytes.items ≡ values_bytes (values_of (value_seen (R.viewed source.now)) key_lengths.now keys.now)) }
 {
     let mut lengths = Vec::new(alloc);
     let mut bytes = Vec::new(alloc);
     let mut left = keys;
     for length in key_lengths {
         let (key, behind) = left.split_at(*length as usize);
-        push_value(&mut lengths, &mut bytes, &engine.get(alloc, key)?)?;
+        push_value(&mut lengths, &mut bytes, &source.get(alloc, key)?)?;
         left = behind;
     }
     Ok(Found { lengths, bytes })

@@ -3,9 +3,10 @@ ghost use Rattle.std.specs.Prelude.{◌≡◌, ◌⊎◌, IfOk, IfErr};
 ghost use Rattle.uc_batch.specs.Log.{log_writes};
 ghost use Rattle.uc_live.specs.declared.open_error.LiveOpenError.TheVariants.{NoRoom};
 ghost use Rattle.uc_live.specs.declared.room_error.RoomError.TheVariants.{Memory};
-ghost use Rattle.uc_c.specs.declared.status.TheConstants.{OK};
+ghost use Rattle.uc_c.specs.declared.status.TheConstants.{OK, NO_STORE};
 ghost use Rattle.uc_c.specs.Numbers.{ended_in};
-ghost use Rattle.uc_c.specs.Opening.{Closes, Creates, Opens};
+ghost use Rattle.uc_c.specs.Opening.{Creates, Opens};
+ghost use Rattle.uc_c.specs.Replies.{Closes};
 
 use crate::c_ended::CEnded;
 use crate::c_options::{COptions, OPTIONS_SIZE};
@@ -108,7 +109,7 @@ pub extern "C" fn ucstore_open(
 /// Frees the store behind the handle, if there is one.
 #[unsafe(no_mangle)]
 pub extern "C" fn ucstore_close(alloc: Global, handle: &mut Handle) -> i32
-    ensures { Closes result handle.old.held handle.new.held }
+    ensures { Closes NO_STORE result handle.old.held handle.new.held }
 {
     match handle.take(alloc) {
         None => NO_STORE,

@@ -1,11 +1,13 @@
-//! Look-ups in the store behind a handle.
+//! Look-ups in the store behind a handle, and in what else is [`Readable`].
 ghost use Rattle.std.specs.Prelude.{◌≡◌, ◌⊎◌};
 ghost use Rattle.uc_query_read.specs.declared.query.Query.TheVariants as queries;
 ghost use Rattle.uc_engine.specs.Engines.{answer_in, last_value};
+ghost use Rattle.uc_engine.specs.EngineViews.{answer_seen, value_seen};
 ghost use Rattle.uc_c.specs.declared.status.TheConstants.{OK, OUT_OF_MEMORY};
 ghost use Rattle.uc_c.specs.Reading.{Found, FoundAt, IsLookedUp};
 ghost use Rattle.uc_c.specs.Replies.{Answers};
 
+use crate::readable::Readable;
 use crate::room::fill;
 use crate::status::{NO_STORE, NOT_FOUND, NOT_PROTECTED, OK, OUT_OF_MEMORY};
 use std::alloc::Global;
@@ -29,12 +31,9 @@ pub extern "C" fn ucstore_get(
     let Some(engine) = handle.take(alloc) else {
         return NO_STORE;
     };
-    let value = engine.get(alloc, key);
+    let status = look_up(alloc, &*engine, key, room, size);
     handle.put(engine);
-    match value {
-        Ok(value) => tell_value(&value, room, size),
-        Err(_) => OUT_OF_MEMORY,
-    }
+    status
 }
 
 /// Looks a key up at a sequence, and copies its value as `ucstore_get` does. It is refused if no snapshot is at the
@@ -56,9 +55,43 @@ pub extern "C" fn ucstore_get_at(
     let Some(engine) = handle.take(alloc) else {
         return NO_STORE;
     };
-    let answer = engine.get_at(alloc, key, at);
+    let status = look_up_at(alloc, &*engine, key, at, room, size);
     handle.put(engine);
-    match answer {
+    status
+}
+
+/// Looks a key up at the last sequence, as `ucstore_get` does.
+pub fn look_up<R: Readable>(
+    alloc: Global,
+    source: &R,
+    key: &[u8],
+    room: &mut [u8],
+    size: &mut usize,
+) -> i32
+    ensures found { (result ≡ OUT_OF_MEMORY)
+        ⊎ Found result (value_seen (R.viewed source.now) key.now) room.old room.new size.new }
+    ensures untold { (result ≡ OK) ⊎ ((room.new ≡ room.old) × (size.new ≡ size.old)) }
+{
+    match source.get(alloc, key) {
+        Ok(value) => tell_value(&value, room, size),
+        Err(_) => OUT_OF_MEMORY,
+    }
+}
+
+/// Looks a key up at a sequence, as `ucstore_get_at` does.
+pub fn look_up_at<R: Readable>(
+    alloc: Global,
+    source: &R,
+    key: &[u8],
+    at: u64,
+    room: &mut [u8],
+    size: &mut usize,
+) -> i32
+    ensures found { (result ≡ OUT_OF_MEMORY)
+        ⊎ FoundAt result (answer_seen (R.viewed source.now) (queries.Get key.now at)) room.old room.new size.new }
+    ensures untold { (result ≡ OK) ⊎ ((room.new ≡ room.old) × (size.new ≡ size.old)) }
+{
+    match source.get_at(alloc, key, at) {
         Ok(answer) => tell(&answer, room, size),
         Err(_) => OUT_OF_MEMORY,
     }

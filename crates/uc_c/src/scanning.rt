@@ -1,17 +1,19 @@
-//! Scans of the store behind a handle.
+//! Scans of the store behind a handle, and of what else is [`Readable`].
 ghost use Rattle.std.specs.Prelude.{◌≡◌, ◌⊎◌, ◌≤◌, ◌++◌, length, take, Some, None, IfOk, IfSome, OnOk, if◌then◌else◌};
 ghost use Rattle.uc_query_read.specs.declared.query.Query.TheVariants as queries;
 ghost use Rattle.uc_engine.specs.Engines.{answer_in, last_rows};
+ghost use Rattle.uc_engine.specs.EngineViews.{answer_seen, rows_seen};
 ghost use Rattle.uc_c.specs.declared.status.TheConstants.{OK, OUT_OF_MEMORY};
 ghost use Rattle.uc_c.specs.Compacting.{Settles};
 ghost use Rattle.uc_c.specs.Replies.{Answers, Becomes};
 ghost use Rattle.uc_c.specs.Rows as layout;
 ghost use Rattle.uc_c.specs.Rows.{row_bytes, AreFitting, AreShown, IsScanned, Scanned};
 
+use crate::readable::Readable;
 use crate::room::{fill, push_text};
 use crate::status::{NO_STORE, NOT_PROTECTED, OK, OUT_OF_MEMORY};
 use std::alloc::{AllocError, Global};
-use uc_engine::{Answer, Bytes, Engine, Query, Rows};
+use uc_engine::{Answer, Bytes, Query, Rows};
 use uc_handle::Handle;
 
 /// How many gathered writes a scan sorts: if there are more, they become a run first.
@@ -69,27 +71,11 @@ pub extern "C" fn ucstore_scan(
         return NO_STORE;
     };
     engine.settle(alloc, MOST_SORTED);
-    let rows = scan(alloc, &engine, low, high, bounded, limit);
+    let status = scan(
+        alloc, &*engine, low, high, bounded, limit, room, size, count,
+    );
     handle.put(engine);
-    match rows {
-        Ok(rows) => show_rows(alloc, rows.as_slice(), room, size, count),
-        Err(_) => OUT_OF_MEMORY,
-    }
-}
-
-/// The rows of a scan at the last sequence.
-fn scan(
-    alloc: Global,
-    engine: &Engine,
-    low: &[u8],
-    high: &[u8],
-    bounded: bool,
-    limit: u64,
-) -> Result<Rows, AllocError>
-    ensures { IfOk result (λ rows. rows ≡ last_rows engine.now low.now (if bounded then Some high.now else None) limit) }
-{
-    let high = bound(alloc, high, bounded)?;
-    engine.scan(alloc, low, &high, limit)
+    status
 }
 
 /// Scans as `ucstore_scan` does, at a sequence. It is refused if no snapshot is at the sequence, and for want of
@@ -118,26 +104,90 @@ pub extern "C" fn ucstore_scan_at(
     let Some(engine) = handle.take(alloc) else {
         return NO_STORE;
     };
-    let answer = scan_at(alloc, &engine, low, high, bounded, at, limit);
+    let status = scan_at(
+        alloc, &*engine, low, high, bounded, at, limit, room, size, count,
+    );
     handle.put(engine);
-    match answer {
+    status
+}
+
+/// Scans at the last sequence, as `ucstore_scan` does.
+pub fn scan<R: Readable>(
+    alloc: Global,
+    source: &R,
+    low: &[u8],
+    high: &[u8],
+    bounded: bool,
+    limit: u64,
+    room: &mut [u8],
+    size: &mut usize,
+    count: &mut u64,
+) -> i32
+    ensures shown { (result ≡ OUT_OF_MEMORY) ⊎ ((result ≡ OK)
+        × AreShown (rows_seen (R.viewed source.now) low.now (if bounded then Some high.now else None) limit)
+        room.old room.new size.new count.new) }
+    ensures untold { (result ≡ OK)
+        ⊎ ((room.new ≡ room.old) × (size.new ≡ size.old) × (count.new ≡ count.old)) }
+{
+    match rows_in(alloc, source, low, high, bounded, limit) {
+        Ok(rows) => show_rows(alloc, rows.as_slice(), room, size, count),
+        Err(_) => OUT_OF_MEMORY,
+    }
+}
+
+/// The rows of a scan at the last sequence.
+fn rows_in<R: Readable>(
+    alloc: Global,
+    source: &R,
+    low: &[u8],
+    high: &[u8],
+    bounded: bool,
+    limit: u64,
+) -> Result<Rows, AllocError>
+    ensures { IfOk result (λ rows.
+        rows ≡ rows_seen (R.viewed source.now) low.now (if bounded then Some high.now else None) limit) }
+{
+    let high = bound(alloc, high, bounded)?;
+    source.scan(alloc, low, &high, limit)
+}
+
+/// Scans at a sequence, as `ucstore_scan_at` does.
+pub fn scan_at<R: Readable>(
+    alloc: Global,
+    source: &R,
+    low: &[u8],
+    high: &[u8],
+    bounded: bool,
+    at: u64,
+    limit: u64,
+    room: &mut [u8],
+    size: &mut usize,
+    count: &mut u64,
+) -> i32
+    ensures scanned { (result ≡ OUT_OF_MEMORY) ⊎ Scanned result
+        (answer_seen (R.viewed source.now) (queries.Scan low.now (if bounded then Some high.now else None) at limit))
+        room.old room.new size.new count.new }
+    ensures untold { (result ≡ OK)
+        ⊎ ((room.new ≡ room.old) × (size.new ≡ size.old) × (count.new ≡ count.old)) }
+{
+    match answer_to(alloc, source, low, high, bounded, at, limit) {
         Ok(answer) => show(alloc, &answer, room, size, count),
         Err(_) => OUT_OF_MEMORY,
     }
 }
 
 /// The answer to a scan at a sequence.
-fn scan_at(
+fn answer_to<R: Readable>(
     alloc: Global,
-    engine: &Engine,
+    source: &R,
     low: &[u8],
     high: &[u8],
     bounded: bool,
     at: u64,
     limit: u64,
 ) -> Result<Answer, AllocError>
-    ensures { IfOk result (λ answer.
-        answer ≡ answer_in engine.now (queries.Scan low.now (if bounded then Some high.now else None) at limit)) }
+    ensures { IfOk result (λ answer. answer
+        ≡ answer_seen (R.viewed source.now) (queries.Scan low.now (if bounded then Some high.now else None) at limit)) }
 {
     let query = Query::Scan {
         low: Bytes::from_slice(alloc, low)?,
@@ -145,7 +195,7 @@ fn scan_at(
         at,
         limit,
     };
-    engine.answer(alloc, &query)
+    source.answer(alloc, &query)
 }
 
 /// Writes the rows that fit the room.

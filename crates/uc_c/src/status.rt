@@ -63,6 +63,12 @@ pub const BAD_KEYS: i32 = 17;
 /// The batch has 2^32 - 1 operations.
 pub const BATCH_FULL: i32 = 18;
 
+/// The handle has no view.
+pub const NO_VIEW: i32 = 19;
+
+/// The handle has a view already.
+pub const HAS_VIEW: i32 = 20;
+
 /// The statuses have the numbers that `enum ucstore_status` gives them, in its order.
 pub fn statuses_are_numbered()
     ensures first { statuses.OK ∷ statuses.OUT_OF_MEMORY ∷ statuses.NO_STORE ∷ statuses.HAS_STORE ∷ statuses.NOT_FOUND
@@ -72,6 +78,7 @@ pub fn statuses_are_numbered()
         ∷ statuses.BAD_PLACE ∷ statuses.ROOM ∷ statuses.LOG_ENDS ∷ statuses.SEQUENCE_BACK ∷ statuses.BAD_KEYS
         ∷ statuses.BATCH_FULL ∷ []
         ≡ pos 9 ∷ pos 10 ∷ pos 11 ∷ pos 12 ∷ pos 13 ∷ pos 14 ∷ pos 15 ∷ pos 16 ∷ pos 17 ∷ pos 18 ∷ [] }
+    ensures views { statuses.NO_VIEW ∷ statuses.HAS_VIEW ∷ [] ≡ pos 19 ∷ pos 20 ∷ [] }
 {}
 
 /// The status where there is no room for a run.

@@ -1,19 +1,20 @@
 use Rattle.std.proofs.Common.{◌≡◌, ◌∙◌, ◌+◌, ◌++◌, ◌∷◌, [], List, ℕ, take, drop, map, get_or, sym, ap}
-use Rattle.std.specs.Prelude.{sum}
+use Rattle.std.specs.Prelude.{sum, Option}
 use Rattle.std.proofs.lemmas.List.{take_more}
-use Rattle.uc_engine.specs.Engines.{last_value}
-use Rattle.uc_c.specs.Many.{last_values, length_told, values_bytes}
+use Rattle.uc_engine.specs.EngineViews.{value_seen}
+use Rattle.uc_c.specs.Many.{length_told, values_bytes, values_of}
 use Rattle.uc_c.proofs.Cutting.{found_more}
 use Rattle.uc_c.proofs.many.find.Goals as goal
 
 pub loop-length-preserved : goal.loop-length-preserved
-loop-length-preserved c =
+loop-length-preserved g c =
     let i = c.loop-length.length-index in
     let lengths = c.args.key_lengths.now in
     let n = get_or lengths i 0 in
     let before = c.loop-length.invariant in
-    let found : c.in_ok-get.field-0 ≡ last_value c.args.engine.now (take n (drop (sum (take i lengths)) c.args.keys.now)) = c.in_ok-get.ensures ∙ ap (last_value c.args.engine.now) (c.split_at.ensures.front ∙ ap (take n) before.left) in
-    let more = found_more c.args.engine.now lengths i c.args.keys.now c.loop-length-test.true in
+    let value : List ℕ → Option (List ℕ) = value_seen (g.R.Readable.viewed c.args.source.now) in
+    let found : c.in_ok-get.field-0 ≡ value (take n (drop (sum (take i lengths)) c.args.keys.now)) = c.in_ok-get.ensures ∙ ap value (c.split_at.ensures.front ∙ ap (take n) before.left) in
+    let more = found_more value lengths i c.args.keys.now c.loop-length-test.true in
     record {
       left = c.split_at.ensures.back ∙ ap (drop n) before.left ∙ sym more.0;
       lengths = c.in_ok-push_value.ensures.lengths ∙ rw (before.lengths, found) (sym more.1);

@@ -1,0 +1,91 @@
+//! [`Readable`]: what is read in the same way.
+use std::alloc::{AllocError, Global};
+use uc_engine::{Answer, Bytes, Engine, EngineView, Query, Rows};
+
+/// An engine, or a view of one.
+pub trait Readable {
+    ghost use Rattle.std.specs.Prelude.{◌≡◌, IfOk};
+    ghost use Rattle.uc_query_read.specs.declared.query.Query.TheVariants as queries;
+    ghost use Rattle.uc_engine.specs.EngineViews.{Viewed, answer_seen, rows_seen, value_seen};
+
+    /// What is seen of it.
+    ghost viewed: { Self → Viewed };
+
+    /// The value that a key has at the last sequence, if it has one.
+    fn get(&self, alloc: Global, key: &[u8]) -> Result<Option<Bytes>, AllocError>
+        ensures { IfOk result (λ value. value ≡ value_seen (viewed self.now) key.now) };
+
+    /// Looks a key up at a sequence. The answer is a value, if the key has one, or `NotProtected` if no snapshot is at
+    /// the sequence.
+    fn get_at(&self, alloc: Global, key: &[u8], at: u64) -> Result<Answer, AllocError>
+        ensures { IfOk result (λ answer. answer ≡ answer_seen (viewed self.now) (queries.Get key.now at)) };
+
+    /// The first rows, at most `limit`, of the keys from `low` to below `high`, or to the last one if `high` is `None`,
+    /// at the last sequence.
+    fn scan(
+        &self,
+        alloc: Global,
+        low: &[u8],
+        high: &Option<Bytes>,
+        limit: u64,
+    ) -> Result<Rows, AllocError>
+        ensures { IfOk result (λ rows. rows ≡ rows_seen (viewed self.now) low.now high.now limit) };
+
+    /// The answer to a query at a snapshot, or `NotProtected` if no snapshot is at its sequence.
+    fn answer(&self, alloc: Global, query: &Query) -> Result<Answer, AllocError>
+        ensures { IfOk result (λ answer. answer ≡ answer_seen (viewed self.now) query.now) };
+}
+
+impl Readable for Engine {
+    ghost use Rattle.uc_engine.specs.EngineViews.{viewed_in};
+
+    ghost viewed = { viewed_in };
+
+    fn get(&self, alloc: Global, key: &[u8]) -> Result<Option<Bytes>, AllocError> {
+        Engine::get(self, alloc, key)
+    }
+
+    fn get_at(&self, alloc: Global, key: &[u8], at: u64) -> Result<Answer, AllocError> {
+        Engine::get_at(self, alloc, key, at)
+    }
+
+    fn scan(
+        &self,
+        alloc: Global,
+        low: &[u8],
+        high: &Option<Bytes>,
+        limit: u64,
+    ) -> Result<Rows, AllocError> {
+        Engine::scan(self, alloc, low, high, limit)
+    }
+
+    fn answer(&self, alloc: Global, query: &Query) -> Result<Answer, AllocError> {
+        Engine::answer(self, alloc, query)
+    }
+}
+
+impl Readable for EngineView {
+    ghost viewed = { λ v. v };
+
+    fn get(&self, alloc: Global, key: &[u8]) -> Result<Option<Bytes>, AllocError> {
+        EngineView::get(self, alloc, key)
+    }
+
+    fn get_at(&self, alloc: Global, key: &[u8], at: u64) -> Result<Answer, AllocError> {
+        EngineView::get_at(self, alloc, key, at)
+    }
+
+    fn scan(
+        &self,
+        alloc: Global,
+        low: &[u8],
+        high: &Option<Bytes>,
+        limit: u64,
+    ) -> Result<Rows, AllocError> {
+        EngineView::scan(self, alloc, low, high, limit)
+    }
+
+    fn answer(&self, alloc: Global, query: &Query) -> Result<Answer, AllocError> {
+        EngineView::answer(self, alloc, query)
+    }
+}
