@@ -10,7 +10,7 @@ import unittest
 import ucstore
 from ucstore import (
     BadOption, BatchFault, Delete, DeleteRange, End, Ended, LogFault, Merge, NoStore, NotABatch, NotProtected, Operator,
-    Options, Put, SequenceBack, SequencesSpent, Store, UnknownOperator, batch_bytes, log_writes,
+    Options, Put, SequenceBack, SequencesSpent, Store, UnknownOperator, WriteBatch, batch_bytes, log_writes,
 )
 
 
@@ -46,6 +46,30 @@ class Calls(unittest.TestCase):
         batch = batch_bytes([Put(b"k", b"v"), Delete(b"d"), Merge(b"m", b"\7" * 128), DeleteRange(b"", b"z")], 5)
         records = b"\1\1k\1v" + b"\0\1d" + b"\2\1m\x80\1" + b"\7" * 128 + b"\x0f\0\1z"
         self.assertEqual(batch, struct.pack("<QI", 5, 4) + records)
+
+    def test_a_batch_is_written_as_often_as_it_is_asked(self):
+        batch = WriteBatch()
+        self.assertEqual((batch.to_bytes(), len(batch)), (bytes(12), 0))
+        batch.merge(b"k", b"a")
+        batch.add([Merge(b"k", b"b")])
+        self.store.write(batch)
+        self.store.prepare(0, batch)
+        self.store.commit()
+        self.assertEqual((self.store[b"k"], len(batch)), (b"a,b,a,b", 2))
+        batch.clear()
+        self.assertEqual((batch.to_bytes(), len(batch)), (bytes(12), 0))
+        self.assertRaises(TypeError, batch.put, b"k", "v")
+        self.assertRaises(KeyError, batch.add, [("k", "v")])
+        with batch:
+            batch.put(b"k", b"v")
+        self.assertEqual((len(batch), self.store.last), (0, 4))
+
+    def test_many_keys_are_looked_up_at_once(self):
+        store, long = self.store, bytes(100000)
+        store.write([Put(b"a", b"1"), Put(b"b", long), Put(b"", b"")])
+        self.assertEqual(store.get_many([b"b", b"z", b"", b"b", b"a"]), [long, None, b"", long, b"1"])
+        self.assertEqual(store.get_many(iter([])), [])
+        self.assertRaises(TypeError, store.get_many, ["b"])
 
     def test_a_snapshot_stays_until_the_last_one_ends(self):
         store = self.store
@@ -358,6 +382,8 @@ class Soak:
     def get(self):
         key = self.key()
         assert self.store.get(key) == self.held.get(key)
+        keys = [self.key() for _ in range(self.random.randrange(9))]
+        assert self.store.get_many(keys) == [self.held.get(one) for one in keys]
         for sequence, held in self.keeps:
             assert self.store.get_at(key, sequence) == held.get(key)
 

@@ -237,13 +237,14 @@ fn set_option(options: &mut Options, word: &str) {
 fn push(batch: &mut Batch, line: &str) {
     let words: Vec<&str> = line.split_whitespace().collect();
     let texts = texts_of(&words[1..]);
-    match words[0] {
+    let added = match words[0] {
         "put" => batch.put(&texts[0], &texts[1]),
         "merge" => batch.merge(&texts[0], &texts[1]),
         "delete" => batch.delete(&texts[0]),
         "range" => batch.delete_range(&texts[0], &texts[1]),
         other => panic!("an unknown operation {other}"),
     };
+    added.expect("an operation is added");
 }
 
 /// Plays the cases of a file, one behind the other.
@@ -397,13 +398,23 @@ impl Player {
         self.record = None;
         let mut batch = Batch::new();
         lines.iter().for_each(|line| push(&mut batch, line));
-        if let Some(sequence) = arguments_of(&words[1..]).named.get("sequence") {
-            batch.set_sequence(sequence.parse().expect("a sequence"));
-        }
+        let sequence = match arguments_of(&words[1..]).named.get("sequence") {
+            Some(word) => word.parse().expect("a sequence"),
+            None => 0u64,
+        };
+        let mut bytes = batch.bytes();
+        bytes[..8].copy_from_slice(&sequence.to_le_bytes());
+        let (store, length) = (self.store(), self.log.len() as u64);
         if words[0] == "batch" && !self.is_durable {
-            return self.store().write(&batch);
+            return match sequence {
+                0 => store.write(&batch),
+                _ => store.write_bytes(&bytes),
+            };
         }
-        self.record = Some(self.store().prepare(self.log.len() as u64, &batch)?);
+        self.record = Some(match sequence {
+            0 => store.prepare(length, &batch)?,
+            _ => store.prepare_bytes(length, &bytes)?,
+        });
         if words[0] == "batch" {
             self.commit();
         }
@@ -469,7 +480,7 @@ impl Player {
         Ok(())
     }
 
-    fn rows(&self, texts: &[Vec<u8>], at: Option<u64>) -> Scan<'_> {
+    fn rows(&self, texts: &[Vec<u8>], at: Option<u64>) -> Scan<&Store> {
         let low = texts.first().map_or(&[][..], Vec::as_slice);
         let high = texts.get(1).map(Vec::as_slice);
         match at {
@@ -561,7 +572,7 @@ fn ways_of(text: &str) -> &[Way] {
 
 /// The files of cases, in the order of their names.
 fn files() -> Vec<PathBuf> {
-    let folder = Path::new(env!("CARGO_MANIFEST_DIR")).join("../cases");
+    let folder = Path::new(env!("CARGO_MANIFEST_DIR")).join("../../cases");
     let entries = fs::read_dir(folder).expect("bindings/cases");
     let paths = entries.map(|entry| entry.expect("a file").path());
     let mut files: Vec<PathBuf> = paths

@@ -1,6 +1,6 @@
 //! [`Ended`]: how a log ends.
 
-use crate::sys::CEnded;
+use crate::sys::ucstore_ended;
 use std::fmt;
 
 /// How far a log can be read.
@@ -79,7 +79,7 @@ pub enum BatchFault {
 
 impl Ended {
     /// What the library told.
-    pub(crate) fn of(ended: CEnded) -> Ended {
+    pub(crate) fn of(ended: ucstore_ended) -> Ended {
         match ended.kind {
             0 => Ended::Clean,
             1 => Ended::Torn {

@@ -85,12 +85,13 @@ fn apply(operator: Operator, map: &mut Map, operation: &Operation) {
 }
 
 fn push(batch: &mut Batch, operation: &Operation) {
-    match operation {
+    let added = match operation {
         Operation::Put { key, value } => batch.put(key, value),
         Operation::Delete { key } => batch.delete(key),
         Operation::Merge { key, operand } => batch.merge(key, operand),
         Operation::DeleteRange { begin, end } => batch.delete_range(begin, end),
     };
+    added.unwrap();
 }
 
 fn write(store: &Store, operation: &Operation) -> Result<(), Error> {
@@ -173,6 +174,11 @@ impl Soak {
     fn get(&mut self) {
         let key = self.numbers.key();
         assert_eq!(self.store.get(&key).unwrap().as_ref(), self.map.get(&key));
+        let keys: Vec<_> = (0..self.numbers.below(9))
+            .map(|_| self.numbers.key())
+            .collect();
+        let wanted: Vec<_> = keys.iter().map(|key| self.map.get(key).cloned()).collect();
+        assert_eq!(self.store.get_many(&keys).unwrap(), wanted);
         for (sequence, map) in &self.keeps {
             assert_eq!(
                 self.store.get_at(&key, *sequence).unwrap().as_ref(),

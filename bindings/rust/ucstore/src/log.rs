@@ -49,7 +49,7 @@ pub struct Write {
 #[derive(Debug)]
 pub struct LogWrites<'a> {
     log: &'a [u8],
-    place: sys::LogPlace,
+    place: sys::ucstore_log_place,
     /// A batch's writes.
     room: Vec<u8>,
     /// Where the next write begins in the room.
@@ -67,7 +67,7 @@ pub struct LogWrites<'a> {
 /// # fn main() -> Result<(), ucstore::Error> {
 /// let store = Store::create(Operator::Append, &Options::default())?;
 /// let mut batch = Batch::new();
-/// let log = store.prepare(0, batch.put("colour", "blue"))?;
+/// let log = store.prepare(0, batch.put("colour", "blue")?)?;
 /// let mut writes = ucstore::log_writes(&log);
 /// assert_eq!(writes.next().unwrap()?.sequence, 1);
 /// assert!(writes.next().is_none());
@@ -78,7 +78,7 @@ pub struct LogWrites<'a> {
 pub fn log_writes(log: &[u8]) -> LogWrites<'_> {
     LogWrites {
         log,
-        place: sys::LogPlace::default(),
+        place: sys::ucstore_log_place::default(),
         room: Vec::new(),
         at: 0,
         left: 0,
@@ -119,7 +119,7 @@ impl LogWrites<'_> {
     /// Fetches the next batch that has writes.
     fn fetch(&mut self) -> Result<(), Error> {
         while self.left == 0 && self.ended.is_none() {
-            let mut ended = sys::CEnded::default();
+            let mut ended = sys::ucstore_ended::default();
             let mut size = 0;
             let status = unsafe {
                 sys::ucstore_log_next(
@@ -135,8 +135,8 @@ impl LogWrites<'_> {
             };
             self.at = 0;
             match status {
-                sys::ROOM => self.room.resize(size, 0),
-                sys::LOG_ENDS => self.ended = Some(Ended::of(ended)),
+                sys::UCSTORE_ROOM => self.room.resize(size, 0),
+                sys::UCSTORE_LOG_ENDS => self.ended = Some(Ended::of(ended)),
                 status => check(status)?,
             }
         }

@@ -33,9 +33,9 @@ pub struct Options {
 
 impl Options {
     /// The options as C has them.
-    pub(crate) fn to_c(self) -> sys::COptions {
-        sys::COptions {
-            size: std::mem::size_of::<sys::COptions>(),
+    pub(crate) fn to_c(self) -> sys::ucstore_options {
+        sys::ucstore_options {
+            size: std::mem::size_of::<sys::ucstore_options>(),
             write_buffer_size: self.write_buffer_size,
             compaction_trigger: self.compaction_trigger,
             stop_trigger: self.stop_trigger,
@@ -50,7 +50,7 @@ impl Options {
 
 impl Default for Options {
     fn default() -> Options {
-        let mut options = sys::COptions::default();
+        let mut options = sys::ucstore_options::default();
         // It always answers that it did.
         unsafe { sys::ucstore_options_init(&mut options) };
         Options {

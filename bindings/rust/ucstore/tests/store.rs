@@ -85,10 +85,8 @@ fn a_scan_goes_over_many_pages() {
     let mut batch = Batch::new();
     let keys: Vec<String> = (0..1000).map(|number| format!("{number:04}")).collect();
     for (place, key) in keys.iter().enumerate() {
-        batch.put(
-            key,
-            "x".repeat(if place % 100 == 7 { 40_000 } else { place % 50 }),
-        );
+        let length = if place % 100 == 7 { 40_000 } else { place % 50 };
+        batch.put(key, "x".repeat(length)).unwrap();
     }
     store.write(&batch).unwrap();
     let snapshot = store.snapshot().unwrap();
@@ -168,7 +166,7 @@ fn a_million_puts_need_no_other_call() {
 fn what_is_prepared_is_seen_once_it_is_committed() {
     let store = empty();
     let mut batch = Batch::new();
-    batch.put("k", "v");
+    batch.put("k", "v").unwrap();
     store.prepare(0, &batch).unwrap();
     assert_eq!(store.get("k").unwrap(), None);
     store.give_up();
@@ -182,20 +180,83 @@ fn what_is_prepared_is_seen_once_it_is_committed() {
 }
 
 #[test]
+fn a_batch_has_the_bytes_that_rocksdb_writes() {
+    let mut batch = Batch::new();
+    assert_eq!((batch.bytes(), batch.is_empty()), (vec![0; 12], true));
+    batch.put("k", "v").unwrap().delete("d").unwrap();
+    batch.merge("m", [7; 128]).unwrap();
+    batch.delete_range("", "z").unwrap();
+    let mut expected = vec![0, 0, 0, 0, 0, 0, 0, 0, 4, 0, 0, 0];
+    expected.extend([1, 1, b'k', 1, b'v', 0, 1, b'd', 2, 1, b'm', 0x80, 1]);
+    expected.extend([7; 128]);
+    expected.extend([15, 0, 1, b'z']);
+    assert_eq!((batch.bytes(), batch.len()), (expected, 4));
+    assert_eq!(format!("{batch:?}"), "Batch { len: 4, .. }");
+    batch.clear();
+    assert_eq!(batch.bytes(), Batch::default().bytes());
+}
+
+#[test]
+fn a_batch_is_written_as_often_as_it_is_asked() {
+    let store = empty();
+    let mut batch = Batch::new();
+    batch.merge("k", "a").unwrap().merge("k", "b").unwrap();
+    store.write(&batch).unwrap();
+    let written = std::thread::spawn(move || {
+        store.write(&batch).unwrap();
+        store
+    });
+    let store = written.join().unwrap();
+    assert_eq!(store.get("k").unwrap(), text("a,b,a,b"));
+    store.write(&Batch::new()).unwrap();
+    assert_eq!(store.last(), 4);
+}
+
+#[test]
 fn a_batch_may_have_its_own_sequence() {
     let store = empty();
     let mut batch = Batch::new();
-    batch.put("a", "1").put("b", "2").set_sequence(10);
-    store.write(&batch).unwrap();
+    batch.put("a", "1").unwrap().put("b", "2").unwrap();
+    let at = |sequence: u64| [&sequence.to_le_bytes(), &batch.bytes()[8..]].concat();
+    store.write_bytes(&at(10)).unwrap();
     assert_eq!(store.last(), 11);
-    batch.set_sequence(11);
-    assert_eq!(store.write(&batch), Err(Error::SequenceBack));
-    assert_eq!(store.prepare(0, &batch), Err(Error::SequenceBack));
-    batch.set_sequence((1 << 56) - 1);
-    assert_eq!(store.write(&batch), Err(Error::SequencesSpent));
-    batch.set_sequence(0);
+    assert_eq!(store.write_bytes(&at(11)), Err(Error::SequenceBack));
+    assert_eq!(store.prepare_bytes(0, &at(11)), Err(Error::SequenceBack));
+    let last = at((1 << 56) - 1);
+    assert_eq!(store.write_bytes(&last), Err(Error::SequencesSpent));
+    assert_eq!(store.write_bytes(b"no batch"), Err(Error::NotABatch));
     store.write(&batch).unwrap();
     assert_eq!(store.last(), 13);
+}
+
+#[test]
+fn many_keys_are_looked_up_at_once() {
+    let store = empty();
+    let long = vec![7; 100_000];
+    store.put("a", "1").unwrap();
+    store.put("b", &long).unwrap();
+    store.put("", "").unwrap();
+    let found = store.get_many(["b", "z", "", "b", "a"]).unwrap();
+    let wanted = [Some(long.clone()), None, text(""), Some(long), text("1")];
+    assert_eq!(found, wanted);
+    assert_eq!(store.get_many(Vec::<String>::new()).unwrap(), []);
+}
+
+#[test]
+fn rows_are_lent() {
+    let store = empty();
+    for number in 0..300 {
+        store.put(format!("{number:03}"), [1, 2]).unwrap();
+    }
+    let (mut rows, mut count) = (store.scan("", None), 0);
+    while let Some((key, value)) = rows.next_row().unwrap() {
+        assert_eq!(
+            (key, value),
+            (format!("{count:03}").as_bytes(), &[1, 2][..])
+        );
+        count += 1;
+    }
+    assert_eq!((count, rows.next_row()), (300, Ok(None)));
 }
 
 #[test]
@@ -233,7 +294,8 @@ fn each_operator_merges() {
     ] {
         let store = Store::create(operator, &Options::default()).unwrap();
         let mut batch = Batch::new();
-        batch.merge("k", &operands[0]).merge("k", &operands[1]);
+        batch.merge("k", &operands[0]).unwrap();
+        batch.merge("k", &operands[1]).unwrap();
         store.write(&batch).unwrap();
         assert_eq!(store.get("k").unwrap(), Some(wanted));
     }

@@ -53,12 +53,12 @@ impl<'a> Snapshot<'a> {
     /// # Errors
     ///
     /// A row may be [`Error::OutOfMemory`], and the last one then.
-    pub fn scan(&self, low: impl AsRef<[u8]>, high: Option<&[u8]>) -> Scan<'_> {
+    pub fn scan(&self, low: impl AsRef<[u8]>, high: Option<&[u8]>) -> Scan<&Store> {
         self.store.scan_at(low, high, self.sequence)
     }
 
     /// The keys that begin with these bytes, with their values, as [`scan`](Snapshot::scan) gives them.
-    pub fn prefix(&self, prefix: impl AsRef<[u8]>) -> Scan<'_> {
+    pub fn prefix(&self, prefix: impl AsRef<[u8]>) -> Scan<&Store> {
         let prefix = prefix.as_ref();
         self.scan(prefix, end_of_prefix(prefix).as_deref())
     }

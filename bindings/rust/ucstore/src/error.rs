@@ -19,10 +19,12 @@ pub enum Error {
     SequencesSpent,
     /// A text has 2^32 bytes or more.
     TooLong,
-    /// The bytes aren't a write batch. A [`Batch`](crate::Batch) is one, unless a text of it has 2^32 bytes or more.
+    /// The bytes aren't a write batch.
     NotABatch,
     /// The sequence of a batch is neither 0 nor above the last one.
     SequenceBack,
+    /// The batch has 2^32 - 1 operations.
+    BatchFull,
     /// The library answered a status that the call doesn't have: it isn't of this crate's version.
     Unexpected(i32),
 }
@@ -38,6 +40,7 @@ impl fmt::Display for Error {
             Error::TooLong => "a text has 2^32 bytes or more",
             Error::NotABatch => "the bytes aren't a write batch",
             Error::SequenceBack => "the sequence isn't above the last one",
+            Error::BatchFull => "the batch has 2^32 - 1 operations",
             Error::Unexpected(status) => return write!(formatter, "unexpected status {status}"),
         };
         formatter.write_str(text)
@@ -49,15 +52,16 @@ impl std::error::Error for Error {}
 /// What a status says.
 pub(crate) fn check(status: i32) -> Result<(), Error> {
     match status {
-        sys::OK => Ok(()),
-        sys::OUT_OF_MEMORY => Err(Error::OutOfMemory),
-        sys::NOT_PROTECTED => Err(Error::NotProtected),
-        sys::BAD_OPTION => Err(Error::BadOption),
-        sys::IDS_SPENT => Err(Error::IdsSpent),
-        sys::SEQUENCES_SPENT => Err(Error::SequencesSpent),
-        sys::TOO_LONG => Err(Error::TooLong),
-        sys::NOT_A_BATCH => Err(Error::NotABatch),
-        sys::SEQUENCE_BACK => Err(Error::SequenceBack),
+        sys::UCSTORE_OK => Ok(()),
+        sys::UCSTORE_OUT_OF_MEMORY => Err(Error::OutOfMemory),
+        sys::UCSTORE_NOT_PROTECTED => Err(Error::NotProtected),
+        sys::UCSTORE_BAD_OPTION => Err(Error::BadOption),
+        sys::UCSTORE_IDS_SPENT => Err(Error::IdsSpent),
+        sys::UCSTORE_SEQUENCES_SPENT => Err(Error::SequencesSpent),
+        sys::UCSTORE_TOO_LONG => Err(Error::TooLong),
+        sys::UCSTORE_NOT_A_BATCH => Err(Error::NotABatch),
+        sys::UCSTORE_SEQUENCE_BACK => Err(Error::SequenceBack),
+        sys::UCSTORE_BATCH_FULL => Err(Error::BatchFull),
         other => Err(Error::Unexpected(other)),
     }
 }

@@ -34,7 +34,7 @@ impl Logged {
 
 fn put(key: &str, length: usize) -> Batch {
     let mut batch = Batch::new();
-    batch.put(key, "x".repeat(length));
+    batch.put(key, "x".repeat(length)).unwrap();
     batch
 }
 
@@ -54,10 +54,11 @@ fn a_log_opens_with_what_was_written() {
 fn each_write_comes_back() {
     let mut logged = Logged::open(Vec::new());
     let mut batch = Batch::new();
-    logged.write(batch.put("a", "1").delete("b"));
+    logged.write(batch.put("a", "1").unwrap().delete("b").unwrap());
     logged.write(&Batch::new());
     batch.clear();
-    logged.write(batch.merge("c", "2").delete_range("d", "e"));
+    let batch = batch.merge("c", "2").unwrap();
+    logged.write(batch.delete_range("d", "e").unwrap());
     let text = |text: &str| text.as_bytes().to_vec();
     let wanted = [
         (
@@ -97,7 +98,10 @@ fn each_write_comes_back() {
 #[test]
 fn a_log_has_the_sequences_that_were_given() {
     let mut logged = Logged::open(Vec::new());
-    logged.write(put("a", 1).set_sequence(7));
+    let mut bytes = put("a", 1).bytes();
+    bytes[..8].copy_from_slice(&7u64.to_le_bytes());
+    logged.log = logged.store.prepare_bytes(0, &bytes).unwrap();
+    logged.store.commit();
     logged.write(&put("b", 1));
     let sequences: Vec<_> = log_writes(&logged.log)
         .map(|write| write.unwrap().sequence)

@@ -4,6 +4,8 @@ use crate::batch::Batch;
 use crate::ended::Ended;
 use crate::error::{check, Error};
 use crate::options::{Operator, Options};
+use crate::reads::{Functions, Reads};
+use crate::report::Report;
 use crate::scan::{end_of_prefix, Scan};
 use crate::snapshot::Snapshot;
 use crate::sys;
@@ -11,12 +13,18 @@ use std::cell::UnsafeCell;
 use std::fmt;
 use std::ptr;
 
-/// The bytes of a value for which a lookup doesn't ask twice.
-const USUAL_VALUE: usize = 512;
-
 /// The bytes of a record's header in a log, and the most that a record has behind it.
 const HEADER_SIZE: usize = 7;
 const MOST_FRAGMENT: usize = 32_768 - HEADER_SIZE;
+
+/// The functions that read a store.
+const READS: Functions<sys::ucstore> = Functions {
+    get: sys::ucstore_get,
+    get_at: sys::ucstore_get_at,
+    get_many: sys::ucstore_get_many,
+    scan: sys::ucstore_scan,
+    scan_at: sys::ucstore_scan_at,
+};
 
 /// A log-structured merge store in memory.
 ///
@@ -32,30 +40,11 @@ const MOST_FRAGMENT: usize = 32_768 - HEADER_SIZE;
 /// snapshots, which are counted: each [`take_snapshot`](Store::take_snapshot) needs a [`release`](Store::release) of
 /// its own.
 pub struct Store {
-    handle: UnsafeCell<sys::Handle>,
+    handle: UnsafeCell<sys::ucstore>,
 }
 
 // The library lets handles go from thread to thread. What is behind this one is reached through it alone.
 unsafe impl Send for Store {}
-
-/// What a store holds, in numbers.
-#[derive(Clone, Copy, Debug, Default, PartialEq, Eq)]
-pub struct Report {
-    /// How many runs there are.
-    pub runs: u64,
-    /// How many sequences snapshots protect.
-    pub snapshots: u64,
-    /// How many points all runs have: puts, deletions and merges of keys.
-    pub points: u64,
-    /// How many fragments of range deletions all runs have.
-    pub fragments: u64,
-    /// The bytes of all runs, with 8 for each sequence.
-    pub bytes: u64,
-    /// How many writes are gathered, which no run has yet.
-    pub gathered: u64,
-    /// The last sequence.
-    pub last: u64,
-}
 
 impl Store {
     /// An empty store.
@@ -81,7 +70,7 @@ impl Store {
         log: &[u8],
     ) -> Result<(Store, Ended), Error> {
         let store = Store::closed();
-        let mut ended = sys::CEnded::default();
+        let mut ended = sys::ucstore_ended::default();
         check(unsafe {
             sys::ucstore_open(
                 store.handle(),
@@ -95,15 +84,23 @@ impl Store {
         Ok((store, Ended::of(ended)))
     }
 
-    /// Writes the operations of a batch. They get the sequences behind the last one, unless the batch has its own.
+    /// Writes the operations of a batch, with the sequences behind the last one.
     ///
     /// # Errors
     ///
-    /// [`Error::NotABatch`] if a text has 2^32 bytes or more, [`Error::SequenceBack`], [`Error::SequencesSpent`],
-    /// [`Error::IdsSpent`], [`Error::OutOfMemory`].
+    /// [`Error::SequencesSpent`], [`Error::IdsSpent`], [`Error::OutOfMemory`].
     pub fn write(&self, batch: &Batch) -> Result<(), Error> {
-        let bytes = batch.as_bytes();
-        check(unsafe { sys::ucstore_write_bytes(self.handle(), bytes.as_ptr(), bytes.len()) })
+        check(unsafe { sys::ucstore_write(self.handle(), batch.handle()) })
+    }
+
+    /// Writes a batch that [`Batch::bytes`] or RocksDB wrote. The operations get its sequence and those behind it, or
+    /// the ones behind the last one if it is 0: there may be gaps.
+    ///
+    /// # Errors
+    ///
+    /// [`Error::NotABatch`], [`Error::SequenceBack`], and those of [`write`](Store::write).
+    pub fn write_bytes(&self, batch: &[u8]) -> Result<(), Error> {
+        check(unsafe { sys::ucstore_write_bytes(self.handle(), batch.as_ptr(), batch.len()) })
     }
 
     /// Sets a key to a value.
@@ -241,18 +238,7 @@ impl Store {
     ///
     /// [`Error::NotProtected`], [`Error::OutOfMemory`].
     pub fn get_at(&self, key: impl AsRef<[u8]>, at: u64) -> Result<Option<Vec<u8>>, Error> {
-        let key = key.as_ref();
-        value_by(|room, size| unsafe {
-            sys::ucstore_get_at(
-                self.handle(),
-                key.as_ptr(),
-                key.len(),
-                at,
-                room.as_mut_ptr(),
-                room.len(),
-                size,
-            )
-        })
+        self.reads().get_at(key.as_ref(), at)
     }
 
     /// The value under a key, if there is one.
@@ -261,17 +247,29 @@ impl Store {
     ///
     /// [`Error::OutOfMemory`].
     pub fn get(&self, key: impl AsRef<[u8]>) -> Result<Option<Vec<u8>>, Error> {
-        let key = key.as_ref();
-        value_by(|room, size| unsafe {
-            sys::ucstore_get(
-                self.handle(),
-                key.as_ptr(),
-                key.len(),
-                room.as_mut_ptr(),
-                room.len(),
-                size,
-            )
-        })
+        self.reads().get(key.as_ref())
+    }
+
+    /// For each key its value, if there is one. The keys come in any order.
+    ///
+    /// ```
+    /// # use ucstore::{Operator, Options, Store};
+    /// # fn main() -> Result<(), ucstore::Error> {
+    /// let store = Store::create(Operator::Append, &Options::default())?;
+    /// store.put("colour", "blue")?;
+    /// assert_eq!(store.get_many(["size", "colour"])?, [None, Some(b"blue".to_vec())]);
+    /// # Ok(())
+    /// # }
+    /// ```
+    ///
+    /// # Errors
+    ///
+    /// [`Error::OutOfMemory`].
+    pub fn get_many<K: AsRef<[u8]>>(
+        &self,
+        keys: impl IntoIterator<Item = K>,
+    ) -> Result<Vec<Option<Vec<u8>>>, Error> {
+        self.reads().get_many(keys)
     }
 
     /// The keys from `low` to below `high`, or to the last one, with their values. They come in the order
@@ -280,7 +278,7 @@ impl Store {
     /// # Errors
     ///
     /// A row may be [`Error::OutOfMemory`], and the last one then.
-    pub fn scan(&self, low: impl AsRef<[u8]>, high: Option<&[u8]>) -> Scan<'_> {
+    pub fn scan(&self, low: impl AsRef<[u8]>, high: Option<&[u8]>) -> Scan<&Store> {
         Scan::of(self, low.as_ref(), high, None)
     }
 
@@ -296,7 +294,7 @@ impl Store {
     /// # Ok(())
     /// # }
     /// ```
-    pub fn prefix(&self, prefix: impl AsRef<[u8]>) -> Scan<'_> {
+    pub fn prefix(&self, prefix: impl AsRef<[u8]>) -> Scan<&Store> {
         let prefix = prefix.as_ref();
         self.scan(prefix, end_of_prefix(prefix).as_deref())
     }
@@ -307,7 +305,7 @@ impl Store {
     /// # Errors
     ///
     /// A row may be [`Error::NotProtected`] or [`Error::OutOfMemory`], and the last one then.
-    pub fn scan_at(&self, low: impl AsRef<[u8]>, high: Option<&[u8]>, at: u64) -> Scan<'_> {
+    pub fn scan_at(&self, low: impl AsRef<[u8]>, high: Option<&[u8]>, at: u64) -> Scan<&Store> {
         Scan::of(self, low.as_ref(), high, Some(at))
     }
 
@@ -334,20 +332,7 @@ impl Store {
 
     /// What the store holds, in numbers.
     pub fn report(&self) -> Report {
-        let mut report = sys::CReport {
-            size: std::mem::size_of::<sys::CReport>(),
-            ..Default::default()
-        };
-        self.certain(unsafe { sys::ucstore_report(self.handle(), &mut report) });
-        Report {
-            runs: report.runs,
-            snapshots: report.snapshots,
-            points: report.points,
-            fragments: report.fragments,
-            bytes: report.bytes,
-            gathered: report.gathered,
-            last: report.last,
-        }
+        Report::by(|report| unsafe { sys::ucstore_report(self.handle(), report) })
     }
 
     /// Prepares a batch, so that [`commit`](Store::commit) can take it, and returns the bytes that it adds to a log of
@@ -362,29 +347,35 @@ impl Store {
     ///
     /// What [`write`](Store::write) would refuse the batch for.
     pub fn prepare(&self, length: u64, batch: &Batch) -> Result<Vec<u8>, Error> {
-        let bytes = batch.as_bytes();
-        // Room for a header in each block, and for the end of the block before.
-        let mut room = vec![0; bytes.len() + HEADER_SIZE * (bytes.len() / MOST_FRAGMENT + 3)];
-        loop {
-            let mut size = 0;
-            let status = unsafe {
-                sys::ucstore_prepare(
-                    self.handle(),
-                    bytes.as_ptr(),
-                    bytes.len(),
-                    length,
-                    room.as_mut_ptr(),
-                    room.len(),
-                    &mut size,
-                )
-            };
-            if status != sys::ROOM {
-                check(status)?;
-                room.truncate(size);
-                return Ok(room);
-            }
-            room.resize(size, 0);
-        }
+        record_by(batch.size(), |room, size| unsafe {
+            sys::ucstore_prepare(
+                self.handle(),
+                batch.handle(),
+                length,
+                room.as_mut_ptr(),
+                room.len(),
+                size,
+            )
+        })
+    }
+
+    /// Prepares a batch that [`Batch::bytes`] or RocksDB wrote, as [`prepare`](Store::prepare) does.
+    ///
+    /// # Errors
+    ///
+    /// What [`write_bytes`](Store::write_bytes) would refuse the batch for.
+    pub fn prepare_bytes(&self, length: u64, batch: &[u8]) -> Result<Vec<u8>, Error> {
+        record_by(batch.len(), |room, size| unsafe {
+            sys::ucstore_prepare_bytes(
+                self.handle(),
+                batch.as_ptr(),
+                batch.len(),
+                length,
+                room.as_mut_ptr(),
+                room.len(),
+                size,
+            )
+        })
     }
 
     /// Takes the batch that is prepared; if there is none, nothing.
@@ -397,52 +388,31 @@ impl Store {
         self.certain(unsafe { sys::ucstore_give_up(self.handle()) });
     }
 
-    /// The first rows of a scan, at most `limit`, as many as fit the room: how many these are, and the size of all.
-    pub(crate) fn rows(
-        &self,
-        low: &[u8],
-        high: Option<&[u8]>,
-        at: Option<u64>,
-        limit: u64,
-        room: &mut [u8],
-    ) -> Result<(u64, usize), Error> {
-        let (mut size, mut rows) = (0, 0);
-        let (bound, is_bounded) = (high.unwrap_or(&[]), high.is_some());
-        let (store, place) = (self.handle(), (room.as_mut_ptr(), room.len()));
-        let (low, bound) = ((low.as_ptr(), low.len()), (bound.as_ptr(), bound.len()));
-        check(match at {
-            None => unsafe {
-                sys::ucstore_scan(
-                    store, low.0, low.1, bound.0, bound.1, is_bounded, limit, place.0, place.1,
-                    &mut size, &mut rows,
-                )
-            },
-            Some(at) => unsafe {
-                sys::ucstore_scan_at(
-                    store, low.0, low.1, bound.0, bound.1, is_bounded, at, limit, place.0, place.1,
-                    &mut size, &mut rows,
-                )
-            },
-        })?;
-        Ok((rows, size))
+    /// The store, with the functions that read it.
+    pub(crate) fn reads(&self) -> Reads<sys::ucstore> {
+        Reads {
+            handle: self.handle(),
+            functions: &READS,
+        }
     }
 
+    /// No store yet.
     fn closed() -> Store {
         Store {
-            handle: UnsafeCell::new(sys::Handle {
+            handle: UnsafeCell::new(sys::ucstore {
                 at: ptr::null_mut(),
             }),
         }
     }
 
     /// The handle for a call. No call calls back, so there is only one at a time.
-    fn handle(&self) -> *mut sys::Handle {
+    fn handle(&self) -> *mut sys::ucstore {
         self.handle.get()
     }
 
     /// Takes the status of a call that is refused only without a store.
     fn certain(&self, status: i32) {
-        assert_eq!(status, sys::OK, "the store answers");
+        assert_eq!(status, sys::UCSTORE_OK, "the store answers");
     }
 }
 
@@ -462,19 +432,21 @@ impl fmt::Debug for Store {
     }
 }
 
-/// The value that a lookup copies into a room, if there is one.
-fn value_by(
-    mut lookup: impl FnMut(&mut [u8], &mut usize) -> i32,
-) -> Result<Option<Vec<u8>>, Error> {
-    let (mut room, mut size) = ([0; USUAL_VALUE], 0);
-    match lookup(&mut room, &mut size) {
-        sys::NOT_FOUND => return Ok(None),
-        status => check(status)?,
+/// The bytes that a batch of some size adds to a log.
+fn record_by(
+    size: usize,
+    mut prepare: impl FnMut(&mut [u8], &mut usize) -> i32,
+) -> Result<Vec<u8>, Error> {
+    // Room for a header in each block, and for the end of the block before.
+    let mut room = vec![0; size + HEADER_SIZE * (size / MOST_FRAGMENT + 3)];
+    loop {
+        let mut size = 0;
+        let status = prepare(&mut room, &mut size);
+        if status != sys::UCSTORE_ROOM {
+            check(status)?;
+            room.truncate(size);
+            return Ok(room);
+        }
+        room.resize(size, 0);
     }
-    if size <= USUAL_VALUE {
-        return Ok(Some(room[..size].to_vec()));
-    }
-    let mut value = vec![0; size];
-    check(lookup(&mut value, &mut size))?;
-    Ok(Some(value))
 }

@@ -7,7 +7,7 @@
 //! # fn main() -> Result<(), ucstore::Error> {
 //! let store = Store::create(Operator::Counter, &Options::default())?;
 //! let mut batch = Batch::new();
-//! batch.merge("visits", 2u64.to_le_bytes()).merge("visits", 3u64.to_le_bytes());
+//! batch.merge("visits", 2u64.to_le_bytes())?.merge("visits", 3u64.to_le_bytes())?;
 //! store.write(&batch)?;
 //! assert_eq!(store.get("visits")?, Some(5u64.to_le_bytes().to_vec()));
 //! # Ok(())
@@ -25,7 +25,7 @@
 //! let mut log = Vec::new();
 //! # let store = Store::create(Operator::Append, &Options::default())?;
 //! let mut batch = Batch::new();
-//! log.extend(store.prepare(log.len() as u64, batch.put("colour", "blue"))?);
+//! log.extend(store.prepare(log.len() as u64, batch.put("colour", "blue")?)?);
 //! store.commit();
 //!
 //! let (again, ended) = Store::open(Operator::Append, &Options::default(), &log)?;
@@ -38,7 +38,14 @@
 //! # Building
 //!
 //! The build links `libucstore.a` from the folder that `UCSTORE_LIB_DIR` names, or from the one that pkg-config says.
-//! `./install` at the top of the repository puts it there.
+//! `./install` at the top of the repository puts it there. With the feature `no-link` none is looked for: then the crate
+//! can be checked and documented.
+//!
+//! # Why the calls are sound
+//!
+//! Addresses are those of references and slices, which live behind the call; none is null where its length isn't 0. What
+//! is written is borrowed mutably, so it overlaps nothing. A handle is in a type that no two threads share, and no call
+//! calls back into one. It is closed where its owner is dropped.
 #![warn(missing_docs)]
 
 mod batch;
@@ -46,16 +53,22 @@ mod ended;
 mod error;
 mod log;
 mod options;
+mod reads;
+mod report;
 mod scan;
 mod snapshot;
+mod source;
 mod store;
-mod sys;
+
+use ucstore_sys as sys;
 
 pub use batch::Batch;
 pub use ended::{BatchFault, Ended, LogFault};
 pub use error::Error;
 pub use log::{log_writes, LogWrites, Operation, Write};
 pub use options::{Operator, Options};
+pub use report::Report;
 pub use scan::Scan;
 pub use snapshot::Snapshot;
-pub use store::{Report, Store};
+pub use source::Source;
+pub use store::Store;

@@ -1,0 +1,29 @@
+//! [`Source`]: what a scan reads.
+
+use crate::error::Error;
+use crate::reads::Range;
+use crate::store::Store;
+use std::fmt;
+
+/// What a [`Scan`](crate::Scan) reads: a store.
+pub trait Source: sealed::Rows + fmt::Debug {}
+
+pub(crate) mod sealed {
+    use super::{Error, Range};
+
+    /// The rows of a range. No type outside this crate has them.
+    pub trait Rows {
+        /// The first rows, as many as fit the room: how many these are, and the size of all.
+        #[allow(private_interfaces)]
+        fn rows(&self, range: &Range<'_>, room: &mut [u8]) -> Result<(u64, usize), Error>;
+    }
+}
+
+impl Source for &Store {}
+
+impl sealed::Rows for &Store {
+    #[allow(private_interfaces)]
+    fn rows(&self, range: &Range<'_>, room: &mut [u8]) -> Result<(u64, usize), Error> {
+        self.reads().rows(range, room)
+    }
+}
