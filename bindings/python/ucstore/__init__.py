@@ -27,10 +27,10 @@ from pathlib import Path
 from typing import Iterable, Iterator, List, NamedTuple, Optional, Tuple, TypeVar, Union
 
 __all__ = [
-    "BadOption", "BatchFault", "BatchFull", "Delete", "DeleteRange", "End", "Ended", "IdsSpent", "LogFault", "LogWrites",
-    "Merge", "NoStore", "NotABatch", "NotProtected", "Operation", "Operator", "Options", "OutOfMemory", "Put", "Report",
-    "SequenceBack", "SequencesSpent", "Snapshot", "Store", "TooLong", "UcstoreError", "UnknownOperator", "Write",
-    "WriteBatch", "batch_bytes", "log_writes",
+    "BadOption", "BatchFault", "BatchFull", "Delete", "DeleteRange", "End", "Ended", "IdsSpent", "Job", "LogFault",
+    "LogWrites", "Merge", "NoJob", "NoStore", "NoView", "NotABatch", "NotProtected", "Operation", "Operator", "Options",
+    "OutOfMemory", "Put", "Report", "RunsClaimed", "SequenceBack", "SequencesSpent", "Snapshot", "Store", "TooLong",
+    "UcstoreError", "UnknownOperator", "View", "Write", "WriteBatch", "batch_bytes", "log_writes",
 ]
 
 
@@ -110,13 +110,31 @@ class BatchFull(UcstoreError):
     status, text = 18, "the batch has 2^32 - 1 operations"
 
 
+class NoView(UcstoreError, ValueError):
+    """The view is closed."""
+
+    status, text = 19, "the view is closed"
+
+
+class NoJob(UcstoreError, ValueError):
+    """The job has ended."""
+
+    status, text = 21, "the job has ended"
+
+
+class RunsClaimed(UcstoreError):
+    """There are as many runs as there may be, and jobs have those that would be compacted: end a job, and try again."""
+
+    status, text = 24, "jobs have the runs that would be compacted"
+
+
 _OK, _NOT_FOUND, _ROOM, _LOG_ENDS = 0, 4, 14, 15
 
 _ERRORS = {
     error.status: error
     for error in (
         OutOfMemory, NoStore, NotProtected, UnknownOperator, BadOption, IdsSpent, SequencesSpent, TooLong,
-        NotABatch, SequenceBack, BatchFull,
+        NotABatch, SequenceBack, BatchFull, NoView, NoJob, RunsClaimed,
     )
 }
 
@@ -329,6 +347,17 @@ _POINTER, _SIZE, _U64, _U32 = ctypes.c_void_p, ctypes.c_size_t, ctypes.c_uint64,
 _TEXT = (ctypes.c_char_p, _SIZE)
 _PLACE = (_POINTER, _SIZE)
 
+# Those of the functions that read a store, or a view.
+_READS = {
+    "last": (_POINTER, _POINTER),
+    "get": (_POINTER, *_TEXT, *_PLACE, _POINTER),
+    "get_at": (_POINTER, *_TEXT, _U64, *_PLACE, _POINTER),
+    "get_many": (_POINTER, *_TEXT, *_PLACE, *_PLACE, *_PLACE, _POINTER),
+    "scan": (_POINTER, *_TEXT, *_TEXT, ctypes.c_bool, _U64, *_PLACE, _POINTER, _POINTER),
+    "scan_at": (_POINTER, *_TEXT, *_TEXT, ctypes.c_bool, _U64, _U64, *_PLACE, _POINTER, _POINTER),
+    "report": (_POINTER, _POINTER),
+}
+
 _SIGNATURES = {
     "create": (_POINTER, _U32, _POINTER),
     "open": (_POINTER, _U32, _POINTER, *_TEXT, _POINTER),
@@ -355,14 +384,16 @@ _SIGNATURES = {
     "snapshot": (_POINTER, _POINTER),
     "release": (_POINTER, _U64),
     "snapshots": (_POINTER, *_PLACE, _POINTER),
-    "last": (_POINTER, _POINTER),
-    "get": (_POINTER, *_TEXT, *_PLACE, _POINTER),
-    "get_at": (_POINTER, *_TEXT, _U64, *_PLACE, _POINTER),
-    "get_many": (_POINTER, *_TEXT, *_PLACE, *_PLACE, *_PLACE, _POINTER),
-    "scan": (_POINTER, *_TEXT, *_TEXT, ctypes.c_bool, _U64, *_PLACE, _POINTER, _POINTER),
-    "scan_at": (_POINTER, *_TEXT, *_TEXT, ctypes.c_bool, _U64, _U64, *_PLACE, _POINTER, _POINTER),
+    **_READS,
+    **{f"view_{name}": types for name, types in _READS.items()},
+    "view": (_POINTER, _POINTER),
+    "view_again": (_POINTER, _POINTER),
+    "view_close": (_POINTER,),
+    "job": (_POINTER, _POINTER, _POINTER),
+    "job_run": (_POINTER,),
+    "job_end": (_POINTER, _POINTER, _POINTER),
+    "job_close": (_POINTER,),
     "compact": (_POINTER, _POINTER),
-    "report": (_POINTER, _POINTER),
     "log_next": (*_TEXT, _POINTER, *_PLACE, _POINTER, _POINTER, _POINTER),
 }
 
@@ -618,7 +649,105 @@ def batch_bytes(operations: Iterable[Operation], sequence: int = 0) -> bytes:
     return _batch_of(operations).to_bytes(sequence)
 
 
-class Store(_Held, _Reader):
+class _HeldReader(_Held, _Reader):
+    """A store or a view, which the library reads by functions of the same names behind a prefix."""
+
+    _prefix = ""
+
+    def _function(self, name: str):
+        return getattr(_library, self._prefix + name)
+
+    @property
+    def last(self) -> int:
+        """The last sequence: 0 if nothing was written."""
+        sequence = _U64()
+        self._call(self._function("last"), ctypes.byref(sequence))
+        return sequence.value
+
+    def get_at(self, key: bytes, at: int) -> Optional[bytes]:
+        """The value under a key at a snapshot, or None. Raises `NotProtected` and `OutOfMemory`."""
+        return self._value(self._function("get_at"), *_texts(key), _sequence(at))
+
+    def scan_at(self, low: bytes, high: Optional[bytes], at: int) -> Iterator[_Row]:
+        """The rows of a `scan` at a snapshot. Raises `NotProtected` and `OutOfMemory`."""
+        return self._scan(low, high, at)
+
+    def get_many(self, keys: Iterable[bytes]) -> List[Optional[bytes]]:
+        """For each key its value, or None. Raises `OutOfMemory`."""
+        asked = list(map(_bytes_of, keys))
+        count, size, length = len(asked), _SIZE(), _USUAL_SHARE * len(asked)
+        key_lengths, value_lengths = (_U64 * count)(*map(len, asked)), (_U64 * count)()
+        told = (key_lengths, count, value_lengths, count)
+        while True:
+            room = ctypes.create_string_buffer(length)
+            self._call(self._function("get_many"), *_texts(b"".join(asked)), *told, room, length, ctypes.byref(size))
+            if size.value <= length:
+                return list(_cut(room.raw, value_lengths))
+            length = size.value
+
+    def _get(self, key: bytes) -> Optional[bytes]:
+        return self._value(self._function("get"), *_texts(key))
+
+    def _value(self, function, *arguments) -> Optional[bytes]:
+        """The value that a lookup copies into a room, if there is one."""
+        size, length = _SIZE(), _USUAL_VALUE
+        with self._lock:
+            while True:
+                room = ctypes.create_string_buffer(length)
+                status = function(self._handle, *arguments, room, length, ctypes.byref(size))
+                if status == _NOT_FOUND:
+                    return None
+                _check(status)
+                if size.value <= length:
+                    return ctypes.string_at(room, size.value)
+                length = size.value
+
+    def _scan(self, low: bytes, high: Optional[bytes], at: Optional[int] = None) -> Iterator[_Row]:
+        room, limit = bytearray(_PAGE_BYTES), _PAGE_ROWS
+        while True:
+            rows, size = self._page(low, high, at, limit, room)
+            yield from rows
+            if size <= len(room):
+                if len(rows) < limit:
+                    return
+                limit = min(2 * limit, _PAGE_ROWS)
+            elif rows:
+                limit = len(rows)
+            elif limit == 1:
+                room = bytearray(size)
+            else:
+                # The next page tells how large its one row is.
+                limit = 1
+            if rows:
+                # No key is between the last one and this.
+                low = rows[-1][0] + b"\0"
+
+    def _page(
+        self, low: bytes, high: Optional[bytes], at: Optional[int], limit: int, room: bytearray
+    ) -> Tuple[List[_Row], int]:
+        """The first rows of a scan, at most `limit`, as many as fit the room, and the size of all."""
+        size, count = _SIZE(), _U64()
+        ends = (*_texts(low, b"" if high is None else high), high is not None)
+        place = ((ctypes.c_char * len(room)).from_buffer(room), len(room), ctypes.byref(size), ctypes.byref(count))
+        if at is None:
+            self._call(self._function("scan"), *ends, limit, *place)
+        else:
+            self._call(self._function("scan_at"), *ends, _sequence(at), limit, *place)
+        rows, view, end = [], memoryview(room), 0
+        for _ in range(count.value):
+            key, end = _text_at(view, end)
+            value, end = _text_at(view, end)
+            rows.append((key, value))
+        return rows, size.value
+
+    def report(self) -> Report:
+        """What it holds, in numbers."""
+        report = _Report(ctypes.sizeof(_Report))
+        self._call(self._function("report"), ctypes.byref(report))
+        return Report(*(getattr(report, name) for name in Report._fields))
+
+
+class Store(_HeldReader):
     """A log-structured merge store in memory.
 
     Writes are gathered in a memtable, which becomes a run when it is full. Runs are compacted then.
@@ -713,13 +842,6 @@ class Store(_Held, _Reader):
         """Removes each key from `begin` to below `end`. Raises what `put` does."""
         self._call(_library.delete_range, *_texts(begin, end))
 
-    @property
-    def last(self) -> int:
-        """The last sequence: 0 if nothing was written."""
-        sequence = _U64()
-        self._call(_library.last, ctypes.byref(sequence))
-        return sequence.value
-
     def take_snapshot(self) -> int:
         """Takes a snapshot at the last sequence, until `release` is called as often as this. Returns the sequence.
 
@@ -737,6 +859,18 @@ class Store(_Held, _Reader):
         """A snapshot at the last sequence, which `with` releases at its end. Raises `IdsSpent` and `OutOfMemory`."""
         return Snapshot(self)
 
+    def view(self) -> "View":
+        """What the store holds now, for other threads to read. `with` closes it at its end. Raises `OutOfMemory`."""
+        return View(_library.view, self)
+
+    def take_job(self) -> Optional["Job"]:
+        """Takes out the compaction that is picked next, if there is one among the runs that no other job has.
+
+        Raises `OutOfMemory`.
+        """
+        job = Job(self)
+        return job if job._is_out else None
+
     @property
     def snapshots(self) -> List[int]:
         """The sequences at which snapshots are, which rise."""
@@ -746,82 +880,6 @@ class Store(_Held, _Reader):
             room = (_U64 * count.value)()
             self._call(_library.snapshots, room, count.value, ctypes.byref(count))
         return list(room)
-
-    def get_at(self, key: bytes, at: int) -> Optional[bytes]:
-        """The value under a key at a snapshot, or None. Raises `NotProtected` and `OutOfMemory`."""
-        return self._value(_library.get_at, *_texts(key), _sequence(at))
-
-    def scan_at(self, low: bytes, high: Optional[bytes], at: int) -> Iterator[_Row]:
-        """The rows of a `scan` at a snapshot. Raises `NotProtected` and `OutOfMemory`."""
-        return self._scan(low, high, at)
-
-    def get_many(self, keys: Iterable[bytes]) -> List[Optional[bytes]]:
-        """For each key its value, or None. Raises `OutOfMemory`."""
-        asked = list(map(_bytes_of, keys))
-        count, size, length = len(asked), _SIZE(), _USUAL_SHARE * len(asked)
-        key_lengths, value_lengths = (_U64 * count)(*map(len, asked)), (_U64 * count)()
-        told = (key_lengths, count, value_lengths, count)
-        while True:
-            room = ctypes.create_string_buffer(length)
-            self._call(_library.get_many, *_texts(b"".join(asked)), *told, room, length, ctypes.byref(size))
-            if size.value <= length:
-                return list(_cut(room.raw, value_lengths))
-            length = size.value
-
-    def _get(self, key: bytes) -> Optional[bytes]:
-        return self._value(_library.get, *_texts(key))
-
-    def _value(self, function, *arguments) -> Optional[bytes]:
-        """The value that a lookup copies into a room, if there is one."""
-        size, length = _SIZE(), _USUAL_VALUE
-        with self._lock:
-            while True:
-                room = ctypes.create_string_buffer(length)
-                status = function(self._handle, *arguments, room, length, ctypes.byref(size))
-                if status == _NOT_FOUND:
-                    return None
-                _check(status)
-                if size.value <= length:
-                    return ctypes.string_at(room, size.value)
-                length = size.value
-
-    def _scan(self, low: bytes, high: Optional[bytes], at: Optional[int] = None) -> Iterator[_Row]:
-        room, limit = bytearray(_PAGE_BYTES), _PAGE_ROWS
-        while True:
-            rows, size = self._page(low, high, at, limit, room)
-            yield from rows
-            if size <= len(room):
-                if len(rows) < limit:
-                    return
-                limit = min(2 * limit, _PAGE_ROWS)
-            elif rows:
-                limit = len(rows)
-            elif limit == 1:
-                room = bytearray(size)
-            else:
-                # The next page tells how large its one row is.
-                limit = 1
-            if rows:
-                # No key is between the last one and this.
-                low = rows[-1][0] + b"\0"
-
-    def _page(
-        self, low: bytes, high: Optional[bytes], at: Optional[int], limit: int, room: bytearray
-    ) -> Tuple[List[_Row], int]:
-        """The first rows of a scan, at most `limit`, as many as fit the room, and the size of all."""
-        size, count = _SIZE(), _U64()
-        ends = (*_texts(low, b"" if high is None else high), high is not None)
-        place = ((ctypes.c_char * len(room)).from_buffer(room), len(room), ctypes.byref(size), ctypes.byref(count))
-        if at is None:
-            self._call(_library.scan, *ends, limit, *place)
-        else:
-            self._call(_library.scan_at, *ends, _sequence(at), limit, *place)
-        rows, view, end = [], memoryview(room), 0
-        for _ in range(count.value):
-            key, end = _text_at(view, end)
-            value, end = _text_at(view, end)
-            rows.append((key, value))
-        return rows, size.value
 
     def flush(self) -> None:
         """Makes a run of what is gathered. Raises `IdsSpent` and `OutOfMemory`."""
@@ -835,12 +893,6 @@ class Store(_Held, _Reader):
         compacted = ctypes.c_bool()
         self._call(_library.compact, ctypes.byref(compacted))
         return compacted.value
-
-    def report(self) -> Report:
-        """What the store holds, in numbers."""
-        report = _Report(ctypes.sizeof(_Report))
-        self._call(_library.report, ctypes.byref(report))
-        return Report(*(getattr(report, name) for name in Report._fields))
 
     def prepare(self, length: int, operations: Union["WriteBatch", Iterable[Operation]], sequence: int = 0) -> bytes:
         """Prepares a batch, or operations, so that `commit` can write them, and returns what they add to a log.
@@ -914,6 +966,80 @@ class Snapshot(_Reader):
 
     def _scan(self, low: bytes, high: Optional[bytes]) -> Iterator[_Row]:
         return self._store.scan_at(low, high, self.sequence)
+
+
+class View(_HeldReader):
+    """What a store held at a moment, as `Store.view` makes it.
+
+    It stays so, whatever is written, flushed and compacted, and also when the store is closed. Its calls wait for one
+    another, and not for those of the store: each thread takes one of its own by `again`. It holds the memory of the
+    runs that it has, until `with` closes it.
+
+        >>> with Store(Operator.APPEND) as store:
+        ...     store[b"colour"] = b"blue"
+        ...     with store.view() as view:
+        ...         del store[b"colour"]
+        ...         view[b"colour"], store.get(b"colour")
+        (b'blue', None)
+    """
+
+    _prefix = "view_"
+
+    def __init__(self, function, source: _Held) -> None:
+        self._begin()
+        source._call(function, self._handle)
+
+    def again(self) -> "View":
+        """The view once more, for another thread. No run is copied. Raises `OutOfMemory`."""
+        return View(_library.view_again, self)
+
+    def close(self) -> None:
+        """Frees the view. A second call does nothing."""
+        with self._lock:
+            _library.view_close(self._handle)
+
+
+class Job(_Held):
+    """A compaction that `Store.take_job` takes out of a store. Any thread runs it, while the store goes on.
+
+        >>> with Store(Operator.APPEND, Options(compacts_itself=False)) as store:
+        ...     for number in range(4):
+        ...         store[b"%d" % number] = b"v"
+        ...         store.flush()
+        ...     with store.take_job() as job:
+        ...         job.run()
+        ...     store.report().runs
+        1
+    """
+
+    def __init__(self, store: Store) -> None:
+        self._store = store
+        self._begin()
+        taken = ctypes.c_bool()
+        store._call(_library.job, self._handle, ctypes.byref(taken))
+        self._is_out = taken.value
+
+    def run(self) -> None:
+        """Merges the runs. It touches no store. One that was run isn't run again.
+
+        Raises `NoJob` and `OutOfMemory`. Then the job is as it was.
+        """
+        self._call(_library.job_run)
+
+    def end(self) -> bool:
+        """Ends the job: if it was run, its run takes the place of those that it had. Tells whether it did.
+
+        It doesn't if the store is closed, or has no number left for a run. A second call does nothing.
+        """
+        installed = ctypes.c_bool()
+        with self._lock, self._store._lock:
+            if _library.job_end(self._store._handle, self._handle, ctypes.byref(installed)) == NoStore.status:
+                _library.job_close(self._handle)
+        return installed.value
+
+    def close(self) -> None:
+        """Ends the job, as `with` does."""
+        self.end()
 
 
 class LogWrites:

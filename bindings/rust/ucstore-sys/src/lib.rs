@@ -42,6 +42,18 @@ pub const UCSTORE_SEQUENCE_BACK: i32 = 16;
 pub const UCSTORE_BAD_KEYS: i32 = 17;
 /// The batch has 2^32 - 1 operations.
 pub const UCSTORE_BATCH_FULL: i32 = 18;
+/// The handle has no view.
+pub const UCSTORE_NO_VIEW: i32 = 19;
+/// The handle has a view already.
+pub const UCSTORE_HAS_VIEW: i32 = 20;
+/// The handle has no job.
+pub const UCSTORE_NO_JOB: i32 = 21;
+/// The handle has a job already.
+pub const UCSTORE_HAS_JOB: i32 = 22;
+/// The store holds no claim of the job.
+pub const UCSTORE_NOT_OF_STORE: i32 = 23;
+/// No slot is free, and jobs have the runs that would be compacted.
+pub const UCSTORE_RUNS_CLAIMED: i32 = 24;
 
 /// A handle: no store if it is all zeros.
 #[repr(C)]
@@ -52,6 +64,18 @@ pub struct ucstore {
 /// A batch: no operations if it is all zeros.
 #[repr(C)]
 pub struct ucstore_batch {
+    pub at: *mut c_void,
+}
+
+/// What a store held at a moment: none if it is all zeros.
+#[repr(C)]
+pub struct ucstore_view {
+    pub at: *mut c_void,
+}
+
+/// A compaction that is taken out of a store: none if it is all zeros.
+#[repr(C)]
+pub struct ucstore_job {
     pub at: *mut c_void,
 }
 
@@ -268,6 +292,74 @@ extern "C" {
         size: *mut usize,
         rows: *mut u64,
     ) -> i32;
+
+    pub fn ucstore_view(store: *mut ucstore, view: *mut ucstore_view) -> i32;
+    pub fn ucstore_view_again(view: *mut ucstore_view, again: *mut ucstore_view) -> i32;
+    pub fn ucstore_view_get(
+        view: *mut ucstore_view,
+        key: *const u8,
+        key_length: usize,
+        room: *mut u8,
+        room_length: usize,
+        size: *mut usize,
+    ) -> i32;
+    pub fn ucstore_view_get_at(
+        view: *mut ucstore_view,
+        key: *const u8,
+        key_length: usize,
+        at: u64,
+        room: *mut u8,
+        room_length: usize,
+        size: *mut usize,
+    ) -> i32;
+    pub fn ucstore_view_get_many(
+        view: *mut ucstore_view,
+        keys: *const u8,
+        keys_length: usize,
+        key_lengths: *const u64,
+        count: usize,
+        value_lengths: *mut u64,
+        value_count: usize,
+        room: *mut u8,
+        room_length: usize,
+        size: *mut usize,
+    ) -> i32;
+    pub fn ucstore_view_scan(
+        view: *mut ucstore_view,
+        low: *const u8,
+        low_length: usize,
+        high: *const u8,
+        high_length: usize,
+        bounded: bool,
+        limit: u64,
+        room: *mut u8,
+        room_length: usize,
+        size: *mut usize,
+        rows: *mut u64,
+    ) -> i32;
+    pub fn ucstore_view_scan_at(
+        view: *mut ucstore_view,
+        low: *const u8,
+        low_length: usize,
+        high: *const u8,
+        high_length: usize,
+        bounded: bool,
+        at: u64,
+        limit: u64,
+        room: *mut u8,
+        room_length: usize,
+        size: *mut usize,
+        rows: *mut u64,
+    ) -> i32;
+    pub fn ucstore_view_last(view: *mut ucstore_view, seq: *mut u64) -> i32;
+    pub fn ucstore_view_report(view: *mut ucstore_view, report: *mut ucstore_report) -> i32;
+    pub fn ucstore_view_close(view: *mut ucstore_view) -> i32;
+
+    pub fn ucstore_job(store: *mut ucstore, job: *mut ucstore_job, taken: *mut bool) -> i32;
+    pub fn ucstore_job_run(job: *mut ucstore_job) -> i32;
+    pub fn ucstore_job_end(store: *mut ucstore, job: *mut ucstore_job, installed: *mut bool)
+        -> i32;
+    pub fn ucstore_job_close(job: *mut ucstore_job) -> i32;
 
     pub fn ucstore_compact(store: *mut ucstore, compacted: *mut bool) -> i32;
     pub fn ucstore_report(store: *mut ucstore, report: *mut ucstore_report) -> i32;

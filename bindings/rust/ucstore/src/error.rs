@@ -25,6 +25,8 @@ pub enum Error {
     SequenceBack,
     /// The batch has 2^32 - 1 operations.
     BatchFull,
+    /// There are as many runs as there may be, and jobs have those that would be compacted: end a job, and try again.
+    RunsClaimed,
     /// The library answered a status that the call doesn't have: it isn't of this crate's version.
     Unexpected(i32),
 }
@@ -41,6 +43,7 @@ impl fmt::Display for Error {
             Error::NotABatch => "the bytes aren't a write batch",
             Error::SequenceBack => "the sequence isn't above the last one",
             Error::BatchFull => "the batch has 2^32 - 1 operations",
+            Error::RunsClaimed => "jobs have the runs that would be compacted",
             Error::Unexpected(status) => return write!(formatter, "unexpected status {status}"),
         };
         formatter.write_str(text)
@@ -62,6 +65,7 @@ pub(crate) fn check(status: i32) -> Result<(), Error> {
         sys::UCSTORE_NOT_A_BATCH => Err(Error::NotABatch),
         sys::UCSTORE_SEQUENCE_BACK => Err(Error::SequenceBack),
         sys::UCSTORE_BATCH_FULL => Err(Error::BatchFull),
+        sys::UCSTORE_RUNS_CLAIMED => Err(Error::RunsClaimed),
         other => Err(Error::Unexpected(other)),
     }
 }

@@ -35,6 +35,11 @@
 //! # }
 //! ```
 //!
+//! # Threads
+//!
+//! A store takes one call at a time. Others read [`View`]s meanwhile, each thread one of its own, and run the compactions
+//! that [`Store::take_job`] takes out.
+//!
 //! # Building
 //!
 //! The build links `libucstore.a` from the folder that `UCSTORE_LIB_DIR` names, or from the one that pkg-config says.
@@ -45,12 +50,14 @@
 //!
 //! Addresses are those of references and slices, which live behind the call; none is null where its length isn't 0. What
 //! is written is borrowed mutably, so it overlaps nothing. A handle is in a type that no two threads share, and no call
-//! calls back into one. It is closed where its owner is dropped.
+//! calls back into one. It is closed where its owner is dropped. A job carries the number of its store, so that it ends
+//! on no other.
 #![warn(missing_docs)]
 
 mod batch;
 mod ended;
 mod error;
+mod job;
 mod log;
 mod options;
 mod reads;
@@ -59,12 +66,14 @@ mod scan;
 mod snapshot;
 mod source;
 mod store;
+mod view;
 
 use ucstore_sys as sys;
 
 pub use batch::Batch;
 pub use ended::{BatchFault, Ended, LogFault};
 pub use error::Error;
+pub use job::Job;
 pub use log::{log_writes, LogWrites, Operation, Write};
 pub use options::{Operator, Options};
 pub use report::Report;
@@ -72,3 +81,4 @@ pub use scan::Scan;
 pub use snapshot::Snapshot;
 pub use source::Source;
 pub use store::Store;
+pub use view::View;

@@ -16,7 +16,7 @@ const PAGE_BYTES: usize = 16 * 1024;
 type Row<'a> = (&'a [u8], &'a [u8]);
 
 /// The keys of a range in order, each with its value. [`Store::scan`](crate::Store::scan) makes it, and
-/// [`Store::scan_at`](crate::Store::scan_at) at a snapshot. They are fetched in pages. Behind a page at the last
+/// [`View::scan`](crate::View::scan). They are fetched in pages. Behind a page at the last
 /// sequence of a store the next one has what was written since.
 ///
 /// As an iterator it copies each row. [`next_row`](Scan::next_row) lends it instead:

@@ -3,9 +3,10 @@
 use crate::error::Error;
 use crate::reads::Range;
 use crate::store::Store;
+use crate::view::View;
 use std::fmt;
 
-/// What a [`Scan`](crate::Scan) reads: a store.
+/// What a [`Scan`](crate::Scan) reads: a store, or a view.
 pub trait Source: sealed::Rows + fmt::Debug {}
 
 pub(crate) mod sealed {
@@ -20,8 +21,24 @@ pub(crate) mod sealed {
 }
 
 impl Source for &Store {}
+impl Source for &View {}
+impl Source for View {}
 
 impl sealed::Rows for &Store {
+    #[allow(private_interfaces)]
+    fn rows(&self, range: &Range<'_>, room: &mut [u8]) -> Result<(u64, usize), Error> {
+        self.reads().rows(range, room)
+    }
+}
+
+impl sealed::Rows for &View {
+    #[allow(private_interfaces)]
+    fn rows(&self, range: &Range<'_>, room: &mut [u8]) -> Result<(u64, usize), Error> {
+        self.reads().rows(range, room)
+    }
+}
+
+impl sealed::Rows for View {
     #[allow(private_interfaces)]
     fn rows(&self, range: &Range<'_>, room: &mut [u8]) -> Result<(u64, usize), Error> {
         self.reads().rows(range, room)

@@ -3,19 +3,25 @@
 use crate::batch::Batch;
 use crate::ended::Ended;
 use crate::error::{check, Error};
+use crate::job::Job;
 use crate::options::{Operator, Options};
 use crate::reads::{Functions, Reads};
 use crate::report::Report;
 use crate::scan::{end_of_prefix, Scan};
 use crate::snapshot::Snapshot;
 use crate::sys;
+use crate::view::View;
 use std::cell::UnsafeCell;
 use std::fmt;
 use std::ptr;
+use std::sync::atomic::{AtomicU64, Ordering};
 
 /// The bytes of a record's header in a log, and the most that a record has behind it.
 const HEADER_SIZE: usize = 7;
 const MOST_FRAGMENT: usize = 32_768 - HEADER_SIZE;
+
+/// The number of the next store.
+static NEXT_NUMBER: AtomicU64 = AtomicU64::new(0);
 
 /// The functions that read a store.
 const READS: Functions<sys::ucstore> = Functions {
@@ -41,6 +47,8 @@ const READS: Functions<sys::ucstore> = Functions {
 /// its own.
 pub struct Store {
     handle: UnsafeCell<sys::ucstore>,
+    /// Its own among all stores of the process, which its jobs carry.
+    number: u64,
 }
 
 // The library lets handles go from thread to thread. What is behind this one is reached through it alone.
@@ -88,7 +96,8 @@ impl Store {
     ///
     /// # Errors
     ///
-    /// [`Error::SequencesSpent`], [`Error::IdsSpent`], [`Error::OutOfMemory`].
+    /// [`Error::SequencesSpent`], [`Error::IdsSpent`], [`Error::OutOfMemory`], and [`Error::RunsClaimed`] while jobs are
+    /// out.
     pub fn write(&self, batch: &Batch) -> Result<(), Error> {
         check(unsafe { sys::ucstore_write(self.handle(), batch.handle()) })
     }
@@ -108,7 +117,7 @@ impl Store {
     /// # Errors
     ///
     /// [`Error::TooLong`] if a text has 2^32 bytes or more, [`Error::SequencesSpent`], [`Error::IdsSpent`],
-    /// [`Error::OutOfMemory`].
+    /// [`Error::OutOfMemory`], and [`Error::RunsClaimed`] while jobs are out.
     pub fn put(&self, key: impl AsRef<[u8]>, value: impl AsRef<[u8]>) -> Result<(), Error> {
         let (key, value) = (key.as_ref(), value.as_ref());
         check(unsafe {
@@ -207,6 +216,18 @@ impl Store {
     /// [`Error::OutOfMemory`].
     pub fn snapshot(&self) -> Result<Snapshot<'_>, Error> {
         Snapshot::of(self)
+    }
+
+    /// What the store holds now, for other threads to read. What is prepared isn't in it, and stays prepared. Unlike a
+    /// snapshot it needs no release, and holds memory of its own: that of runs which the store has compacted meanwhile.
+    ///
+    /// # Errors
+    ///
+    /// [`Error::OutOfMemory`].
+    pub fn view(&self) -> Result<View, Error> {
+        let view = View::closed();
+        check(unsafe { sys::ucstore_view(self.handle(), view.handle()) })?;
+        Ok(view)
     }
 
     /// The sequences at which snapshots are, which rise.
@@ -330,6 +351,32 @@ impl Store {
         Ok(compacted)
     }
 
+    /// Takes out the compaction that is picked next, if there is one among the runs that no other job has.
+    ///
+    /// # Errors
+    ///
+    /// [`Error::OutOfMemory`].
+    pub fn take_job(&self) -> Result<Option<Job>, Error> {
+        let (mut job, mut taken) = (Job::closed(self.number), false);
+        check(unsafe { sys::ucstore_job(self.handle(), job.handle(), &mut taken) })?;
+        Ok(taken.then_some(job))
+    }
+
+    /// Ends a job: if it was run, its run takes the place of those that it had. Tells whether it did: it doesn't if no
+    /// number is left for a run. The runs of one that wasn't run may be compacted again.
+    ///
+    /// # Errors
+    ///
+    /// A job of another store comes back.
+    pub fn end_job(&self, mut job: Job) -> Result<bool, Job> {
+        if job.store != self.number {
+            return Err(job);
+        }
+        let mut installed = false;
+        self.certain(unsafe { sys::ucstore_job_end(self.handle(), job.handle(), &mut installed) });
+        Ok(installed)
+    }
+
     /// What the store holds, in numbers.
     pub fn report(&self) -> Report {
         Report::by(|report| unsafe { sys::ucstore_report(self.handle(), report) })
@@ -402,6 +449,7 @@ impl Store {
             handle: UnsafeCell::new(sys::ucstore {
                 at: ptr::null_mut(),
             }),
+            number: NEXT_NUMBER.fetch_add(1, Ordering::Relaxed),
         }
     }
 
