@@ -10,7 +10,8 @@ import unittest
 import ucstore
 from ucstore import (
     BadOption, BatchFault, Delete, DeleteRange, End, Ended, LogFault, Merge, NoJob, NoStore, NoView, NotABatch,
-    NotProtected, Operator, Options, Put, SequenceBack, SequencesSpent, Store, UnknownOperator, WriteBatch, batch_bytes, log_writes,
+    NotProtected, Operator, Options, Put, SequenceBack, SequencesSpent, Store, UnknownOperator, WriteBatch, batch_bytes,
+    log_writes,
 )
 
 
