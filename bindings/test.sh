@@ -182,10 +182,10 @@ try_threads() {
 try_rust() {
     cp -r "$here/rust" "$here/cases" "$work"
     rm -rf "$work/rust/target"
-    (cd "$work/rust" && cargo test --offline --quiet -j 1)
-    expect first.rs "$first" "$(cd "$work/rust" && cargo run --offline --quiet -j 1 --example first)"
+    (cd "$work/rust" && cargo test --offline --quiet -j 1 -p ucstore)
+    expect first.rs "$first" "$(cd "$work/rust" && cargo run --offline --quiet -j 1 -p ucstore --example first)"
     expect 'first.rs, with UCSTORE_LIB_DIR' "$first" "$(cd "$work/rust" &&
-        PKG_CONFIG=false UCSTORE_LIB_DIR="$work/usr/lib" cargo run --offline --quiet -j 1 --example first)"
+        PKG_CONFIG=false UCSTORE_LIB_DIR="$work/usr/lib" cargo run --offline --quiet -j 1 -p ucstore --example first)"
     (cd "$work/rust" && PKG_CONFIG=false DOCS_RS=1 RUSTDOCFLAGS=-Dwarnings cargo doc --offline --quiet --no-deps -j 1) ||
         fail "the crates' pages need the library"
 }

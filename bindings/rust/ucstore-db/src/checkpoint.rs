@@ -67,9 +67,7 @@ impl Shared {
         let (Some(log), Some(thread)) = (log, self.checkpointer.get()) else {
             return;
         };
-        let bytes = log.older + log.length;
-        let least = data.saturating_mul(self.options.checkpoint_ratio);
-        if bytes >= self.options.checkpoint_least.max(least)
+        if log.older + log.length >= self.long_log(self.options.checkpoint_least, data)
             && !self.is_checkpoint_due.swap(true, Ordering::AcqRel)
         {
             thread.unpark();
@@ -79,15 +77,24 @@ impl Shared {
     /// Makes checkpoints when they are due, until the database closes.
     pub(crate) fn checkpoint_until_closed(&self) {
         while !self.is_closing.load(Ordering::Acquire) {
-            if self.is_checkpoint_due.load(Ordering::Acquire) {
-                if self.log_bytes() >= *lock(&self.checkpointing) {
-                    self.checkpoint().unwrap_or_else(|error| self.note(error));
-                }
-                self.is_checkpoint_due.store(false, Ordering::Release);
-            } else {
+            if !self.is_checkpoint_due.swap(false, Ordering::AcqRel) {
                 thread::park();
+            } else if self.is_log_long() {
+                self.checkpoint().unwrap_or_else(|error| self.note(error));
             }
         }
+    }
+
+    /// Whether the logs are still as long as those who asked found them.
+    fn is_log_long(&self) -> bool {
+        let least = *lock(&self.checkpointing);
+        let bytes = self.log_bytes();
+        bytes >= self.long_log(least, lock(&self.store).report().bytes)
+    }
+
+    /// How many bytes the logs have at least when a checkpoint is made.
+    fn long_log(&self, least: u64, data: u64) -> u64 {
+        least.max(data.saturating_mul(self.options.checkpoint_ratio))
     }
 }
 

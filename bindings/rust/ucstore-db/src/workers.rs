@@ -6,7 +6,7 @@ use crate::options::Sync;
 use crate::shared::Shared;
 use std::sync::atomic::Ordering;
 use std::sync::{Arc, Mutex};
-use std::thread::{self, JoinHandle};
+use std::thread::{self, JoinHandle, Thread};
 use std::time::Duration;
 
 /// The threads that compact, make checkpoints, and sync. They end where this is dropped.
@@ -27,10 +27,8 @@ impl Workers {
             workers.spawn("compactor", Shared::compact_until_closed)?;
         }
         if lock(&shared.log).is_some() {
-            workers.spawn("checkpointer", |shared| {
-                shared.checkpointer.get_or_init(thread::current);
-                shared.checkpoint_until_closed();
-            })?;
+            let thread = workers.spawn("checkpointer", Shared::checkpoint_until_closed)?;
+            shared.checkpointer.get_or_init(|| thread);
             if let Sync::EveryMs(period) = shared.options.sync {
                 let period = Duration::from_millis(period);
                 workers.spawn("syncer", move |shared| shared.sync_until_closed(period))?;
@@ -40,14 +38,19 @@ impl Workers {
     }
 
     /// Starts a thread.
-    fn spawn(&self, name: &str, work: impl FnOnce(&Shared) + Send + 'static) -> Result<(), Error> {
+    fn spawn(
+        &self,
+        name: &str,
+        work: impl FnOnce(&Shared) + Send + 'static,
+    ) -> Result<Thread, Error> {
         let shared = Arc::clone(&self.shared);
-        let thread = thread::Builder::new()
+        let handle = thread::Builder::new()
             .name(format!("ucstore-{name}"))
             .spawn(move || work(&shared))
             .map_err(Error::of_file(""))?;
-        lock(&self.threads).push(thread);
-        Ok(())
+        let thread = handle.thread().clone();
+        lock(&self.threads).push(handle);
+        Ok(thread)
     }
 
     /// Ends the threads and the log. Returns what failed before.
