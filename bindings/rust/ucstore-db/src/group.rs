@@ -72,6 +72,11 @@ impl Groups {
 }
 
 impl Group {
+    /// How many bytes a store gathers for it at most: 8 for each operation's sequence, and its texts.
+    pub(crate) fn memory(&self) -> u64 {
+        self.batch.len() as u64 + 8 * u64::from(count_of(&self.batch))
+    }
+
     /// Adds a batch, and tells whether there was room.
     fn add(&mut self, batch: &[u8]) -> bool {
         let (Some(count), true) = (

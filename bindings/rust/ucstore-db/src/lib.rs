@@ -27,9 +27,9 @@
 //!
 //! # Reads
 //!
-//! A read sees each write that was acknowledged before it began. It reads a view that all readers share, and doesn't wait
-//! for a flush, a compaction or a checkpoint. The view is renewed by the first read behind a write, and by a writer before
-//! it begins if there were reads since: only the first read of a quiet time may wait for a write.
+//! A read sees each write that was acknowledged before it began. It reads a view that all readers share. The first read
+//! behind a write renews it, which locks the store for the time of a share. A writer renews it before a flush: so no read
+//! waits for a flush, a compaction or a checkpoint.
 //!
 //! # The folder
 //!

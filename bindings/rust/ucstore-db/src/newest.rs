@@ -2,7 +2,6 @@
 
 use crate::error::Error;
 use crate::lock;
-use std::mem;
 use std::sync::atomic::{AtomicU64, Ordering};
 use std::sync::Mutex;
 use ucstore::{Store, View};
@@ -19,8 +18,6 @@ struct Held {
     view: View,
     /// How many groups it has.
     taken: u64,
-    /// Whether it was read since a writer looked.
-    is_read: bool,
 }
 
 impl Newest {
@@ -29,7 +26,6 @@ impl Newest {
         let held = Held {
             view: store.view()?,
             taken: 0,
-            is_read: false,
         };
         Ok(Newest {
             held: Mutex::new(held),
@@ -45,22 +41,17 @@ impl Newest {
     /// A view that has each group that was taken before the call.
     pub(crate) fn view(&self, store: &Mutex<Store>) -> Result<View, Error> {
         let mut held = lock(&self.held);
-        held.is_read = true;
-        self.renew(&mut held, store)?;
+        self.renew_held(&mut held, store)?;
         Ok(held.view.again()?)
     }
 
-    /// Renews the view for its readers, if it has any, before the store is locked for long.
-    pub(crate) fn renew_if_read(&self, store: &Mutex<Store>) {
-        let mut held = lock(&self.held);
-        if mem::take(&mut held.is_read) {
-            // The next reader is told if memory is refused once more.
-            let _ = self.renew(&mut held, store);
-        }
+    /// Renews the view for readers that come while the store is locked for long.
+    pub(crate) fn renew(&self, store: &Mutex<Store>) -> Result<(), Error> {
+        self.renew_held(&mut lock(&self.held), store)
     }
 
     /// Renews a view that misses a group.
-    fn renew(&self, held: &mut Held, store: &Mutex<Store>) -> Result<(), Error> {
+    fn renew_held(&self, held: &mut Held, store: &Mutex<Store>) -> Result<(), Error> {
         if held.taken != self.taken.load(Ordering::Acquire) {
             let store = lock(store);
             let view = store.view()?;

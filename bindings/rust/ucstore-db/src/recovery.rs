@@ -153,19 +153,26 @@ impl Recovery {
             file.cut(self.length).map_err(Error::of_file(&name))?;
             file.sync().map_err(Error::of_file(&name))?;
         }
-        let unused = self.files.logs.iter().filter(|log| **log > self.number);
-        for name in unused
-            .rev()
-            .map(|log| Name::Log(*log))
-            .chain(self.files.spent)
-        {
-            let name = name.text();
-            folder.remove(&name).map_err(Error::of_file(&name))?;
+        // From the last one on, so that none is missing behind a crash.
+        for number in self.files.logs.iter().rev() {
+            if *number > self.number {
+                remove(&*folder, Name::Log(*number))?;
+                folder.sync().map_err(Error::of_file(""))?;
+            }
+        }
+        for name in self.files.spent {
+            remove(&*folder, name)?;
         }
         folder.sync().map_err(Error::of_file(""))?;
         let log = Log::open(folder, self.number, self.length, self.older)?;
         Ok((self.store, log))
     }
+}
+
+/// Removes a file.
+fn remove(folder: &dyn Folder, name: Name) -> Result<(), Error> {
+    let name = name.text();
+    folder.remove(&name).map_err(Error::of_file(&name))
 }
 
 /// The bytes of a file.

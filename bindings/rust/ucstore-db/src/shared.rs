@@ -24,7 +24,6 @@ const SLOW: Duration = Duration::from_millis(1);
 /// committed; the store is locked for each call alone, so that views and jobs are taken meanwhile.
 pub(crate) struct Shared {
     pub(crate) options: Options,
-    groups: Groups,
     /// Held by a checkpoint. It has the bytes of logs from which on the next one is due.
     pub(crate) checkpointing: Mutex<u64>,
     /// The log; none in memory, and once the database is closed.
@@ -33,11 +32,15 @@ pub(crate) struct Shared {
     pub(crate) store: Mutex<Store>,
     /// Notified when there may be a job, or one has ended.
     pub(crate) work: Condvar,
+    /// The writers that come together.
+    groups: Groups,
     /// Why nothing can be written any more.
     failure: Mutex<Option<Error>>,
     /// What failed first in a thread of the database's own.
     noted: Mutex<Option<Error>>,
     pub(crate) counts: Counts,
+    /// How many bytes the writes have at most that no run has yet. It is changed while the log is locked.
+    gathered: AtomicU64,
     /// How many runs there were behind the last write or compaction.
     pub(crate) runs: AtomicU64,
     pub(crate) is_closing: AtomicBool,
@@ -71,15 +74,19 @@ impl Shared {
         fault: Option<Error>,
         options: &Options,
     ) -> Result<Shared, Error> {
+        let report = store.report();
+        // What was recovered isn't measured: it is flushed before the next write.
+        let gathered = u64::from(report.gathered > 0) * options.store.write_buffer_size;
         Ok(Shared {
             options: options.clone(),
-            groups: Groups::default(),
             checkpointing: Mutex::new(options.checkpoint_least),
             log: Mutex::new(log),
             newest: Newest::of(&store)?,
-            runs: AtomicU64::new(store.report().runs),
+            gathered: AtomicU64::new(gathered),
+            runs: AtomicU64::new(report.runs),
             store: Mutex::new(store),
             work: Condvar::new(),
+            groups: Groups::default(),
             failure: Mutex::new(fault.map(Error::into_cause)),
             noted: Mutex::new(None),
             counts: Counts::default(),
@@ -114,7 +121,9 @@ impl Shared {
     fn take(&self, log: &mut Option<Log>, group: &Group) -> Result<(), Error> {
         self.check()?;
         self.slow_down();
-        self.newest.renew_if_read(&self.store);
+        if self.gathered.load(Ordering::Relaxed) >= self.options.store.write_buffer_size {
+            self.flush_gathered()?;
+        }
         let length = log.as_ref().map_or(0, |log| log.length);
         let record = self.prepare(length, &group.batch)?;
         if let Some(log) = log {
@@ -125,6 +134,7 @@ impl Shared {
             self.counts.syncs.add(group.is_synced.into());
         }
         self.commit(log);
+        self.gathered.fetch_add(group.memory(), Ordering::Relaxed);
         self.counts.groups.add(1);
         self.counts.batches.add(group.batches);
         Ok(())
@@ -177,14 +187,22 @@ impl Shared {
     /// Makes a run of what is gathered.
     pub(crate) fn flush(&self) -> Result<(), Error> {
         let _log = lock(&self.log);
-        self.newest.renew_if_read(&self.store);
+        self.flush_gathered()
+    }
+
+    /// Makes a run of what is gathered, while the log is locked: the store would do so within a write. Nobody who reads
+    /// meanwhile has to renew the view.
+    fn flush_gathered(&self) -> Result<(), Error> {
+        self.newest.renew(&self.store)?;
         let mut store = lock(&self.store);
         loop {
             match store.flush() {
                 Err(ucstore::Error::RunsClaimed) => store = self.wait_for_work(store),
                 outcome => {
+                    outcome?;
+                    self.gathered.store(0, Ordering::Relaxed);
                     self.tell_runs(store.report().runs);
-                    return Ok(outcome?);
+                    return Ok(());
                 }
             }
         }

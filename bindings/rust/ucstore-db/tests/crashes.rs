@@ -108,7 +108,9 @@ fn a_fault_of_the_device_is_told_and_loses_nothing() {
                 drop(run);
                 // A process that is started again sees all that was written.
                 check_recovered(&history, &Device::of(&device.files()), acknowledged, tried);
-                check_recovered(&history, &device.crash(&mut numbers), kept, tried);
+                for _ in 0..4 {
+                    check_recovered(&history, &device.crash(&mut numbers), kept, tried);
+                }
             }
         }
     }

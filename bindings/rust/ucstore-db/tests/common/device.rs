@@ -49,7 +49,7 @@ struct Content {
 #[derive(Clone, PartialEq, Eq)]
 enum Change {
     Insert(String, usize),
-    Rename(String, String),
+    Rename(String, String, usize),
     Remove(String),
 }
 
@@ -125,14 +125,21 @@ impl Device {
         self.lock().fault = Some(Fault { call, left, lasts });
     }
 
-    /// The folder behind a crash: what was synced, some of the changes of names, and the first bytes of what was
-    /// appended.
+    /// The folder behind a crash: what was synced, the first changes of names or any of them, and the first bytes of what
+    /// was appended.
     pub fn crash(&self, numbers: &mut Numbers) -> Device {
         let disk = self.lock();
         let mut names = disk.synced.clone();
-        let kept = numbers.below(disk.changes.len() as u64 + 1) as usize;
-        for change in &disk.changes[..kept] {
-            change.apply(&mut names);
+        let first = numbers.below(disk.changes.len() as u64 + 1) as usize;
+        let in_order = numbers.below(2) == 0;
+        for (place, change) in disk.changes.iter().enumerate() {
+            if if in_order {
+                place < first
+            } else {
+                numbers.below(2) == 0
+            } {
+                change.apply(&mut names);
+            }
         }
         let mut files = BTreeMap::new();
         for (name, number) in names {
@@ -201,9 +208,9 @@ impl Change {
     fn apply(&self, names: &mut BTreeMap<String, usize>) {
         match self {
             Change::Insert(name, number) => drop(names.insert(name.clone(), *number)),
-            Change::Rename(from, to) => {
-                let number = names.remove(from).expect("a file is renamed");
-                names.insert(to.clone(), number);
+            Change::Rename(from, to, number) => {
+                names.remove(from);
+                names.insert(to.clone(), *number);
             }
             Change::Remove(name) => drop(names.remove(name)),
         }
@@ -211,17 +218,19 @@ impl Change {
 }
 
 impl Content {
-    /// What is left behind a crash.
+    /// What is left behind a crash. Of a file that was cut all may be left, and what was appended then is written over it.
     fn survivor(&self, numbers: &mut Numbers) -> Vec<u8> {
-        match self.bytes.strip_prefix(&self.synced[..]) {
-            Some(rest) => {
-                let kept = numbers.below(rest.len() as u64 + 1) as usize;
-                self.bytes[..self.synced.len() + kept].to_vec()
-            }
-            // It was cut.
-            None if numbers.below(2) == 0 => self.bytes.clone(),
-            None => self.synced.clone(),
-        }
+        let (bytes, synced) = (&self.bytes, &self.synced);
+        let pairs = bytes.iter().zip(synced);
+        let same = pairs.take_while(|(one, other)| one == other).count();
+        let written = same + numbers.below((bytes.len() - same) as u64 + 1) as usize;
+        let is_cut = same < synced.len() && numbers.below(2) == 0;
+        let rest = if is_cut {
+            &[]
+        } else {
+            synced.get(written..).unwrap_or(&[])
+        };
+        [&bytes[..written], rest].concat()
     }
 }
 
@@ -251,8 +260,8 @@ impl Folder for Device {
 
     fn rename(&self, from: &str, to: &str) -> io::Result<()> {
         let mut disk = self.begun(Call::Rename)?;
-        disk.number(from)?;
-        disk.change(Change::Rename(from.into(), to.into()));
+        let number = disk.number(from)?;
+        disk.change(Change::Rename(from.into(), to.into(), number));
         Ok(())
     }
 

@@ -138,11 +138,12 @@ impl History {
         batch
     }
 
-    /// Runs the history on a device, up to the first call that is refused.
+    /// Runs the history on a device, up to the first call that is refused. A checkpoint may be.
     pub fn run(&self, device: &Device) -> Run {
         let mut run = Run::default();
-        let outcome = self.run_all(device, &mut run);
-        run.error = outcome.err();
+        if let Err(error) = self.run_all(device, &mut run) {
+            run.error.get_or_insert(error);
+        }
         run
     }
 
@@ -175,7 +176,14 @@ impl History {
             Step::Sync => db.sync()?,
             Step::Flush => return db.flush(),
             Step::Compact => return db.compact(),
-            Step::Checkpoint => db.checkpoint()?,
+            Step::Checkpoint => match db.checkpoint() {
+                // The logs are kept: it goes on.
+                Err(error @ Error::File { .. }) => {
+                    run.error.get_or_insert(error);
+                    return Ok(());
+                }
+                outcome => outcome?,
+            },
             Step::Reopen => {}
         }
         run.kept = run.acknowledged;
