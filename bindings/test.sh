@@ -3,7 +3,7 @@
 #
 #     bindings/test.sh [PART..]
 #
-# The parts are pages, c, sanitizers, valgrind, refused, rust and python, or all where none is named. They need cc and c++,
+# The parts are pages, c, sanitizers, valgrind, refused, threads, rust and python, or all where none is named. They need cc and c++,
 # binutils, pkg-config, valgrind, cargo, and a python3 with pip, setuptools and wheel; no network. CC, CXX and PYTHON name
 # others. `needs` alone says what of that is missing, before anything is built.
 #
@@ -71,8 +71,8 @@ check_names() { # OPTION LIBRARY
 }
 
 # Compiles a file of bindings/c as C99, and links the shared object.
-compile_c() { # NAME
-    "${cc[@]}" -std=c99 -O2 "${strict[@]}" "$here/c/$1.c" "${flags[@]}" -o "$work/$1"
+compile_c() { # NAME [OPTION..]
+    "${cc[@]}" -std=c99 -O2 "${strict[@]}" "$here/c/$1.c" "${flags[@]}" -o "$work/$1" "${@:2}"
 }
 
 # Compiles it as C++, and links the archive.
@@ -122,7 +122,7 @@ try_manual() {
 try_pages() {
     local line count=0
     while IFS= read -r line; do
-        grep -qF -- "$line" "$here/c/first.c" "$here/rust/examples/first.rs" "$here/python/first.py" ||
+        grep -qF -- "$line" "$here/c/first.c" "$here/rust/ucstore/examples/first.rs" "$here/python/first.py" ||
             fail "README.md has a line that no first program has: $line"
         count=$((count + 1))
     done < <(awk '/^## / { inside = 0 } /^## From C, Rust, Python/ { found = 1 } found && /^In C/ { inside = 1 }
@@ -172,13 +172,22 @@ try_refused() {
     "$work/refused_san" $((calls / 4)) $((seed + 1))
 }
 
+# Threads read, write and compact at once, if there is a program for it.
+try_threads() {
+    [ -f "$here/c/threads.c" ] || return 0
+    compile_c threads -pthread
+    "$work/threads"
+}
+
 try_rust() {
     cp -r "$here/rust" "$here/cases" "$work"
     rm -rf "$work/rust/target"
-    (cd "$work/rust" && cargo test --offline --quiet -j 1)
-    expect first.rs "$first" "$(cd "$work/rust" && cargo run --offline --quiet -j 1 --example first)"
+    (cd "$work/rust" && cargo test --offline --quiet -j 1 -p ucstore)
+    expect first.rs "$first" "$(cd "$work/rust" && cargo run --offline --quiet -j 1 -p ucstore --example first)"
     expect 'first.rs, with UCSTORE_LIB_DIR' "$first" "$(cd "$work/rust" &&
-        PKG_CONFIG=false UCSTORE_LIB_DIR="$work/usr/lib" cargo run --offline --quiet -j 1 --example first)"
+        PKG_CONFIG=false UCSTORE_LIB_DIR="$work/usr/lib" cargo run --offline --quiet -j 1 -p ucstore --example first)"
+    (cd "$work/rust" && PKG_CONFIG=false DOCS_RS=1 RUSTDOCFLAGS=-Dwarnings cargo doc --offline --quiet --no-deps -j 1) ||
+        fail "the crates' pages need the library"
 }
 
 # A Python that can build what pip installs without a network.
@@ -215,7 +224,7 @@ try_python() {
 
 check_needs
 if [ "${*-}" = needs ]; then exit; fi
-if [ $# -eq 0 ]; then set -- pages c sanitizers valgrind refused rust python; fi
+if [ $# -eq 0 ]; then set -- pages c sanitizers valgrind refused threads rust python; fi
 install_all
 for part; do
     declare -F "try_$part" > /dev/null || fail "there is no part $part"

@@ -218,7 +218,7 @@ static bool is_done(int32_t status) {
     static const char *const names[] = {
         "ok", "out of memory", "no store", "has store", "not found", "not protected", "unknown operator",
         "bad option", "bad size", "ids spent", "sequences spent", "too long", "not a batch", "bad place", "room",
-        "log ends", "sequence back",
+        "log ends", "sequence back", "bad keys", "batch full",
     };
     if (status != UCSTORE_OK) {
         say("error: %s\n", status >= 0 && (size_t)status < sizeof names / sizeof names[0] ? names[status] : "unknown");
@@ -330,7 +330,7 @@ static void compact(void) {
 
 static void prepare(void) {
     is_prepared = is_done(
-        ucstore_prepare(&store, batch.at, batch.size, history.size, record.at, MOST_BYTES, &record.size));
+        ucstore_prepare_bytes(&store, batch.at, batch.size, history.size, record.at, MOST_BYTES, &record.size));
 }
 
 static void commit(void) {

@@ -9,8 +9,9 @@ import unittest
 
 import ucstore
 from ucstore import (
-    BadOption, BatchFault, Delete, DeleteRange, End, Ended, LogFault, Merge, NoStore, NotABatch, NotProtected, Operator,
-    Options, Put, SequenceBack, SequencesSpent, Store, UnknownOperator, batch_bytes, log_writes,
+    BadOption, BatchFault, Delete, DeleteRange, End, Ended, LogFault, Merge, NoJob, NoStore, NoView, NotABatch,
+    NotProtected, Operator, Options, Put, SequenceBack, SequencesSpent, Store, UnknownOperator, WriteBatch, batch_bytes,
+    log_writes,
 )
 
 
@@ -46,6 +47,30 @@ class Calls(unittest.TestCase):
         batch = batch_bytes([Put(b"k", b"v"), Delete(b"d"), Merge(b"m", b"\7" * 128), DeleteRange(b"", b"z")], 5)
         records = b"\1\1k\1v" + b"\0\1d" + b"\2\1m\x80\1" + b"\7" * 128 + b"\x0f\0\1z"
         self.assertEqual(batch, struct.pack("<QI", 5, 4) + records)
+
+    def test_a_batch_is_written_as_often_as_it_is_asked(self):
+        batch = WriteBatch()
+        self.assertEqual((batch.to_bytes(), len(batch)), (bytes(12), 0))
+        batch.merge(b"k", b"a")
+        batch.add([Merge(b"k", b"b")])
+        self.store.write(batch)
+        self.store.prepare(0, batch)
+        self.store.commit()
+        self.assertEqual((self.store[b"k"], len(batch)), (b"a,b,a,b", 2))
+        batch.clear()
+        self.assertEqual((batch.to_bytes(), len(batch)), (bytes(12), 0))
+        self.assertRaises(TypeError, batch.put, b"k", "v")
+        self.assertRaises(KeyError, batch.add, [("k", "v")])
+        with batch:
+            batch.put(b"k", b"v")
+        self.assertEqual((len(batch), self.store.last), (0, 4))
+
+    def test_many_keys_are_looked_up_at_once(self):
+        store, long = self.store, bytes(100000)
+        store.write([Put(b"a", b"1"), Put(b"b", long), Put(b"", b"")])
+        self.assertEqual(store.get_many([b"b", b"z", b"", b"b", b"a"]), [long, None, b"", long, b"1"])
+        self.assertEqual(store.get_many(iter([])), [])
+        self.assertRaises(TypeError, store.get_many, ["b"])
 
     def test_a_snapshot_stays_until_the_last_one_ends(self):
         store = self.store
@@ -214,6 +239,79 @@ class Calls(unittest.TestCase):
             thread.join()
         self.assertEqual((self.store.last, self.store.snapshots), (800, []))
 
+    def test_a_view_stays_what_it_is(self):
+        with Store(Operator.APPEND, Options(compacts_itself=False)) as store:
+            store.write([Put(b"a", b"1"), Put(b"b", b"2")])
+            view = store.view()
+            store.delete_range(b"", b"z")
+            compact(store)
+            with view, view.again() as again:
+                self.assertEqual(dict(again.items()), {b"a": b"1", b"b": b"2"})
+        self.assertRaises(NoView, view.get, b"a")
+        self.assertRaises(NoView, view.again)
+        self.assertRaises(NoStore, store.view)
+        with Store(Operator.APPEND) as store:
+            store.write([Put(b"a", b"1"), Put(b"b", b"2")])
+            sequence = store.take_snapshot()
+            view = store.view()
+        self.assertEqual((view[b"a"], view.get(b"c"), view.last, view.report().last), (b"1", None, 2, 2))
+        self.assertEqual(view.get_many([b"b", b"c"]), [b"2", None])
+        self.assertEqual((view.get_at(b"b", sequence), list(view.prefix(b"b"))), (b"2", [(b"b", b"2")]))
+        self.assertRaises(NotProtected, view.get_at, b"b", 7)
+        view.close()
+        view.close()
+
+    def test_threads_read_views_while_the_store_is_written(self):
+        newest, is_done = [self.store.view()], threading.Event()
+        failures = []
+
+        def read():
+            least = 0
+            while not is_done.is_set():
+                with newest[0].again() as view:
+                    rows = sum(1 for _ in view)
+                    if rows != view.last or rows < least:
+                        failures.append((rows, view.last, least))
+                    least = rows
+
+        threads = [threading.Thread(target=read) for _ in range(3)]
+        for thread in threads:
+            thread.start()
+        for number in range(2000):
+            self.store.put(b"%d" % number, b"v")
+            if number % 20 == 0:
+                newest[0] = self.store.view()
+        is_done.set()
+        for thread in threads:
+            thread.join()
+        self.assertEqual(failures, [])
+
+    def test_jobs_run_beside_writes(self):
+        with Store(Operator.APPEND, Options(compacts_itself=False)) as store:
+            self.assertIsNone(store.take_job())
+            for number in range(8):
+                store.put(b"%d" % number, b"v")
+                store.flush()
+            with store.take_job():
+                pass
+            self.assertEqual(store.report().runs, 8)
+            job = store.take_job()
+            worker = threading.Thread(target=job.run)
+            worker.start()
+            store.put(b"k", b"v")
+            worker.join()
+            self.assertTrue(job.end())
+            self.assertFalse(job.end())
+            self.assertRaises(NoJob, job.run)
+            self.assertLess(store.report().runs, 8)
+            self.assertEqual(len(list(store)), 9)
+            for number in range(8):
+                store.put(b"%d" % number, b"w")
+                store.flush()
+            left = store.take_job()
+        left.run()
+        self.assertFalse(left.end())
+
     def test_the_examples_of_the_module(self):
         self.assertEqual(doctest.testmod(ucstore).failed, 0)
 
@@ -358,6 +456,8 @@ class Soak:
     def get(self):
         key = self.key()
         assert self.store.get(key) == self.held.get(key)
+        keys = [self.key() for _ in range(self.random.randrange(9))]
+        assert self.store.get_many(keys) == [self.held.get(one) for one in keys]
         for sequence, held in self.keeps:
             assert self.store.get_at(key, sequence) == held.get(key)
 

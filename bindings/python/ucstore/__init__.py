@@ -24,18 +24,18 @@ import os
 import struct
 import threading
 from pathlib import Path
-from typing import Iterable, Iterator, List, NamedTuple, Optional, Tuple, Union
+from typing import Iterable, Iterator, List, NamedTuple, Optional, Tuple, TypeVar, Union
 
 __all__ = [
-    "BadOption", "BatchFault", "Delete", "DeleteRange", "End", "Ended", "IdsSpent", "LogFault", "LogWrites", "Merge",
-    "NoStore", "NotABatch", "NotProtected", "Operation", "Operator", "Options", "OutOfMemory", "Put", "Report",
-    "SequenceBack", "SequencesSpent", "Snapshot", "Store", "TooLong", "UcstoreError", "UnknownOperator", "Write", "WriteBatch",
-    "batch_bytes", "log_writes",
+    "BadOption", "BatchFault", "BatchFull", "Delete", "DeleteRange", "End", "Ended", "IdsSpent", "Job", "LogFault",
+    "LogWrites", "Merge", "NoJob", "NoStore", "NoView", "NotABatch", "NotProtected", "Operation", "Operator", "Options",
+    "OutOfMemory", "Put", "Report", "RunsClaimed", "SequenceBack", "SequencesSpent", "Snapshot", "Store", "TooLong",
+    "UcstoreError", "UnknownOperator", "View", "Write", "WriteBatch", "batch_bytes", "log_writes",
 ]
 
 
 class UcstoreError(Exception):
-    """A call that was refused. The store is as it was before it."""
+    """A call that was refused. What it was asked of is as it was before."""
 
     status = -1
     text = "unexpected status"
@@ -104,13 +104,37 @@ class SequenceBack(NotABatch):
     status, text = 16, "the sequence isn't above the last one"
 
 
+class BatchFull(UcstoreError):
+    """The batch has 2^32 - 1 operations."""
+
+    status, text = 18, "the batch has 2^32 - 1 operations"
+
+
+class NoView(UcstoreError, ValueError):
+    """The view is closed."""
+
+    status, text = 19, "the view is closed"
+
+
+class NoJob(UcstoreError, ValueError):
+    """The job has ended."""
+
+    status, text = 21, "the job has ended"
+
+
+class RunsClaimed(UcstoreError):
+    """There are as many runs as there may be, and jobs have those that would be compacted: end a job, and try again."""
+
+    status, text = 24, "jobs have the runs that would be compacted"
+
+
 _OK, _NOT_FOUND, _ROOM, _LOG_ENDS = 0, 4, 14, 15
 
 _ERRORS = {
     error.status: error
     for error in (
         OutOfMemory, NoStore, NotProtected, UnknownOperator, BadOption, IdsSpent, SequencesSpent, TooLong,
-        NotABatch, SequenceBack,
+        NotABatch, SequenceBack, BatchFull, NoView, NoJob, RunsClaimed,
     )
 }
 
@@ -197,7 +221,10 @@ class Write(NamedTuple):
 
 
 class Report(NamedTuple):
-    """What a store holds, in numbers. `bytes` has 8 for each sequence, and `gathered` counts the writes that no run has yet."""
+    """What a store holds, in numbers.
+
+    `bytes` has 8 for each sequence, and `gathered` counts the writes that no run has yet.
+    """
 
     runs: int
     snapshots: int
@@ -320,29 +347,53 @@ _POINTER, _SIZE, _U64, _U32 = ctypes.c_void_p, ctypes.c_size_t, ctypes.c_uint64,
 _TEXT = (ctypes.c_char_p, _SIZE)
 _PLACE = (_POINTER, _SIZE)
 
+# Those of the functions that read a store, or a view.
+_READS = {
+    "last": (_POINTER, _POINTER),
+    "get": (_POINTER, *_TEXT, *_PLACE, _POINTER),
+    "get_at": (_POINTER, *_TEXT, _U64, *_PLACE, _POINTER),
+    "get_many": (_POINTER, *_TEXT, *_PLACE, *_PLACE, *_PLACE, _POINTER),
+    "scan": (_POINTER, *_TEXT, *_TEXT, ctypes.c_bool, _U64, *_PLACE, _POINTER, _POINTER),
+    "scan_at": (_POINTER, *_TEXT, *_TEXT, ctypes.c_bool, _U64, _U64, *_PLACE, _POINTER, _POINTER),
+    "report": (_POINTER, _POINTER),
+}
+
 _SIGNATURES = {
     "create": (_POINTER, _U32, _POINTER),
     "open": (_POINTER, _U32, _POINTER, *_TEXT, _POINTER),
     "close": (_POINTER,),
+    "batch_put": (_POINTER, *_TEXT, *_TEXT),
+    "batch_merge": (_POINTER, *_TEXT, *_TEXT),
+    "batch_delete": (_POINTER, *_TEXT),
+    "batch_delete_range": (_POINTER, *_TEXT, *_TEXT),
+    "batch_clear": (_POINTER,),
+    "batch_count": (_POINTER, _POINTER),
+    "batch_bytes": (_POINTER, *_PLACE, _POINTER),
+    "batch_close": (_POINTER,),
+    "write": (_POINTER, _POINTER),
     "write_bytes": (_POINTER, *_TEXT),
     "put": (_POINTER, *_TEXT, *_TEXT),
     "delete": (_POINTER, *_TEXT),
     "merge": (_POINTER, *_TEXT, *_TEXT),
     "delete_range": (_POINTER, *_TEXT, *_TEXT),
-    "prepare": (_POINTER, *_TEXT, _U64, *_PLACE, _POINTER),
+    "prepare": (_POINTER, _POINTER, _U64, *_PLACE, _POINTER),
+    "prepare_bytes": (_POINTER, *_TEXT, _U64, *_PLACE, _POINTER),
     "commit": (_POINTER,),
     "give_up": (_POINTER,),
     "flush": (_POINTER,),
     "snapshot": (_POINTER, _POINTER),
     "release": (_POINTER, _U64),
     "snapshots": (_POINTER, *_PLACE, _POINTER),
-    "last": (_POINTER, _POINTER),
-    "get": (_POINTER, *_TEXT, *_PLACE, _POINTER),
-    "get_at": (_POINTER, *_TEXT, _U64, *_PLACE, _POINTER),
-    "scan": (_POINTER, *_TEXT, *_TEXT, ctypes.c_bool, _U64, *_PLACE, _POINTER, _POINTER),
-    "scan_at": (_POINTER, *_TEXT, *_TEXT, ctypes.c_bool, _U64, _U64, *_PLACE, _POINTER, _POINTER),
+    **_READS,
+    **{f"view_{name}": types for name, types in _READS.items()},
+    "view": (_POINTER, _POINTER),
+    "view_again": (_POINTER, _POINTER),
+    "view_close": (_POINTER,),
+    "job": (_POINTER, _POINTER, _POINTER),
+    "job_run": (_POINTER,),
+    "job_end": (_POINTER, _POINTER, _POINTER),
+    "job_close": (_POINTER,),
     "compact": (_POINTER, _POINTER),
-    "report": (_POINTER, _POINTER),
     "log_next": (*_TEXT, _POINTER, *_PLACE, _POINTER, _POINTER, _POINTER),
 }
 
@@ -362,8 +413,11 @@ class _Library:
 
 _library = _Library()
 
-# The bytes of a value for which a lookup doesn't ask twice, and those of a page of a scan.
-_USUAL_VALUE, _PAGE_BYTES = 512, 16 * 1024
+# The bytes of a value for which a lookup doesn't ask twice, those for each of many values, and those of a scan's page.
+_USUAL_VALUE, _USUAL_SHARE, _PAGE_BYTES = 512, 64, 16 * 1024
+
+# What the library says of a key without a value.
+_NO_VALUE = (1 << 64) - 1
 
 # The bytes of a record's header in a log, and the most that a record has behind it.
 _HEADER = 7
@@ -396,35 +450,22 @@ def _sequence(at: int) -> int:
     return at
 
 
-def _push_text(batch: bytearray, text: bytes) -> None:
-    """Adds a text behind its length: seven bits to a byte, the low ones first."""
-    length = len(_bytes_of(text))
-    while length >= 0x80:
-        batch.append(length & 0x7F | 0x80)
-        length >>= 7
-    batch.append(length)
-    batch += text
-
-
-def batch_bytes(operations: Iterable[Operation], sequence: int = 0) -> bytes:
-    """The bytes of operations as a write batch of RocksDB. The first one has the sequence."""
-    if sequence < 0:
-        raise SequenceBack()
-    batch, count = bytearray(12), 0
-    for operation in operations:
-        batch.append(_TAGS[type(operation)])
-        for text in operation:
-            _push_text(batch, text)
-        count += 1
-    struct.pack_into("<QI", batch, 0, min(sequence, (1 << 64) - 1), count)
-    return bytes(batch)
-
-
 def _text_at(room: memoryview, place: int) -> Tuple[bytes, int]:
     """The text at a place, behind its length of 8 bytes, and the place behind it."""
     (length,) = struct.unpack_from("<Q", room, place)
     end = place + 8 + length
     return bytes(room[place + 8:end]), end
+
+
+def _cut(values: bytes, lengths: Iterable[int]) -> Iterator[Optional[bytes]]:
+    """Values that stand one behind the other. A length may say that there is none."""
+    place = 0
+    for length in lengths:
+        if length == _NO_VALUE:
+            yield None
+        else:
+            yield values[place:place + length]
+            place += length
 
 
 def _end_of_prefix(prefix: bytes) -> Optional[bytes]:
@@ -472,40 +513,14 @@ class _Reader:
         return self._scan(prefix, _end_of_prefix(prefix))
 
 
-class Store(_Reader):
-    """A log-structured merge store in memory.
+_Self = TypeVar("_Self", bound="_Held")
 
-    Writes are gathered in a memtable, which becomes a run when it is full. Runs are compacted then.
 
-    Its calls wait for one another, so that threads may share it. It opens without snapshots. Each `take_snapshot` at a
-    sequence is counted, and needs a `release` of its own. A scan of the store whose rows come in several pages sees what is
-    written between them: a scan of a snapshot doesn't.
-
-    `with` closes it at the end. A closed store raises `NoStore`.
-    """
-
-    ended = Ended(End.CLEAN, None, 0)
-    """How the log ended that the store was opened from."""
-
-    def __init__(self, operator: Operator, options: Options = Options()) -> None:
-        """An empty store. Raises `BadOption` and `OutOfMemory`."""
-        self._begin()
-        _check(_library.create(self._handle, operator, ctypes.byref(_Options.of(options))))
-
-    @classmethod
-    def open(cls, operator: Operator, log: bytes, options: Options = Options()) -> "Store":
-        """A store with the writes of a write-ahead log before its first fault. Its `ended` says how the log ends.
-
-        Raises `BadOption`, `IdsSpent` and `OutOfMemory`.
-        """
-        store, ended = cls.__new__(cls), _Ended()
-        store._begin()
-        length = (_bytes_of(log), len(log))
-        _check(_library.open(store._handle, operator, ctypes.byref(_Options.of(options)), *length, ctypes.byref(ended)))
-        store.ended = ended.told()
-        return store
+class _Held:
+    """An object over a handle of the library. Its calls wait for one another, so that threads may share it."""
 
     def _begin(self) -> None:
+        """A handle that is all zeros."""
         self._at = _Handle()
         self._handle = ctypes.byref(self._at)
         self._lock = threading.RLock()
@@ -515,14 +530,13 @@ class Store(_Reader):
             _check(function(self._handle, *arguments))
 
     def close(self) -> None:
-        """Frees the store. A second call does nothing."""
-        with self._lock:
-            _library.close(self._handle)
+        """Frees it. A second call does nothing."""
+        raise NotImplementedError
 
-    def __enter__(self) -> "Store":
+    def __enter__(self: _Self) -> _Self:
         return self
 
-    def __exit__(self, *_) -> None:
+    def __exit__(self, *_: object) -> None:
         self.close()
 
     def __del__(self) -> None:
@@ -530,102 +544,149 @@ class Store(_Reader):
         if _library is not None and "_lock" in self.__dict__:
             self.close()
 
-    def write(self, operations: Iterable[Operation], sequence: int = 0) -> None:
-        """Writes operations at once: all, or none of them.
 
-        They get sequences one by one, from `sequence` on, or from the one behind the last. `sequence` is 0 or above the last
-        one: there may be gaps. Raises `SequenceBack`, `NotABatch` for a text of 2^32 bytes or more, `SequencesSpent`,
-        `IdsSpent` and `OutOfMemory`.
-        """
-        self.write_bytes(batch_bytes(operations, sequence))
+class WriteBatch(_Held):
+    """Operations that a store takes at once. They may be written more than once.
 
-    def write_bytes(self, batch: bytes) -> None:
-        """Writes a batch that `batch_bytes` or RocksDB wrote. Raises what `write` does."""
-        self._call(_library.write_bytes, *_texts(batch))
+        >>> with WriteBatch() as batch:
+        ...     batch.put(b"colour", b"blue")
+        ...     batch.delete(b"size")
+        ...     len(batch)
+        2
 
-    def write_batch(self) -> "WriteBatch":
-        """A batch that is written when its `with` ends, unless that raises.
+    One that `Store.write_batch` made is written when its `with` ends without an error.
+    """
 
-            >>> with Store(Operator.APPEND) as store:
-            ...     with store.write_batch() as batch:
-            ...         batch.put(b"colour", b"blue")
-            ...         batch.merge(b"tags", b"new")
-            ...     list(store)
-            [b'colour', b'tags']
-        """
-        return WriteBatch(self)
+    def __init__(self, store: Optional["Store"] = None) -> None:
+        self._store = store
+        self._begin()
 
     def put(self, key: bytes, value: bytes) -> None:
-        """Sets a key to a value.
+        """Adds that a key is set to a value.
 
-        Raises `TooLong` for a text of 2^32 bytes or more, `SequencesSpent`, `IdsSpent` and `OutOfMemory`.
+        Raises `TooLong` for a text of 2^32 bytes or more, `BatchFull` behind 2^32 - 1 operations, and `OutOfMemory`.
         """
-        self._call(_library.put, *_texts(key, value))
-
-    def __setitem__(self, key: bytes, value: bytes) -> None:
-        """Sets a key to a value, as `put` does."""
-        self.put(key, value)
+        self._call(_library.batch_put, *_texts(key, value))
 
     def delete(self, key: bytes) -> None:
-        """Removes a key. Raises what `put` does."""
-        self._call(_library.delete, *_texts(key))
-
-    def __delitem__(self, key: bytes) -> None:
-        """Removes a key, as `delete` does. A key without a value is no error: nothing is read."""
-        self.delete(key)
+        """Adds that a key is removed. Raises what `put` does."""
+        self._call(_library.batch_delete, *_texts(key))
 
     def merge(self, key: bytes, operand: bytes) -> None:
-        """Combines a key with an operand. Raises what `put` does."""
-        self._call(_library.merge, *_texts(key, operand))
+        """Adds that a key is combined with an operand. Raises what `put` does."""
+        self._call(_library.batch_merge, *_texts(key, operand))
 
     def delete_range(self, begin: bytes, end: bytes) -> None:
-        """Removes each key from `begin` to below `end`. Raises what `put` does."""
-        self._call(_library.delete_range, *_texts(begin, end))
+        """Adds that each key from `begin` to below `end` is removed. Raises what `put` does."""
+        self._call(_library.batch_delete_range, *_texts(begin, end))
+
+    def add(self, operations: Iterable[Operation]) -> None:
+        """Adds operations. Raises what `put` does."""
+        for operation in operations:
+            self._call(_ADDS[type(operation)], *_texts(*operation))
+
+    def clear(self) -> None:
+        """Removes all operations. Their memory stays for others."""
+        self._call(_library.batch_clear)
+
+    def __len__(self) -> int:
+        """How many operations there are."""
+        count = _U64()
+        self._call(_library.batch_count, ctypes.byref(count))
+        return count.value
+
+    def to_bytes(self, sequence: int = 0) -> bytes:
+        """The batch as RocksDB writes it. Its first operation has the sequence.
+
+        Raises `SequenceBack` for one below 0.
+        """
+        if sequence < 0:
+            raise SequenceBack()
+        with self._lock:
+            size = _SIZE(self._size())
+            room = ctypes.create_string_buffer(size.value)
+            self._call(_library.batch_bytes, room, size.value, ctypes.byref(size))
+        struct.pack_into("<Q", room, 0, min(sequence, (1 << 64) - 1))
+        return room.raw
+
+    def _size(self) -> int:
+        """How many bytes the batch has."""
+        size = _SIZE()
+        self._call(_library.batch_bytes, None, 0, ctypes.byref(size))
+        return size.value
+
+    def close(self) -> None:
+        """Frees the operations. The batch has none then, and may gather others."""
+        with self._lock:
+            _library.batch_close(self._handle)
+
+    def __exit__(self, kind: object, *_: object) -> None:
+        """Writes the batch to its store, if it has one. Raises what `Store.write` does."""
+        try:
+            if kind is None and self._store is not None and len(self) > 0:
+                self._store.write(self)
+        finally:
+            self.close()
+
+
+_ADDS = {
+    Put: _library.batch_put, Delete: _library.batch_delete, Merge: _library.batch_merge,
+    DeleteRange: _library.batch_delete_range,
+}
+
+
+def _batch_of(operations: Union[WriteBatch, Iterable[Operation]]) -> WriteBatch:
+    """The batch, or one of the operations."""
+    if isinstance(operations, WriteBatch):
+        return operations
+    batch = WriteBatch()
+    batch.add(operations)
+    return batch
+
+
+def batch_bytes(operations: Iterable[Operation], sequence: int = 0) -> bytes:
+    """The bytes of operations as a write batch of RocksDB. The first one has the sequence."""
+    return _batch_of(operations).to_bytes(sequence)
+
+
+class _HeldReader(_Held, _Reader):
+    """A store or a view, which the library reads by functions of the same names behind a prefix."""
+
+    _prefix = ""
+
+    def _function(self, name: str):
+        return getattr(_library, self._prefix + name)
 
     @property
     def last(self) -> int:
         """The last sequence: 0 if nothing was written."""
         sequence = _U64()
-        self._call(_library.last, ctypes.byref(sequence))
+        self._call(self._function("last"), ctypes.byref(sequence))
         return sequence.value
-
-    def take_snapshot(self) -> int:
-        """Takes a snapshot at the last sequence, until `release` is called as often as this. Returns the sequence.
-
-        Raises `IdsSpent` and `OutOfMemory`.
-        """
-        sequence = _U64()
-        self._call(_library.snapshot, ctypes.byref(sequence))
-        return sequence.value
-
-    def release(self, sequence: int) -> None:
-        """Undoes a `take_snapshot`. The last release at a sequence ends its snapshot. Raises `NotProtected`."""
-        self._call(_library.release, _sequence(sequence))
-
-    def snapshot(self) -> "Snapshot":
-        """A snapshot at the last sequence, which `with` releases at its end. Raises `IdsSpent` and `OutOfMemory`."""
-        return Snapshot(self)
-
-    @property
-    def snapshots(self) -> List[int]:
-        """The sequences at which snapshots are, which rise."""
-        count = _SIZE()
-        with self._lock:
-            self._call(_library.snapshots, (_U64 * 1)(), 0, ctypes.byref(count))
-            room = (_U64 * count.value)()
-            self._call(_library.snapshots, room, count.value, ctypes.byref(count))
-        return list(room)
 
     def get_at(self, key: bytes, at: int) -> Optional[bytes]:
         """The value under a key at a snapshot, or None. Raises `NotProtected` and `OutOfMemory`."""
-        return self._value(_library.get_at, *_texts(key), _sequence(at))
+        return self._value(self._function("get_at"), *_texts(key), _sequence(at))
 
     def scan_at(self, low: bytes, high: Optional[bytes], at: int) -> Iterator[_Row]:
         """The rows of a `scan` at a snapshot. Raises `NotProtected` and `OutOfMemory`."""
         return self._scan(low, high, at)
 
+    def get_many(self, keys: Iterable[bytes]) -> List[Optional[bytes]]:
+        """For each key its value, or None. Raises `OutOfMemory`."""
+        asked = list(map(_bytes_of, keys))
+        count, size, length = len(asked), _SIZE(), _USUAL_SHARE * len(asked)
+        key_lengths, value_lengths = (_U64 * count)(*map(len, asked)), (_U64 * count)()
+        told = (key_lengths, count, value_lengths, count)
+        while True:
+            room = ctypes.create_string_buffer(length)
+            self._call(self._function("get_many"), *_texts(b"".join(asked)), *told, room, length, ctypes.byref(size))
+            if size.value <= length:
+                return list(_cut(room.raw, value_lengths))
+            length = size.value
+
     def _get(self, key: bytes) -> Optional[bytes]:
-        return self._value(_library.get, *_texts(key))
+        return self._value(self._function("get"), *_texts(key))
 
     def _value(self, function, *arguments) -> Optional[bytes]:
         """The value that a lookup copies into a room, if there is one."""
@@ -669,15 +730,156 @@ class Store(_Reader):
         ends = (*_texts(low, b"" if high is None else high), high is not None)
         place = ((ctypes.c_char * len(room)).from_buffer(room), len(room), ctypes.byref(size), ctypes.byref(count))
         if at is None:
-            self._call(_library.scan, *ends, limit, *place)
+            self._call(self._function("scan"), *ends, limit, *place)
         else:
-            self._call(_library.scan_at, *ends, _sequence(at), limit, *place)
+            self._call(self._function("scan_at"), *ends, _sequence(at), limit, *place)
         rows, view, end = [], memoryview(room), 0
         for _ in range(count.value):
             key, end = _text_at(view, end)
             value, end = _text_at(view, end)
             rows.append((key, value))
         return rows, size.value
+
+    def report(self) -> Report:
+        """What it holds, in numbers."""
+        report = _Report(ctypes.sizeof(_Report))
+        self._call(self._function("report"), ctypes.byref(report))
+        return Report(*(getattr(report, name) for name in Report._fields))
+
+
+class Store(_HeldReader):
+    """A log-structured merge store in memory.
+
+    Writes are gathered in a memtable, which becomes a run when it is full. Runs are compacted then.
+
+    Its calls wait for one another, so that threads may share it. It opens without snapshots. Each `take_snapshot` at a
+    sequence is counted, and needs a `release` of its own. A scan of the store whose rows come in several pages sees
+    what is written between them: a scan of a snapshot doesn't.
+
+    `with` closes it at the end. A closed store raises `NoStore`.
+    """
+
+    ended = Ended(End.CLEAN, None, 0)
+    """How the log ended that the store was opened from."""
+
+    def __init__(self, operator: Operator, options: Options = Options()) -> None:
+        """An empty store. Raises `BadOption` and `OutOfMemory`."""
+        self._begin()
+        _check(_library.create(self._handle, operator, ctypes.byref(_Options.of(options))))
+
+    @classmethod
+    def open(cls, operator: Operator, log: bytes, options: Options = Options()) -> "Store":
+        """A store with the writes of a write-ahead log before its first fault. Its `ended` says how the log ends.
+
+        Raises `BadOption`, `IdsSpent` and `OutOfMemory`.
+        """
+        store, ended = cls.__new__(cls), _Ended()
+        store._begin()
+        length = (_bytes_of(log), len(log))
+        _check(_library.open(store._handle, operator, ctypes.byref(_Options.of(options)), *length, ctypes.byref(ended)))
+        store.ended = ended.told()
+        return store
+
+    def close(self) -> None:
+        """Frees the store. A second call does nothing."""
+        with self._lock:
+            _library.close(self._handle)
+
+    def write(self, operations: Union["WriteBatch", Iterable[Operation]], sequence: int = 0) -> None:
+        """Writes a batch, or operations at once: all, or none of them.
+
+        They get sequences one by one, from `sequence` on, or from the one behind the last. `sequence` is 0 or above the
+        last one: there may be gaps. Raises `SequenceBack`, `SequencesSpent`, `IdsSpent` and `OutOfMemory`, and for
+        operations what a batch raises.
+        """
+        batch = _batch_of(operations)
+        if sequence == 0:
+            with batch._lock:
+                self._call(_library.write, batch._handle)
+        else:
+            self.write_bytes(batch.to_bytes(sequence))
+
+    def write_bytes(self, batch: bytes) -> None:
+        """Writes a batch that `batch_bytes` or RocksDB wrote. Raises `NotABatch`, and what `write` does."""
+        self._call(_library.write_bytes, *_texts(batch))
+
+    def write_batch(self) -> "WriteBatch":
+        """A batch that is written when its `with` ends, unless that raises.
+
+            >>> with Store(Operator.APPEND) as store:
+            ...     with store.write_batch() as batch:
+            ...         batch.put(b"colour", b"blue")
+            ...         batch.merge(b"tags", b"new")
+            ...     list(store)
+            [b'colour', b'tags']
+        """
+        return WriteBatch(self)
+
+    def put(self, key: bytes, value: bytes) -> None:
+        """Sets a key to a value.
+
+        Raises `TooLong` for a text of 2^32 bytes or more, `SequencesSpent`, `IdsSpent` and `OutOfMemory`.
+        """
+        self._call(_library.put, *_texts(key, value))
+
+    def __setitem__(self, key: bytes, value: bytes) -> None:
+        """Sets a key to a value, as `put` does."""
+        self.put(key, value)
+
+    def delete(self, key: bytes) -> None:
+        """Removes a key. Raises what `put` does."""
+        self._call(_library.delete, *_texts(key))
+
+    def __delitem__(self, key: bytes) -> None:
+        """Removes a key, as `delete` does. A key without a value is no error: nothing is read."""
+        self.delete(key)
+
+    def merge(self, key: bytes, operand: bytes) -> None:
+        """Combines a key with an operand. Raises what `put` does."""
+        self._call(_library.merge, *_texts(key, operand))
+
+    def delete_range(self, begin: bytes, end: bytes) -> None:
+        """Removes each key from `begin` to below `end`. Raises what `put` does."""
+        self._call(_library.delete_range, *_texts(begin, end))
+
+    def take_snapshot(self) -> int:
+        """Takes a snapshot at the last sequence, until `release` is called as often as this. Returns the sequence.
+
+        Raises `IdsSpent` and `OutOfMemory`.
+        """
+        sequence = _U64()
+        self._call(_library.snapshot, ctypes.byref(sequence))
+        return sequence.value
+
+    def release(self, sequence: int) -> None:
+        """Undoes a `take_snapshot`. The last release at a sequence ends its snapshot. Raises `NotProtected`."""
+        self._call(_library.release, _sequence(sequence))
+
+    def snapshot(self) -> "Snapshot":
+        """A snapshot at the last sequence, which `with` releases at its end. Raises `IdsSpent` and `OutOfMemory`."""
+        return Snapshot(self)
+
+    def view(self) -> "View":
+        """What the store holds now, for other threads to read. `with` closes it at its end. Raises `OutOfMemory`."""
+        return View(_library.view, self)
+
+    def take_job(self) -> Optional["Job"]:
+        """Takes out the compaction that is picked next, if there is one among the runs that no other job has.
+
+        Raises `OutOfMemory`.
+        """
+        job = Job(self)
+        return job if job._is_out else None
+
+    @property
+    def snapshots(self) -> List[int]:
+        """The sequences at which snapshots are, which rise."""
+        count = _SIZE()
+        with self._lock:
+            self._call(_library.snapshots, (_U64 * 1)(), 0, ctypes.byref(count))
+            room = (_U64 * count.value)()
+            self._call(_library.snapshots, room, count.value, ctypes.byref(count))
+        return list(room)
 
     def flush(self) -> None:
         """Makes a run of what is gathered. Raises `IdsSpent` and `OutOfMemory`."""
@@ -692,36 +894,36 @@ class Store(_Reader):
         self._call(_library.compact, ctypes.byref(compacted))
         return compacted.value
 
-    def report(self) -> Report:
-        """What the store holds, in numbers."""
-        report = _Report(ctypes.sizeof(_Report))
-        self._call(_library.report, ctypes.byref(report))
-        return Report(*(getattr(report, name) for name in Report._fields))
+    def prepare(self, length: int, operations: Union["WriteBatch", Iterable[Operation]], sequence: int = 0) -> bytes:
+        """Prepares a batch, or operations, so that `commit` can write them, and returns what they add to a log.
 
-    def prepare(self, length: int, operations: Iterable[Operation], sequence: int = 0) -> bytes:
-        """Prepares operations, so that `commit` can write them, and returns the bytes that they add to a log.
-
-        The log has `length` bytes before, and `sequence` is that of `write`. No read sees the operations before `commit`.
-        Operations that were prepared before are given up, as they are by a write, a flush or a snapshot in between.
+        The log has `length` bytes before, and `sequence` is that of `write`. No read sees it before `commit`.
+        What was prepared before is given up, as it is by a write, a flush or a snapshot in between.
 
         Append the bytes to the log's file, wait until they are on its device, and `commit`: then `open` has them again
-        after a crash. If the file fails, cut it back, and `give_up`. A file that was read is cut first, as `LogWrites.end`
-        says.
+        after a crash. If the file fails, cut it back, and `give_up`. A file that was read is cut first, as
+        `LogWrites.end` says.
 
         Raises what `write` would.
         """
-        return self.prepare_bytes(length, batch_bytes(operations, sequence))
+        batch = _batch_of(operations)
+        if sequence != 0:
+            return self.prepare_bytes(length, batch.to_bytes(sequence))
+        with batch._lock:
+            return self._record(batch._size(), _library.prepare, batch._handle, length)
 
     def prepare_bytes(self, length: int, batch: bytes) -> bytes:
-        """Prepares a batch that `batch_bytes` or RocksDB wrote, as `prepare` does."""
+        """Prepares a batch that `batch_bytes` or RocksDB wrote, as `prepare` does. Raises what `write_bytes` would."""
+        return self._record(len(batch), _library.prepare_bytes, *_texts(batch), length)
+
+    def _record(self, batch_size: int, function, *arguments) -> bytes:
+        """What a batch adds to a log."""
         # Room for a header in each block, and for the end of the block before.
-        size, room_length = _SIZE(), len(batch) + _HEADER * (len(batch) // _MOST_FRAGMENT + 3)
+        size, room_length = _SIZE(), batch_size + _HEADER * (batch_size // _MOST_FRAGMENT + 3)
         while True:
             room = ctypes.create_string_buffer(room_length)
             with self._lock:
-                status = _library.prepare(
-                    self._handle, *_texts(batch), length, room, room_length, ctypes.byref(size)
-                )
+                status = function(self._handle, *arguments, room, room_length, ctypes.byref(size))
             if status != _ROOM:
                 _check(status)
                 return ctypes.string_at(room, size.value)
@@ -734,38 +936,6 @@ class Store(_Reader):
     def give_up(self) -> None:
         """Gives up what is prepared, if anything is."""
         self._call(_library.give_up)
-
-
-class WriteBatch:
-    """Operations that are written at once, when `with` ends without an error."""
-
-    def __init__(self, store: Store) -> None:
-        self._store = store
-        self._operations: List[Operation] = []
-
-    def put(self, key: bytes, value: bytes) -> None:
-        """Will set a key to a value."""
-        self._operations.append(Put(key, value))
-
-    def delete(self, key: bytes) -> None:
-        """Will remove a key."""
-        self._operations.append(Delete(key))
-
-    def merge(self, key: bytes, operand: bytes) -> None:
-        """Will combine a key with an operand."""
-        self._operations.append(Merge(key, operand))
-
-    def delete_range(self, begin: bytes, end: bytes) -> None:
-        """Will remove each key from `begin` to below `end`."""
-        self._operations.append(DeleteRange(begin, end))
-
-    def __enter__(self) -> "WriteBatch":
-        return self
-
-    def __exit__(self, kind: object, *_: object) -> None:
-        """Writes the batch. Raises what `Store.write` does."""
-        if kind is None and self._operations:
-            self._store.write(self._operations)
 
 
 class Snapshot(_Reader):
@@ -796,6 +966,80 @@ class Snapshot(_Reader):
 
     def _scan(self, low: bytes, high: Optional[bytes]) -> Iterator[_Row]:
         return self._store.scan_at(low, high, self.sequence)
+
+
+class View(_HeldReader):
+    """What a store held at a moment, as `Store.view` makes it.
+
+    It stays so, whatever is written, flushed and compacted, and also when the store is closed. Its calls wait for one
+    another, and not for those of the store: each thread takes one of its own by `again`. It holds the memory of the
+    runs that it has, until `with` closes it.
+
+        >>> with Store(Operator.APPEND) as store:
+        ...     store[b"colour"] = b"blue"
+        ...     with store.view() as view:
+        ...         del store[b"colour"]
+        ...         view[b"colour"], store.get(b"colour")
+        (b'blue', None)
+    """
+
+    _prefix = "view_"
+
+    def __init__(self, function, source: _Held) -> None:
+        self._begin()
+        source._call(function, self._handle)
+
+    def again(self) -> "View":
+        """The view once more, for another thread. No run is copied. Raises `OutOfMemory`."""
+        return View(_library.view_again, self)
+
+    def close(self) -> None:
+        """Frees the view. A second call does nothing."""
+        with self._lock:
+            _library.view_close(self._handle)
+
+
+class Job(_Held):
+    """A compaction that `Store.take_job` takes out of a store. Any thread runs it, while the store goes on.
+
+        >>> with Store(Operator.APPEND, Options(compacts_itself=False)) as store:
+        ...     for number in range(4):
+        ...         store[b"%d" % number] = b"v"
+        ...         store.flush()
+        ...     with store.take_job() as job:
+        ...         job.run()
+        ...     store.report().runs
+        1
+    """
+
+    def __init__(self, store: Store) -> None:
+        self._store = store
+        self._begin()
+        taken = ctypes.c_bool()
+        store._call(_library.job, self._handle, ctypes.byref(taken))
+        self._is_out = taken.value
+
+    def run(self) -> None:
+        """Merges the runs. It touches no store. One that was run isn't run again.
+
+        Raises `NoJob` and `OutOfMemory`. Then the job is as it was.
+        """
+        self._call(_library.job_run)
+
+    def end(self) -> bool:
+        """Ends the job: if it was run, its run takes the place of those that it had. Tells whether it did.
+
+        It doesn't if the store is closed, or has no number left for a run. A second call does nothing.
+        """
+        installed = ctypes.c_bool()
+        with self._lock, self._store._lock:
+            if _library.job_end(self._store._handle, self._handle, ctypes.byref(installed)) == NoStore.status:
+                _library.job_close(self._handle)
+        return installed.value
+
+    def close(self) -> None:
+        """Ends the job, as `with` does."""
+        self.end()
 
 
 class LogWrites:

@@ -21,7 +21,7 @@ from typing import Any, BinaryIO, Callable, Iterator, Mapping, NamedTuple, Seque
 from zlib import crc32
 
 from . import _TAGS, Delete, DeleteRange, End, Operation, Operator, Options, Store
-from . import UcstoreError, batch_bytes, log_writes
+from . import UcstoreError, log_writes
 
 # The format of a store's files. It grows when they change their meaning.
 FORMAT = 3

@@ -1,0 +1,51 @@
+//! Compactions, which threads run beside reads and writes.
+
+use crate::error::Error;
+use crate::lock;
+use crate::shared::Shared;
+use std::sync::atomic::Ordering;
+use ucstore::Job;
+
+impl Shared {
+    /// Compacts the runs that are picked next, if there are any, and tells whether there were.
+    pub(crate) fn compact(&self) -> Result<bool, Error> {
+        let job = lock(&self.store).take_job()?;
+        job.map_or(Ok(false), |job| self.run(job))
+    }
+
+    /// Compacts whenever there is something to do, until the database closes.
+    pub(crate) fn compact_until_closed(&self) {
+        while let Some(job) = self.next_job() {
+            if self.run(job).is_err() {
+                // Memory was refused: it is tried again behind the next write.
+                drop(self.wait_for_work(lock(&self.store)));
+            }
+        }
+    }
+
+    /// Waits for a job; none comes once the database closes.
+    fn next_job(&self) -> Option<Job> {
+        let mut store = lock(&self.store);
+        loop {
+            if self.is_closing.load(Ordering::Acquire) {
+                return None;
+            }
+            match store.take_job() {
+                Ok(Some(job)) => return Some(job),
+                _ => store = self.wait_for_work(store),
+            }
+        }
+    }
+
+    /// Runs a job, and ends it. If it is refused, its runs are given back.
+    fn run(&self, mut job: Job) -> Result<bool, Error> {
+        let outcome = job.run();
+        let store = lock(&self.store);
+        let is_done = store.end_job(job).expect("a job of this store");
+        self.runs.store(store.report().runs, Ordering::Relaxed);
+        self.work.notify_all();
+        self.counts.compactions.add(is_done.into());
+        outcome?;
+        Ok(is_done)
+    }
+}

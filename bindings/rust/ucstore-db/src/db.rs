@@ -1,0 +1,249 @@
+//! [`Db`]: a database that threads share.
+
+use crate::disk_folder::DiskFolder;
+use crate::error::Error;
+use crate::folder::Folder;
+use crate::options::Options;
+use crate::shared::Shared;
+use crate::snapshot::{Rows, Snapshot};
+use crate::stats::Stats;
+use crate::workers::Workers;
+use std::fmt;
+use std::path::Path;
+use std::sync::Arc;
+use ucstore::Batch;
+
+/// A database that threads share: a clone is the same one. It is closed where the last clone is dropped.
+#[derive(Clone)]
+pub struct Db {
+    workers: Arc<Workers>,
+}
+
+impl Db {
+    /// The database of a folder, which is made if it isn't there.
+    ///
+    /// # Errors
+    ///
+    /// [`Error::Locked`], [`Error::Damaged`] and [`Error::Missing`], which change nothing; [`Error::File`],
+    /// [`Error::Store`].
+    pub fn open(folder: impl AsRef<Path>, options: &Options) -> Result<Db, Error> {
+        Db::open_on(Arc::new(DiskFolder::open(folder)?), options)
+    }
+
+    /// The database of a folder on another device. Nothing else opens it meanwhile.
+    ///
+    /// # Errors
+    ///
+    /// Those of [`open`](Db::open).
+    pub fn open_on(folder: Arc<dyn Folder>, options: &Options) -> Result<Db, Error> {
+        Db::of(Some(folder), options)
+    }
+
+    /// An empty database that ends with its process.
+    ///
+    /// # Errors
+    ///
+    /// [`Error::Store`], [`Error::File`] if no thread can be started.
+    pub fn in_memory(options: &Options) -> Result<Db, Error> {
+        Db::of(None, options)
+    }
+
+    /// Sets a key to a value.
+    ///
+    /// # Errors
+    ///
+    /// Those of [`write`](Db::write).
+    pub fn put(&self, key: impl AsRef<[u8]>, value: impl AsRef<[u8]>) -> Result<(), Error> {
+        self.write(Batch::new().put(key, value)?)
+    }
+
+    /// Combines a key with an operand.
+    ///
+    /// # Errors
+    ///
+    /// Those of [`write`](Db::write).
+    pub fn merge(&self, key: impl AsRef<[u8]>, operand: impl AsRef<[u8]>) -> Result<(), Error> {
+        self.write(Batch::new().merge(key, operand)?)
+    }
+
+    /// Removes a key.
+    ///
+    /// # Errors
+    ///
+    /// Those of [`write`](Db::write).
+    pub fn delete(&self, key: impl AsRef<[u8]>) -> Result<(), Error> {
+        self.write(Batch::new().delete(key)?)
+    }
+
+    /// Removes each key from `begin` to below `end`: none if `begin` isn't below `end`.
+    ///
+    /// # Errors
+    ///
+    /// Those of [`write`](Db::write).
+    pub fn delete_range(
+        &self,
+        begin: impl AsRef<[u8]>,
+        end: impl AsRef<[u8]>,
+    ) -> Result<(), Error> {
+        self.write(Batch::new().delete_range(begin, end)?)
+    }
+
+    /// Takes a batch: all of it, or nothing. It is acknowledged as [`Options::sync`] says.
+    ///
+    /// # Errors
+    ///
+    /// [`Error::Store`] if it is refused before it is logged. Then it, and what came with it, isn't taken.
+    ///
+    /// [`Error::ReadOnly`] if its log fails, or has failed: it isn't taken. The one that failed may be there again, or
+    /// not, when the folder is opened the next time. [`Error::Closed`].
+    pub fn write(&self, batch: &Batch) -> Result<(), Error> {
+        self.write_with(batch, self.shared().is_synced())
+    }
+
+    /// Takes a batch, as [`write`](Db::write) does, and says whether it is to be on the device when this returns.
+    ///
+    /// # Errors
+    ///
+    /// Those of [`write`](Db::write).
+    pub fn write_with(&self, batch: &Batch, is_synced: bool) -> Result<(), Error> {
+        self.shared().write(&batch.bytes(), is_synced)
+    }
+
+    /// Waits until all acknowledged writes are on the device.
+    ///
+    /// # Errors
+    ///
+    /// [`Error::ReadOnly`], [`Error::Closed`].
+    pub fn sync(&self) -> Result<(), Error> {
+        self.shared().sync()
+    }
+
+    /// The value under a key, if there is one.
+    ///
+    /// # Errors
+    ///
+    /// [`Error::Store`] if memory is refused, as for each read.
+    pub fn get(&self, key: impl AsRef<[u8]>) -> Result<Option<Vec<u8>>, Error> {
+        self.snapshot()?.get(key)
+    }
+
+    /// For each key its value, if there is one, at one moment. The keys come in any order.
+    ///
+    /// # Errors
+    ///
+    /// Those of [`get`](Db::get).
+    pub fn get_many<K: AsRef<[u8]>>(
+        &self,
+        keys: impl IntoIterator<Item = K>,
+    ) -> Result<Vec<Option<Vec<u8>>>, Error> {
+        self.snapshot()?.get_many(keys)
+    }
+
+    /// What it holds now.
+    ///
+    /// # Errors
+    ///
+    /// Those of [`get`](Db::get).
+    pub fn snapshot(&self) -> Result<Snapshot, Error> {
+        Ok(Snapshot::of(self.shared().view()?))
+    }
+
+    /// All keys, with their values, at one moment.
+    ///
+    /// # Errors
+    ///
+    /// Those of [`get`](Db::get), also for each row.
+    pub fn iter(&self) -> Result<Rows, Error> {
+        self.snapshot()?.iter()
+    }
+
+    /// The keys from `low` to below `high`, or to the last one, with their values, at one moment.
+    ///
+    /// # Errors
+    ///
+    /// Those of [`iter`](Db::iter).
+    pub fn range(&self, low: impl AsRef<[u8]>, high: Option<&[u8]>) -> Result<Rows, Error> {
+        self.snapshot()?.range(low, high)
+    }
+
+    /// The keys that begin with these bytes, with their values, at one moment.
+    ///
+    /// # Errors
+    ///
+    /// Those of [`iter`](Db::iter).
+    pub fn prefix(&self, prefix: impl AsRef<[u8]>) -> Result<Rows, Error> {
+        self.snapshot()?.prefix(prefix)
+    }
+
+    /// Makes a run of what is gathered in memory. Nothing has to call this.
+    ///
+    /// # Errors
+    ///
+    /// [`Error::Store`].
+    pub fn flush(&self) -> Result<(), Error> {
+        self.shared().flush()
+    }
+
+    /// Compacts until nothing is picked, beside the database's own threads. Nothing has to call this.
+    ///
+    /// # Errors
+    ///
+    /// [`Error::Store`].
+    pub fn compact(&self) -> Result<(), Error> {
+        while self.shared().compact()? {}
+        Ok(())
+    }
+
+    /// Writes all that it holds to a base, and removes the logs before it. Others write meanwhile. In memory it does
+    /// nothing.
+    ///
+    /// # Errors
+    ///
+    /// [`Error::File`] and [`Error::Store`] if the base isn't written: then the logs stay, and the database goes on.
+    /// [`Error::ReadOnly`] if no new log can be begun. [`Error::Closed`].
+    pub fn checkpoint(&self) -> Result<(), Error> {
+        self.shared().checkpoint()
+    }
+
+    /// What it holds and did, in numbers.
+    pub fn stats(&self) -> Stats {
+        Stats::of(self.shared())
+    }
+
+    /// Why nothing can be written any more, if that is so.
+    pub fn failure(&self) -> Option<Error> {
+        self.shared().failure()
+    }
+
+    /// Closes it, for all clones. What was acknowledged is on the device then. Reads still answer, from memory.
+    ///
+    /// # Errors
+    ///
+    /// What failed before: [`Error::ReadOnly`], or an error of a checkpoint in the background. [`Error::Closed`] if it
+    /// was closed.
+    pub fn close(&self) -> Result<(), Error> {
+        self.workers.close()
+    }
+
+    /// That of a folder, or one in memory.
+    fn of(folder: Option<Arc<dyn Folder>>, options: &Options) -> Result<Db, Error> {
+        let workers = Workers::start(Shared::open(folder, options)?)?;
+        Ok(Db {
+            workers: Arc::new(workers),
+        })
+    }
+
+    /// What its threads share.
+    fn shared(&self) -> &Shared {
+        &self.workers.shared
+    }
+}
+
+impl fmt::Debug for Db {
+    fn fmt(&self, formatter: &mut fmt::Formatter<'_>) -> fmt::Result {
+        formatter
+            .debug_struct("Db")
+            .field("stats", &self.stats())
+            .finish_non_exhaustive()
+    }
+}

@@ -1,0 +1,102 @@
+//! [`Error`]: why a call is refused.
+
+use std::fmt;
+use std::io;
+use std::sync::Arc;
+
+/// Why a call is refused. No write was taken then.
+#[derive(Clone, Debug)]
+#[non_exhaustive]
+pub enum Error {
+    /// The store refused it, before anything was logged.
+    Store(ucstore::Error),
+    /// A file can't be read or written.
+    File {
+        /// Its name; empty for the folder.
+        file: String,
+        /// Why.
+        error: Arc<io::Error>,
+    },
+    /// Another process has the folder open, or another `Db` of this one.
+    Locked {
+        /// The file that it has locked.
+        file: String,
+    },
+    /// A file isn't as it was written. Nothing was changed.
+    Damaged {
+        /// Its name.
+        file: String,
+        /// Where the damage begins.
+        offset: u64,
+        /// What is wrong.
+        fault: String,
+    },
+    /// A file isn't there. Nothing was changed.
+    Missing {
+        /// Its name.
+        file: String,
+    },
+    /// Nothing can be written any more.
+    ReadOnly {
+        /// What failed before.
+        cause: Box<Error>,
+    },
+    /// The database was closed.
+    Closed,
+}
+
+impl Error {
+    /// For a file of a name, what an error of the device says.
+    pub(crate) fn of_file(file: &str) -> impl FnOnce(io::Error) -> Error + '_ {
+        move |error| Error::File {
+            file: file.into(),
+            error: Arc::new(error),
+        }
+    }
+
+    /// What later writes are told behind this one.
+    pub(crate) fn into_cause(self) -> Error {
+        match self {
+            Error::ReadOnly { .. } | Error::Closed => self,
+            cause => Error::ReadOnly {
+                cause: Box::new(cause),
+            },
+        }
+    }
+}
+
+impl From<ucstore::Error> for Error {
+    fn from(error: ucstore::Error) -> Error {
+        Error::Store(error)
+    }
+}
+
+impl fmt::Display for Error {
+    fn fmt(&self, formatter: &mut fmt::Formatter<'_>) -> fmt::Result {
+        match self {
+            Error::Store(error) => write!(formatter, "{error}"),
+            Error::File { file, error } if file.is_empty() => write!(formatter, "{error}"),
+            Error::File { file, error } => write!(formatter, "{file}: {error}"),
+            Error::Locked { file } => write!(formatter, "{file} is locked: the database is open"),
+            Error::Damaged {
+                file,
+                offset,
+                fault,
+            } => write!(formatter, "{file} is damaged at {offset}: {fault}"),
+            Error::Missing { file } => write!(formatter, "{file} isn't there"),
+            Error::ReadOnly { cause } => write!(formatter, "nothing can be written: {cause}"),
+            Error::Closed => formatter.write_str("the database is closed"),
+        }
+    }
+}
+
+impl std::error::Error for Error {
+    fn source(&self) -> Option<&(dyn std::error::Error + 'static)> {
+        match self {
+            Error::Store(error) => Some(error),
+            Error::File { error, .. } => Some(error),
+            Error::ReadOnly { cause } => Some(cause),
+            _ => None,
+        }
+    }
+}

@@ -1,0 +1,34 @@
+//! [`Folder`] and [`File`]: the device below a database.
+
+use std::io;
+
+/// A folder of files that one database has open. [`DiskFolder`](crate::DiskFolder) is one of the file system.
+///
+/// What was synced survives a crash, and nothing else does for certain: a file's bytes by [`File::sync`], and the names
+/// of files by [`Folder::sync`].
+pub trait Folder: Send + Sync {
+    /// The names of all files.
+    fn names(&self) -> io::Result<Vec<String>>;
+    /// The bytes of a file.
+    fn read(&self, name: &str) -> io::Result<Vec<u8>>;
+    /// A file without bytes, whether there was one of the name or not.
+    fn create(&self, name: &str) -> io::Result<Box<dyn File>>;
+    /// A file that is there.
+    fn open(&self, name: &str) -> io::Result<Box<dyn File>>;
+    /// Gives a file another name. One that had the name is no more.
+    fn rename(&self, from: &str, to: &str) -> io::Result<()>;
+    /// Removes a file.
+    fn remove(&self, name: &str) -> io::Result<()>;
+    /// Waits until the names are on the device.
+    fn sync(&self) -> io::Result<()>;
+}
+
+/// A file that is written at its end.
+pub trait File: Send {
+    /// Writes bytes behind the last one.
+    fn append(&mut self, bytes: &[u8]) -> io::Result<()>;
+    /// Cuts off what is behind the first bytes.
+    fn cut(&mut self, length: u64) -> io::Result<()>;
+    /// Waits until the bytes are on the device.
+    fn sync(&mut self) -> io::Result<()>;
+}

@@ -1,0 +1,152 @@
+//! [`Groups`]: writers that come together, and share one record of the log and one sync.
+
+use crate::error::Error;
+use crate::lock;
+use std::sync::{Arc, Condvar, Mutex, PoisonError};
+
+/// The bytes of a batch's sequence and count.
+const HEADER_SIZE: usize = 12;
+
+/// How many bytes a group has at most, if it isn't a single batch.
+const MOST_BYTES: usize = 1 << 20;
+
+/// Batches that are written as one.
+pub(crate) struct Group {
+    /// A batch with their operations.
+    pub(crate) batch: Vec<u8>,
+    /// Whether it is to be on the device when it is acknowledged.
+    pub(crate) is_synced: bool,
+    /// How many batches it has.
+    pub(crate) batches: u64,
+    pub(crate) outcome: Arc<Outcome>,
+}
+
+/// What becomes of a group, which its writers wait for.
+#[derive(Default)]
+pub(crate) struct Outcome {
+    told: Mutex<Option<Result<(), Error>>>,
+    changed: Condvar,
+}
+
+/// What a writer does about its batch.
+pub(crate) enum Role {
+    /// It writes the group, which others may join until then.
+    Leads,
+    /// It waits for the leader.
+    Follows(Arc<Outcome>),
+    /// The group is full: it waits for the next one.
+    Waits(Arc<Outcome>),
+}
+
+/// The group that writers join now, if there is one. Its leader waits until the one before is written.
+#[derive(Default)]
+pub(crate) struct Groups {
+    open: Mutex<Option<Group>>,
+}
+
+impl Groups {
+    /// Joins the group that is open, or opens one.
+    pub(crate) fn join(&self, batch: &[u8], is_synced: bool) -> Role {
+        let mut open = lock(&self.open);
+        let Some(group) = &mut *open else {
+            *open = Some(Group {
+                batch: batch.to_vec(),
+                is_synced,
+                batches: 1,
+                outcome: Arc::default(),
+            });
+            return Role::Leads;
+        };
+        let outcome = Arc::clone(&group.outcome);
+        if !group.add(batch) {
+            return Role::Waits(outcome);
+        }
+        group.is_synced |= is_synced;
+        Role::Follows(outcome)
+    }
+
+    /// Takes the open group, so that none joins it any more. Only its leader calls this.
+    pub(crate) fn close(&self) -> Group {
+        lock(&self.open).take().expect("the leader's group is open")
+    }
+}
+
+impl Group {
+    /// How many bytes a store gathers for it at most: 8 for each operation's sequence, and its texts.
+    pub(crate) fn memory(&self) -> u64 {
+        self.batch.len() as u64 + 8 * u64::from(count_of(&self.batch))
+    }
+
+    /// Adds a batch, and tells whether there was room.
+    fn add(&mut self, batch: &[u8]) -> bool {
+        let (Some(count), true) = (
+            count_of(&self.batch).checked_add(count_of(batch)),
+            self.batch.len() + batch.len() <= MOST_BYTES,
+        ) else {
+            return false;
+        };
+        self.batch[8..HEADER_SIZE].copy_from_slice(&count.to_le_bytes());
+        self.batch.extend_from_slice(&batch[HEADER_SIZE..]);
+        self.batches += 1;
+        true
+    }
+}
+
+impl Outcome {
+    /// Tells the writers of the group.
+    pub(crate) fn tell(&self, told: Result<(), Error>) {
+        *lock(&self.told) = Some(told);
+        self.changed.notify_all();
+    }
+
+    /// Waits until it is told.
+    pub(crate) fn wait(&self) -> Result<(), Error> {
+        let told = self
+            .changed
+            .wait_while(lock(&self.told), |told| told.is_none())
+            .unwrap_or_else(PoisonError::into_inner);
+        told.clone().expect("it was told")
+    }
+}
+
+/// How many operations a batch has.
+fn count_of(batch: &[u8]) -> u32 {
+    let count = batch[8..].first_chunk().expect("a batch has a header");
+    u32::from_le_bytes(*count)
+}
+
+#[cfg(test)]
+mod tests {
+    use super::*;
+    use ucstore::Batch;
+
+    fn batch(key: &str, length: usize) -> Vec<u8> {
+        let mut batch = Batch::new();
+        batch.put(key, vec![7; length]).unwrap();
+        batch.bytes()
+    }
+
+    #[test]
+    fn a_group_is_the_batch_of_its_batches() {
+        let groups = Groups::default();
+        assert!(matches!(groups.join(&batch("a", 3), false), Role::Leads));
+        assert!(matches!(
+            groups.join(&batch("b", 5), true),
+            Role::Follows(_)
+        ));
+        let group = groups.close();
+        let mut both = Batch::new();
+        both.put("a", [7; 3]).unwrap().put("b", [7; 5]).unwrap();
+        assert_eq!(group.batch, both.bytes());
+        assert!(group.is_synced && group.batches == 2);
+    }
+
+    #[test]
+    fn a_group_may_be_full() {
+        let groups = Groups::default();
+        groups.join(&batch("a", MOST_BYTES), false);
+        assert!(matches!(groups.join(&batch("b", 1), true), Role::Waits(_)));
+        assert!(!groups.close().is_synced);
+        assert!(matches!(groups.join(&batch("b", 1), true), Role::Leads));
+    }
+}

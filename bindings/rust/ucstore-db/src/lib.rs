@@ -1,0 +1,76 @@
+//! A durable database for many threads, over the proved store of [`ucstore`].
+//!
+//! ```
+//! use ucstore_db::{Db, Operator, Options};
+//!
+//! # fn main() -> Result<(), ucstore_db::Error> {
+//! # let folder = std::env::temp_dir().join(format!("ucstore-db-{}", std::process::id()));
+//! let options = Options { operator: Operator::Counter, ..Default::default() };
+//! let db = Db::open(&folder, &options)?;
+//! db.merge("visits", 1u64.to_le_bytes())?;
+//! db.close()?;
+//!
+//! let again = Db::open(&folder, &options)?;
+//! assert_eq!(again.get("visits")?, Some(1u64.to_le_bytes().to_vec()));
+//! # drop(again);
+//! # std::fs::remove_dir_all(folder).unwrap();
+//! # Ok(())
+//! # }
+//! ```
+//!
+//! # Writes
+//!
+//! A batch is taken whole or not at all. It is judged first, and all memory that it needs is taken; its record is
+//! appended to a log, and synced as [`Sync`] says; then it is seen. Writers that come together share one record and one
+//! sync. If a log's write or sync fails, the batch isn't taken, and the database refuses all later writes: what the file
+//! holds isn't known until it is opened again.
+//!
+//! # Reads
+//!
+//! A read sees each write that was acknowledged before it began. It reads a view that all readers share. The first read
+//! behind a write renews it, which locks the store for the time of a share. A writer renews it before a flush: so no read
+//! waits for a flush, a compaction or a checkpoint.
+//!
+//! # The folder
+//!
+//! `LOCK` is locked by the process that has the database open. `000001.log` and those behind it are write-ahead logs as
+//! RocksDB writes them. A checkpoint `000007.base` is such a log too, and holds what the logs before `000007.log` wrote.
+//! Both are in the folder's [`Folder`], which a test may replace.
+#![forbid(unsafe_code)]
+#![warn(missing_docs)]
+
+mod base_file;
+mod checkpoint;
+mod compactor;
+mod counts;
+mod db;
+mod disk_folder;
+mod error;
+mod folder;
+mod group;
+mod log;
+mod name;
+mod newest;
+mod options;
+mod recovery;
+mod replay;
+mod shared;
+mod snapshot;
+mod stats;
+mod workers;
+
+pub use db::Db;
+pub use disk_folder::DiskFolder;
+pub use error::Error;
+pub use folder::{File, Folder};
+pub use options::{Options, Sync};
+pub use snapshot::{Rows, Snapshot};
+pub use stats::Stats;
+pub use ucstore::{Batch, Operator};
+
+use std::sync::{Mutex, MutexGuard, PoisonError};
+
+/// Locks, also behind a thread that panicked: what is locked here is whole between two calls.
+fn lock<T>(mutex: &Mutex<T>) -> MutexGuard<'_, T> {
+    mutex.lock().unwrap_or_else(PoisonError::into_inner)
+}

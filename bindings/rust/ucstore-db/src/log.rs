@@ -1,0 +1,80 @@
+//! [`Log`]: the log that a database writes.
+
+use crate::error::Error;
+use crate::folder::{File, Folder};
+use crate::name::Name;
+use std::sync::Arc;
+
+/// The log that a database writes, and the folder that it is in.
+pub(crate) struct Log {
+    pub(crate) folder: Arc<dyn Folder>,
+    file: Box<dyn File>,
+    pub(crate) number: u64,
+    /// How many bytes it has.
+    pub(crate) length: u64,
+    /// How many bytes the logs before it have that no checkpoint holds.
+    pub(crate) older: u64,
+    /// Whether all bytes are on the device.
+    is_synced: bool,
+}
+
+impl Log {
+    /// A log that is there, with its length.
+    pub(crate) fn open(
+        folder: Arc<dyn Folder>,
+        number: u64,
+        length: u64,
+        older: u64,
+    ) -> Result<Log, Error> {
+        let name = Name::Log(number).text();
+        let file = folder.open(&name).map_err(Error::of_file(&name))?;
+        Ok(Log {
+            folder,
+            file,
+            number,
+            length,
+            older,
+            is_synced: true,
+        })
+    }
+
+    /// Appends a record, and waits until it is on the device if that is asked. If it is refused, what the file holds
+    /// behind its length isn't known.
+    pub(crate) fn append(&mut self, record: &[u8], is_synced: bool) -> Result<(), Error> {
+        self.is_synced = false;
+        self.file.append(record).map_err(self.refusal())?;
+        if is_synced {
+            self.sync()?;
+        }
+        self.length += record.len() as u64;
+        Ok(())
+    }
+
+    /// Waits until all bytes are on the device. Tells whether some weren't.
+    pub(crate) fn sync(&mut self) -> Result<bool, Error> {
+        if self.is_synced {
+            return Ok(false);
+        }
+        self.file.sync().map_err(self.refusal())?;
+        self.is_synced = true;
+        Ok(true)
+    }
+
+    /// Goes on in a new log, once this one and the new one's name are on the device.
+    pub(crate) fn switch(&mut self) -> Result<(), Error> {
+        self.sync()?;
+        let name = Name::Log(self.number + 1).text();
+        self.file = self.folder.create(&name).map_err(Error::of_file(&name))?;
+        self.folder.sync().map_err(Error::of_file(""))?;
+        self.number += 1;
+        self.older += self.length;
+        self.length = 0;
+        Ok(())
+    }
+
+    /// What an error of its file says.
+    fn refusal(&self) -> impl FnOnce(std::io::Error) -> Error {
+        let name = Name::Log(self.number).text();
+        move |error| Error::of_file(&name)(error)
+    }
+}

@@ -1,0 +1,66 @@
+//! [`Options`] and [`Sync`]: how a database is kept.
+
+use ucstore::Operator;
+
+/// When a write is on the device.
+#[derive(Clone, Copy, Debug, PartialEq, Eq)]
+pub enum Sync {
+    /// When it is acknowledged.
+    Always,
+    /// At most so many milliseconds after it was acknowledged.
+    EveryMs(u64),
+    /// When the operating system puts it there, or a log ends. A process that ends loses nothing by it.
+    Never,
+}
+
+/// How a database is kept.
+///
+/// ```
+/// # use ucstore_db::{Options, Sync};
+/// let options = Options { sync: Sync::EveryMs(100), ..Default::default() };
+/// assert_eq!(options.compactors, 2);
+/// ```
+#[derive(Clone, Debug, PartialEq, Eq)]
+pub struct Options {
+    /// Which operator merges a key's operands into its value. A folder is opened with the one that it was made with.
+    pub operator: Operator,
+    /// When a write is on the device.
+    pub sync: Sync,
+    /// How the store in memory is kept. It compacts by itself if there are no `compactors`.
+    pub store: ucstore::Options,
+    /// How many threads compact.
+    pub compactors: usize,
+    /// From how many runs on writes are slowed, by a millisecond each time.
+    pub slow_trigger: u32,
+    /// By how many times the logs exceed the data when a checkpoint is made.
+    pub checkpoint_ratio: u64,
+    /// How many bytes the logs have at least when a checkpoint is made.
+    pub checkpoint_least: u64,
+    /// Opens a damaged folder up to the damage. Nothing can be written then.
+    pub recover_to_fault: bool,
+}
+
+impl Options {
+    /// The options of the store in memory.
+    pub(crate) fn to_store(&self) -> ucstore::Options {
+        ucstore::Options {
+            compacts_itself: self.compactors == 0,
+            ..self.store
+        }
+    }
+}
+
+impl Default for Options {
+    fn default() -> Options {
+        Options {
+            operator: Operator::Append,
+            sync: Sync::Always,
+            store: ucstore::Options::default(),
+            compactors: 2,
+            slow_trigger: 20,
+            checkpoint_ratio: 2,
+            checkpoint_least: 64 << 20,
+            recover_to_fault: false,
+        }
+    }
+}

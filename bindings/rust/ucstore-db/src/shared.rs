@@ -1,0 +1,278 @@
+//! [`Shared`]: what the threads of a database share.
+
+use crate::counts::Counts;
+use crate::error::Error;
+use crate::folder::Folder;
+use crate::group::{Group, Groups, Role};
+use crate::lock;
+use crate::log::Log;
+use crate::newest::Newest;
+use crate::options::{Options, Sync};
+use crate::recovery::Recovery;
+use std::sync::atomic::{AtomicBool, AtomicU64, Ordering};
+use std::sync::{Arc, Condvar, Mutex, MutexGuard, OnceLock, PoisonError};
+use std::thread::{self, Thread};
+use std::time::Duration;
+use ucstore::{Store, View};
+
+/// By how much a write is slowed while there are many runs.
+const SLOW: Duration = Duration::from_millis(1);
+
+/// What the threads of a database share.
+///
+/// Locks are taken in the order of these fields. Who writes holds `log` from before the batch is prepared until it is
+/// committed; the store is locked for each call alone, so that views and jobs are taken meanwhile.
+pub(crate) struct Shared {
+    pub(crate) options: Options,
+    /// Held by a checkpoint. It has the bytes of logs from which on the next one is due.
+    pub(crate) checkpointing: Mutex<u64>,
+    /// The log; none in memory, and once the database is closed.
+    pub(crate) log: Mutex<Option<Log>>,
+    pub(crate) newest: Newest,
+    pub(crate) store: Mutex<Store>,
+    /// Notified when there may be a job, or one has ended.
+    pub(crate) work: Condvar,
+    /// The writers that come together.
+    groups: Groups,
+    /// Why nothing can be written any more.
+    failure: Mutex<Option<Error>>,
+    /// What failed first in a thread of the database's own.
+    noted: Mutex<Option<Error>>,
+    pub(crate) counts: Counts,
+    /// How many bytes the writes have at most that no run has yet. It is changed while the log is locked.
+    gathered: AtomicU64,
+    /// How many runs there were behind the last write or compaction.
+    pub(crate) runs: AtomicU64,
+    pub(crate) is_closing: AtomicBool,
+    /// The thread that makes checkpoints, and whether it should.
+    pub(crate) checkpointer: OnceLock<Thread>,
+    pub(crate) is_checkpoint_due: AtomicBool,
+}
+
+impl Shared {
+    /// A database as its folder has it, or an empty one in memory.
+    pub(crate) fn open(
+        folder: Option<Arc<dyn Folder>>,
+        options: &Options,
+    ) -> Result<Shared, Error> {
+        let Some(folder) = folder else {
+            let store = Store::create(options.operator, &options.to_store())?;
+            return Shared::of(store, None, None, options);
+        };
+        let mut recovery = Recovery::read(&*folder, options)?;
+        if let Some(fault) = recovery.fault.take() {
+            return Shared::of(recovery.store, None, Some(fault), options);
+        }
+        let (store, log) = recovery.into_log(folder)?;
+        Shared::of(store, Some(log), None, options)
+    }
+
+    /// What is shared of a store and its log.
+    fn of(
+        store: Store,
+        log: Option<Log>,
+        fault: Option<Error>,
+        options: &Options,
+    ) -> Result<Shared, Error> {
+        let report = store.report();
+        // What was recovered isn't measured: it is flushed before the next write.
+        let gathered = u64::from(report.gathered > 0) * options.store.write_buffer_size;
+        Ok(Shared {
+            options: options.clone(),
+            checkpointing: Mutex::new(options.checkpoint_least),
+            log: Mutex::new(log),
+            newest: Newest::of(&store)?,
+            gathered: AtomicU64::new(gathered),
+            runs: AtomicU64::new(report.runs),
+            store: Mutex::new(store),
+            work: Condvar::new(),
+            groups: Groups::default(),
+            failure: Mutex::new(fault.map(Error::into_cause)),
+            noted: Mutex::new(None),
+            counts: Counts::default(),
+            is_closing: AtomicBool::new(false),
+            checkpointer: OnceLock::new(),
+            is_checkpoint_due: AtomicBool::new(false),
+        })
+    }
+
+    /// Writes a batch, with those of the writers that come meanwhile.
+    pub(crate) fn write(&self, batch: &[u8], is_synced: bool) -> Result<(), Error> {
+        loop {
+            match self.groups.join(batch, is_synced) {
+                Role::Leads => return self.lead(),
+                Role::Follows(outcome) => return outcome.wait(),
+                Role::Waits(outcome) => drop(outcome.wait()),
+            }
+        }
+    }
+
+    /// Writes the open group behind those before it.
+    fn lead(&self) -> Result<(), Error> {
+        let mut log = lock(&self.log);
+        let group = self.groups.close();
+        let told = self.take(&mut log, &group);
+        drop(log);
+        group.outcome.tell(told.clone());
+        told
+    }
+
+    /// Logs a group, and takes it.
+    fn take(&self, log: &mut Option<Log>, group: &Group) -> Result<(), Error> {
+        self.check()?;
+        self.slow_down();
+        if self.gathered.load(Ordering::Relaxed) >= self.options.store.write_buffer_size {
+            self.flush_gathered()?;
+        }
+        let length = log.as_ref().map_or(0, |log| log.length);
+        let record = self.prepare(length, &group.batch)?;
+        if let Some(log) = log {
+            if let Err(error) = log.append(&record, group.is_synced) {
+                lock(&self.store).give_up();
+                return Err(self.fail(error));
+            }
+            self.counts.syncs.add(group.is_synced.into());
+        }
+        self.commit(log);
+        self.gathered.fetch_add(group.memory(), Ordering::Relaxed);
+        self.counts.groups.add(1);
+        self.counts.batches.add(group.batches);
+        Ok(())
+    }
+
+    /// Prepares a batch. If jobs have all runs that would be compacted for it, it waits until one has ended.
+    fn prepare(&self, length: u64, batch: &[u8]) -> Result<Vec<u8>, Error> {
+        let mut store = lock(&self.store);
+        loop {
+            match store.prepare_bytes(length, batch) {
+                Err(ucstore::Error::RunsClaimed) => store = self.wait_for_work(store),
+                outcome => return Ok(outcome?),
+            }
+        }
+    }
+
+    /// Commits what is prepared, and wakes whom it gives work.
+    fn commit(&self, log: &Option<Log>) {
+        let store = lock(&self.store);
+        store.commit();
+        self.newest.raise();
+        let report = store.report();
+        self.tell_runs(report.runs);
+        drop(store);
+        self.ask_checkpoint(log, report.bytes);
+    }
+
+    /// Tells how many runs there are, while the store is locked. Others than before may give work.
+    pub(crate) fn tell_runs(&self, runs: u64) {
+        if self.runs.swap(runs, Ordering::Relaxed) != runs {
+            self.work.notify_all();
+        }
+    }
+
+    /// Slows a write while there are many runs.
+    fn slow_down(&self) {
+        if self.options.compactors > 0
+            && self.runs.load(Ordering::Relaxed) >= self.options.slow_trigger.into()
+        {
+            self.counts.slowed.add(1);
+            thread::sleep(SLOW);
+        }
+    }
+
+    /// A view that has each write that was acknowledged before.
+    pub(crate) fn view(&self) -> Result<View, Error> {
+        self.newest.view(&self.store)
+    }
+
+    /// Makes a run of what is gathered.
+    pub(crate) fn flush(&self) -> Result<(), Error> {
+        let _log = lock(&self.log);
+        self.flush_gathered()
+    }
+
+    /// Makes a run of what is gathered, while the log is locked: the store would do so within a write. Nobody who reads
+    /// meanwhile has to renew the view.
+    fn flush_gathered(&self) -> Result<(), Error> {
+        self.newest.renew(&self.store)?;
+        let mut store = lock(&self.store);
+        loop {
+            match store.flush() {
+                Err(ucstore::Error::RunsClaimed) => store = self.wait_for_work(store),
+                outcome => {
+                    outcome?;
+                    self.gathered.store(0, Ordering::Relaxed);
+                    self.tell_runs(store.report().runs);
+                    return Ok(());
+                }
+            }
+        }
+    }
+
+    /// Waits until all acknowledged writes are on the device.
+    pub(crate) fn sync(&self) -> Result<(), Error> {
+        self.sync_log(&mut lock(&self.log))
+    }
+
+    /// Syncs the log, unless it failed before: what a failed sync leaves isn't known.
+    fn sync_log(&self, log: &mut Option<Log>) -> Result<(), Error> {
+        self.check()?;
+        if let Some(log) = log {
+            let is_done = log.sync().map_err(|error| self.fail(error))?;
+            self.counts.syncs.add(is_done.into());
+        }
+        Ok(())
+    }
+
+    /// Syncs so often, until the database closes.
+    pub(crate) fn sync_until_closed(&self, period: Duration) {
+        while !self.is_closing.load(Ordering::Acquire) {
+            thread::park_timeout(period);
+            if let Err(error) = self.sync() {
+                return self.note(error);
+            }
+        }
+    }
+
+    /// Ends the log, and refuses all writes from now on. Returns what failed before.
+    pub(crate) fn close_log(&self) -> Result<(), Error> {
+        let mut log = lock(&self.log);
+        let outcome = self.sync_log(&mut log);
+        self.fail(Error::Closed);
+        *log = None;
+        outcome?;
+        lock(&self.noted).take().map_or(Ok(()), Err)
+    }
+
+    /// Whether writes are on the device when they are acknowledged.
+    pub(crate) fn is_synced(&self) -> bool {
+        self.options.sync == Sync::Always
+    }
+
+    /// Waits until there may be a job, or one has ended.
+    pub(crate) fn wait_for_work<'a>(&self, store: MutexGuard<'a, Store>) -> MutexGuard<'a, Store> {
+        self.work
+            .wait(store)
+            .unwrap_or_else(PoisonError::into_inner)
+    }
+
+    /// Refuses all writes from now on, for the first reason that there is. Returns what they are told.
+    pub(crate) fn fail(&self, error: Error) -> Error {
+        let mut failure = lock(&self.failure);
+        failure.get_or_insert(error.into_cause()).clone()
+    }
+
+    /// Notes what failed in a thread of the database's own.
+    pub(crate) fn note(&self, error: Error) {
+        lock(&self.noted).get_or_insert(error);
+    }
+
+    /// Why nothing can be written, if that is so.
+    pub(crate) fn failure(&self) -> Option<Error> {
+        lock(&self.failure).clone()
+    }
+
+    /// Checks that something can be written.
+    pub(crate) fn check(&self) -> Result<(), Error> {
+        self.failure().map_or(Ok(()), Err)
+    }
+}

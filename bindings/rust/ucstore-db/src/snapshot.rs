@@ -1,0 +1,88 @@
+//! [`Snapshot`] and [`Rows`]: what a database held at a moment.
+
+use crate::error::Error;
+use ucstore::{Scan, View};
+
+/// The rows of a range, in the order of their keys' bytes, as they were when it was made. They are fetched in pages.
+///
+/// [`next_row`](Scan::next_row) lends each row; as an iterator it copies them.
+pub type Rows = Scan<View>;
+
+/// What a database held at a moment. It stays so, whatever is written, and ends where it is dropped. Each thread reads a
+/// clone of its own.
+///
+/// ```
+/// # use ucstore_db::{Db, Options};
+/// # fn main() -> Result<(), ucstore_db::Error> {
+/// let db = Db::in_memory(&Options::default())?;
+/// db.put("colour", "blue")?;
+/// let before = db.snapshot()?;
+/// db.delete("colour")?;
+/// assert_eq!(before.get("colour")?, Some(b"blue".to_vec()));
+/// # Ok(())
+/// # }
+/// ```
+#[derive(Clone, Debug)]
+pub struct Snapshot {
+    view: View,
+}
+
+impl Snapshot {
+    /// That of a view.
+    pub(crate) fn of(view: View) -> Snapshot {
+        Snapshot { view }
+    }
+
+    /// The sequence of the last write that it has.
+    pub fn sequence(&self) -> u64 {
+        self.view.last()
+    }
+
+    /// The value under a key, if there is one.
+    ///
+    /// # Errors
+    ///
+    /// [`Error::Store`] if memory is refused, as for each read.
+    pub fn get(&self, key: impl AsRef<[u8]>) -> Result<Option<Vec<u8>>, Error> {
+        Ok(self.view.get(key)?)
+    }
+
+    /// For each key its value, if there is one. The keys come in any order.
+    ///
+    /// # Errors
+    ///
+    /// Those of [`get`](Snapshot::get).
+    pub fn get_many<K: AsRef<[u8]>>(
+        &self,
+        keys: impl IntoIterator<Item = K>,
+    ) -> Result<Vec<Option<Vec<u8>>>, Error> {
+        Ok(self.view.get_many(keys)?)
+    }
+
+    /// All keys, with their values.
+    ///
+    /// # Errors
+    ///
+    /// Those of [`get`](Snapshot::get), also for each row.
+    pub fn iter(&self) -> Result<Rows, Error> {
+        self.range("", None)
+    }
+
+    /// The keys from `low` to below `high`, or to the last one, with their values.
+    ///
+    /// # Errors
+    ///
+    /// Those of [`iter`](Snapshot::iter).
+    pub fn range(&self, low: impl AsRef<[u8]>, high: Option<&[u8]>) -> Result<Rows, Error> {
+        Ok(self.view.again()?.into_scan(low, high))
+    }
+
+    /// The keys that begin with these bytes, with their values.
+    ///
+    /// # Errors
+    ///
+    /// Those of [`iter`](Snapshot::iter).
+    pub fn prefix(&self, prefix: impl AsRef<[u8]>) -> Result<Rows, Error> {
+        Ok(self.view.again()?.into_prefix(prefix))
+    }
+}

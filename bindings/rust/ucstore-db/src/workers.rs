@@ -1,0 +1,79 @@
+//! [`Workers`]: the threads of a database's own.
+
+use crate::error::Error;
+use crate::lock;
+use crate::options::Sync;
+use crate::shared::Shared;
+use std::sync::atomic::Ordering;
+use std::sync::{Arc, Mutex};
+use std::thread::{self, JoinHandle, Thread};
+use std::time::Duration;
+
+/// The threads that compact, make checkpoints, and sync. They end where this is dropped.
+pub(crate) struct Workers {
+    pub(crate) shared: Arc<Shared>,
+    threads: Mutex<Vec<JoinHandle<()>>>,
+}
+
+impl Workers {
+    /// Starts them.
+    pub(crate) fn start(shared: Shared) -> Result<Workers, Error> {
+        let workers = Workers {
+            shared: Arc::new(shared),
+            threads: Mutex::default(),
+        };
+        let shared = &workers.shared;
+        for _ in 0..shared.options.compactors {
+            workers.spawn("compactor", Shared::compact_until_closed)?;
+        }
+        if lock(&shared.log).is_some() {
+            let thread = workers.spawn("checkpointer", Shared::checkpoint_until_closed)?;
+            shared.checkpointer.get_or_init(|| thread);
+            if let Sync::EveryMs(period) = shared.options.sync {
+                let period = Duration::from_millis(period);
+                workers.spawn("syncer", move |shared| shared.sync_until_closed(period))?;
+            }
+        }
+        Ok(workers)
+    }
+
+    /// Starts a thread.
+    fn spawn(
+        &self,
+        name: &str,
+        work: impl FnOnce(&Shared) + Send + 'static,
+    ) -> Result<Thread, Error> {
+        let shared = Arc::clone(&self.shared);
+        let handle = thread::Builder::new()
+            .name(format!("ucstore-{name}"))
+            .spawn(move || work(&shared))
+            .map_err(Error::of_file(""))?;
+        let thread = handle.thread().clone();
+        lock(&self.threads).push(handle);
+        Ok(thread)
+    }
+
+    /// Ends the threads and the log. Returns what failed before.
+    pub(crate) fn close(&self) -> Result<(), Error> {
+        if self.shared.is_closing.swap(true, Ordering::AcqRel) {
+            return Err(Error::Closed);
+        }
+        let store = lock(&self.shared.store);
+        self.shared.work.notify_all();
+        drop(store);
+        for thread in lock(&self.threads).drain(..) {
+            thread.thread().unpark();
+            if thread.join().is_err() {
+                self.shared.note(Error::Closed);
+            }
+        }
+        self.shared.close_log()
+    }
+}
+
+impl Drop for Workers {
+    fn drop(&mut self) {
+        // What fails here is known to those alone who close it.
+        let _ = self.close();
+    }
+}

@@ -1,0 +1,242 @@
+//! Logs that end anywhere, and files with a damaged byte.
+
+mod common;
+
+use common::{map_of, open, Call, Device, Map, Numbers};
+use std::collections::BTreeMap;
+use std::sync::Arc;
+use ucstore_db::{Db, Error, Options};
+
+type Files = BTreeMap<String, Vec<u8>>;
+
+/// What a database holds behind each batch, and how many bytes its last log has then.
+struct Story {
+    device: Device,
+    maps: Vec<Map>,
+    lengths: Vec<usize>,
+}
+
+impl Story {
+    fn new() -> Story {
+        Story {
+            device: Device::default(),
+            maps: vec![Map::new()],
+            lengths: vec![0],
+        }
+    }
+
+    /// Writes batches behind one another.
+    fn write(&mut self, keys: &str) {
+        self.write_to(&open(&self.device).unwrap(), keys);
+    }
+
+    /// Writes batches to a new log, behind one that stays.
+    fn write_behind(&mut self, keys: &str) {
+        let db = open(&self.device).unwrap();
+        self.device.fail(Some(Call::Rename), 0, false);
+        db.checkpoint().unwrap_err();
+        self.write_to(&db, keys);
+        drop(db);
+        // What the checkpoint left is removed.
+        open(&self.device).unwrap();
+    }
+
+    fn write_to(&mut self, db: &Db, keys: &str) {
+        for key in keys.chars() {
+            db.merge(key.to_string(), "some text").unwrap();
+            self.maps.push(map_of(db));
+            let files = self.device.files();
+            self.lengths.push(files.values().last().unwrap().len());
+        }
+    }
+
+    /// How many batches a map has, if it is that of some.
+    fn count(&self, map: &Map) -> Option<usize> {
+        self.maps.iter().position(|held| held == map)
+    }
+}
+
+/// Opens what is there up to a fault.
+fn open_to_fault(device: &Device) -> Result<Db, Error> {
+    let options = Options {
+        compactors: 0,
+        recover_to_fault: true,
+        ..Default::default()
+    };
+    Db::open_on(Arc::new(device.clone()), &options)
+}
+
+#[test]
+fn a_log_may_end_at_any_byte() {
+    let mut story = Story::new();
+    story.write("abcab");
+    let files = story.device.files();
+    let (name, log) = files.iter().next().unwrap();
+    for length in 0..=log.len() {
+        let torn = Files::from([(name.clone(), log[..length].to_vec())]);
+        let device = Device::of(&torn);
+        let db = open(&device).unwrap();
+        let whole = story
+            .lengths
+            .iter()
+            .rposition(|end| *end <= length)
+            .unwrap();
+        assert_eq!(map_of(&db), story.maps[whole]);
+        assert_eq!(device.files()[name], log[..story.lengths[whole]]);
+        db.put("z", "more").unwrap();
+        drop(db);
+        assert_eq!(
+            map_of(&open(&device).unwrap()).len(),
+            story.maps[whole].len() + 1
+        );
+    }
+}
+
+#[test]
+fn a_log_may_end_before_zeros() {
+    let mut story = Story::new();
+    story.write("ab");
+    let mut files = story.device.files();
+    for log in files.values_mut() {
+        log.resize(100_000, 0);
+    }
+    let device = Device::of(&files);
+    let db = open(&device).unwrap();
+    assert_eq!(map_of(&db), story.maps[2]);
+    assert_eq!(device.files(), story.device.files());
+}
+
+/// Damages each byte. The folder isn't opened, or else only what could be a torn end is lost: the last batch.
+fn damage_each_byte(story: &Story) {
+    let files = story.device.files();
+    let (last_name, last_log) = files.iter().next_back().unwrap();
+    let last_batch = story.lengths[story.lengths.len() - 2];
+    for (name, bytes) in &files {
+        for place in 0..bytes.len() {
+            for flipped in [0x01, 0x80, 0xff] {
+                let mut damaged = files.clone();
+                damaged.get_mut(name).unwrap()[place] ^= flipped;
+                let device = Device::of(&damaged);
+                let is_end = name == last_name && place >= last_batch && place < last_log.len();
+                check_damaged(story, &device, &damaged, (name, place), is_end);
+            }
+        }
+    }
+}
+
+/// Opens what is damaged at a place, and finds all before it.
+fn check_damaged(
+    story: &Story,
+    device: &Device,
+    files: &Files,
+    place: (&String, usize),
+    is_end: bool,
+) {
+    match open(device) {
+        Err(Error::Damaged { file, offset, .. }) => {
+            assert_eq!(&file, place.0);
+            assert!(offset <= place.1 as u64, "{offset} is behind {place:?}");
+            assert_eq!(&device.files(), files);
+            let db = open_to_fault(device).unwrap();
+            assert!(matches!(db.put("k", "v"), Err(Error::ReadOnly { .. })));
+            let is_known = place.0.ends_with(".base") || story.count(&map_of(&db)).is_some();
+            assert!(is_known, "{place:?}");
+            drop(db);
+            assert_eq!(&device.files(), files);
+        }
+        Ok(db) => {
+            assert!(is_end, "{place:?} isn't noticed");
+            assert_eq!(map_of(&db), story.maps[story.maps.len() - 2]);
+        }
+        Err(error) => panic!("{place:?}: {error}"),
+    }
+}
+
+#[test]
+fn a_damaged_byte_of_a_base_or_a_log_is_named() {
+    let mut story = Story::new();
+    story.write("abca");
+    open(&story.device).unwrap().checkpoint().unwrap();
+    assert_eq!(story.device.files().len(), 2);
+    story.write("dea");
+    damage_each_byte(&story);
+}
+
+#[test]
+fn a_damaged_byte_of_an_older_log_is_named() {
+    let mut story = Story::new();
+    story.write("abca");
+    story.write_behind("dea");
+    let mut names: Vec<_> = story.device.files().into_keys().collect();
+    names.sort();
+    assert_eq!(names, ["000001.log", "000002.log"]);
+    damage_each_byte(&story);
+}
+
+#[test]
+fn an_older_log_ends_with_a_batch() {
+    let mut story = Story::new();
+    story.write("abca");
+    story.write_behind("dea");
+    let files = story.device.files();
+    let log = &files["000001.log"];
+    for length in 1..log.len() {
+        let mut torn = files.clone();
+        torn.get_mut("000001.log").unwrap().truncate(length);
+        let is_between = story.lengths[..5].contains(&length);
+        match open(&Device::of(&torn)).unwrap_err() {
+            Error::Damaged { file, offset, .. } if is_between => {
+                assert_eq!((&*file, offset), ("000002.log", 0));
+            }
+            Error::Damaged { file, offset, .. } => {
+                assert!(file == "000001.log" && offset < length as u64);
+            }
+            error => panic!("{error}"),
+        }
+    }
+}
+
+#[test]
+fn a_file_that_is_missing_is_named() {
+    let mut story = Story::new();
+    story.write("ab");
+    story.write_behind("c");
+    story.write_behind("d");
+    let files = story.device.files();
+    assert_eq!(files.len(), 3);
+    for name in ["000001.log", "000002.log"] {
+        let mut fewer = files.clone();
+        fewer.remove(name);
+        let device = Device::of(&fewer);
+        let error = open(&device).unwrap_err();
+        assert_eq!(error.to_string(), format!("{name} isn't there"));
+        assert_eq!(device.files(), fewer);
+    }
+    let device = Device::of(&files);
+    open(&device).unwrap().checkpoint().unwrap();
+    let mut fewer = device.files();
+    assert_eq!(
+        fewer.keys().collect::<Vec<_>>(),
+        ["000004.base", "000004.log"]
+    );
+    fewer.remove("000004.log");
+    assert!(matches!(
+        open(&Device::of(&fewer)),
+        Err(Error::Missing { .. })
+    ));
+}
+
+#[test]
+fn other_files_stay() {
+    let files = Files::from([("notes.txt".to_string(), b"mine".to_vec())]);
+    let device = Device::of(&files);
+    let db = open(&device).unwrap();
+    db.put("a", "1").unwrap();
+    db.checkpoint().unwrap();
+    drop(db);
+    assert_eq!(
+        map_of(&open(&device.crash(&mut Numbers(1))).unwrap()).len(),
+        1
+    );
+    assert_eq!(device.files()["notes.txt"], b"mine");
+}

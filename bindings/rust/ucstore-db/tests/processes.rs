@@ -1,0 +1,148 @@
+//! Processes that are ended by signal 9, and a folder that a process has open.
+
+mod common;
+
+use common::{is_long, Numbers, Temporary};
+use std::collections::HashMap;
+use std::env;
+use std::io::{self, BufRead, BufReader, Write};
+use std::path::Path;
+use std::process::{Child, Command, Stdio};
+use std::thread;
+use std::time::{Duration, Instant};
+use ucstore_db::{Batch, Db, Error, Operator, Options};
+
+const THREADS: u64 = 8;
+
+/// The variable that names the folder to the process that is ended.
+const FOLDER: &str = "UCSTORE_DB_FOLDER";
+
+fn options() -> Options {
+    let mut options = Options {
+        operator: Operator::Counter,
+        checkpoint_least: 20_000,
+        ..Default::default()
+    };
+    options.store.write_buffer_size = 2000;
+    options
+}
+
+fn number(value: Option<Vec<u8>>) -> u64 {
+    value.map_or(0, |text| u64::from_le_bytes(text.try_into().unwrap()))
+}
+
+/// Both counters of a thread, which are equal at each moment.
+fn both(db: &Db, thread: u64) -> u64 {
+    let keys = [format!("a{thread}"), format!("b{thread}")];
+    let values: Vec<u64> = db.get_many(keys).unwrap().into_iter().map(number).collect();
+    assert_eq!(values[0], values[1]);
+    values[0]
+}
+
+/// Counts, and says each number once it is acknowledged.
+fn count(db: &Db, thread: u64) {
+    let begun = Instant::now();
+    let mut counted = both(db, thread);
+    while begun.elapsed() < Duration::from_secs(10) {
+        let mut batch = Batch::new();
+        for kind in ["a", "b"] {
+            let key = format!("{kind}{thread}");
+            batch.merge(key, 1u64.to_le_bytes()).unwrap();
+        }
+        db.write(&batch).unwrap();
+        counted += 1;
+        let line = format!("\ncounted {thread} {counted}\n");
+        io::stdout().write_all(line.as_bytes()).unwrap();
+        assert!(both(db, (thread + counted) % THREADS) > 0 || counted < 99);
+        if thread == 0 && counted.is_multiple_of(20) {
+            db.checkpoint().unwrap();
+        }
+    }
+}
+
+/// What the process does that is ended. On its own it does nothing.
+#[test]
+#[ignore]
+fn child() {
+    let Some(folder) = env::var_os(FOLDER) else {
+        return;
+    };
+    let db = Db::open(folder, &options()).unwrap();
+    thread::scope(|scope| {
+        for thread in 0..THREADS {
+            let db = &db;
+            scope.spawn(move || count(db, thread));
+        }
+    });
+}
+
+fn start(folder: &Path) -> Child {
+    Command::new(env::current_exe().unwrap())
+        .args(["--exact", "child", "--ignored", "--nocapture"])
+        .env(FOLDER, folder)
+        .stdout(Stdio::piped())
+        .stderr(Stdio::null())
+        .spawn()
+        .unwrap()
+}
+
+/// The last number that each thread said.
+fn said(child: &mut Child) -> HashMap<u64, u64> {
+    let mut said = HashMap::new();
+    let lines = BufReader::new(child.stdout.take().unwrap()).split(b'\n');
+    for line in lines.map_while(Result::ok) {
+        let line = String::from_utf8_lossy(&line).into_owned();
+        let words: Vec<&str> = line.split(' ').collect();
+        if let ["counted", thread, counted] = words[..] {
+            said.insert(thread.parse().unwrap(), counted.parse().unwrap());
+        }
+    }
+    said
+}
+
+#[test]
+fn a_process_that_is_ended_loses_nothing() {
+    let folder = Temporary::new("ended");
+    let mut numbers = Numbers(7);
+    let mut whole = 0;
+    for _ in 0..if is_long() { 500 } else { 50 } {
+        let mut child = start(folder.path());
+        thread::sleep(Duration::from_millis(20 + numbers.below(150)));
+        child.kill().unwrap();
+        let said = said(&mut child);
+        child.wait().unwrap();
+        let db = Db::open(folder.path(), &options()).unwrap();
+        whole = 0;
+        for thread in 0..THREADS {
+            let counted = both(&db, thread);
+            let least = said.get(&thread).copied().unwrap_or(0);
+            assert!(least <= counted, "{counted} of {least} are there");
+            // A thread has one write under way. Threads that said nothing counted before.
+            assert!(counted <= least + 1 || least == 0);
+            whole += counted;
+        }
+    }
+    assert!(whole > 0);
+}
+
+#[test]
+fn a_second_process_is_refused() {
+    let folder = Temporary::new("refused");
+    let mut child = start(folder.path());
+    let mut lines = BufReader::new(child.stdout.take().unwrap()).lines();
+    lines.find(|line| line.as_ref().is_ok_and(|line| line.starts_with("counted")));
+    let refused = Db::open(folder.path(), &options());
+    child.kill().unwrap();
+    child.wait().unwrap();
+    match refused {
+        Err(Error::Locked { file }) => assert!(file.ends_with("LOCK")),
+        other => panic!("{other:?}"),
+    }
+    let db = Db::open(folder.path(), &options()).unwrap();
+    assert!(matches!(
+        Db::open(folder.path(), &options()),
+        Err(Error::Locked { .. })
+    ));
+    db.close().unwrap();
+    Db::open(folder.path(), &options()).unwrap();
+}

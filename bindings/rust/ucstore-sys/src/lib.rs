@@ -1,0 +1,376 @@
+//! The functions of `ucstore.h`, with its names. The header says what each does and what its caller owes; the crate
+//! `ucstore` calls them safely.
+#![allow(non_camel_case_types)]
+
+use std::ffi::c_void;
+
+/// It did what it was asked.
+pub const UCSTORE_OK: i32 = 0;
+/// Memory was refused.
+pub const UCSTORE_OUT_OF_MEMORY: i32 = 1;
+/// The handle has no store.
+pub const UCSTORE_NO_STORE: i32 = 2;
+/// The handle has a store already.
+pub const UCSTORE_HAS_STORE: i32 = 3;
+/// There is no value under the key.
+pub const UCSTORE_NOT_FOUND: i32 = 4;
+/// No snapshot is at the sequence.
+pub const UCSTORE_NOT_PROTECTED: i32 = 5;
+/// No operator has the number.
+pub const UCSTORE_UNKNOWN_OPERATOR: i32 = 6;
+/// An option isn't in its range.
+pub const UCSTORE_BAD_OPTION: i32 = 7;
+/// A struct's `size` isn't the one that the library knows.
+pub const UCSTORE_BAD_SIZE: i32 = 8;
+/// No number is left for a run.
+pub const UCSTORE_IDS_SPENT: i32 = 9;
+/// Too few sequences are left.
+pub const UCSTORE_SEQUENCES_SPENT: i32 = 10;
+/// A text has 2^32 bytes or more.
+pub const UCSTORE_TOO_LONG: i32 = 11;
+/// The bytes aren't a write batch.
+pub const UCSTORE_NOT_A_BATCH: i32 = 12;
+/// No walk over a log leads to the place.
+pub const UCSTORE_BAD_PLACE: i32 = 13;
+/// The room is too small.
+pub const UCSTORE_ROOM: i32 = 14;
+/// No batch comes next in the log.
+pub const UCSTORE_LOG_ENDS: i32 = 15;
+/// The sequence of the batch is neither 0 nor above the last one.
+pub const UCSTORE_SEQUENCE_BACK: i32 = 16;
+/// The keys' lengths don't add up to their bytes, or there aren't as many places for answers.
+pub const UCSTORE_BAD_KEYS: i32 = 17;
+/// The batch has 2^32 - 1 operations.
+pub const UCSTORE_BATCH_FULL: i32 = 18;
+/// The handle has no view.
+pub const UCSTORE_NO_VIEW: i32 = 19;
+/// The handle has a view already.
+pub const UCSTORE_HAS_VIEW: i32 = 20;
+/// The handle has no job.
+pub const UCSTORE_NO_JOB: i32 = 21;
+/// The handle has a job already.
+pub const UCSTORE_HAS_JOB: i32 = 22;
+/// The store holds no claim of the job.
+pub const UCSTORE_NOT_OF_STORE: i32 = 23;
+/// No slot is free, and jobs have the runs that would be compacted.
+pub const UCSTORE_RUNS_CLAIMED: i32 = 24;
+
+/// A handle: no store if it is all zeros.
+#[repr(C)]
+pub struct ucstore {
+    pub at: *mut c_void,
+}
+
+/// A batch: no operations if it is all zeros.
+#[repr(C)]
+pub struct ucstore_batch {
+    pub at: *mut c_void,
+}
+
+/// What a store held at a moment: none if it is all zeros.
+#[repr(C)]
+pub struct ucstore_view {
+    pub at: *mut c_void,
+}
+
+/// A compaction that is taken out of a store: none if it is all zeros.
+#[repr(C)]
+pub struct ucstore_job {
+    pub at: *mut c_void,
+}
+
+/// How a store is kept.
+#[repr(C)]
+#[derive(Clone, Copy, Debug, Default)]
+pub struct ucstore_options {
+    pub size: usize,
+    pub write_buffer_size: u64,
+    pub compaction_trigger: u32,
+    pub stop_trigger: u32,
+    pub size_ratio: u32,
+    pub max_size_amplification_percent: u32,
+    pub min_merge_width: u32,
+    pub max_merge_width: u32,
+    pub compacts_itself: u32,
+}
+
+/// What a store holds, in numbers.
+#[repr(C)]
+#[derive(Clone, Copy, Debug, Default)]
+pub struct ucstore_report {
+    pub size: usize,
+    pub runs: u64,
+    pub snapshots: u64,
+    pub points: u64,
+    pub fragments: u64,
+    pub bytes: u64,
+    pub gathered: u64,
+    pub last: u64,
+}
+
+/// How a log ended.
+#[repr(C)]
+#[derive(Clone, Copy, Debug, Default)]
+pub struct ucstore_ended {
+    pub kind: u32,
+    pub fault: u32,
+    pub place: u64,
+}
+
+/// A place in a log, between two batches.
+#[repr(C)]
+#[derive(Clone, Copy, Debug, Default)]
+pub struct ucstore_log_place {
+    pub offset: u64,
+    pub last: u64,
+    pub batches: u64,
+}
+
+extern "C" {
+    pub fn ucstore_version() -> u32;
+    pub fn ucstore_options_init(options: *mut ucstore_options) -> i32;
+    pub fn ucstore_create(
+        store: *mut ucstore,
+        merge_operator: u32,
+        options: *const ucstore_options,
+    ) -> i32;
+    pub fn ucstore_open(
+        store: *mut ucstore,
+        merge_operator: u32,
+        options: *const ucstore_options,
+        log: *const u8,
+        log_length: usize,
+        ended: *mut ucstore_ended,
+    ) -> i32;
+    pub fn ucstore_close(store: *mut ucstore) -> i32;
+
+    pub fn ucstore_batch_put(
+        batch: *mut ucstore_batch,
+        key: *const u8,
+        key_length: usize,
+        value: *const u8,
+        value_length: usize,
+    ) -> i32;
+    pub fn ucstore_batch_merge(
+        batch: *mut ucstore_batch,
+        key: *const u8,
+        key_length: usize,
+        operand: *const u8,
+        operand_length: usize,
+    ) -> i32;
+    pub fn ucstore_batch_delete(
+        batch: *mut ucstore_batch,
+        key: *const u8,
+        key_length: usize,
+    ) -> i32;
+    pub fn ucstore_batch_delete_range(
+        batch: *mut ucstore_batch,
+        begin: *const u8,
+        begin_length: usize,
+        end: *const u8,
+        end_length: usize,
+    ) -> i32;
+    pub fn ucstore_batch_clear(batch: *mut ucstore_batch) -> i32;
+    pub fn ucstore_batch_count(batch: *mut ucstore_batch, count: *mut u64) -> i32;
+    pub fn ucstore_batch_bytes(
+        batch: *mut ucstore_batch,
+        room: *mut u8,
+        room_length: usize,
+        size: *mut usize,
+    ) -> i32;
+    pub fn ucstore_batch_close(batch: *mut ucstore_batch) -> i32;
+
+    pub fn ucstore_write(store: *mut ucstore, batch: *mut ucstore_batch) -> i32;
+    pub fn ucstore_write_bytes(store: *mut ucstore, batch: *const u8, batch_length: usize) -> i32;
+    pub fn ucstore_put(
+        store: *mut ucstore,
+        key: *const u8,
+        key_length: usize,
+        value: *const u8,
+        value_length: usize,
+    ) -> i32;
+    pub fn ucstore_delete(store: *mut ucstore, key: *const u8, key_length: usize) -> i32;
+    pub fn ucstore_merge(
+        store: *mut ucstore,
+        key: *const u8,
+        key_length: usize,
+        operand: *const u8,
+        operand_length: usize,
+    ) -> i32;
+    pub fn ucstore_delete_range(
+        store: *mut ucstore,
+        begin: *const u8,
+        begin_length: usize,
+        end: *const u8,
+        end_length: usize,
+    ) -> i32;
+
+    pub fn ucstore_prepare(
+        store: *mut ucstore,
+        batch: *mut ucstore_batch,
+        log_length: u64,
+        room: *mut u8,
+        room_length: usize,
+        size: *mut usize,
+    ) -> i32;
+    pub fn ucstore_prepare_bytes(
+        store: *mut ucstore,
+        batch: *const u8,
+        batch_length: usize,
+        log_length: u64,
+        room: *mut u8,
+        room_length: usize,
+        size: *mut usize,
+    ) -> i32;
+    pub fn ucstore_commit(store: *mut ucstore) -> i32;
+    pub fn ucstore_give_up(store: *mut ucstore) -> i32;
+
+    pub fn ucstore_flush(store: *mut ucstore) -> i32;
+    pub fn ucstore_snapshot(store: *mut ucstore, seq: *mut u64) -> i32;
+    pub fn ucstore_release(store: *mut ucstore, seq: u64) -> i32;
+    pub fn ucstore_snapshots(
+        store: *mut ucstore,
+        room: *mut u64,
+        room_length: usize,
+        count: *mut usize,
+    ) -> i32;
+    pub fn ucstore_last(store: *mut ucstore, seq: *mut u64) -> i32;
+
+    pub fn ucstore_get(
+        store: *mut ucstore,
+        key: *const u8,
+        key_length: usize,
+        room: *mut u8,
+        room_length: usize,
+        size: *mut usize,
+    ) -> i32;
+    pub fn ucstore_get_at(
+        store: *mut ucstore,
+        key: *const u8,
+        key_length: usize,
+        at: u64,
+        room: *mut u8,
+        room_length: usize,
+        size: *mut usize,
+    ) -> i32;
+    pub fn ucstore_get_many(
+        store: *mut ucstore,
+        keys: *const u8,
+        keys_length: usize,
+        key_lengths: *const u64,
+        count: usize,
+        value_lengths: *mut u64,
+        value_count: usize,
+        room: *mut u8,
+        room_length: usize,
+        size: *mut usize,
+    ) -> i32;
+    pub fn ucstore_scan(
+        store: *mut ucstore,
+        low: *const u8,
+        low_length: usize,
+        high: *const u8,
+        high_length: usize,
+        bounded: bool,
+        limit: u64,
+        room: *mut u8,
+        room_length: usize,
+        size: *mut usize,
+        rows: *mut u64,
+    ) -> i32;
+    pub fn ucstore_scan_at(
+        store: *mut ucstore,
+        low: *const u8,
+        low_length: usize,
+        high: *const u8,
+        high_length: usize,
+        bounded: bool,
+        at: u64,
+        limit: u64,
+        room: *mut u8,
+        room_length: usize,
+        size: *mut usize,
+        rows: *mut u64,
+    ) -> i32;
+
+    pub fn ucstore_view(store: *mut ucstore, view: *mut ucstore_view) -> i32;
+    pub fn ucstore_view_again(view: *mut ucstore_view, again: *mut ucstore_view) -> i32;
+    pub fn ucstore_view_get(
+        view: *mut ucstore_view,
+        key: *const u8,
+        key_length: usize,
+        room: *mut u8,
+        room_length: usize,
+        size: *mut usize,
+    ) -> i32;
+    pub fn ucstore_view_get_at(
+        view: *mut ucstore_view,
+        key: *const u8,
+        key_length: usize,
+        at: u64,
+        room: *mut u8,
+        room_length: usize,
+        size: *mut usize,
+    ) -> i32;
+    pub fn ucstore_view_get_many(
+        view: *mut ucstore_view,
+        keys: *const u8,
+        keys_length: usize,
+        key_lengths: *const u64,
+        count: usize,
+        value_lengths: *mut u64,
+        value_count: usize,
+        room: *mut u8,
+        room_length: usize,
+        size: *mut usize,
+    ) -> i32;
+    pub fn ucstore_view_scan(
+        view: *mut ucstore_view,
+        low: *const u8,
+        low_length: usize,
+        high: *const u8,
+        high_length: usize,
+        bounded: bool,
+        limit: u64,
+        room: *mut u8,
+        room_length: usize,
+        size: *mut usize,
+        rows: *mut u64,
+    ) -> i32;
+    pub fn ucstore_view_scan_at(
+        view: *mut ucstore_view,
+        low: *const u8,
+        low_length: usize,
+        high: *const u8,
+        high_length: usize,
+        bounded: bool,
+        at: u64,
+        limit: u64,
+        room: *mut u8,
+        room_length: usize,
+        size: *mut usize,
+        rows: *mut u64,
+    ) -> i32;
+    pub fn ucstore_view_last(view: *mut ucstore_view, seq: *mut u64) -> i32;
+    pub fn ucstore_view_report(view: *mut ucstore_view, report: *mut ucstore_report) -> i32;
+    pub fn ucstore_view_close(view: *mut ucstore_view) -> i32;
+
+    pub fn ucstore_job(store: *mut ucstore, job: *mut ucstore_job, taken: *mut bool) -> i32;
+    pub fn ucstore_job_run(job: *mut ucstore_job) -> i32;
+    pub fn ucstore_job_end(store: *mut ucstore, job: *mut ucstore_job, installed: *mut bool)
+        -> i32;
+    pub fn ucstore_job_close(job: *mut ucstore_job) -> i32;
+
+    pub fn ucstore_compact(store: *mut ucstore, compacted: *mut bool) -> i32;
+    pub fn ucstore_report(store: *mut ucstore, report: *mut ucstore_report) -> i32;
+    pub fn ucstore_log_next(
+        log: *const u8,
+        log_length: usize,
+        place: *mut ucstore_log_place,
+        room: *mut u8,
+        room_length: usize,
+        size: *mut usize,
+        writes: *mut u64,
+        ended: *mut ucstore_ended,
+    ) -> i32;
+}

@@ -1,0 +1,182 @@
+//! [`Batch`]: operations that a store takes at once.
+
+use crate::error::{check, Error};
+use crate::sys;
+use std::cell::UnsafeCell;
+use std::fmt;
+use std::ptr;
+
+/// Operations that a store takes at once. They may be written more than once.
+///
+/// ```
+/// # fn main() -> Result<(), ucstore::Error> {
+/// let mut batch = ucstore::Batch::new();
+/// batch.put("colour", "blue")?.delete("size")?.merge("tags", "new")?.delete_range("a", "b")?;
+/// assert_eq!(batch.len(), 4);
+/// # Ok(())
+/// # }
+/// ```
+///
+/// A batch may go from thread to thread (`Send`), and threads don't share it (`!Sync`).
+pub struct Batch {
+    handle: UnsafeCell<sys::ucstore_batch>,
+}
+
+// The library lets handles go from thread to thread. What is behind this one is reached through it alone.
+unsafe impl Send for Batch {}
+
+impl Batch {
+    /// A batch without operations.
+    pub fn new() -> Batch {
+        Batch {
+            handle: UnsafeCell::new(sys::ucstore_batch {
+                at: ptr::null_mut(),
+            }),
+        }
+    }
+
+    /// Adds that a key is set to a value.
+    ///
+    /// # Errors
+    ///
+    /// [`Error::TooLong`] if a text has 2^32 bytes or more, [`Error::BatchFull`] behind 2^32 - 1 operations,
+    /// [`Error::OutOfMemory`]. The batch has the operations that it had.
+    pub fn put(
+        &mut self,
+        key: impl AsRef<[u8]>,
+        value: impl AsRef<[u8]>,
+    ) -> Result<&mut Batch, Error> {
+        self.add(sys::ucstore_batch_put, key.as_ref(), value.as_ref())
+    }
+
+    /// Adds that a key is combined with an operand.
+    ///
+    /// # Errors
+    ///
+    /// Those of [`put`](Batch::put).
+    pub fn merge(
+        &mut self,
+        key: impl AsRef<[u8]>,
+        operand: impl AsRef<[u8]>,
+    ) -> Result<&mut Batch, Error> {
+        self.add(sys::ucstore_batch_merge, key.as_ref(), operand.as_ref())
+    }
+
+    /// Adds that a key is removed.
+    ///
+    /// # Errors
+    ///
+    /// Those of [`put`](Batch::put).
+    pub fn delete(&mut self, key: impl AsRef<[u8]>) -> Result<&mut Batch, Error> {
+        let key = key.as_ref();
+        check(unsafe { sys::ucstore_batch_delete(self.handle(), key.as_ptr(), key.len()) })?;
+        Ok(self)
+    }
+
+    /// Adds that each key from `begin` to below `end` is removed: none if `begin` isn't below `end`.
+    ///
+    /// # Errors
+    ///
+    /// Those of [`put`](Batch::put).
+    pub fn delete_range(
+        &mut self,
+        begin: impl AsRef<[u8]>,
+        end: impl AsRef<[u8]>,
+    ) -> Result<&mut Batch, Error> {
+        self.add(
+            sys::ucstore_batch_delete_range,
+            begin.as_ref(),
+            end.as_ref(),
+        )
+    }
+
+    /// How many operations there are.
+    pub fn len(&self) -> usize {
+        let mut count = 0;
+        // It always answers that it did, as the other calls without a check do.
+        unsafe { sys::ucstore_batch_count(self.handle(), &mut count) };
+        count as usize
+    }
+
+    /// Whether there are none.
+    pub fn is_empty(&self) -> bool {
+        self.len() == 0
+    }
+
+    /// Removes all operations. The memory stays for others.
+    pub fn clear(&mut self) {
+        unsafe { sys::ucstore_batch_clear(self.handle()) };
+    }
+
+    /// The batch as RocksDB writes it: 8 bytes for the sequence of the first operation, 4 for the count, and the
+    /// operations.
+    ///
+    /// A sequence is set by writing it over the 8 bytes, low byte first. It is 0, which stands for the one behind the
+    /// store's last one.
+    pub fn bytes(&self) -> Vec<u8> {
+        let mut room = vec![0; self.size()];
+        let mut size = 0;
+        unsafe {
+            sys::ucstore_batch_bytes(self.handle(), room.as_mut_ptr(), room.len(), &mut size)
+        };
+        room
+    }
+
+    /// How many bytes the batch has.
+    pub(crate) fn size(&self) -> usize {
+        let mut size = 0;
+        unsafe { sys::ucstore_batch_bytes(self.handle(), ptr::null_mut(), 0, &mut size) };
+        size
+    }
+
+    /// The handle for a call. No call calls back, so there is only one at a time.
+    pub(crate) fn handle(&self) -> *mut sys::ucstore_batch {
+        self.handle.get()
+    }
+
+    /// Adds an operation of two texts.
+    fn add(
+        &mut self,
+        function: unsafe extern "C" fn(
+            *mut sys::ucstore_batch,
+            *const u8,
+            usize,
+            *const u8,
+            usize,
+        ) -> i32,
+        first: &[u8],
+        second: &[u8],
+    ) -> Result<&mut Batch, Error> {
+        check(unsafe {
+            function(
+                self.handle(),
+                first.as_ptr(),
+                first.len(),
+                second.as_ptr(),
+                second.len(),
+            )
+        })?;
+        Ok(self)
+    }
+}
+
+impl Default for Batch {
+    fn default() -> Batch {
+        Batch::new()
+    }
+}
+
+impl Drop for Batch {
+    fn drop(&mut self) {
+        unsafe { sys::ucstore_batch_close(self.handle()) };
+    }
+}
+
+impl fmt::Debug for Batch {
+    fn fmt(&self, formatter: &mut fmt::Formatter<'_>) -> fmt::Result {
+        formatter
+            .debug_struct("Batch")
+            .field("len", &self.len())
+            .finish_non_exhaustive()
+    }
+}

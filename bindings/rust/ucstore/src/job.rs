@@ -1,0 +1,75 @@
+//! [`Job`]: a compaction that is taken out of its store.
+
+use crate::error::{check, Error};
+use crate::sys;
+use std::fmt;
+use std::ptr;
+
+/// A compaction that [`Store::take_job`](crate::Store::take_job) takes out of a store. Any thread runs it, while the
+/// store goes on: it is written to, flushed, and compacts other runs. [`Store::end_job`](crate::Store::end_job) puts the
+/// result in.
+///
+/// A job that is dropped without that is forgotten: its runs are read as before, and never compacted.
+///
+/// ```
+/// # use ucstore::{Operator, Options, Store};
+/// # fn main() -> Result<(), ucstore::Error> {
+/// let options = Options { compacts_itself: false, ..Default::default() };
+/// let store = Store::create(Operator::Append, &options)?;
+/// for number in 0..4 {
+///     store.put(format!("k{number}"), "v")?;
+///     store.flush()?;
+/// }
+/// let mut job = store.take_job()?.expect("four runs are compacted");
+/// let worker = std::thread::spawn(move || job.run().map(|()| job));
+/// store.put("k5", "v")?;
+/// assert_eq!(store.end_job(worker.join().unwrap()?).unwrap(), true);
+/// # Ok(())
+/// # }
+/// ```
+#[must_use = "the runs of a job are never compacted again if it doesn't end"]
+pub struct Job {
+    handle: sys::ucstore_job,
+    /// The number of its store.
+    pub(crate) store: u64,
+}
+
+// The library lets handles go from thread to thread, and jobs be run beside their store.
+unsafe impl Send for Job {}
+
+impl Job {
+    /// No job yet, of a store with a number.
+    pub(crate) fn closed(store: u64) -> Job {
+        let handle = sys::ucstore_job {
+            at: ptr::null_mut(),
+        };
+        Job { handle, store }
+    }
+
+    /// Merges the runs. It touches no store. One that was run isn't run again.
+    ///
+    /// # Errors
+    ///
+    /// [`Error::OutOfMemory`]. The job is as it was: it may be run again, or ended.
+    pub fn run(&mut self) -> Result<(), Error> {
+        check(unsafe { sys::ucstore_job_run(self.handle()) })
+    }
+
+    /// The handle for a call.
+    pub(crate) fn handle(&mut self) -> *mut sys::ucstore_job {
+        &mut self.handle
+    }
+}
+
+impl Drop for Job {
+    fn drop(&mut self) {
+        // One that has ended answers that it isn't there.
+        unsafe { sys::ucstore_job_close(self.handle()) };
+    }
+}
+
+impl fmt::Debug for Job {
+    fn fmt(&self, formatter: &mut fmt::Formatter<'_>) -> fmt::Result {
+        formatter.debug_struct("Job").finish_non_exhaustive()
+    }
+}

@@ -1,0 +1,222 @@
+//! [`Reads`]: what the functions that read a handle answer.
+
+use crate::error::{check, Error};
+use crate::sys;
+
+/// The bytes of a value for which a lookup doesn't ask twice.
+const USUAL_VALUE: usize = 512;
+
+/// The bytes for each of many values for which their lookup doesn't ask twice.
+const USUAL_SHARE: usize = 64;
+
+/// What the library says of a key without a value.
+const NO_VALUE: u64 = u64::MAX;
+
+type Get<H> = unsafe extern "C" fn(*mut H, *const u8, usize, *mut u8, usize, *mut usize) -> i32;
+type GetAt<H> =
+    unsafe extern "C" fn(*mut H, *const u8, usize, u64, *mut u8, usize, *mut usize) -> i32;
+type GetMany<H> = unsafe extern "C" fn(
+    *mut H,
+    *const u8,
+    usize,
+    *const u64,
+    usize,
+    *mut u64,
+    usize,
+    *mut u8,
+    usize,
+    *mut usize,
+) -> i32;
+type ScanRows<H> = unsafe extern "C" fn(
+    *mut H,
+    *const u8,
+    usize,
+    *const u8,
+    usize,
+    bool,
+    u64,
+    *mut u8,
+    usize,
+    *mut usize,
+    *mut u64,
+) -> i32;
+type ScanRowsAt<H> = unsafe extern "C" fn(
+    *mut H,
+    *const u8,
+    usize,
+    *const u8,
+    usize,
+    bool,
+    u64,
+    u64,
+    *mut u8,
+    usize,
+    *mut usize,
+    *mut u64,
+) -> i32;
+
+/// The functions that read a handle.
+pub(crate) struct Functions<H> {
+    pub(crate) get: Get<H>,
+    pub(crate) get_at: GetAt<H>,
+    pub(crate) get_many: GetMany<H>,
+    pub(crate) scan: ScanRows<H>,
+    pub(crate) scan_at: ScanRowsAt<H>,
+}
+
+/// A handle, with the functions that read it. Nothing else calls for the handle meanwhile.
+pub(crate) struct Reads<H: 'static> {
+    pub(crate) handle: *mut H,
+    pub(crate) functions: &'static Functions<H>,
+}
+
+/// Where the rows of a page are.
+pub(crate) struct Range<'a> {
+    pub(crate) low: &'a [u8],
+    /// Without it the rows go on to the last one.
+    pub(crate) high: Option<&'a [u8]>,
+    /// The sequence of a snapshot, or the last one.
+    pub(crate) at: Option<u64>,
+    /// How many rows there are at most.
+    pub(crate) limit: u64,
+}
+
+impl<H> Reads<H> {
+    /// The value under a key, if there is one.
+    pub(crate) fn get(&self, key: &[u8]) -> Result<Option<Vec<u8>>, Error> {
+        value_by(|room, size| unsafe {
+            (self.functions.get)(
+                self.handle,
+                key.as_ptr(),
+                key.len(),
+                room.as_mut_ptr(),
+                room.len(),
+                size,
+            )
+        })
+    }
+
+    /// The value under a key at a snapshot, if there is one.
+    pub(crate) fn get_at(&self, key: &[u8], at: u64) -> Result<Option<Vec<u8>>, Error> {
+        value_by(|room, size| unsafe {
+            (self.functions.get_at)(
+                self.handle,
+                key.as_ptr(),
+                key.len(),
+                at,
+                room.as_mut_ptr(),
+                room.len(),
+                size,
+            )
+        })
+    }
+
+    /// For each key its value, if there is one.
+    pub(crate) fn get_many<K: AsRef<[u8]>>(
+        &self,
+        keys: impl IntoIterator<Item = K>,
+    ) -> Result<Vec<Option<Vec<u8>>>, Error> {
+        let (mut bytes, mut key_lengths) = (Vec::new(), Vec::new());
+        for key in keys {
+            bytes.extend_from_slice(key.as_ref());
+            key_lengths.push(key.as_ref().len() as u64);
+        }
+        let mut value_lengths = vec![0; key_lengths.len()];
+        let (mut room, mut size) = (vec![0; USUAL_SHARE * key_lengths.len()], 0);
+        loop {
+            check(unsafe {
+                (self.functions.get_many)(
+                    self.handle,
+                    bytes.as_ptr(),
+                    bytes.len(),
+                    key_lengths.as_ptr(),
+                    key_lengths.len(),
+                    value_lengths.as_mut_ptr(),
+                    value_lengths.len(),
+                    room.as_mut_ptr(),
+                    room.len(),
+                    &mut size,
+                )
+            })?;
+            if size <= room.len() {
+                return Ok(cut_values(&room, &value_lengths));
+            }
+            room.resize(size, 0);
+        }
+    }
+
+    /// The first rows of a range, as many as fit the room: how many these are, and the size of all.
+    pub(crate) fn rows(&self, range: &Range<'_>, room: &mut [u8]) -> Result<(u64, usize), Error> {
+        let (mut size, mut rows) = (0, 0);
+        let (low, high) = (range.low, range.high.unwrap_or(&[]));
+        let (low, low_length) = (low.as_ptr(), low.len());
+        let (high, high_length) = (high.as_ptr(), high.len());
+        let (is_bounded, limit) = (range.high.is_some(), range.limit);
+        let (functions, store) = (self.functions, self.handle);
+        let (place, length) = (room.as_mut_ptr(), room.len());
+        check(match range.at {
+            None => unsafe {
+                (functions.scan)(
+                    store,
+                    low,
+                    low_length,
+                    high,
+                    high_length,
+                    is_bounded,
+                    limit,
+                    place,
+                    length,
+                    &mut size,
+                    &mut rows,
+                )
+            },
+            Some(at) => unsafe {
+                (functions.scan_at)(
+                    store,
+                    low,
+                    low_length,
+                    high,
+                    high_length,
+                    is_bounded,
+                    at,
+                    limit,
+                    place,
+                    length,
+                    &mut size,
+                    &mut rows,
+                )
+            },
+        })?;
+        Ok((rows, size))
+    }
+}
+
+/// The value that a lookup copies into a room, if there is one.
+fn value_by(
+    mut lookup: impl FnMut(&mut [u8], &mut usize) -> i32,
+) -> Result<Option<Vec<u8>>, Error> {
+    let (mut room, mut size) = ([0; USUAL_VALUE], 0);
+    match lookup(&mut room, &mut size) {
+        sys::UCSTORE_NOT_FOUND => return Ok(None),
+        status => check(status)?,
+    }
+    if size <= USUAL_VALUE {
+        return Ok(Some(room[..size].to_vec()));
+    }
+    let mut value = vec![0; size];
+    check(lookup(&mut value, &mut size))?;
+    Ok(Some(value))
+}
+
+/// The values of a room, which stand one behind the other.
+fn cut_values(mut room: &[u8], lengths: &[u64]) -> Vec<Option<Vec<u8>>> {
+    let mut cut = |length: u64| {
+        let (value, rest) = room.split_at(length as usize);
+        room = rest;
+        value.to_vec()
+    };
+    lengths
+        .iter()
+        .map(|length| (*length != NO_VALUE).then(|| cut(*length)))
+        .collect()
+}

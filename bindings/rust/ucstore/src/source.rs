@@ -1,0 +1,46 @@
+//! [`Source`]: what a scan reads.
+
+use crate::error::Error;
+use crate::reads::Range;
+use crate::store::Store;
+use crate::view::View;
+use std::fmt;
+
+/// What a [`Scan`](crate::Scan) reads: a store, or a view.
+pub trait Source: sealed::Rows + fmt::Debug {}
+
+pub(crate) mod sealed {
+    use super::{Error, Range};
+
+    /// The rows of a range. No type outside this crate has them.
+    pub trait Rows {
+        /// The first rows, as many as fit the room: how many these are, and the size of all.
+        #[allow(private_interfaces)]
+        fn rows(&self, range: &Range<'_>, room: &mut [u8]) -> Result<(u64, usize), Error>;
+    }
+}
+
+impl Source for &Store {}
+impl Source for &View {}
+impl Source for View {}
+
+impl sealed::Rows for &Store {
+    #[allow(private_interfaces)]
+    fn rows(&self, range: &Range<'_>, room: &mut [u8]) -> Result<(u64, usize), Error> {
+        self.reads().rows(range, room)
+    }
+}
+
+impl sealed::Rows for &View {
+    #[allow(private_interfaces)]
+    fn rows(&self, range: &Range<'_>, room: &mut [u8]) -> Result<(u64, usize), Error> {
+        self.reads().rows(range, room)
+    }
+}
+
+impl sealed::Rows for View {
+    #[allow(private_interfaces)]
+    fn rows(&self, range: &Range<'_>, room: &mut [u8]) -> Result<(u64, usize), Error> {
+        self.reads().rows(range, room)
+    }
+}

@@ -1,0 +1,146 @@
+//! Views that threads read, and jobs that threads run, while the store goes on.
+
+use std::sync::mpsc;
+use std::thread;
+use ucstore::{Error, Operator, Options, Store, View};
+
+/// A store that leaves its compactions to jobs.
+fn empty(operator: Operator) -> Store {
+    let options = Options {
+        compacts_itself: false,
+        ..Default::default()
+    };
+    Store::create(operator, &options).unwrap()
+}
+
+fn number(value: Option<Vec<u8>>) -> u64 {
+    value.map_or(0, |text| u64::from_le_bytes(text.try_into().unwrap()))
+}
+
+/// Some runs, which are worth compacting.
+fn write_runs(store: &Store, runs: u32) {
+    for run in 0..runs {
+        store.put(run.to_be_bytes(), "v").unwrap();
+        store.flush().unwrap();
+    }
+}
+
+#[test]
+fn a_view_stays_what_it_is() {
+    let store = empty(Operator::Append);
+    store.put("a", "1").unwrap();
+    store.put("b", "2").unwrap();
+    let view = store.view().unwrap();
+    store.delete_range("", "z").unwrap();
+    store.flush().unwrap();
+    while store.compact().unwrap() {}
+    let again = view.again().unwrap();
+    let last = store.last();
+    drop((view, store));
+    assert_eq!(again.get("a").unwrap(), Some(b"1".to_vec()));
+    assert_eq!(again.get("c").unwrap(), None);
+    let found = again.get_many(["b", "c"]).unwrap();
+    assert_eq!(found, [Some(b"2".to_vec()), None]);
+    assert_eq!((again.last(), again.report().last, last), (2, 2, 3));
+    assert_eq!(again.scan("", None).count(), 2);
+    assert_eq!(again.clone().prefix("b").count(), 1);
+    let mut rows = again.into_prefix("");
+    assert_eq!(rows.next_row(), Ok(Some((&b"a"[..], &b"1"[..]))));
+    assert_eq!(rows.map(Result::unwrap).count(), 1);
+}
+
+#[test]
+fn a_view_reads_the_snapshots_that_were_there() {
+    let store = empty(Operator::Append);
+    store.put("k", "old").unwrap();
+    let sequence = store.take_snapshot().unwrap();
+    let view = store.view().unwrap();
+    store.release(sequence).unwrap();
+    assert_eq!(view.get_at("k", sequence).unwrap(), Some(b"old".to_vec()));
+    assert_eq!(view.scan_at("", None, sequence).count(), 1);
+    assert_eq!(view.get_at("k", 7), Err(Error::NotProtected));
+}
+
+/// Counts what a view has of one key, which never falls from view to view.
+fn read_all(views: mpsc::Receiver<View>) -> usize {
+    let (mut least, mut count) = (0, 0);
+    for view in views {
+        let now = number(view.get("k").unwrap());
+        assert!(now >= least && now == view.last());
+        (least, count) = (now, count + 1);
+    }
+    count
+}
+
+#[test]
+fn threads_read_views_while_the_store_is_written() {
+    let store = empty(Operator::Counter);
+    let mut readers = vec![];
+    for _ in 0..3 {
+        let (sender, views) = mpsc::channel();
+        readers.push((sender, thread::spawn(move || read_all(views))));
+    }
+    for write in 0..3000 {
+        store.merge("k", 1u64.to_le_bytes()).unwrap();
+        if write % 10 == 0 {
+            let view = store.view().unwrap();
+            for (sender, _) in &readers {
+                sender.send(view.clone()).unwrap();
+            }
+        }
+    }
+    for (sender, reader) in readers {
+        drop(sender);
+        assert_eq!(reader.join().unwrap(), 300);
+    }
+}
+
+#[test]
+fn a_job_is_run_beside_writes() {
+    let store = empty(Operator::Append);
+    write_runs(&store, 8);
+    let mut job = store.take_job().unwrap().unwrap();
+    let worker = thread::spawn(move || {
+        job.run().unwrap();
+        job
+    });
+    store.put("k", "v").unwrap();
+    assert!(store.end_job(worker.join().unwrap()).unwrap());
+    assert!(store.report().runs < 8);
+    assert_eq!(store.scan("", None).count(), 9);
+    assert_eq!(store.get("k").unwrap(), Some(b"v".to_vec()));
+}
+
+#[test]
+fn a_job_that_was_not_run_gives_its_runs_back() {
+    let store = empty(Operator::Append);
+    assert!(store.take_job().unwrap().is_none());
+    write_runs(&store, 8);
+    let job = store.take_job().unwrap().unwrap();
+    assert!(!store.end_job(job).unwrap());
+    assert_eq!(store.report().runs, 8);
+    let mut again = store.take_job().unwrap().unwrap();
+    again.run().unwrap();
+    assert!(store.end_job(again).unwrap());
+}
+
+#[test]
+fn a_job_ends_on_its_own_store_alone() {
+    let (store, other) = (empty(Operator::Append), empty(Operator::Append));
+    write_runs(&store, 8);
+    write_runs(&other, 8);
+    let mut job = store.take_job().unwrap().unwrap();
+    job.run().unwrap();
+    let back = other.end_job(job).unwrap_err();
+    assert_eq!(other.report().runs, 8);
+    assert!(store.end_job(back).unwrap());
+}
+
+#[test]
+fn a_job_outlives_its_store() {
+    let store = empty(Operator::Append);
+    write_runs(&store, 8);
+    let mut job = store.take_job().unwrap().unwrap();
+    drop(store);
+    job.run().unwrap();
+}
