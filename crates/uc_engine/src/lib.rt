@@ -36,7 +36,6 @@ pub use uc_batch::{BatchError, Ended};
 pub use uc_bytes::{Bytes, OpRef};
 pub use uc_live::{
     GREATEST_STOP, InstallError, JobEnd, LiveOpenError, LiveOptions, Options, ReleaseError,
-    RoomError, WriteError,
-    batches_are_walked, jobs_go_in, recorded_batch_is_recovered,
+    RoomError, WriteError, batches_are_walked, jobs_go_in, recorded_batch_is_recovered,
 };
 pub use uc_query_read::{Answer, Query, Rows};
