@@ -33,6 +33,8 @@ fn check_recovered(history: &History, device: &Device, least: usize, most: usize
 fn check_live(history: &History, run: &Run) {
     let Some(db) = &run.db else { return };
     assert_eq!(map_of(db), history.maps[run.acknowledged]);
+    let is_told = matches!(run.error, Some(Error::ReadOnly { .. }));
+    assert!(db.failure().is_some() || !is_told);
     if db.failure().is_some() {
         let refused = db.put("k", "v").unwrap_err();
         assert!(matches!(refused, Error::ReadOnly { .. }), "{refused}");

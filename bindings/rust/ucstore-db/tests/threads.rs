@@ -231,6 +231,7 @@ fn a_closed_database_refuses_writes() {
     db.close().unwrap();
     assert!(matches!(clone.merge("k", one()), Err(Error::Closed)));
     assert!(matches!(clone.checkpoint(), Err(Error::Closed)));
+    assert!(matches!(clone.write(&Batch::new()), Err(Error::Closed)));
     assert!(matches!(clone.close(), Err(Error::Closed)));
     assert_eq!(number(clone.get("k").unwrap()), 1);
     assert!(clone.stats().to_string().ends_with("read only true"));
