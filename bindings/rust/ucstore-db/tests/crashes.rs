@@ -12,7 +12,7 @@ fn histories(seed: u64, batches: usize) -> Histories {
     }
 }
 
-/// How many batches of a history a device has, which some runs kept. It is the same when it is opened again, and goes on.
+/// How many batches of a history a device has. It is the same when it is opened again, and goes on.
 fn check_recovered(history: &History, device: &Device, least: usize, most: usize) -> usize {
     let db = open(device).unwrap();
     let map = map_of(&db);
@@ -116,6 +116,23 @@ fn a_fault_of_the_device_is_told_and_loses_nothing() {
             }
         }
     }
+}
+
+#[test]
+fn a_large_base_has_all_rows() {
+    let device = Device::default();
+    let db = open(&device).unwrap();
+    for row in 0..3000u32 {
+        db.put(row.to_be_bytes(), vec![7; row as usize % 300])
+            .unwrap();
+    }
+    db.put("long", vec![8; 100_000]).unwrap();
+    db.checkpoint().unwrap();
+    let map = map_of(&db);
+    drop(db);
+    let crashed = device.crash(&mut Numbers(1));
+    assert_eq!(map_of(&open(&crashed).unwrap()), map);
+    assert_eq!(crashed.files()["000002.log"], b"");
 }
 
 #[test]
