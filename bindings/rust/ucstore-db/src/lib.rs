@@ -67,6 +67,7 @@ pub use folder::{File, Folder};
 pub use options::{Options, Sync};
 pub use snapshot::{Rows, Snapshot};
 pub use stats::Stats;
+pub use ucstore;
 pub use ucstore::{Batch, Operator};
 
 use std::sync::{Mutex, MutexGuard, PoisonError};
