@@ -186,8 +186,8 @@ try_rust() {
     expect first.rs "$first" "$(cd "$work/rust" && cargo run --offline --quiet -j 1 -p ucstore --example first)"
     expect 'first.rs, with UCSTORE_LIB_DIR' "$first" "$(cd "$work/rust" &&
         PKG_CONFIG=false UCSTORE_LIB_DIR="$work/usr/lib" cargo run --offline --quiet -j 1 -p ucstore --example first)"
-    (cd "$work/rust" && PKG_CONFIG=false DOCS_RS=1 RUSTDOCFLAGS=-Dwarnings cargo doc --offline --quiet --no-deps -j 1) ||
-        fail "the crates' pages need the library"
+    (cd "$work/rust" && PKG_CONFIG=false DOCS_RS=1 RUSTDOCFLAGS=-Dwarnings cargo doc --offline --quiet --no-deps -j 1 -p ucstore) ||
+        fail "the crate's pages need the library"
 }
 
 # A Python that can build what pip installs without a network.

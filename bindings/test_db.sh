@@ -29,6 +29,7 @@ rm -rf "$work/rust/target"
 cd "$work/rust"
 export TMPDIR=$work
 cargo test --offline --quiet -j 2 -p ucstore-db ${LONG:+--release}
+DOCS_RS=1 RUSTDOCFLAGS=-Dwarnings cargo doc --offline --quiet --no-deps -j 2 -p ucstore-db
 printf 'a b a\nc a\n' > "$work/one"
 printf 'b\nc\n' > "$work/other"
 for times in 1 2; do

@@ -475,7 +475,10 @@ def _end_of_prefix(prefix: bytes) -> Optional[bytes]:
 
 
 class _Reader:
-    """What a store and its snapshots are read by. Like a dict, they raise `KeyError` only for `reader[key]`."""
+    """What a store, its snapshots and its views are read by.
+
+    Like a dict, they raise `KeyError` only for `reader[key]`.
+    """
 
     def get(self, key: bytes, default: Optional[bytes] = None) -> Optional[bytes]:
         """The value under a key, or `default`. Raises `OutOfMemory`."""

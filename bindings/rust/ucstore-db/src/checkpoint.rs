@@ -21,8 +21,8 @@ struct Begun {
 }
 
 impl Shared {
-    /// Writes all that is there to a base, while writes go to a new log. Then older files are removed. In memory it does
-    /// nothing.
+    /// Writes all that is there to a base, while writes go to a new log. Then older files are removed. In memory it
+    /// does nothing.
     ///
     /// If it fails, what was logged is where it was: a crash at any step loses nothing.
     pub(crate) fn checkpoint(&self) -> Result<(), Error> {

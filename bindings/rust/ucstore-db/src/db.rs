@@ -106,6 +106,9 @@ impl Db {
     ///
     /// Those of [`write`](Db::write).
     pub fn write_with(&self, batch: &Batch, is_synced: bool) -> Result<(), Error> {
+        if batch.is_empty() {
+            return self.shared().check();
+        }
         self.shared().write(&batch.bytes(), is_synced)
     }
 

@@ -26,7 +26,7 @@ impl DiskFolder {
     pub fn open(path: impl AsRef<Path>) -> Result<DiskFolder, Error> {
         let path = path.as_ref().to_path_buf();
         let file = path.join(LOCK).display().to_string();
-        fs::create_dir_all(&path).map_err(Error::of_file(&path.display().to_string()))?;
+        make_folder(&path).map_err(Error::of_file(&path.display().to_string()))?;
         let lock = OpenOptions::new()
             .write(true)
             .create(true)
@@ -39,6 +39,21 @@ impl DiskFolder {
             Err(TryLockError::Error(error)) => Err(Error::of_file(&file)(error)),
         }
     }
+}
+
+/// Makes a folder and those above it, and waits until their names are on the device.
+fn make_folder(path: &Path) -> io::Result<()> {
+    if path.as_os_str().is_empty() || path.is_dir() {
+        return Ok(());
+    }
+    let above = path.parent().unwrap_or(Path::new(""));
+    make_folder(above)?;
+    match fs::create_dir(path) {
+        Err(error) if error.kind() == io::ErrorKind::AlreadyExists => {}
+        outcome => outcome?,
+    }
+    // A name without a folder is one of the folder in which the process runs.
+    fs::File::open(Path::new(".").join(above))?.sync_all()
 }
 
 impl Folder for DiskFolder {

@@ -22,20 +22,21 @@
 //!
 //! A batch is taken whole or not at all. It is judged first, and all memory that it needs is taken; its record is
 //! appended to a log, and synced as [`Sync`] says; then it is seen. Writers that come together share one record and one
-//! sync. If a log's write or sync fails, the batch isn't taken, and the database refuses all later writes: what the file
-//! holds isn't known until it is opened again.
+//! sync. If a log's write or sync fails, the batch isn't taken, and the database refuses all later writes: what the
+//! file holds isn't known until it is opened again.
 //!
 //! # Reads
 //!
 //! A read sees each write that was acknowledged before it began. It reads a view that all readers share. The first read
-//! behind a write renews it, which locks the store for the time of a share. A writer renews it before a flush: so no read
-//! waits for a flush, a compaction or a checkpoint.
+//! behind a write renews it, which locks the store for the time of a share. A writer renews it before a flush: so no
+//! read waits for a flush, a compaction or a checkpoint. Only behind 64 range deletions the store flushes by itself,
+//! and then the first read may wait.
 //!
 //! # The folder
 //!
 //! `LOCK` is locked by the process that has the database open. `000001.log` and those behind it are write-ahead logs as
-//! RocksDB writes them. A checkpoint `000007.base` is such a log too, and holds what the logs before `000007.log` wrote.
-//! Both are in the folder's [`Folder`], which a test may replace.
+//! RocksDB writes them. A checkpoint `000007.base` is such a log too, and holds what the logs before `000007.log`
+//! wrote. A [`Folder`] of another device may stand for the file system.
 #![forbid(unsafe_code)]
 #![warn(missing_docs)]
 
@@ -66,6 +67,7 @@ pub use folder::{File, Folder};
 pub use options::{Options, Sync};
 pub use snapshot::{Rows, Snapshot};
 pub use stats::Stats;
+pub use ucstore;
 pub use ucstore::{Batch, Operator};
 
 use std::sync::{Mutex, MutexGuard, PoisonError};

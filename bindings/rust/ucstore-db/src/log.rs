@@ -34,7 +34,8 @@ impl Log {
             number,
             length,
             older,
-            is_synced: true,
+            // What an ended process wrote may not be on the device.
+            is_synced: false,
         })
     }
 

@@ -7,7 +7,7 @@ use ucstore::Operator;
 pub enum Sync {
     /// When it is acknowledged.
     Always,
-    /// At most so many milliseconds after it was acknowledged.
+    /// About so many milliseconds after it was acknowledged.
     EveryMs(u64),
     /// When the operating system puts it there, or a log ends. A process that ends loses nothing by it.
     Never,

@@ -8,8 +8,8 @@ use ucstore::{Scan, View};
 /// [`next_row`](Scan::next_row) lends each row; as an iterator it copies them.
 pub type Rows = Scan<View>;
 
-/// What a database held at a moment. It stays so, whatever is written, and ends where it is dropped. Each thread reads a
-/// clone of its own.
+/// What a database held at a moment. It stays so, whatever is written, and ends where it is dropped. Each thread reads
+/// a clone of its own.
 ///
 /// ```
 /// # use ucstore_db::{Db, Options};

@@ -63,9 +63,8 @@ impl Workers {
         drop(store);
         for thread in lock(&self.threads).drain(..) {
             thread.thread().unpark();
-            if thread.join().is_err() {
-                self.shared.note(Error::Closed);
-            }
+            // One that panicked has said so.
+            let _ = thread.join();
         }
         self.shared.close_log()
     }

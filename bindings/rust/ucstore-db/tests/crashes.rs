@@ -3,7 +3,8 @@
 mod common;
 
 use common::{is_long, map_of, open, Call, Device, Histories, History, Numbers, Run};
-use ucstore_db::Error;
+use std::mem;
+use ucstore_db::{Batch, Error};
 
 fn histories(seed: u64, batches: usize) -> Histories {
     Histories {
@@ -12,7 +13,7 @@ fn histories(seed: u64, batches: usize) -> Histories {
     }
 }
 
-/// How many batches of a history a device has, which some runs kept. It is the same when it is opened again, and goes on.
+/// How many batches of a history a device has. It is the same when it is opened again, and goes on.
 fn check_recovered(history: &History, device: &Device, least: usize, most: usize) -> usize {
     let db = open(device).unwrap();
     let map = map_of(&db);
@@ -22,9 +23,11 @@ fn check_recovered(history: &History, device: &Device, least: usize, most: usize
     let again = open(device).unwrap();
     assert_eq!(map_of(&again), map);
     again.put("z", "more").unwrap();
-    drop(again);
-    let mut more = map;
+    let mut more = map.clone();
     more.insert(b"z".to_vec(), b"more".to_vec());
+    let crashed = map_of(&open(&device.crash(&mut Numbers(least as u64))).unwrap());
+    assert!(crashed == map || crashed == more);
+    drop(again);
     assert_eq!(map_of(&open(device).unwrap()), more);
     found
 }
@@ -33,6 +36,8 @@ fn check_recovered(history: &History, device: &Device, least: usize, most: usize
 fn check_live(history: &History, run: &Run) {
     let Some(db) = &run.db else { return };
     assert_eq!(map_of(db), history.maps[run.acknowledged]);
+    let is_told = matches!(run.error, Some(Error::ReadOnly { .. }));
+    assert!(db.failure().is_some() || !is_told);
     if db.failure().is_some() {
         let refused = db.put("k", "v").unwrap_err();
         assert!(matches!(refused, Error::ReadOnly { .. }), "{refused}");
@@ -114,6 +119,43 @@ fn a_fault_of_the_device_is_told_and_loses_nothing() {
             }
         }
     }
+}
+
+#[test]
+fn what_an_ended_process_left_is_synced_before_a_new_log() {
+    for seed in 0..20 {
+        let device = Device::default();
+        let first = open(&device).unwrap();
+        first.put("a", "1").unwrap();
+        // It ends without a close.
+        mem::forget(first);
+        let second = open(&device).unwrap();
+        device.fail(Some(Call::Rename), 0, false);
+        second.checkpoint().unwrap_err();
+        let mut batch = Batch::new();
+        second
+            .write_with(batch.put("b", "2").unwrap(), true)
+            .unwrap();
+        let crashed = device.crash(&mut Numbers(seed));
+        assert_eq!(map_of(&open(&crashed).unwrap()).len(), 2);
+    }
+}
+
+#[test]
+fn a_large_base_has_all_rows() {
+    let device = Device::default();
+    let db = open(&device).unwrap();
+    for row in 0..3000u32 {
+        db.put(row.to_be_bytes(), vec![7; row as usize % 300])
+            .unwrap();
+    }
+    db.put("long", vec![8; 100_000]).unwrap();
+    db.checkpoint().unwrap();
+    let map = map_of(&db);
+    drop(db);
+    let crashed = device.crash(&mut Numbers(1));
+    assert_eq!(map_of(&open(&crashed).unwrap()), map);
+    assert_eq!(crashed.files()["000002.log"], b"");
 }
 
 #[test]

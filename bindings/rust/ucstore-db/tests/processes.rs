@@ -146,3 +146,14 @@ fn a_second_process_is_refused() {
     db.close().unwrap();
     Db::open(folder.path(), &options()).unwrap();
 }
+
+#[test]
+fn the_folders_above_are_made() {
+    let above = Temporary::new("above");
+    let folder = above.path().join("one/other");
+    let db = Db::open(&folder, &options()).unwrap();
+    db.put("k", "v").unwrap();
+    db.close().unwrap();
+    let db = Db::open(&folder, &options()).unwrap();
+    assert_eq!(db.get("k").unwrap(), Some(b"v".to_vec()));
+}

@@ -186,6 +186,39 @@ fn runs_stay_few_by_themselves() {
 }
 
 #[test]
+fn writes_wait_for_jobs_that_have_all_runs() {
+    let mut options = counters();
+    options.store.write_buffer_size = 50;
+    options.store.compaction_trigger = 2;
+    options.store.stop_trigger = 2;
+    let db = Db::in_memory(&options).unwrap();
+    with_threads(|_| {
+        for write in 0..500u64 {
+            db.merge((write % 97).to_le_bytes(), one()).unwrap();
+        }
+    });
+    let mut sum = 0;
+    for row in db.iter().unwrap() {
+        sum += number(Some(row.unwrap().1));
+    }
+    assert_eq!(sum, 500 * THREADS);
+}
+
+#[test]
+fn writes_are_slowed_while_there_are_many_runs() {
+    let mut options = counters();
+    options.slow_trigger = 1;
+    let db = Db::in_memory(&options).unwrap();
+    db.merge("k", one()).unwrap();
+    assert_eq!(db.stats().slowed, 0);
+    db.flush().unwrap();
+    for _ in 0..3 {
+        db.merge("k", one()).unwrap();
+    }
+    assert_eq!(db.stats().slowed, 3);
+}
+
+#[test]
 fn checkpoints_are_made_by_themselves() {
     let mut options = counters();
     options.checkpoint_least = 10_000;
@@ -231,6 +264,7 @@ fn a_closed_database_refuses_writes() {
     db.close().unwrap();
     assert!(matches!(clone.merge("k", one()), Err(Error::Closed)));
     assert!(matches!(clone.checkpoint(), Err(Error::Closed)));
+    assert!(matches!(clone.write(&Batch::new()), Err(Error::Closed)));
     assert!(matches!(clone.close(), Err(Error::Closed)));
     assert_eq!(number(clone.get("k").unwrap()), 1);
     assert!(clone.stats().to_string().ends_with("read only true"));

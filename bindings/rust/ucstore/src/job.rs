@@ -6,8 +6,8 @@ use std::fmt;
 use std::ptr;
 
 /// A compaction that [`Store::take_job`](crate::Store::take_job) takes out of a store. Any thread runs it, while the
-/// store goes on: it is written to, flushed, and compacts other runs. [`Store::end_job`](crate::Store::end_job) puts the
-/// result in.
+/// store goes on: it is written to, flushed, and compacts other runs. [`Store::end_job`](crate::Store::end_job) puts
+/// the result in.
 ///
 /// A job that is dropped without that is forgotten: its runs are read as before, and never compacted.
 ///

@@ -37,21 +37,21 @@
 //!
 //! # Threads
 //!
-//! A store takes one call at a time. Others read [`View`]s meanwhile, each thread one of its own, and run the compactions
-//! that [`Store::take_job`] takes out.
+//! A store takes one call at a time. Others read [`View`]s meanwhile, each thread one of its own, and run the
+//! compactions that [`Store::take_job`] takes out.
 //!
 //! # Building
 //!
 //! The build links `libucstore.a` from the folder that `UCSTORE_LIB_DIR` names, or from the one that pkg-config says.
-//! `./install` at the top of the repository puts it there. With the feature `no-link` none is looked for: then the crate
-//! can be checked and documented.
+//! `./install` at the top of the repository puts it there. With the feature `no-link` none is looked for: then the
+//! crate can be checked and documented.
 //!
 //! # Why the calls are sound
 //!
-//! Addresses are those of references and slices, which live behind the call; none is null where its length isn't 0. What
-//! is written is borrowed mutably, so it overlaps nothing. A handle is in a type that no two threads share, and no call
-//! calls back into one. It is closed where its owner is dropped. A job carries the number of its store, so that it ends
-//! on no other.
+//! Addresses are those of references and slices, which live behind the call; none is null where its length isn't 0.
+//! What is written is borrowed mutably, so it overlaps nothing. A handle is in a type that no two threads share, and no
+//! call calls back into one. It is closed where its owner is dropped. A job carries the number of its store, so that it
+//! ends on no other.
 #![warn(missing_docs)]
 
 mod batch;

@@ -96,8 +96,8 @@ impl Store {
     ///
     /// # Errors
     ///
-    /// [`Error::SequencesSpent`], [`Error::IdsSpent`], [`Error::OutOfMemory`], and [`Error::RunsClaimed`] while jobs are
-    /// out.
+    /// [`Error::SequencesSpent`], [`Error::IdsSpent`], [`Error::OutOfMemory`], and [`Error::RunsClaimed`] while jobs
+    /// are out.
     pub fn write(&self, batch: &Batch) -> Result<(), Error> {
         check(unsafe { sys::ucstore_write(self.handle(), batch.handle()) })
     }

@@ -125,8 +125,8 @@ impl Device {
         self.lock().fault = Some(Fault { call, left, lasts });
     }
 
-    /// The folder behind a crash: what was synced, the first changes of names or any of them, and the first bytes of what
-    /// was appended.
+    /// The folder behind a crash: what was synced, the first changes of names or any of them, and the first bytes of
+    /// what was appended.
     pub fn crash(&self, numbers: &mut Numbers) -> Device {
         let disk = self.lock();
         let mut names = disk.synced.clone();
@@ -218,7 +218,8 @@ impl Change {
 }
 
 impl Content {
-    /// What is left behind a crash. Of a file that was cut all may be left, and what was appended then is written over it.
+    /// What is left behind a crash. Of a file that was cut all may be left, and what was appended then is written over
+    /// it.
     fn survivor(&self, numbers: &mut Numbers) -> Vec<u8> {
         let (bytes, synced) = (&self.bytes, &self.synced);
         let pairs = bytes.iter().zip(synced);
