@@ -19,5 +19,8 @@ pub use Rattle.uc_live.specs.Coming
 pub use Rattle.uc_live.specs.Compacting
 pub use Rattle.uc_live.specs.Writing
 pub use Rattle.uc_live.specs.Recording
+pub use Rattle.uc_live.specs.Views
+pub use Rattle.uc_live.specs.LiveJobs
+pub use Rattle.uc_version.specs.Jobs
 pub mod Batches
 pub mod SharedBatches
