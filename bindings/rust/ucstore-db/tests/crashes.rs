@@ -142,6 +142,25 @@ fn what_an_ended_process_left_is_synced_before_a_new_log() {
 }
 
 #[test]
+fn a_base_stays_before_its_logs_go() {
+    for seed in 0..40 {
+        let device = Device::default();
+        let db = open(&device).unwrap();
+        db.put("a", "1").unwrap();
+        db.sync().unwrap();
+        // The names of the new log, and then not those of the base.
+        device.fail(Some(Call::SyncNames), 1, false);
+        db.checkpoint().unwrap_err();
+        drop(db);
+        // It ends before what is removed is on the device.
+        device.fail(Some(Call::SyncNames), 1, true);
+        open(&device).unwrap_err();
+        let crashed = device.crash(&mut Numbers(seed));
+        assert_eq!(map_of(&open(&crashed).unwrap()).len(), 1);
+    }
+}
+
+#[test]
 fn a_large_base_has_all_rows() {
     let device = Device::default();
     let db = open(&device).unwrap();
