@@ -179,7 +179,18 @@ try_threads() {
     "$work/threads"
 }
 
+# The crate ucstore-sys declares the functions of the header, and its statuses.
+check_declarations() {
+    local crate=$here/rust/ucstore-sys/src/lib.rs
+    grep -oE 'pub fn ucstore_[a-z_]+' "$crate" | cut -d ' ' -f 3 | sort | diff "$work/declared" - >&2 ||
+        fail "ucstore-sys has other functions than the header"
+    sed -n '/^enum ucstore_status/,/^}/s/.*\(UCSTORE_[A-Z_]*\) = \([0-9]*\).*/\1 \2/p' "$work/usr/include/ucstore.h" > "$work/statuses"
+    sed -n 's/^pub const \(UCSTORE_[A-Z_]*\): i32 = \([0-9]*\);/\1 \2/p' "$crate" | diff "$work/statuses" - >&2 ||
+        fail "ucstore-sys has other statuses than the header"
+}
+
 try_rust() {
+    check_declarations
     cp -r "$here/rust" "$here/cases" "$work"
     rm -rf "$work/rust/target"
     (cd "$work/rust" && cargo test --offline --quiet -j 1 -p ucstore)

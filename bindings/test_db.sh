@@ -4,8 +4,8 @@
 #
 #     bindings/test_db.sh
 #
-# It takes less than a minute, or some ten with LONG=1. It needs cargo with Rust 1.89, and no network. UCSTORE_LIB_DIR may name
-# the folder of libucstore.a; else ./install at the top puts it into a temporary folder.
+# It takes less than a minute, or some three with LONG=1. SEED (1) is that of what is drawn. It needs cargo with Rust 1.89, and no
+# network. UCSTORE_LIB_DIR may name the folder of libucstore.a; else ./install at the top puts it into a temporary folder.
 set -euo pipefail
 here=$(cd "$(dirname "${BASH_SOURCE[0]}")" && pwd)
 work=$(mktemp -d)

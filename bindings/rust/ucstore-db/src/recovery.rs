@@ -153,7 +153,8 @@ impl Recovery {
             file.cut(self.length).map_err(Error::of_file(&name))?;
             file.sync().map_err(Error::of_file(&name))?;
         }
-        // From the last one on, so that none is missing behind a crash.
+        // The names that were read stay behind a crash, before others go: those of logs from the last one on.
+        folder.sync().map_err(Error::of_file(""))?;
         for number in self.files.logs.iter().rev() {
             if *number > self.number {
                 remove(&*folder, Name::Log(*number))?;

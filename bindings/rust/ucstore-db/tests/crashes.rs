@@ -2,7 +2,7 @@
 
 mod common;
 
-use common::{is_long, map_of, open, Call, Device, Histories, History, Numbers, Run};
+use common::{is_long, map_of, open, seed, Call, Device, Histories, History, Numbers, Run};
 use std::mem;
 use ucstore_db::{Batch, Error};
 
@@ -51,8 +51,8 @@ fn check_live(history: &History, run: &Run) {
 
 #[test]
 fn a_crash_at_any_call_loses_nothing_that_is_kept() {
-    let mut histories = histories(1, 12);
-    let mut numbers = Numbers(2);
+    let mut histories = histories(seed(1), 12);
+    let mut numbers = Numbers(seed(2));
     for _ in 0..if is_long() { 200 } else { 12 } {
         let history = histories.next();
         let whole = Device::default();
@@ -73,8 +73,8 @@ fn a_crash_at_any_call_loses_nothing_that_is_kept() {
 
 #[test]
 fn a_crash_within_a_recovery_loses_nothing() {
-    let mut histories = histories(3, 12);
-    let mut numbers = Numbers(4);
+    let mut histories = histories(seed(3), 12);
+    let mut numbers = Numbers(seed(4));
     for _ in 0..if is_long() { 200 } else { 12 } {
         let history = histories.next();
         let device = Device::default();
@@ -95,8 +95,8 @@ fn a_crash_within_a_recovery_loses_nothing() {
 
 #[test]
 fn a_fault_of_the_device_is_told_and_loses_nothing() {
-    let mut histories = histories(5, 12);
-    let mut numbers = Numbers(6);
+    let mut histories = histories(seed(5), 12);
+    let mut numbers = Numbers(seed(6));
     for _ in 0..if is_long() { 40 } else { 4 } {
         let history = histories.next();
         for (call, lasts) in Call::ALL.map(|call| [(call, false), (call, true)]).concat() {
@@ -138,6 +138,25 @@ fn what_an_ended_process_left_is_synced_before_a_new_log() {
             .unwrap();
         let crashed = device.crash(&mut Numbers(seed));
         assert_eq!(map_of(&open(&crashed).unwrap()).len(), 2);
+    }
+}
+
+#[test]
+fn a_base_stays_before_its_logs_go() {
+    for seed in 0..40 {
+        let device = Device::default();
+        let db = open(&device).unwrap();
+        db.put("a", "1").unwrap();
+        db.sync().unwrap();
+        // The names of the new log, and then not those of the base.
+        device.fail(Some(Call::SyncNames), 1, false);
+        db.checkpoint().unwrap_err();
+        drop(db);
+        // It ends before what is removed is on the device.
+        device.fail(Some(Call::SyncNames), 1, true);
+        open(&device).unwrap_err();
+        let crashed = device.crash(&mut Numbers(seed));
+        assert_eq!(map_of(&open(&crashed).unwrap()).len(), 1);
     }
 }
 

@@ -2,7 +2,7 @@
 
 mod common;
 
-use common::{is_long, Numbers, Temporary};
+use common::{is_long, seed, Numbers, Temporary};
 use std::collections::HashMap;
 use std::env;
 use std::io::{self, BufRead, BufReader, Write};
@@ -103,7 +103,7 @@ fn said(child: &mut Child) -> HashMap<u64, u64> {
 #[test]
 fn a_process_that_is_ended_loses_nothing() {
     let folder = Temporary::new("ended");
-    let mut numbers = Numbers(7);
+    let mut numbers = Numbers(seed(7));
     let mut whole = 0;
     for _ in 0..if is_long() { 500 } else { 50 } {
         let mut child = start(folder.path());

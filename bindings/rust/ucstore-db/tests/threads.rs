@@ -2,7 +2,7 @@
 
 mod common;
 
-use common::{is_long, map_of, Call, Device, Numbers};
+use common::{is_long, map_of, seed, Call, Device, Numbers};
 use std::io;
 use std::sync::atomic::{AtomicU64, Ordering};
 use std::sync::{Arc, Condvar, Mutex};
@@ -72,7 +72,7 @@ fn sums(db: &Db) -> (u64, u64) {
 fn count_together(db: &Db, writes: u64) {
     let (begun, acknowledged) = (AtomicU64::new(0), AtomicU64::new(0));
     with_threads(|thread| {
-        let mut numbers = Numbers(thread);
+        let mut numbers = Numbers(seed(thread));
         for _ in 0..writes {
             match numbers.below(40) {
                 0 => db.flush().unwrap(),

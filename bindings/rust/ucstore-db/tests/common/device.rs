@@ -133,11 +133,11 @@ impl Device {
         let first = numbers.below(disk.changes.len() as u64 + 1) as usize;
         let in_order = numbers.below(2) == 0;
         for (place, change) in disk.changes.iter().enumerate() {
-            if if in_order {
-                place < first
-            } else {
-                numbers.below(2) == 0
-            } {
+            let is_kept = match in_order {
+                true => place < first,
+                false => numbers.below(2) == 0,
+            };
+            if is_kept {
                 change.apply(&mut names);
             }
         }

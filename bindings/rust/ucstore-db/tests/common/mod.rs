@@ -45,6 +45,12 @@ impl Drop for Temporary {
     }
 }
 
+/// The seed of what is drawn, of several that a test draws from.
+pub fn seed(number: u64) -> u64 {
+    let seed = env::var("SEED").map_or(1, |text| text.parse().expect("SEED is a number"));
+    seed * 1000 + number
+}
+
 /// Whether the tests may take their time.
 pub fn is_long() -> bool {
     env::var_os("LONG").is_some()
