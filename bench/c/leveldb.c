@@ -67,6 +67,10 @@ void take_snapshot(void) {
     rows = leveldb_create_iterator(db, reading);
 }
 
+void read_last(void) {
+    leveldb_readoptions_set_snapshot(reading, NULL);
+}
+
 uint64_t get(const uint8_t *key, uint64_t sum) {
     char *error = NULL, *value;
     size_t length = 0;

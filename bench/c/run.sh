@@ -14,7 +14,8 @@
 # WRITES writes (1300000) of 300,000 keys of 16 bytes are written in batches of 1,000, and by ours and RocksDB one by one too. In
 # `puts` all set numbers of 8 bytes; in `counters` half of them merge some, which LevelDB can't do. Then what is gathered is flushed,
 # nothing is left to be compacted, a snapshot is taken, and all rows are read once. GETS keys (1000000) are looked up one by one,
-# and SCANS scans (10000) read 1 to 50 rows each. All programs must read the same.
+# and SCANS scans (10000) read 1 to 50 rows each. Then 20,000 writes are gathered, and a fifth as many keys are looked up, half of them
+# keys of these writes. All programs must read the same. Each call that writes is timed, too.
 #
 # All gather writes in memtables of 4 MiB. Our store has no threads: a write that finds the memtable full flushes it, and compacts what
 # is picked, so the time of its writes has both. The others flush and compact by threads beside the caller. The time of their writes has
@@ -116,6 +117,7 @@ measure() { # PART
         done
     done
     [ "$(cut -d ' ' -f 6 "$folder"/row.* | sort -u | wc -l)" -eq 1 ] || fail "the answers differ: $1"
+    [ "$(awk 'NF > 10 { print $11 }' "$folder"/row.* | sort -u | wc -l)" -eq 1 ] || fail "the last answers differ: $1"
 }
 
 # The median over a row's turns of what awk says of a line.
@@ -147,6 +149,15 @@ print_row() { # NAME
     printf '\n'
 }
 
+# The calls of a row that write, and its lookups of what is gathered. Rattle's program times neither.
+print_calls() { # NAME
+    local beside=RocksDB
+    if [ "${sizes[$1]}" -eq 1 ]; then beside='RocksDB, one by one'; fi
+    printf '%-20s %9s %12s %12s %10s' "$1" "$(median "$1" '$7')" "$(median "$1" '$8')" "$(median "$1" '$9')" "$(as_ms "$(median "$1" '$10')")"
+    for expression in '$7' '$8' '$10'; do printf ' %9s' "$(over "$1" "$beside" "$expression")"; done
+    printf '\n'
+}
+
 # Keeps the times of a row. Its case has the part, and what a batch has.
 keep_row() { # PART NAME
     local program=${2%%,*} case="$1, batches of 1,000"
@@ -154,6 +165,7 @@ keep_row() { # PART NAME
     keep_ms 'writes from C' "$case" "$program" "$(median "$2" '$1 + $2')"
     keep_ms 'lookups from C' "$case" "$program" "$(median "$2" '$3')"
     keep_ms 'scans from C' "$case" "$program" "$(median "$2" '$4')"
+    if [ "$program" != Rattle ]; then keep_ms 'lookups of what is gathered' "$case" "$program" "$(median "$2" '$10')"; fi
 }
 
 # Measures a part and prints its rows, in milliseconds. Debian's RocksDB has none.
@@ -173,6 +185,12 @@ run_part() { # PART
     for name in "${names[@]}"; do
         keep_row "$1" "$name"
         if [ "$name" != "Debian's" ]; then print_row "$name"; fi
+    done
+    echo
+    echo "$1: calls that write, in nanoseconds, and $((gets / 5)) lookups, half of what is gathered, in ms"
+    printf '%-20s %9s %12s %12s %10s %9s %9s %9s\n' '' median 99.9% longest lookups '/ median' '/ 99.9%' '/ lookups'
+    for name in "${names[@]}"; do
+        if [ "${programs[$name]}" != rattle ] && [ "$name" != "Debian's" ]; then print_calls "$name"; fi
     done
     echo
     names=()
@@ -196,6 +214,7 @@ goal 'writes from C' 'counters, batches of 1,000' RocksDB ms 'at most' 0.35
 goal 'writes from C' 'counters, one by one' RocksDB ms 'at most' 0.5
 goal 'lookups from C' 'counters, batches of 1,000' RocksDB ms 'at most' 0.5
 goal 'scans from C' 'counters, batches of 1,000' RocksDB ms 'at most' 0.5
+goal 'lookups of what is gathered' 'counters, one by one' RocksDB ms 'at most' 0.3
 for work in 'writes from C' 'lookups from C' 'scans from C'; do
     goal "$work" 'counters, batches of 1,000' Rattle ms 'at most' 1.05
 done

@@ -34,6 +34,9 @@ void settle(void);
 /* Takes the snapshot at which all is read. */
 void take_snapshot(void);
 
+/* From now on keys are looked up at the last sequence. */
+void read_last(void);
+
 /* Looks a key up, and adds what is found to a sum. */
 uint64_t get(const uint8_t *key, uint64_t sum);
 

@@ -18,6 +18,7 @@ static struct ucstore_batch *batches;
 static struct write *writes;
 static size_t batch_count;
 static uint64_t snapshot;
+static bool reads_last;
 
 /* A key whose last byte is above all digits. */
 static const uint8_t BEHIND_ALL[KEY] = {'b'};
@@ -78,10 +79,15 @@ void take_snapshot(void) {
     expect_ok(ucstore_snapshot(&store, &snapshot), "there is no snapshot");
 }
 
+void read_last(void) {
+    reads_last = true;
+}
+
 uint64_t get(const uint8_t *key, uint64_t sum) {
     uint8_t number[NUMBER];
     size_t size = 0;
-    int32_t status = ucstore_get_at(&store, key, KEY, snapshot, number, sizeof number, &size);
+    int32_t status = reads_last ? ucstore_get(&store, key, KEY, number, sizeof number, &size)
+                                : ucstore_get_at(&store, key, KEY, snapshot, number, sizeof number, &size);
     if (status == UCSTORE_NOT_FOUND) {
         return with_nothing(sum);
     }
