@@ -8,8 +8,11 @@ pub use Rattle.uc_live.specs.Compacting
 pub use Rattle.uc_live.specs.Writing
 pub use Rattle.uc_live.specs.Snapshots
 pub use Rattle.uc_live.specs.Recording
+pub use Rattle.uc_live.specs.LiveJobs
 pub mod Engines
 pub mod HeldEngines
 pub mod EngineViews
 pub mod HeldEngineViews
+pub mod EngineJobs
+pub mod HeldEngineJobs
 pub mod EngineReports

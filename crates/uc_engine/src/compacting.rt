@@ -1,7 +1,8 @@
 //! Flushes and compactions by the calling thread.
-ghost use Rattle.std.specs.Prelude.{◌≡◌, [], IfOk, IfErr, OnOk};
+ghost use Rattle.std.specs.Prelude.{◌≡◌, ◌≢◌, [], IfOk, IfErr, OnOk};
 ghost use Rattle.uc_live.specs.Compacting.{next_stretch, HasNoRoom, IsCompacted};
 ghost use Rattle.uc_live.specs.Writing.{Prepares};
+ghost use Rattle.uc_live.specs.declared.room_error.RoomError.TheVariants.{RunsClaimed};
 ghost use Rattle.uc_engine.specs.Engines.{meaning_of};
 
 use crate::engine::{AnyStore, Engine};
@@ -14,7 +15,7 @@ impl Engine {
         ensures kind { self.new.kind ≡ self.old.kind }
         ensures prepares { Prepares (meaning_of self.old.kind) self.old.live self.new.live [] }
         ensures all { OnOk result (self.new.live.gathered ≡ []) }
-        ensures err { IfErr result (λ error. HasNoRoom error self.new.live.version) }
+        ensures err { IfErr result (λ error. HasNoRoom error self.new.live) }
     {
         match &mut self.store {
             AnyStore::Append(store) => store.flush(alloc),
@@ -30,7 +31,8 @@ impl Engine {
         ensures kind { self.new.kind ≡ self.old.kind }
         ensures ok { IfOk result (λ compacted.
             IsCompacted (meaning_of self.old.kind) (next_stretch self.old.live) compacted self.old.live self.new.live) }
-        ensures err { IfErr result (λ error. HasNoRoom error self.old.live.version × (self.new ≡ self.old)) }
+        ensures err { IfErr result (λ error. HasNoRoom error self.old.live × (self.new ≡ self.old)) }
+        ensures never { IfErr result (λ error. error ≢ RunsClaimed) }
     {
         match &mut self.store {
             AnyStore::Append(store) => store.compact_once(alloc),

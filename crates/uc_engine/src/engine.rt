@@ -1,6 +1,9 @@
 //! [`Engine`]: a live store whose operator is a value.
 ghost use Rattle.std.specs.Prelude.{◌≡◌, length};
+ghost use Rattle.uc_batch.specs.Rising.{IsRising};
+ghost use Rattle.uc_version.specs.Owners.{IsOwner};
 ghost use Rattle.uc_live.specs.Lives as lives;
+ghost use Rattle.uc_live.specs.Lives.{owner_in};
 
 use crate::operator_kind::{LastBytes, OperatorKind, Texts};
 use std::marker::Model;
@@ -42,6 +45,19 @@ impl Drop for Engine {
 }
 
 impl Engine {
+    /// What holds of every engine, as `LiveStore::recall` says it. Proof step: does nothing when it runs.
+    pub fn recall(&self)
+        ensures owner { IsOwner (owner_in self.now.live) }
+        ensures rising { IsRising self.now.live.version.last self.now.live.gathered }
+    {
+        match &self.store {
+            AnyStore::Append(store) => store.recall(),
+            AnyStore::Counter(store) => store.recall(),
+            AnyStore::Maximum(store) => store.recall(),
+            AnyStore::Tail(store) => store.recall(),
+        }
+    }
+
     /// Which operator merges.
     pub fn kind(&self) -> OperatorKind
         ensures { result ≡ self.now.kind }

@@ -3,10 +3,10 @@
 //!
 //! An [`Engine`] is a [`LiveStore`](uc_live::LiveStore) of one of the operators, and which that is. Each method is a
 //! match over the operators, and does what the store's method of the same name does. It starts no thread. An
-//! [`EngineView`] is a [`View`](uc_live::View) in the same way.
+//! [`EngineView`] is a [`View`](uc_live::View) in the same way, and an [`EngineJob`] a [`Job`](uc_live::Job).
 //!
 //! Read `specs/Engines.antt` first, then `operator_kind.rt`, `engine.rt`, `opening.rt`, `writing.rt`, `reading.rt`,
-//! `snapshots.rt`, `compacting.rt` and `engine_view.rt`.
+//! `snapshots.rt`, `compacting.rt`, `engine_job.rt` and `engine_view.rt`.
 //!
 //! Tests: `uc_tests_engine`.
 //!
@@ -17,6 +17,7 @@
 
 mod compacting;
 mod engine;
+mod engine_job;
 mod engine_view;
 mod opening;
 mod operator_kind;
@@ -26,6 +27,7 @@ mod snapshots;
 mod writing;
 
 pub use engine::Engine;
+pub use engine_job::EngineJob;
 pub use engine_view::EngineView;
 pub use opening::OpenedEngine;
 pub use operator_kind::OperatorKind;
@@ -33,7 +35,7 @@ pub use report::EngineReport;
 pub use uc_batch::{BatchError, Ended};
 pub use uc_bytes::{Bytes, OpRef};
 pub use uc_live::{
-    GREATEST_STOP, LiveOpenError, LiveOptions, Options, ReleaseError, RoomError, WriteError,
-    batches_are_walked, recorded_batch_is_recovered,
+    GREATEST_STOP, InstallError, JobEnd, LiveOpenError, LiveOptions, Options, ReleaseError,
+    RoomError, WriteError, batches_are_walked, jobs_go_in, recorded_batch_is_recovered,
 };
 pub use uc_query_read::{Answer, Query, Rows};

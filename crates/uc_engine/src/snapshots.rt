@@ -15,7 +15,7 @@ impl Engine {
     pub fn snapshot(&mut self, alloc: Global) -> Result<u64, RoomError>
         ensures kind { self.new.kind ≡ self.old.kind }
         ensures ok { IfOk result (TakesSnapshot (meaning_of self.old.kind) self.old.live self.new.live) }
-        ensures err { IfErr result (λ error. HasNoRoom error self.new.live.version
+        ensures err { IfErr result (λ error. HasNoRoom error self.new.live
             × Prepares (meaning_of self.old.kind) self.old.live self.new.live []) }
     {
         match &mut self.store {

@@ -9,10 +9,11 @@ use Rattle.uc_version_work.specs.Picking.{candidates_of}
 use Rattle.uc_version.specs.Owners.{Owner, is_busy}
 use Rattle.uc_version.specs.AtOnce.{after_compaction, install_at}
 use Rattle.uc_live.specs.Lives.{Live}
-use Rattle.uc_live.specs.Going.{GoesOn, Follows}
+use Rattle.uc_live.specs.Going.{GoesOn, Follows, HoldsOn}
 use Rattle.uc_live.specs.Compacting.{next_stretch, IsCompacted}
 use Rattle.uc_live.specs.declared.live_store.LiveStore.TheInside.{Inside}
 use Rattle.uc_live.specs.HeldLives.{IsLive, live}
+use Rattle.uc_live.proofs.Holding.{claims_up}
 use Rattle.uc_live.proofs.Going.{follows_event}
 use Rattle.uc_live.proofs.Held.{next_is}
 
@@ -34,11 +35,12 @@ module _ {O : Type 0} (m : Operation) (i : Inside O) (is : IsLive i) (now : Live
         subst (λ (f : Option Stretch). IsCompacted m f true now (live (record i { owned = owned }))) (sym (next ∙ some))
         (subst (λ (l : Live). IsCompacted m (Some s) true l (live (record i { owned = owned }))) view here)
 
-    pub goes : GoesOn m now (live (record i { owned = owned })) []
-    goes =
+    pub goes : HoldsOn i.owned (after_compaction m i.owned s) → GoesOn m now (live (record i { owned = owned })) []
+    goes holds =
         let v = i.owned.version in
         let on : Follows m v (after_compaction m i.owned s).version i.active.shown i.active.shown [] =
         follows_event m v (Installed (install_at m v s)) i.active.shown may tt refl in
-        let there : GoesOn m (live i) (live (record i { owned = owned })) [] =
-        (subst (λ (o : Owner). Follows m v o.version i.active.shown i.active.shown []) (sym after) on, refl, refl) in
-        subst (λ (l : Live). GoesOn m l (live (record i { owned = owned })) []) view there
+        let there : GoesOn m (live i) (live (record i { owned = after_compaction m i.owned s })) [] =
+        (on, refl, refl, holds, claims_up s.first s.count i.owned.claims) in
+        subst (λ (l : Live). GoesOn m l (live (record i { owned = owned })) []) view
+        (subst (λ (o : Owner). GoesOn m (live i) (live (record i { owned = o })) []) (sym after) there)

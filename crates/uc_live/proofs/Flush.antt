@@ -1,6 +1,7 @@
 -- A flush of what is gathered.
 use Rattle.std.proofs.Common.{◌≡◌, ◌≢◌, ℕ, ◌+◌, ◌-◌, ◌^◌, ◌<◌, Bool, true, false, List, [], ◌∷◌, Option, Some, None, ◌⊎◌, inl, inr, length, refl, sym, ap, ◌∙◌, subst, arith}
-use Rattle.std.specs.Prelude.{nat_le, nat_lt, ◌↔◌}
+use Rattle.std.specs.Prelude.{nat_le, nat_lt, ◌↔◌, is_some}
+use Rattle.std.specs.List.{list_any}
 use Rattle.std.proofs.lemmas.Bool.{lt-ltb, ltb-false, le-leb}
 use Rattle.uc_bytes.specs.declared.write.Write.{Write}
 use Rattle.uc_oper.specs.Operation.{Operation}
@@ -16,11 +17,14 @@ use Rattle.uc_version_state.specs.declared.feed_error.FeedError.{FeedError}
 use Rattle.uc_version_state.specs.declared.feed_error.FeedError.TheVariants.{Back, TooManyRuns, IdsSpent, Memory}
 use Rattle.uc_version_state.proofs.Memtables.{rising_from_any}
 use Rattle.uc_version.specs.Owners.{Owner, IsOwner}
+use Rattle.uc_version.specs.Claiming.{Claim, is_held}
+use Rattle.uc_version.specs.Installing.{claimed_runs}
 use Rattle.uc_version.specs.Feeding.{after_feed}
-use Rattle.uc_live.specs.Lives.{Live}
-use Rattle.uc_live.specs.Going.{Follows}
+use Rattle.uc_live.specs.Lives.{Live, owner_in, has_claims}
+use Rattle.uc_live.specs.Going.{Follows, HoldsOn}
 use Rattle.uc_live.specs.declared.live_store.LiveStore.TheInside.{Inside}
 use Rattle.uc_live.specs.HeldLives.{IsLive, live}
+use Rattle.uc_live.proofs.Holding.{claims_down}
 use Rattle.uc_live.proofs.Going.{follows_flush}
 use Rattle.uc_live.proofs.Held.{size-part}
 
@@ -93,3 +97,21 @@ module _ {O : Type 0} (i : Inside O) (is : IsLive i) (owner : IsOwner i.owned) (
       let here : Follows m v owned.version i.active.shown [] [] =
       subst (λ (o : Owner). Follows m v o.version i.active.shown [] []) (sym e) (follows_flush m v i.active.shown may) in
       subst (λ (l : Live). Follows m l.version owned.version l.gathered [] []) view here
+
+  -- what the law of claims says of feeds
+  abbrev pub HoldOverFeeds : Type 0
+  HoldOverFeeds = (o : Owner) (c : Claim) (ws : List Write) → IsOwner o → is_held o c ≡ true → MayFeed o.version ws →
+      (is_held (after_feed ws o) c ≡ true) × (claimed_runs (after_feed ws o) c ≡ claimed_runs o c)
+
+  pub holds_over : HoldOverFeeds → (owned : Owner) → feed_refusal i.owned.version i.active.shown ≡ None → owned ≡ after_feed i.active.shown i.owned → HoldsOn (owner_in now) owned
+  holds_over stay owned none e =
+      let v = i.owned.version in
+      let may = (leave v i.active.shown (rising_from_any v.last i.active.shown rising)).0 none in
+      let here : HoldsOn i.owned owned = subst (λ (o : Owner). HoldsOn i.owned o) (sym e) (λ c held. stay i.owned c i.active.shown owner held may) in
+      subst (λ (l : Live). HoldsOn (owner_in l) owned) view here
+
+  pub claims_stay : (owned : Owner) → owned ≡ after_feed i.active.shown i.owned → list_any is_some owned.claims ≡ has_claims now
+  claims_stay owned e =
+      ap (λ (o : Owner). list_any is_some o.claims) e
+      ∙ claims_down (length (memtables_in i.owned.version i.active.shown)) i.owned.claims
+      ∙ ap has_claims view

@@ -8,8 +8,9 @@ use Rattle.uc_version_state.specs.Versions.{Stored}
 use Rattle.uc_version_state.specs.declared.event.Event.{Event}
 use Rattle.uc_version_state.specs.declared.event.Event.TheVariants.{Installed, Flushed, Kept, Released}
 use Rattle.uc_version_state.specs.Histories.{MayHappen, MayFollow, KeepsStay, after, writes_brought}
-use Rattle.uc_live.specs.Lives.{Live}
+use Rattle.uc_live.specs.Lives.{Live, owner_in}
 use Rattle.uc_live.specs.Going.{Follows, GoesOn}
+use Rattle.uc_live.proofs.Holding.{same_held, holds_on}
 
 pub follow-append : (m : Operation) (v : Stored) (es fs : List Event) → MayFollow m v es → MayFollow m (fold after v es) fs → MayFollow m v (es ++ fs)
 follow-append m v [] fs h more = more
@@ -78,8 +79,13 @@ module _ (m : Operation) where
   }
 
   pub goes_nowhere : (l : Live) → GoesOn m l l []
-  goes_nowhere l = (follows_none l.version l.gathered, refl, refl)
+  goes_nowhere l = (follows_none l.version l.gathered, refl, refl, same_held (owner_in l), refl)
 
   pub goes_on : (a b c : Live) (us vs : List Write) → GoesOn m a b us → GoesOn m b c vs → GoesOn m a c (us ++ vs)
-  goes_on a b c us vs first second =
-      (follows_on a.version b.version c.version a.gathered b.gathered c.gathered us vs first.0 second.0, second.1 ∙ first.1, second.2 ∙ first.2)
+  goes_on a b c us vs first second = (
+    follows_on a.version b.version c.version a.gathered b.gathered c.gathered us vs first.0 second.0,
+    second.1 ∙ first.1,
+    second.2 ∙ first.2,
+    holds_on (owner_in a) (owner_in b) (owner_in c) first.3 second.3,
+    second.4 ∙ first.4,
+  )

@@ -1,6 +1,5 @@
 -- What is held stays a live store.
-use Rattle.std.proofs.Common.{◌≡◌, ℕ, zero, suc, ◌-◌, ◌^◌, ◌<◌, List, [], ◌∷◌, ◌++◌, Option, None, map, length, refl, sym, ap, ◌∙◌, subst, arith}
-use Rattle.std.specs.Prelude.{replicate}
+use Rattle.std.proofs.Common.{◌≡◌, ℕ, ◌-◌, ◌^◌, ◌<◌, List, [], ◌++◌, refl, sym, ap, subst, arith}
 use Rattle.std.proofs.lemmas.List.{append-nil}
 use Rattle.uc_bytes.specs.declared.write.Write.{Write}
 use Rattle.uc_oper.specs.Operation.{Operation}
@@ -10,21 +9,18 @@ use Rattle.uc_memtable.specs.Gathering.{Gathering}
 use Rattle.uc_memtable.proofs.RisingParts.{rising_front}
 use Rattle.uc_version_state.specs.declared.stretch.Stretch.{Stretch}
 use Rattle.uc_version_state.specs.Picks.{picked}
-use Rattle.uc_version_state.specs.Feeds.{fed, memtables_in}
-use Rattle.uc_version_state.specs.Installs.{installed}
+use Rattle.uc_version_state.specs.declared.options.Options.{Options}
 use Rattle.uc_version_state.proofs.Filling.{grows_by}
 use Rattle.uc_version_work.specs.Picking.{candidates_of}
-use Rattle.uc_version.specs.declared.held_stretch.HeldStretch.{HeldStretch}
-use Rattle.uc_version.specs.declared.held_stretch.TheConstants.{MOST_CLAIMS}
-use Rattle.uc_version.specs.Owners.{Owner, unclaimed, is_busy}
-use Rattle.uc_version.specs.Feeding.{moved_down, after_feed}
-use Rattle.uc_version.specs.Installing.{moved_up}
-use Rattle.uc_version.specs.AtOnce.{after_compaction, install_at}
+use Rattle.uc_version.specs.Owners.{Owner, is_busy}
+use Rattle.uc_version.specs.Feeding.{after_feed}
+use Rattle.uc_version.specs.AtOnce.{after_compaction}
 use Rattle.uc_live.specs.declared.live_store.LiveStore.TheInside.{Inside}
 use Rattle.uc_live.specs.HeldLives.{IsLive, live}
 use Rattle.uc_live.specs.Compacting.{next_stretch}
 use Rattle.uc_live.specs.Lives.{Live}
 use Rattle.uc_live.specs.Going.{GoesOn}
+use Rattle.uc_live.proofs.Holding.{same_held}
 use Rattle.uc_live.proofs.Going.{follows_none}
 
 -- ---- lists of writes
@@ -38,17 +34,13 @@ size-part n ws vs lt = let le = grows_by ws vs in omega (arith, le, lt)
 pub size-first : (n : ℕ) (ws vs : List Write) → memtable_size (ws ++ vs) < n → memtable_size (ws ++ []) < n
 size-first n ws vs lt = subst (λ (us : List Write). memtable_size us < n) (sym (append-nil ws)) (size-part n ws vs lt)
 
--- ---- owners without claims
-
-none-moves : (f : Option HeldStretch → Option HeldStretch) → f None ≡ None → (n : ℕ) → map f (replicate n None) ≡ replicate n None
-none-moves f none zero = refl
-none-moves f none (suc n) = ap (λ (c : Option HeldStretch). c ∷ map f (replicate n None)) none ∙ ap (λ (cs : List (Option HeldStretch)). None ∷ cs) (none-moves f none n)
+-- ---- stores
 
 module _ {O : Type 0} (i : Inside O) (is : IsLive i) where
   pub unprepared_is : (active : Gathering) → active ≡ record i.active { waiting = [] } → IsLive (record i { active = active })
   unprepared_is active e = subst (λ (a : Gathering). IsLive (record i { active = a })) (sym e) (record {
     options_good = is.options_good;
-    idle = is.idle;
+    options_are = is.options_are;
     whole = is.whole;
     small = size-first (2 ^ 64 - 1) i.active.shown i.active.waiting is.small;
     rising = rising-first i.owned.version.last i.active.shown i.active.waiting is.rising;
@@ -57,44 +49,29 @@ module _ {O : Type 0} (i : Inside O) (is : IsLive i) where
 
   -- more waits
   pub prepared_is : (active : Gathering) → memtable_size (active.shown ++ active.waiting) < 2 ^ 64 - 1 → IsRising i.owned.version.last (active.shown ++ active.waiting) → IsLive (record i { active = active })
-  prepared_is active small rising = record { options_good = is.options_good; idle = is.idle; whole = is.whole; small = small; rising = rising; taken = is.taken }
+  prepared_is active small rising = record { options_good = is.options_good; options_are = is.options_are; whole = is.whole; small = small; rising = rising; taken = is.taken }
 
   -- a refusal changes nothing
   pub same_is : (owned : Owner) → owned ≡ i.owned → IsLive (record i { owned = owned })
   same_is owned e = subst (λ (o : Owner). IsLive (record i { owned = o })) (sym e) is
-
-  idle_fed : (ws : List Write) → after_feed ws i.owned ≡ unclaimed (fed ws i.owned.version) i.options.store
-  idle_fed ws =
-      let v = i.owned.version in
-      let options = i.options.store in
-      let moves = moved_down (length (memtables_in v ws)) in
-      ap (after_feed ws) is.idle
-      ∙ ap (λ (cs : List (Option HeldStretch)). record { version = fed ws v; options = options; claims = cs }) (none-moves moves refl MOST_CLAIMS)
 
   -- what is gathered became a run
   pub flushed_is : (owned : Owner) (active : Gathering) → owned ≡ after_feed i.active.shown i.owned → active ≡ record { shown = []; waiting = [] } → IsLive (record i { owned = owned; active = active })
   flushed_is owned active e none = subst (λ (o : Owner). IsLive (record i { owned = o; active = active })) (sym e)
       (subst (λ (a : Gathering). IsLive (record i { owned = after_feed i.active.shown i.owned; active = a })) (sym none) (record {
         options_good = is.options_good;
-        idle = idle_fed i.active.shown;
+        options_are = is.options_are;
         whole = is.whole;
         small = omega arith;
         rising = tt;
         taken = is.taken;
       }))
 
-  idle_compacted : (m : Operation) (s : Stretch) → after_compaction m i.owned s ≡ unclaimed (installed (install_at m i.owned.version s) i.owned.version) i.options.store
-  idle_compacted m s =
-      let v = i.owned.version in
-      let options = i.options.store in
-      ap (λ (o : Owner). after_compaction m o s) is.idle
-      ∙ ap (λ (cs : List (Option HeldStretch)). record { version = installed (install_at m v s) v; options = options; claims = cs }) (none-moves (moved_up s.first s.count) refl MOST_CLAIMS)
-
   -- runs were compacted
   pub compacted_is : (m : Operation) (s : Stretch) (owned : Owner) → owned ≡ after_compaction m i.owned s → IsLive (record i { owned = owned })
   compacted_is m s owned e = subst (λ (o : Owner). IsLive (record i { owned = o })) (sym e) (record {
     options_good = is.options_good;
-    idle = idle_compacted m s;
+    options_are = is.options_are;
     whole = is.whole;
     small = is.small;
     rising = is.rising;
@@ -103,13 +80,13 @@ module _ {O : Type 0} (i : Inside O) (is : IsLive i) where
 
   -- what is picked next
   pub next_is : picked i.owned.options (candidates_of i.owned.version (is_busy i.owned)) ≡ next_stretch (live i)
-  next_is = ap (λ (o : Owner). picked o.options (candidates_of o.version (is_busy o))) is.idle
+  next_is = ap (λ (o : Options). picked o (candidates_of i.owned.version (is_busy i.owned))) is.options_are
 
 -- ---- what waits is given up
 
 -- no read tells
 pub unprepared_goes : {O : Type 0} (m : Operation) (i : Inside O) (now : Live) → live i ≡ now → (active : Gathering) → active ≡ record i.active { waiting = [] } → GoesOn m now (live (record i { active = active })) []
 unprepared_goes m i now view active e =
-    let here : GoesOn m (live i) (live (record i { active = record i.active { waiting = [] } })) [] = (follows_none m i.owned.version i.active.shown, refl, refl) in
+    let here : GoesOn m (live i) (live (record i { active = record i.active { waiting = [] } })) [] = (follows_none m i.owned.version i.active.shown, refl, refl, same_held i.owned, refl) in
     subst (λ (l : Live). GoesOn m l (live (record i { active = active })) []) view
     (subst (λ (a : Gathering). GoesOn m (live i) (live (record i { active = a })) []) (sym e) here)

@@ -1,6 +1,6 @@
 -- The snapshots of a live store and the keeps of its version are the same sequences.
 use Rattle.std.proofs.Common.{◌≡◌, ◌≢◌, ◌⊎◌, inl, inr, ⊎_elim, ℕ, zero, suc, ◌<◌, Bool, true, false, cond, eqb, not, ◌||◌, List, [], ◌∷◌, ◌++◌, length, take, ◌+◌, ◌-◌, get_or, length-append, Contains, refl, sym, ap, ◌∙◌, subst, arith}
-use Rattle.std.specs.Prelude.{◌↔◌, remove, if◌then◌else◌}
+use Rattle.std.specs.Prelude.{◌↔◌, Option, remove, if◌then◌else◌}
 use Rattle.std.specs.List.{AllWithin}
 use Rattle.std.proofs.Math.Seq.{take-append_seam}
 use Rattle.std.proofs.lemmas.Bool.Decides.{nat_tests}
@@ -10,7 +10,7 @@ use Rattle.uc_model.proofs.Members.{contains_first, contains_later, contains_cas
 use Rattle.uc_version_state.specs.Versions.{Stored}
 use Rattle.uc_version_state.specs.Snapshots.{with_keep, without_keep, released}
 use Rattle.uc_version_state.proofs.Snapped.{among_kept, among_released}
-use Rattle.uc_version.specs.Owners.{Owner}
+use Rattle.uc_version.specs.declared.held_stretch.HeldStretch.{HeldStretch}
 use Rattle.uc_live.specs.Lives.{Live}
 use Rattle.uc_live.specs.HeldLives.{IsLive}
 use Rattle.uc_live.specs.Snapshots.{without_one, is_among, without_snapshot}
@@ -161,10 +161,11 @@ module _ (seq : ℕ) where
 
 -- ---- the store without a snapshot
 
-pub live_released : (l now : Live) (v : Stored) (seq : ℕ) (rest : List ℕ) → l ≡ now → v ≡ released seq l.version → rest ≡ without_one seq l.snapshots → is_among seq (without_one seq l.snapshots) ≡ false →
-    record l { version = v; snapshots = rest } ≡ without_snapshot seq now
-live_released l now v seq rest same version is none =
-    ap (λ (u : Stored). record l { version = u; snapshots = rest }) version
+pub live_released : (l now : Live) (v : Stored) (claims : List (Option HeldStretch)) (seq : ℕ) (rest : List ℕ) → l ≡ now → v ≡ released seq l.version → claims ≡ l.claims → rest ≡ without_one seq l.snapshots → is_among seq (without_one seq l.snapshots) ≡ false →
+    record l { version = v; snapshots = rest; claims = claims } ≡ without_snapshot seq now
+live_released l now v claims seq rest same version stay is none =
+    ap (λ (u : Stored). record l { version = u; snapshots = rest; claims = claims }) version
+    ∙ ap (λ (cs : List (Option HeldStretch)). record l { version = released seq l.version; snapshots = rest; claims = cs }) stay
     ∙ ap (λ (ss : List ℕ). record l { version = released seq l.version; snapshots = ss }) is
     ∙ ap (λ (b : Bool). record l { version = if b then l.version else released seq l.version; snapshots = without_one seq l.snapshots }) (sym none)
     ∙ ap (without_snapshot seq) same
@@ -185,7 +186,7 @@ module _ {O : Type 0} (i : Inside O) (is : IsLive i) where
       IsLive (record i { owned = record i.owned { version = v }; snapshots = j.snapshots })
   live_with j v limit last alike = record {
     options_good = is.options_good;
-    idle = ap (λ (o : Owner). record o { version = v }) is.idle;
+    options_are = is.options_are;
     whole = limit ∙ is.whole;
     small = is.small;
     rising = subst (λ (n : ℕ). IsRising n (i.active.shown ++ i.active.waiting)) (sym last) is.rising;

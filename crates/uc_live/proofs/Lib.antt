@@ -1,3 +1,4 @@
+pub mod Holding
 pub mod Going
 pub mod Free
 pub mod Recorded
@@ -11,3 +12,5 @@ pub mod Keeping
 pub mod Prepared
 pub mod Last
 pub mod LogTaken
+pub mod JobsHeld
+pub mod JobsOut

@@ -65,7 +65,7 @@ module _ (m : Operation) where
   -- ---- a store that goes on
 
   -- events happened
-  taken_then : (old new : Live) (before ws : List Write) (events : List Event) → HasTaken m old before → MayFollow m old.version events → new.version ≡ fold after old.version events →
+  pub taken_then : (old new : Live) (before ws : List Write) (events : List Event) → HasTaken m old before → MayFollow m old.version events → new.version ≡ fold after old.version events →
       flat_map writes_brought events ++ new.gathered ≡ old.gathered ++ ws → HasTaken m new (before ++ ws)
   taken_then old new before ws fs taken follow version writes =
       let o = taken.history.opening in
@@ -92,7 +92,7 @@ module _ (m : Operation) where
   taken_on old new before ws taken on = taken_then old new before ws on.0.events taken on.0.follow on.0.version on.0.writes
 
   -- no write came
-  same_writes : (l : Live) (ws : List Write) → HasTaken m l (ws ++ []) → HasTaken m l ws
+  pub same_writes : (l : Live) (ws : List Write) → HasTaken m l (ws ++ []) → HasTaken m l ws
   same_writes l ws taken = subst (λ (us : List Write). HasTaken m l us) (append-nil ws) taken
 
   pub taken_snapshot : (old new : Live) (before : List Write) (seq : ℕ) → HasTaken m old before → TakesSnapshot m old new seq → HasTaken m new before

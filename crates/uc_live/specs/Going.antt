@@ -1,12 +1,15 @@
 -- How a live store goes on.
-use Rattle.std.specs.Prelude.{◌≡◌, List, ◌++◌, fold}
+use Rattle.std.specs.Prelude.{◌≡◌, true, List, ◌++◌, fold}
 use Rattle.std.specs.List.{flat_map}
 use Rattle.uc_bytes.specs.declared.write.Write.{Write}
 use Rattle.uc_oper.specs.Operation.{Operation}
 use Rattle.uc_version_state.specs.Versions.{Stored}
 use Rattle.uc_version_state.specs.declared.event.Event.{Event}
 use Rattle.uc_version_state.specs.Histories.{MayFollow, KeepsStay, after, writes_brought}
-use Rattle.uc_live.specs.Lives.{Live}
+use Rattle.uc_version.specs.Owners.{Owner}
+use Rattle.uc_version.specs.Claiming.{Claim, is_held}
+use Rattle.uc_version.specs.Installing.{claimed_runs}
+use Rattle.uc_live.specs.Lives.{Live, owner_in, has_claims}
 
 -- Events happened to a version, each of which might happen, and none of them was a snapshot that comes or goes. What
 -- was gathered before it, and then `ws`, is what they brought, and then what is gathered now.
@@ -17,7 +20,13 @@ pub record Follows (m : Operation) (v v' : Stored) (gathered gathered' ws : List
   pub version : v' ≡ fold after v events
   pub writes : flat_map writes_brought events ++ gathered' ≡ gathered ++ ws
 
--- The store took these writes. Meanwhile what was gathered may have become runs, and runs may have been compacted. Its
--- snapshots and options stay.
+-- Each claim that was held is held, with the runs that it had.
+abbrev pub HoldsOn : Owner → Owner → Type 0
+HoldsOn o p = (c : Claim) → is_held o c ≡ true → (is_held p c ≡ true) × (claimed_runs p c ≡ claimed_runs o c)
+
+-- The store took these writes. Meanwhile what was gathered may have become runs, and runs of no claim may have been
+-- compacted. Its snapshots and options stay, and so do its claims. None comes.
 abbrev pub GoesOn : Operation → Live → Live → List Write → Type 0
-GoesOn m old new ws = Follows m old.version new.version old.gathered new.gathered ws × (new.snapshots ≡ old.snapshots) × (new.options ≡ old.options)
+GoesOn m old new ws =
+    Follows m old.version new.version old.gathered new.gathered ws × (new.snapshots ≡ old.snapshots) × (new.options ≡ old.options)
+    × HoldsOn (owner_in old) (owner_in new) × (has_claims new ≡ has_claims old)

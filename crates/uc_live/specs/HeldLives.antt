@@ -2,18 +2,17 @@
 use Rattle.std.specs.Prelude.{◌≡◌, ℕ, ◌-◌, ◌^◌, ◌<◌, ◌↔◌, true, ◌++◌, Contains}
 use Rattle.uc_batch.specs.Rising.{IsRising}
 use Rattle.uc_run.specs.Size.{memtable_size}
-use Rattle.uc_version.specs.Owners.{unclaimed}
 use Rattle.uc_live.specs.LiveOptions.{are_good}
 use Rattle.uc_live.specs.Lives.{Live}
 use Rattle.uc_live.specs.declared.live_store.LiveStore.TheInside.{Inside}
 
 abbrev pub live : {O : Type 0} → Inside O → Live
-live i = record { version = i.owned.version; gathered = i.active.shown; prepared = i.active.waiting; snapshots = i.snapshots.items; options = i.options }
+live i = record { version = i.owned.version; gathered = i.active.shown; prepared = i.active.waiting; snapshots = i.snapshots.items; claims = i.owned.claims; options = i.options }
 
 pub record IsLive {O : Type 0} (i : Inside O) : Type 0 where
   pub options_good : are_good i.options ≡ true
-  -- nothing is claimed
-  pub idle : i.owned ≡ unclaimed i.owned.version i.options.store
+  -- its owner compacts by them
+  pub options_are : i.owned.options ≡ i.options.store
   -- the version never cuts what it is fed
   pub whole : i.owned.version.limit ≡ 2 ^ 64 - 1
   pub small : memtable_size (i.active.shown ++ i.active.waiting) < 2 ^ 64 - 1

@@ -7,5 +7,6 @@ pub mod Going
 pub mod Writing
 pub mod Compacting
 pub mod Snapshots
+pub mod LiveJobs
 pub mod Coming
 pub mod Recording

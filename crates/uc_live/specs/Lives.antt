@@ -1,21 +1,34 @@
 -- A store that is written to: a version, and the writes that are gathered before it.
-use Rattle.std.specs.Prelude.{ℕ, List, [], ◌++◌}
+use Rattle.std.specs.Prelude.{ℕ, Bool, List, [], ◌++◌, Option, is_some}
+use Rattle.std.specs.List.{list_any}
 use Rattle.uc_bytes.specs.declared.write.Write.{Write}
 use Rattle.uc_batch.specs.Rising.{last_of}
 use Rattle.uc_version_state.specs.Versions.{Stored, writes_in}
 use Rattle.uc_version_state.specs.Openings.{Opening, opened}
 use Rattle.uc_version_state.specs.Snapshots.{released}
+use Rattle.uc_version.specs.declared.held_stretch.HeldStretch.{HeldStretch}
+use Rattle.uc_version.specs.Owners.{Owner, unclaimed}
 use Rattle.uc_live.specs.declared.live_options.LiveOptions.{LiveOptions}
 use Rattle.uc_live.specs.LiveOptions.{version_options}
 
 -- a version; the writes that no run has yet, oldest first; those of a batch that is prepared, which no read sees; the
--- sequence of each snapshot that was taken and not released, oldest first; and how it is kept
+-- sequence of each snapshot that was taken and not released, oldest first; for each number the claim that has it, if one
+-- is held: a job is out for each; and how it is kept
 pub record Live : Type 0 where
   pub version : Stored
   pub gathered : List Write
   pub prepared : List Write
   pub snapshots : List ℕ
+  pub claims : List (Option HeldStretch)
   pub options : LiveOptions
+
+-- the owner of its runs
+abbrev pub owner_in : Live → Owner
+owner_in l = record { version = l.version; options = l.options.store; claims = l.claims }
+
+-- whether a claim is held
+abbrev pub has_claims : Live → Bool
+has_claims l = list_any is_some l.claims
 
 -- its plain writes: those of its runs, and those that are gathered
 abbrev pub writes_of : Live → List Write
@@ -29,9 +42,11 @@ last l = last_of l.version.last l.gathered
 abbrev pub empty_opening : LiveOptions → Opening
 empty_opening o = record { writes = []; keeps = []; options = version_options o }
 
--- a store without writes and without snapshots
+-- a store without writes, without snapshots and without claims
 abbrev pub created : LiveOptions → Live
-created o = record { version = released 0 (opened (empty_opening o)); gathered = []; prepared = []; snapshots = []; options = o }
+created o =
+    let version = released 0 (opened (empty_opening o)) in
+    record { version = version; gathered = []; prepared = []; snapshots = []; claims = (unclaimed version o.store).claims; options = o }
 
 -- without the batch that is prepared
 abbrev pub unprepared : Live → Live

@@ -43,7 +43,7 @@ abbrev pub Refuses : Op → Live → Live → WriteError → Type 0
 Refuses op old new (Faulty fault) = ⊥
 Refuses op old new SequencesSpent = 2 ^ 56 ≤ last old + 1
 Refuses op old new TooLong = FitsOp op → ⊥
-Refuses op old new (NoRoom error) = HasNoRoom error new.version
+Refuses op old new (NoRoom error) = HasNoRoom error new
 
 -- ---- a batch
 
@@ -85,4 +85,4 @@ abbrev pub RefusesBatch : Result (List Write) BatchError → Live → WriteError
 RefusesBatch read new (Faulty fault) = read ≡ Err fault
 RefusesBatch read new SequencesSpent = read ≡ Err SequenceTooLarge
 RefusesBatch read new TooLong = ⊥
-RefusesBatch read new (NoRoom error) = HasNoRoom error new.version
+RefusesBatch read new (NoRoom error) = HasNoRoom error new

@@ -1,14 +1,17 @@
 //! Compactions by the calling thread.
-ghost use Rattle.std.specs.Prelude.{◌≡◌, ◌<◌, [], true, IfOk, IfErr, OnOk, length};
+ghost use Rattle.std.specs.Prelude.{◌≡◌, ◌≢◌, ◌<◌, [], None, true, IfOk, IfErr, OnOk, length};
 ghost use Rattle.uc_claims.specs.declared.table.TheConstants.{MOST_SLOTS};
 ghost use Rattle.uc_live.specs.Compacting.{next_stretch, HasNoRoom, IsCompacted};
 ghost use Rattle.uc_live.specs.Going.{GoesOn};
+ghost use Rattle.uc_live.specs.declared.room_error.RoomError.TheVariants.{RunsClaimed};
 
 use crate::live_store::LiveStore;
 use crate::room_error::RoomError;
 use std::alloc::Global;
 use uc_oper::Operator;
-use uc_version::{Alone, CompactError, picks_can_be_claimed};
+use uc_version::{
+    Alone, CompactError, MOST_SLOTS, claimable_stretches_can_be_compacted, picks_can_be_claimed,
+};
 use uc_version_state::something_is_picked_above_the_trigger;
 
 impl<O: Operator> LiveStore<O> {
@@ -21,10 +24,12 @@ impl<O: Operator> LiveStore<O> {
         ensures fewer { IfOk result (λ compacted.
             compacted ≡ true → length self.new.version.runs < length self.old.version.runs) }
         ensures goes_on { IfOk result (λ compacted. GoesOn O.meaning self.old self.new []) }
-        ensures err { IfErr result (λ error. HasNoRoom error self.old.version × (self.new ≡ self.old)) }
+        ensures err { IfErr result (λ error. HasNoRoom error self.old × (self.new ≡ self.old)) }
+        ensures never { IfErr result (λ error. error ≢ RunsClaimed) }
     {
         self.owned.recall();
         picks_can_be_claimed();
+        claimable_stretches_can_be_compacted::<O>();
         let Some(stretch) = self.owned.pick() else {
             return Ok(false);
         };
@@ -46,19 +51,31 @@ impl<O: Operator> LiveStore<O> {
         while let Ok(true) = self.compact_once(alloc) {}
     }
 
+    /// Whether a slot is free, where nothing is picked. If none is, runs are claimed.
+    fn find_slot(&self) -> Result<(), RoomError>
+        requires { next_stretch self.now ≡ None }
+        ensures free { OnOk result (length self.now.version.runs < MOST_SLOTS) }
+        ensures err { IfErr result (λ error. HasNoRoom error self.now) }
+    {
+        something_is_picked_above_the_trigger();
+        if self.owned.version().runs().len() >= MOST_SLOTS {
+            return Err(RoomError::RunsClaimed);
+        }
+        Ok(())
+    }
+
     /// Compacts until there are fewer runs than those from which on writes stop, or none is picked. Then a slot is
-    /// free.
+    /// free, unless jobs have the runs that would be compacted.
     pub(crate) fn make_slot(&mut self, alloc: Global) -> Result<(), RoomError>
         ensures goes_on { GoesOn O.meaning self.old self.new [] }
         ensures gathered { self.new.gathered ≡ self.old.gathered }
         ensures prepared { self.new.prepared ≡ self.old.prepared }
         ensures free { OnOk result (length self.new.version.runs < MOST_SLOTS) }
-        ensures err { IfErr result (λ error. HasNoRoom error self.new.version) }
+        ensures err { IfErr result (λ error. HasNoRoom error self.new) }
     {
-        something_is_picked_above_the_trigger();
         while self.version().runs().len() >= self.options.stop_trigger as usize {
             if !self.compact_once(alloc)? {
-                return Ok(());
+                return self.find_slot();
             }
         }
         Ok(())

@@ -15,7 +15,7 @@ use crate::room_error::RoomError;
 use std::alloc::Global;
 use uc_memtable::GatheredMemtables;
 use uc_oper::Operator;
-use uc_version::{FeedError, Owned};
+use uc_version::{FeedError, Owned, claims_keep_their_runs};
 use uc_version_state::{no_refusal_is_leave_to_feed, small_writes_fill_one_memtable};
 
 /// How many range deletions an active memtable takes: a lookup asks each of them.
@@ -54,11 +54,12 @@ impl<O: Operator> LiveStore<O> {
         ensures goes_on { OnOk result (GoesOn O.meaning self.old self.new []) }
         ensures all { OnOk result (self.new.gathered ≡ []) }
         ensures none { OnOk result (self.new.prepared ≡ []) }
-        ensures err { IfErr result (λ error. HasNoRoom error self.old.version × (self.new ≡ self.old)) }
+        ensures err { IfErr result (λ error. HasNoRoom error self.old × (self.new ≡ self.old)) }
     {
         self.owned.recall();
         no_refusal_is_leave_to_feed();
         small_writes_fill_one_memtable();
+        claims_keep_their_runs::<O>();
         match feed_gathered(&mut self.owned, alloc, &self.active) {
             Ok(()) => {
                 self.active = GatheredMemtables::new(alloc);
@@ -79,12 +80,12 @@ impl<O: Operator> LiveStore<O> {
     /// Makes a run of what is gathered. From `stop_trigger` runs on it compacts first, and if the options say so, it
     /// compacts behind that while something is picked. A batch that is prepared is given up.
     ///
-    /// It is refused if no id is left for a run, and for want of memory. What is gathered stays so then, and no read
-    /// changes.
+    /// It is refused if no id is left for a run, if no slot is free for one and jobs have the runs that would be
+    /// compacted, and for want of memory. What is gathered stays so then, and no read changes.
     pub fn flush(&mut self, alloc: Global) -> Result<(), RoomError>
         ensures prepares { Prepares O.meaning self.old self.new [] }
         ensures all { OnOk result (self.new.gathered ≡ []) }
-        ensures err { IfErr result (λ error. HasNoRoom error self.new.version) }
+        ensures err { IfErr result (λ error. HasNoRoom error self.new) }
     {
         self.active.give_up();
         if self.active.is_empty() {

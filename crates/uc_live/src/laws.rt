@@ -1,14 +1,22 @@
 //! What holds of live stores, whatever happened to them.
-ghost use Rattle.std.specs.Prelude.{◌≡◌, ◌++◌, ℕ, true, List, [], Option, Contains};
+ghost use Rattle.std.specs.Prelude.{◌≡◌, ◌≢◌, ◌++◌, ℕ, true, List, [], Option, Some, Contains};
 ghost use Rattle.uc_bytes.specs.declared.write.Write.{Write};
 ghost use Rattle.uc_batch.specs.Rising.{IsRising, last_of};
 ghost use Rattle.uc_model.specs.Meaning.{value_of};
 ghost use Rattle.uc_query_read.specs.Answers.{answer_of, first_rows, named_keys};
 ghost use Rattle.uc_query_read.specs.declared.query.Query.{Query};
+ghost use Rattle.uc_version_state.specs.Installs.{IdLeft};
+ghost use Rattle.uc_version_work.specs.declared.install_error.InstallError.{InstallError as ErrorOf};
+ghost use Rattle.uc_version_work.specs.declared.install_error.InstallError.TheVariants.{IdsSpent};
+ghost use Rattle.uc_version.specs.declared.job_end.JobEnd.{JobEnd};
+ghost use Rattle.uc_version.specs.Owners.{IsOwner};
+ghost use Rattle.uc_version.specs.Installing.{IsRefused, stretch_of};
+ghost use Rattle.uc_version.specs.Jobs.{IsOwn, Task};
 ghost use Rattle.uc_live.specs.declared.live_options.LiveOptions.{LiveOptions as OptionsOf};
 ghost use Rattle.uc_live.specs.LiveOptions.{are_good};
 ghost use Rattle.uc_live.specs.Lives as lives;
-ghost use Rattle.uc_live.specs.Lives.{Live, created};
+ghost use Rattle.uc_live.specs.Lives.{Live, created, owner_in};
+ghost use Rattle.uc_live.specs.LiveJobs.{EndsJob, IsOut, StartsJob};
 ghost use Rattle.uc_live.specs.Going.{GoesOn};
 ghost use Rattle.uc_live.specs.Snapshots.{TakesSnapshot, without_snapshot};
 ghost use Rattle.uc_live.specs.Coming.{HasTaken};
@@ -18,6 +26,10 @@ ghost use Rattle.uc_live.specs.Views.{seen_in};
 use uc_model::effect_continues_value;
 use uc_oper::Operator;
 use uc_query_read::equal_values_give_equal_answers;
+use uc_version::{
+    claims_are_held, claims_can_be_compacted, claims_keep_their_runs, installs_are_events,
+    own_compactions_are_refused_for_ids_alone, owners_stay_owners,
+};
 use uc_version_state::{histories_keep_what_is_read, histories_say_writes_and_keeps};
 
 /// A store begins without a write.
@@ -26,7 +38,7 @@ pub fn created_stores_have_taken_nothing<O: Operator>()
 {}
 
 /// A store that goes on has taken the writes from before and those that it took meanwhile. A snapshot that is taken or
-/// released brings no write.
+/// released brings no write, nor does a job that is started or ended.
 pub fn taken_writes_add_up<O: Operator>()
     ensures goes_on { (old new : Live) (before ws : List Write) → HasTaken O.meaning old before → GoesOn O.meaning old new ws →
         HasTaken O.meaning new (before ++ ws) }
@@ -34,7 +46,46 @@ pub fn taken_writes_add_up<O: Operator>()
         TakesSnapshot O.meaning old new seq → HasTaken O.meaning new before }
     ensures release { (l : Live) (before : List Write) (seq : ℕ) → HasTaken O.meaning l before → Contains l.version.keeps seq →
         HasTaken O.meaning (without_snapshot seq l) before }
-{}
+    ensures started { (old new : Live) (before : List Write) (job : Option Task) → HasTaken O.meaning old before →
+        StartsJob job old new → HasTaken O.meaning new before }
+    ensures ended { (old new : Live) (before : List Write) (job : Task) (end : JobEnd) → HasTaken O.meaning old before →
+        IsOwner (owner_in old) → IsOut O.meaning job old → EndsJob O.meaning job old new end → HasTaken O.meaning new before }
+{
+    claims_can_be_compacted();
+    installs_are_events::<O>();
+}
+
+/// A job that was started is out until it is ended, whatever is written, flushed, compacted, taken as a snapshot or
+/// released meanwhile, and whatever other jobs are started or ended. While it is out, its store takes it back, and refuses
+/// its run only if no id is left.
+pub fn jobs_go_in<O: Operator>()
+    ensures started { (old new : Live) (job : Task) → IsOwner (owner_in old) → StartsJob (Some job) old new →
+        IsOut O.meaning job new }
+    ensures run { (l : Live) (job : Task) → IsOut O.meaning job l → IsOut O.meaning (record job { is_done = true }) l }
+    ensures goes_on { (old new : Live) (ws : List Write) (job : Task) → IsOut O.meaning job old → GoesOn O.meaning old new ws →
+        IsOut O.meaning job new }
+    ensures snapshot { (old new : Live) (seq : ℕ) (job : Task) → IsOut O.meaning job old → TakesSnapshot O.meaning old new seq →
+        IsOut O.meaning job new }
+    ensures release { (l : Live) (seq : ℕ) (job : Task) → IsOut O.meaning job l → Contains l.version.keeps seq →
+        IsOut O.meaning job (without_snapshot seq l) }
+    ensures beside_a_start { (old new : Live) (job : Task) (other : Option Task) → IsOwner (owner_in old) →
+        IsOut O.meaning job old → StartsJob other old new → IsOut O.meaning job new }
+    ensures apart { (old new : Live) (job other : Task) → IsOwner (owner_in old) → IsOut O.meaning job old →
+        StartsJob (Some other) old new → other.claim.number ≢ job.claim.number }
+    ensures beside_an_end { (old new : Live) (job other : Task) (end : JobEnd) → IsOwner (owner_in old) →
+        IsOut O.meaning job old → IsOut O.meaning other old → other.claim.number ≢ job.claim.number →
+        EndsJob O.meaning other old new end → IsOut O.meaning job new }
+    ensures own { (l : Live) (job : Task) → IsOut O.meaning job l → IsOwn (owner_in l) job }
+    ensures refused { (l : Live) (job : Task) (error : ErrorOf) → IsOwner (owner_in l) → IsOut O.meaning job l →
+        IsRefused l.version (stretch_of (owner_in l) job.claim) job.compaction error → (error ≡ IdsSpent) × ¬ IdLeft l.version }
+{
+    claims_are_held();
+    claims_can_be_compacted();
+    claims_keep_their_runs::<O>();
+    installs_are_events::<O>();
+    owners_stay_owners::<O>();
+    own_compactions_are_refused_for_ids_alone::<O>();
+}
 
 /// Whatever a store flushed and compacted, it answers as one thread that folds all writes it has taken: at the last
 /// sequence, and at each snapshot.

@@ -16,6 +16,9 @@
 //! A program makes it durable by a log in a file: [`LiveStore::prepare_recorded`] gives what it appends before it
 //! commits (`recording.rt`, `recorded_laws.rt`).
 //!
+//! A [`Job`] is a compaction that any thread does while the store goes on: the store starts it, and takes it back
+//! (`jobs.rt`, `specs/LiveJobs.antt`).
+//!
 //! By the laws of `laws.rt` a store answers as one thread that folds all writes it has taken, whatever it flushed and
 //! compacted, and so does a view of it.
 //!
@@ -28,6 +31,7 @@
 
 mod compacting;
 mod flushing;
+mod jobs;
 mod last_reads;
 mod laws;
 mod live_options;
@@ -45,8 +49,8 @@ mod waiting;
 mod write_error;
 
 pub use laws::{
-    created_stores_have_taken_nothing, stores_answer_as_their_writes, taken_writes_add_up,
-    views_answer_as_their_writes,
+    created_stores_have_taken_nothing, jobs_go_in, stores_answer_as_their_writes,
+    taken_writes_add_up, views_answer_as_their_writes,
 };
 pub use live_options::{GREATEST_STOP, LiveOptions};
 pub use live_store::LiveStore;
@@ -57,6 +61,6 @@ pub use room_error::RoomError;
 pub use uc_batch::{BatchError, Ended};
 pub use uc_bytes::{Bytes, OpRef};
 pub use uc_query_read::{Answer, Rows};
-pub use uc_version::{Options, ReleaseError, Version};
+pub use uc_version::{InstallError, Job, JobEnd, Options, ReleaseError, Version};
 pub use view::View;
 pub use write_error::WriteError;

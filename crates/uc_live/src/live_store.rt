@@ -1,8 +1,10 @@
 //! [`LiveStore`]: a store with one owner that gathers what is written to it.
 ghost use Rattle.std.specs.Prelude.{◌≡◌, ◌≢◌, [], true, false, IfOk, IfErr, length};
+ghost use Rattle.uc_batch.specs.Rising.{IsRising};
+ghost use Rattle.uc_version.specs.Owners.{IsOwner};
 ghost use Rattle.uc_live.specs.LiveOptions as live_options;
 ghost use Rattle.uc_live.specs.Lives as lives;
-ghost use Rattle.uc_live.specs.Lives.{created};
+ghost use Rattle.uc_live.specs.Lives.{created, owner_in};
 ghost use Rattle.uc_live.specs.declared.open_error.LiveOpenError.TheVariants.{BadOption, NoRoom};
 ghost use Rattle.uc_live.specs.declared.room_error.RoomError.TheVariants.{Memory};
 
@@ -80,6 +82,15 @@ impl<O: Operator> LiveStore<O> {
             snapshots: Vec::new(alloc),
             options,
         })
+    }
+
+    /// What holds of every live store: its runs and its claims are an owner's, and what is gathered lies behind the runs.
+    /// Proof step: does nothing when it runs.
+    pub fn recall(&self)
+        ensures owner { IsOwner (owner_in self.now) }
+        ensures rising { IsRising self.now.version.last self.now.gathered }
+    {
+        self.owned.recall();
     }
 
     /// What its runs hold. What is gathered isn't in it.

@@ -76,7 +76,7 @@ impl<O: Operator> LiveStore<O> {
     fn make_room(&mut self, alloc: Global) -> Result<(), RoomError>
         requires { self.old.prepared ≡ [] }
         ensures prepares { Prepares O.meaning self.old self.new [] }
-        ensures err { IfErr result (λ error. HasNoRoom error self.new.version) }
+        ensures err { IfErr result (λ error. HasNoRoom error self.new) }
     {
         if self.is_full() {
             self.flush(alloc)?;
@@ -88,8 +88,8 @@ impl<O: Operator> LiveStore<O> {
     /// needs. No read sees it before [`commit`](LiveStore::commit). A batch that was prepared before is given up. If
     /// the active memtable is full, it is flushed first.
     ///
-    /// It is refused if no sequence is left, if a text has 2^32 bytes or more, so that no batch holds it, if no id is
-    /// left for a run, and for want of memory. Nothing is prepared then, and no read changes.
+    /// It is refused if no sequence is left, if a text has 2^32 bytes or more, so that no batch holds it, and if there
+    /// is no room for it, as [`RoomError`] says. Nothing is prepared then, and no read changes.
     pub fn prepare(&mut self, alloc: Global, op: OpRef<'_>) -> Result<(), WriteError>
         ensures ok { OnOk result (IsPrepared O.meaning op.entry self.old self.new) }
         ensures err { IfErr result (λ error. Refuses op.entry self.old self.new error × Prepares O.meaning self.old self.new []) }
@@ -116,7 +116,7 @@ impl<O: Operator> LiveStore<O> {
         requires none { self.old.prepared ≡ [] }
         requires rising { IsRising (lives.last self.old) writes }
         ensures ok { OnOk result (Prepares O.meaning self.old self.new writes.entry) }
-        ensures err { IfErr result (λ error. HasNoRoom error self.new.version × Prepares O.meaning self.old self.new []) }
+        ensures err { IfErr result (λ error. HasNoRoom error self.new × Prepares O.meaning self.old self.new []) }
     {
         self.make_room(alloc)?;
         prepare_all(&mut self.active, writes)?;
@@ -144,7 +144,7 @@ impl<O: Operator> LiveStore<O> {
     /// [`prepare`](LiveStore::prepare) does.
     ///
     /// It is refused if the bytes aren't a batch, if its sequence is neither 0 nor above the last one, if too few
-    /// sequences are left, if no id is left for a run, and for want of memory. Nothing is prepared then, and no read
+    /// sequences are left, and if there is no room for it, as [`RoomError`] says. Nothing is prepared then, and no read
     /// changes.
     pub fn prepare_batch(&mut self, alloc: Global, batch: &[u8]) -> Result<(), WriteError>
         ensures ok { OnOk result (IsBatchPrepared O.meaning batch.now self.old self.new) }

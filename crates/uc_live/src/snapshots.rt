@@ -46,7 +46,7 @@ impl<O: Operator> LiveStore<O> {
     /// It is refused as a flush is. No snapshot is there then that wasn't before.
     pub fn snapshot(&mut self, alloc: Global) -> Result<u64, RoomError>
         ensures ok { IfOk result (TakesSnapshot O.meaning self.old self.new) }
-        ensures err { IfErr result (λ error. HasNoRoom error self.new.version × Prepares O.meaning self.old self.new []) }
+        ensures err { IfErr result (λ error. HasNoRoom error self.new × Prepares O.meaning self.old self.new []) }
     {
         self.flush(alloc)?;
         self.keep_last()?;

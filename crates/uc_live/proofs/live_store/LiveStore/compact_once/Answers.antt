@@ -37,7 +37,9 @@ returns-clause-goes_on g c =
     let new = live (record c.self.inside { owned = c.compact_now_by.new.self }) in
     let Told : Result Bool RoomError → Type 0 = λ r. IfOk r (λ b. GoesOn m now new []) in
     elim c.match-compact_now_by.branch [
-      | in-Ok w ↦ subst Told (sym w.result-is) (goes m c.self.inside c.self.invariant now c.self.view_is c.pick.result c.pick.ensures c.in-Some.stretch c.in-Some.is c.compact_now_by.new.self w.in-Ok.ensures.ok.1 w.in-Ok.ensures.ok.3)
+      | in-Ok w ↦ subst Told (sym w.result-is)
+          (goes m c.self.inside c.self.invariant now c.self.view_is c.pick.result c.pick.ensures c.in-Some.stretch c.in-Some.is c.compact_now_by.new.self w.in-Ok.ensures.ok.1 w.in-Ok.ensures.ok.3
+          (λ claim held. c.claimable_stretches_can_be_compacted.ensures.kept c.self.inside.owned c.in-Some.stretch claim c.recall.ensures w.in-Ok.ensures.ok.0 w.in-Ok.ensures.ok.1.may.id_left held))
       | in-Err-IdsSpent w ↦ subst Told (sym w.result-is) tt
       | in-Err-Memory w ↦ subst Told (sym w.result-is) tt
     ]

@@ -6,7 +6,7 @@ use Rattle.uc_live.specs.Lives.{Live}
 use Rattle.uc_live.specs.Going.{Follows}
 use Rattle.uc_live.specs.HeldLives.{live}
 use Rattle.uc_live.proofs.Held.{flushed_is, same_is}
-use Rattle.uc_live.proofs.Flush.{Why, why, not_back, not_many, ids_spent, flushes}
+use Rattle.uc_live.proofs.Flush.{Why, why, not_back, not_many, ids_spent, flushes, holds_over, claims_stay}
 use Rattle.uc_live.proofs.live_store.LiveStore.flush_active.Goals as goal
 
 pub invariant_of-self : goal.invariant_of-self
@@ -37,10 +37,14 @@ returns-in-Ok-clause-goes_on g c =
     let m = g.O.Operator.meaning in
     let now = c.args.self.now in
     let on = flushes c.self.inside c.self.invariant c.recall.ensures c.args.self.now c.self.view_is c.small_writes_fill_one_memtable.ensures c.no_refusal_is_leave_to_feed.ensures c.requires.some c.requires.free m c.feed_gathered.new.owned c.in-Ok.ensures.ok.0 c.in-Ok.ensures.ok.1 in
+    let holds = holds_over c.self.inside c.self.invariant c.recall.ensures c.args.self.now c.self.view_is c.small_writes_fill_one_memtable.ensures c.no_refusal_is_leave_to_feed.ensures c.requires.some c.requires.free c.claims_keep_their_runs.ensures.over_a_feed c.feed_gathered.new.owned c.in-Ok.ensures.ok.0 c.in-Ok.ensures.ok.1 in
+    let same = claims_stay c.self.inside c.self.invariant c.recall.ensures c.args.self.now c.self.view_is c.small_writes_fill_one_memtable.ensures c.no_refusal_is_leave_to_feed.ensures c.requires.some c.requires.free c.feed_gathered.new.owned c.in-Ok.ensures.ok.1 in
     let none : [] ≡ c.new.result.shown = sym (ap (λ (a : Gathering). a.shown) c.new.ensures) in (
       subst (λ (ws : List Write). Follows m now.version c.feed_gathered.new.owned.version now.gathered ws []) none on,
       ap (λ (l : Live). l.snapshots) c.self.view_is,
       ap (λ (l : Live). l.options) c.self.view_is,
+      holds,
+      same,
     )
 
 pub returns-in-Err-IdsSpent-clause-err : goal.returns-in-Err-IdsSpent-clause-err

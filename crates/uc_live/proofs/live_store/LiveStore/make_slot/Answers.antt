@@ -1,9 +1,6 @@
-use Rattle.std.proofs.Common.{◌≡◌, ◌<◌, true, length, sym, ap, ◌∙◌, subst}
-use Rattle.uc_claims.specs.declared.table.TheConstants.{MOST_SLOTS}
-use Rattle.uc_live.specs.Lives.{Live}
-use Rattle.uc_live.specs.LiveOptions.{are_good}
+use Rattle.std.proofs.Common.{ap, ◌∙◌}
 use Rattle.uc_live.specs.Compacting.{next_stretch}
-use Rattle.uc_live.proofs.Quiet.{Quiet, quiet_none, quiet_on, quiet_same, quiet_compacted, none_picked, none_changed, slot_free}
+use Rattle.uc_live.proofs.Quiet.{Quiet, quiet_none, quiet_on, quiet_same, quiet_compacted, none_picked, none_changed}
 use Rattle.uc_live.proofs.live_store.LiveStore.make_slot.Goals as goal
 
 pub loop-self-init : goal.loop-self-init
@@ -15,7 +12,7 @@ refused g c =
     quiet_on m c.args.self.now c.loop-self.self c.compact_once.new.self c.loop-self.invariant
     (quiet_same m c.loop-self.self c.compact_once.new.self c.in_err-compact_once.ensures.err.1)
 
-quietly : (g : _) (c : goal.Then-not-branch g) → Quiet g.O.Operator.meaning c.args.self.now c.compact_once.new.self
+quietly : (g : _) (c : goal.After-find_slot g) → Quiet g.O.Operator.meaning c.args.self.now c.compact_once.new.self
 quietly g c =
     let m = g.O.Operator.meaning in
     let told = c.in_ok-compact_once.ensures in
@@ -40,8 +37,8 @@ returns-then-not-branch-clause-gathered g c = (quietly g c).1
 pub returns-then-not-branch-clause-prepared : goal.returns-then-not-branch-clause-prepared
 returns-then-not-branch-clause-prepared g c = (quietly g c).2
 
-pub returns-then-not-branch-clause-free : goal.returns-then-not-branch-clause-free
-returns-then-not-branch-clause-free g c =
+pub find_slot-requires : goal.find_slot-requires
+find_slot-requires g c =
     let m = g.O.Operator.meaning in
     let old = c.loop-self.self in
     let new = c.compact_once.new.self in
@@ -49,8 +46,7 @@ returns-then-not-branch-clause-free g c =
     let stays = c.if-not-branch.true in
     let none = none_picked m old new (next_stretch old) c.in_ok-compact_once.field-0 stays told.ok in
     let same = none_changed m old new (next_stretch old) c.in_ok-compact_once.field-0 stays told.ok in
-    let good : are_good old.options ≡ true = ap (λ (l : Live). are_good l.options) (sym c.self.view_is) ∙ c.self.invariant.options_good in
-    subst (λ (l : Live). length l.version.runs < MOST_SLOTS) (sym same) (slot_free c.something_is_picked_above_the_trigger.ensures old good none)
+    ap next_stretch same ∙ none
 
 pub loop-self-smaller : goal.loop-self-smaller
 loop-self-smaller g c = c.in_ok-compact_once.ensures.fewer c.if-not-branch.false

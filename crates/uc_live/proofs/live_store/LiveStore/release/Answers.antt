@@ -64,7 +64,8 @@ returns-in_ok-release-clause-ok g c =
     let rest = c.if-not-take_one.ensures.rest in
     let none = is_left seq i.snapshots.items c.take_one.new.seqs.items c.deref.result.now false c.deref.ensures.value rest c.if-not-contains.ensures.value in (
       subst (λ (l : Live). Contains l.snapshots seq) c.self.view_is (stands_there seq i.snapshots.items (sym c.if-not-take_one.ensures.found)),
-      live_released (live i) c.args.self.now c.release.new.self.version seq left c.self.view_is (ap (λ (o : Owner). o.version) c.in_ok-release.ensures.ok.1) rest none,
+      live_released (live i) c.args.self.now c.release.new.self.version c.release.new.self.claims seq left c.self.view_is (ap (λ (o : Owner). o.version) c.in_ok-release.ensures.ok.1)
+          (ap (λ (o : Owner). o.claims) c.in_ok-release.ensures.ok.1) rest none,
     )
 
 pub returns-else-not-contains-clause-ok : goal.returns-else-not-contains-clause-ok

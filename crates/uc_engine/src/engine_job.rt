@@ -1,0 +1,166 @@
+//! [`EngineJob`]: a compaction that is done away from its engine.
+ghost use Rattle.std.specs.Prelude.{◌≡◌, true, false, IfOk, IfSome, OnErr, OnOk};
+ghost use Rattle.uc_version.specs.Claiming.{is_held};
+ghost use Rattle.uc_version.specs.Jobs.{IsOwn};
+ghost use Rattle.uc_live.specs.Lives.{owner_in};
+ghost use Rattle.uc_live.specs.LiveJobs.{EndsJob, StartsJob};
+ghost use Rattle.uc_engine.specs.EngineJobs.{done, task_in};
+ghost use Rattle.uc_engine.specs.Engines.{meaning_of};
+ghost use Rattle.uc_engine.specs.HeldEngineJobs.{kind_of, task_of};
+
+use crate::engine::{AnyStore, Engine};
+use crate::operator_kind::{LastBytes, OperatorKind, Texts};
+use std::alloc::{AllocError, Global};
+use std::marker::Model;
+use uc_live::{Job, JobEnd};
+use uc_oper::{Counter, Maximum};
+use uc_version::Alone;
+
+/// A job of a store of each operator.
+#[derive(Drop)]
+pub(crate) enum AnyJob {
+    /// A job of a store that joins texts.
+    Append(Job<Texts>),
+    /// A job of a store that adds numbers.
+    Counter(Job<Counter>),
+    /// A job of a store that keeps the greater text.
+    Maximum(Job<Maximum>),
+    /// A job of a store that keeps the last bytes.
+    Tail(Job<LastBytes>),
+}
+
+/// A compaction that is done away from its engine, by any thread. The engine takes it out by [`Engine::start_job`] and puts
+/// it back by [`Engine::end_job`]. If it is dropped, its runs stay claimed for good. A contract sees which operator
+/// merges, and what the job has.
+pub struct EngineJob {
+    pub(crate) job: AnyJob,
+}
+
+impl Model for EngineJob {
+    ghost use Rattle.uc_engine.specs.EngineJobs.{EngineTask};
+    ghost use Rattle.uc_engine.specs.HeldEngineJobs.{engine_task};
+
+    ghost Value = { EngineTask };
+
+    ghost view = { engine_task };
+}
+
+// A destructor of its own: where a value is dropped, the proof of a caller has one call, and not one for each field.
+impl Drop for EngineJob {
+    fn drop(self) {
+        let EngineJob { job: _ } = self;
+    }
+}
+
+impl EngineJob {
+    /// Which operator merges.
+    pub fn kind(&self) -> OperatorKind
+        ensures { result ≡ self.now.kind }
+    {
+        match &self.job {
+            AnyJob::Append(_) => OperatorKind::Append,
+            AnyJob::Counter(_) => OperatorKind::Counter,
+            AnyJob::Maximum(_) => OperatorKind::Maximum,
+            AnyJob::Tail(_) => OperatorKind::Tail,
+        }
+    }
+
+    /// Whether it was run.
+    pub fn is_done(&self) -> bool
+        ensures { result ≡ self.now.task.is_done }
+    {
+        match &self.job {
+            AnyJob::Append(job) => job.is_done(),
+            AnyJob::Counter(job) => job.is_done(),
+            AnyJob::Maximum(job) => job.is_done(),
+            AnyJob::Tail(job) => job.is_done(),
+        }
+    }
+
+    /// Compacts its runs, unless that is done. The calling thread does all of it. It touches no engine. An `Err` changes
+    /// nothing.
+    pub fn run(&mut self, alloc: Global) -> Result<(), AllocError>
+        ensures ok { OnOk result (self.new ≡ done self.old) }
+        ensures err { OnErr result (self.new ≡ self.old) }
+    {
+        match &mut self.job {
+            AnyJob::Append(job) => job.run_by(&Alone, alloc),
+            AnyJob::Counter(job) => job.run_by(&Alone, alloc),
+            AnyJob::Maximum(job) => job.run_by(&Alone, alloc),
+            AnyJob::Tail(job) => job.run_by(&Alone, alloc),
+        }
+    }
+
+    /// The job of its store.
+    fn into_any(self) -> AnyJob
+        ensures kind { kind_of result ≡ self.kind }
+        ensures task { task_of result ≡ self.task }
+    {
+        let EngineJob { job } = self;
+        job
+    }
+}
+
+impl Engine {
+    /// Takes the compaction of what is picked next, if there is such, out of the engine as a job, as
+    /// `LiveStore::start_job` does. An `Err` changes nothing.
+    pub fn start_job(&mut self, alloc: Global) -> Result<Option<EngineJob>, AllocError>
+        ensures kind { self.new.kind ≡ self.old.kind }
+        ensures ok { IfOk result (λ job. StartsJob (task_in job) self.old.live self.new.live) }
+        ensures alike { IfOk result (λ job. IfSome job (λ j. j.kind ≡ self.old.kind)) }
+        ensures err { OnErr result (self.new ≡ self.old) }
+    {
+        let job = match &mut self.store {
+            AnyStore::Append(store) => match store.start_job(alloc)? {
+                Some(job) => AnyJob::Append(job),
+                None => return Ok(None),
+            },
+            AnyStore::Counter(store) => match store.start_job(alloc)? {
+                Some(job) => AnyJob::Counter(job),
+                None => return Ok(None),
+            },
+            AnyStore::Maximum(store) => match store.start_job(alloc)? {
+                Some(job) => AnyJob::Maximum(job),
+                None => return Ok(None),
+            },
+            AnyStore::Tail(store) => match store.start_job(alloc)? {
+                Some(job) => AnyJob::Tail(job),
+                None => return Ok(None),
+            },
+        };
+        Ok(Some(EngineJob { job }))
+    }
+
+    /// Whether a job is out of this engine: whether it has the engine's operator, and the store holds a claim with its
+    /// number and its ids.
+    pub fn has_out(&self, job: &EngineJob) -> bool
+        ensures out { result ≡ true → (job.now.kind ≡ self.now.kind) × (is_held (owner_in self.now.live) job.now.task.claim ≡ true) }
+        ensures not { result ≡ false → job.now.kind ≡ self.now.kind → is_held (owner_in self.now.live) job.now.task.claim ≡ false }
+    {
+        match (&self.store, &job.job) {
+            (AnyStore::Append(store), AnyJob::Append(job)) => store.has_out(job),
+            (AnyStore::Counter(store), AnyJob::Counter(job)) => store.has_out(job),
+            (AnyStore::Maximum(store), AnyJob::Maximum(job)) => store.has_out(job),
+            (AnyStore::Tail(store), AnyJob::Tail(job)) => store.has_out(job),
+            _ => false,
+        }
+    }
+
+    /// Ends a job that was taken out of this engine, as `LiveStore::end_job` does: installs its run, if it was run, and
+    /// gives its claim back in any case. It doesn't allocate.
+    pub fn end_job(&mut self, job: EngineJob) -> JobEnd
+        requires kind { job.kind ≡ self.old.kind }
+        requires held { is_held (owner_in self.old.live) job.task.claim ≡ true }
+        requires own { IsOwn (owner_in self.old.live) job.task }
+        ensures kind { self.new.kind ≡ self.old.kind }
+        ensures ended { EndsJob (meaning_of self.old.kind) job.task self.old.live self.new.live result }
+    {
+        match (&mut self.store, job.into_any()) {
+            (AnyStore::Append(store), AnyJob::Append(job)) => store.end_job(job),
+            (AnyStore::Counter(store), AnyJob::Counter(job)) => store.end_job(job),
+            (AnyStore::Maximum(store), AnyJob::Maximum(job)) => store.end_job(job),
+            (AnyStore::Tail(store), AnyJob::Tail(job)) => store.end_job(job),
+            _ => unreachable!(),
+        }
+    }
+}

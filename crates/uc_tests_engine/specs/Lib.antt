@@ -1,0 +1,2 @@
+pub mod OwnJobs
+pub mod HeldBusy
