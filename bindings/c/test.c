@@ -957,7 +957,7 @@ static void without_view(void) {
     CHECK(ucstore_view_close(&none) == UCSTORE_NO_VIEW && seq == 7 && size == 0);
 }
 
-/* A store of 255 runs, which are compacted at once from then on. */
+/* A store of 255 runs, which are all compacted next. */
 static void open_full(struct ucstore *full) {
     struct ucstore_options options;
     const uint8_t text[] = {'a'};
@@ -965,9 +965,6 @@ static void open_full(struct ucstore *full) {
     options.write_buffer_size = 1;
     options.compaction_trigger = 255;
     options.stop_trigger = 255;
-    options.max_size_amplification_percent = UINT32_MAX;
-    options.min_merge_width = 300;
-    options.max_merge_width = 300;
     options.compacts_itself = 0;
     CHECK(ucstore_create(full, UCSTORE_APPEND, &options) == UCSTORE_OK);
     for (int run = 0; run < 255; run++) {
@@ -990,12 +987,13 @@ static void refused_jobs(void) {
     CHECK(ucstore_job(&store, &out, &told) == UCSTORE_OK && told);
     CHECK(ucstore_job(&store, &none, &told) == UCSTORE_OK && !told && none.at == NULL);
     CHECK(ucstore_job_end(&other, &out, &told) == UCSTORE_NOT_OF_STORE && !told && out.at != NULL);
+    CHECK(ucstore_put(&store, text, 1, text, 1) == UCSTORE_OK && ucstore_flush(&store) == UCSTORE_OK);
     CHECK(ucstore_put(&store, text, 1, text, 1) == UCSTORE_OK);
     CHECK(ucstore_put(&store, text, 1, text, 1) == UCSTORE_RUNS_CLAIMED);
     CHECK(ucstore_flush(&store) == UCSTORE_RUNS_CLAIMED && ucstore_snapshot(&store, &seq) == UCSTORE_RUNS_CLAIMED && seq == 7);
     CHECK(ucstore_job_run(&out) == UCSTORE_OK && ucstore_job_run(&out) == UCSTORE_OK);
     CHECK(ucstore_job_end(&store, &out, &told) == UCSTORE_OK && told && out.at == NULL);
-    CHECK(ucstore_snapshot(&store, &seq) == UCSTORE_OK && seq == 256);
+    CHECK(ucstore_snapshot(&store, &seq) == UCSTORE_OK && seq == 257);
     CHECK(ucstore_close(&other) == UCSTORE_OK);
     CHECK(ucstore_close(&store) == UCSTORE_OK);
 }
