@@ -402,16 +402,25 @@ static void create(void) {
     CHECK(status == UCSTORE_OK);
 }
 
-/* Compacts until nothing is picked. So few runs are left only if none is claimed for good. */
-static void compact_all(void) {
+static uint64_t runs(void) {
     struct ucstore_report report;
-    bool told = true;
-    ucstore_job_end(&store, &out, &told);
-    for (told = true; told;) {
-        CHECK(ucstore_compact(&store, &told) == UCSTORE_OK);
-    }
     report.size = sizeof report;
-    CHECK(ucstore_report(&store, &report) == UCSTORE_OK && report.runs < 4);
+    CHECK(ucstore_report(&store, &report) == UCSTORE_OK);
+    return report.runs;
+}
+
+/* Ends the job, if one is out. Then so much is written that all runs are compacted to one: none is claimed for good. */
+static void compact_all(void) {
+    static const uint8_t value[1 << 14] = {0};
+    bool is_out = out.at != NULL, told = false;
+    CHECK(ucstore_job_end(&store, &out, &told) == (is_out ? UCSTORE_OK : UCSTORE_NO_JOB));
+    for (uint8_t key = 0; key < 100 && runs() != 1; key++) {
+        CHECK(ucstore_put(&store, &key, 1, value, sizeof value) == UCSTORE_OK && ucstore_flush(&store) == UCSTORE_OK);
+        for (told = true; told;) {
+            CHECK(ucstore_compact(&store, &told) == UCSTORE_OK);
+        }
+    }
+    CHECK(runs() == 1);
 }
 
 /* A store that is written, read and compacted meanwhile, and closed. */

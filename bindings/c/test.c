@@ -484,7 +484,7 @@ static void check_report(struct moment *of) {
     report.size = sizeof report;
     CHECK(report_of(of, &report) == UCSTORE_OK && report.size == sizeof report);
     CHECK(report.snapshots == of->snapshot_count && report.last == of->last);
-    CHECK(report.gathered <= of->last && report.runs <= 36);
+    CHECK(report.gathered <= of->last && report.runs <= 256);
     CHECK((of == &live ? ucstore_last(&store, &last) : ucstore_view_last(&of->view, &last)) == UCSTORE_OK && last == of->last);
 }
 
