@@ -49,3 +49,37 @@ impl Shared {
         Ok(is_done)
     }
 }
+
+#[cfg(test)]
+mod tests {
+    use super::*;
+    use crate::options::Options;
+    use std::thread;
+    use std::time::Duration;
+    use ucstore::Batch;
+
+    #[test]
+    fn a_write_waits_until_a_job_has_ended() {
+        let mut options = Options::default();
+        // Each write makes a run of the one before, and all runs that there may be are compacted at once.
+        options.store.write_buffer_size = 1;
+        options.store.compaction_trigger = 255;
+        options.store.stop_trigger = 255;
+        options.slow_trigger = u32::MAX;
+        let shared = Shared::open(None, &options).unwrap();
+        let mut batch = Batch::new();
+        let bytes = batch.put("k", "v").unwrap().bytes();
+        for _ in 0..256 {
+            shared.write(&bytes, false).unwrap();
+        }
+        let job = lock(&shared.store).take_job().unwrap().unwrap();
+        shared.write(&bytes, false).unwrap();
+        thread::scope(|scope| {
+            let writer = scope.spawn(|| shared.write(&bytes, false).unwrap());
+            thread::sleep(Duration::from_millis(50));
+            assert!(!writer.is_finished());
+            assert!(shared.run(job).unwrap());
+        });
+        assert_eq!(shared.view().unwrap().last(), 258);
+    }
+}

@@ -125,7 +125,7 @@ impl Shared {
             self.flush_gathered()?;
         }
         let length = log.as_ref().map_or(0, |log| log.length);
-        let record = self.prepare(length, &group.batch)?;
+        let record = self.call(|store| store.prepare_bytes(length, &group.batch))?;
         if let Some(log) = log {
             if let Err(error) = log.append(&record, group.is_synced) {
                 lock(&self.store).give_up();
@@ -140,11 +140,12 @@ impl Shared {
         Ok(())
     }
 
-    /// Prepares a batch. If jobs have all runs that would be compacted for it, it waits until one has ended.
-    fn prepare(&self, length: u64, batch: &[u8]) -> Result<Vec<u8>, Error> {
+    /// What a call of the store answers. If jobs have all runs that would be compacted for it, it waits until one has
+    /// ended.
+    fn call<T>(&self, call: impl Fn(&Store) -> Result<T, ucstore::Error>) -> Result<T, Error> {
         let mut store = lock(&self.store);
         loop {
-            match store.prepare_bytes(length, batch) {
+            match call(&store) {
                 Err(ucstore::Error::RunsClaimed) => store = self.wait_for_work(store),
                 outcome => return Ok(outcome?),
             }
@@ -162,8 +163,8 @@ impl Shared {
         self.ask_checkpoint(log, report.bytes);
     }
 
-    /// Tells how many runs there are, while the store is locked. Others than before may give work.
-    pub(crate) fn tell_runs(&self, runs: u64) {
+    /// Tells how many runs there are. Another number than before may give work.
+    fn tell_runs(&self, runs: u64) {
         if self.runs.swap(runs, Ordering::Relaxed) != runs {
             self.work.notify_all();
         }
@@ -194,18 +195,10 @@ impl Shared {
     /// meanwhile has to renew the view.
     fn flush_gathered(&self) -> Result<(), Error> {
         self.newest.renew(&self.store)?;
-        let mut store = lock(&self.store);
-        loop {
-            match store.flush() {
-                Err(ucstore::Error::RunsClaimed) => store = self.wait_for_work(store),
-                outcome => {
-                    outcome?;
-                    self.gathered.store(0, Ordering::Relaxed);
-                    self.tell_runs(store.report().runs);
-                    return Ok(());
-                }
-            }
-        }
+        let runs = self.call(|store| store.flush().map(|()| store.report().runs))?;
+        self.gathered.store(0, Ordering::Relaxed);
+        self.tell_runs(runs);
+        Ok(())
     }
 
     /// Waits until all acknowledged writes are on the device.

@@ -188,20 +188,26 @@ fn runs_stay_few_by_themselves() {
 #[test]
 fn writes_wait_for_jobs_that_have_all_runs() {
     let mut options = counters();
-    options.store.write_buffer_size = 50;
-    options.store.compaction_trigger = 2;
-    options.store.stop_trigger = 2;
+    // Each write makes a run, and all runs that there may be are compacted at once.
+    options.store.write_buffer_size = 1;
+    options.store.compaction_trigger = 255;
+    options.store.stop_trigger = 255;
+    options.slow_trigger = u32::MAX;
     let db = Db::in_memory(&options).unwrap();
-    with_threads(|_| {
-        for write in 0..500u64 {
-            db.merge((write % 97).to_le_bytes(), one()).unwrap();
+    let writers = AtomicU64::new(THREADS / 2);
+    with_threads(|thread| {
+        if thread % 2 == 0 {
+            for write in 0..5000u64 {
+                db.merge((write % 97).to_le_bytes(), one()).unwrap();
+            }
+            writers.fetch_sub(1, Ordering::SeqCst);
+        }
+        while writers.load(Ordering::SeqCst) > 0 {
+            db.compact().unwrap();
         }
     });
-    let mut sum = 0;
-    for row in db.iter().unwrap() {
-        sum += number(Some(row.unwrap().1));
-    }
-    assert_eq!(sum, 500 * THREADS);
+    let values = db.iter().unwrap().map(|row| number(Some(row.unwrap().1)));
+    assert_eq!(values.sum::<u64>(), 5000 * THREADS / 2);
 }
 
 #[test]

@@ -137,6 +137,29 @@ fn a_job_ends_on_its_own_store_alone() {
 }
 
 #[test]
+fn a_full_store_says_that_jobs_have_its_runs() {
+    let options = Options {
+        write_buffer_size: 1,
+        compaction_trigger: 255,
+        stop_trigger: 255,
+        compacts_itself: false,
+        ..Default::default()
+    };
+    let store = Store::create(Operator::Append, &options).unwrap();
+    write_runs(&store, 255);
+    let mut job = store.take_job().unwrap().unwrap();
+    assert!(store.take_job().unwrap().is_none());
+    write_runs(&store, 1);
+    store.put("k", "v").unwrap();
+    assert_eq!(store.put("k", "w"), Err(Error::RunsClaimed));
+    assert_eq!(store.flush(), Err(Error::RunsClaimed));
+    job.run().unwrap();
+    assert!(store.end_job(job).unwrap());
+    store.put("k", "w").unwrap();
+    assert_eq!(store.get("k").unwrap(), Some(b"w".to_vec()));
+}
+
+#[test]
 fn a_job_outlives_its_store() {
     let store = empty(Operator::Append);
     write_runs(&store, 8);
