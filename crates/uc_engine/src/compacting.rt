@@ -1,6 +1,7 @@
 //! Flushes and compactions by the calling thread.
 ghost use Rattle.std.specs.Prelude.{◌≡◌, ◌≢◌, [], IfOk, IfErr, OnOk};
 ghost use Rattle.uc_live.specs.Compacting.{next_stretch, HasNoRoom, IsCompacted};
+ghost use Rattle.uc_live.specs.Going.{GoesOn};
 ghost use Rattle.uc_live.specs.Writing.{Prepares};
 ghost use Rattle.uc_live.specs.declared.room_error.RoomError.TheVariants.{RunsClaimed};
 ghost use Rattle.uc_engine.specs.Engines.{meaning_of};
@@ -32,6 +33,7 @@ impl Engine {
         ensures ok { IfOk result (λ compacted.
             IsCompacted (meaning_of self.old.kind) (next_stretch self.old.live) compacted self.old.live self.new.live) }
         ensures err { IfErr result (λ error. HasNoRoom error self.old.live × (self.new ≡ self.old)) }
+        ensures goes_on { IfOk result (λ _. GoesOn (meaning_of self.old.kind) self.old.live self.new.live []) }
         ensures never { IfErr result (λ error. error ≢ RunsClaimed) }
     {
         match &mut self.store {

@@ -29,9 +29,9 @@ pub(crate) enum AnyJob {
     Tail(Job<LastBytes>),
 }
 
-/// A compaction that is done away from its engine, by any thread. The engine takes it out by [`Engine::start_job`] and puts
-/// it back by [`Engine::end_job`]. If it is dropped, its runs stay claimed for good. A contract sees which operator
-/// merges, and what the job has.
+/// A compaction that is done away from its engine, by any thread. The engine takes it out by [`Engine::start_job`] and
+/// puts it back by [`Engine::end_job`]. If it is dropped, its runs stay claimed for good. A contract sees which
+/// operator merges, and what the job has.
 pub struct EngineJob {
     pub(crate) job: AnyJob,
 }
@@ -77,8 +77,8 @@ impl EngineJob {
         }
     }
 
-    /// Compacts its runs, unless that is done. The calling thread does all of it. It touches no engine. An `Err` changes
-    /// nothing.
+    /// Compacts its runs, unless that is done. The calling thread does all of it. It touches no engine. An `Err`
+    /// changes nothing.
     pub fn run(&mut self, alloc: Global) -> Result<(), AllocError>
         ensures ok { OnOk result (self.new ≡ done self.old) }
         ensures err { OnErr result (self.new ≡ self.old) }

@@ -11,9 +11,9 @@ use uc_oper::Operator;
 use uc_version::{Job, JobEnd};
 
 impl<O: Operator> LiveStore<O> {
-    /// Takes the compaction of what is picked next, if there is such, out of the store as a job, which any thread runs. It
-    /// copies no run. Until the job is ended, the store doesn't compact its runs, and goes on in all else. An `Err` changes
-    /// nothing.
+    /// Takes the compaction of what is picked next, if there is such, out of the store as a job, which any thread runs.
+    /// It copies no run. Until the job is ended, the store doesn't compact its runs, and goes on in all else. An `Err`
+    /// changes nothing.
     pub fn start_job(&mut self, alloc: Global) -> Result<Option<Job<O>>, AllocError>
         ensures ok { IfOk result (λ job. StartsJob job self.old self.new) }
         ensures err { OnErr result (self.new ≡ self.old) }
@@ -28,11 +28,11 @@ impl<O: Operator> LiveStore<O> {
         self.owned.has_out(job)
     }
 
-    /// Ends a job that was taken out of this store: installs its run, if it was run, and gives its claim back in any case.
-    /// It compares no points, copies no run and doesn't allocate.
+    /// Ends a job that was taken out of this store: installs its run, if it was run, and gives its claim back in any
+    /// case. It compares no points, copies no run and doesn't allocate.
     ///
-    /// A job that was run is refused only if no id is left, whatever was written, flushed, compacted, taken as a snapshot
-    /// or released since.
+    /// A job that was run is refused only if no id is left, whatever was written, flushed, compacted, taken as a
+    /// snapshot or released since.
     pub fn end_job(&mut self, job: Job<O>) -> JobEnd
         requires held { is_held (owner_in self.old) job.claim ≡ true }
         requires own { IsOwn (owner_in self.old) job }

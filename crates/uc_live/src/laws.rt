@@ -56,8 +56,8 @@ pub fn taken_writes_add_up<O: Operator>()
 }
 
 /// A job that was started is out until it is ended, whatever is written, flushed, compacted, taken as a snapshot or
-/// released meanwhile, and whatever other jobs are started or ended. While it is out, its store takes it back, and refuses
-/// its run only if no id is left.
+/// released meanwhile, and whatever other jobs are started or ended. While it is out, its store takes it back, and
+/// refuses its run only if no id is left.
 pub fn jobs_go_in<O: Operator>()
     ensures started { (old new : Live) (job : Task) → IsOwner (owner_in old) → StartsJob (Some job) old new →
         IsOut O.meaning job new }

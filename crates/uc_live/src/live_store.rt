@@ -84,8 +84,8 @@ impl<O: Operator> LiveStore<O> {
         })
     }
 
-    /// What holds of every live store: its runs and its claims are an owner's, and what is gathered lies behind the runs.
-    /// Proof step: does nothing when it runs.
+    /// What holds of every live store: its runs and its claims are an owner's, and what is gathered lies behind the
+    /// runs. Proof step: does nothing when it runs.
     pub fn recall(&self)
         ensures owner { IsOwner (owner_in self.now) }
         ensures rising { IsRising self.now.version.last self.now.gathered }

@@ -1,5 +1,6 @@
 //! [`Busy`]: an engine, and up to two jobs that are out of it.
-ghost use Rattle.std.specs.Prelude.{◌≡◌};
+ghost use Rattle.std.specs.Prelude.{◌≡◌, OnErr, OnOk, option_map};
+ghost use Rattle.uc_engine.specs.EngineJobs.{done};
 
 use std::alloc::{AllocError, Global};
 use std::marker::Model;
@@ -37,7 +38,10 @@ impl Drop for Busy {
 }
 
 /// Runs a job, if there is one. Returns whether it is done.
-fn run(alloc: Global, job: &mut Option<EngineJob>) -> Result<bool, AllocError> {
+fn run(alloc: Global, job: &mut Option<EngineJob>) -> Result<bool, AllocError>
+    ensures ok { OnOk result (job.new ≡ option_map done job.old) }
+    ensures err { OnErr result (job.new ≡ job.old) }
+{
     match job {
         Some(job) => {
             job.run(alloc)?;

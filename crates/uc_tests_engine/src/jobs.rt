@@ -241,8 +241,8 @@ fn with_job(alloc: Global, kind: OperatorKind) -> Result<(Engine, EngineJob), Fa
     }
 }
 
-/// Whether a job says what it is, and is out of its engine alone, and not of one of another operator that has a job of the
-/// same ids.
+/// Whether a job says what it is, and is out of its engine alone, and not of one of another operator that has a job of
+/// the same ids.
 fn is_foreign(alloc: Global) -> Result<bool, Fail> {
     let (engine, job) = with_job(alloc, OperatorKind::Counter)?;
     let (other, others) = with_job(alloc, OperatorKind::Maximum)?;
