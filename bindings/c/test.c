@@ -1,6 +1,6 @@
-/* 50,000 drawn operations for each operator, beside a plain dictionary whose copies are the snapshots and the views: writes,
- * batches by handle and as bytes, snapshots, views, jobs, reads, scans and compactions. Then the log of all batches is opened
- * and walked, whole and torn. The words are how many operations there are, and the seed. */
+/* 50,000 drawn operations for each operator, beside a plain dictionary whose copies are the snapshots and the views:
+ * writes, batches by handle and as bytes, snapshots, views, jobs, reads, scans and compactions. Then the log of all batches
+ * is opened and walked, whole and torn. The words are how many operations there are, and the seed. */
 #include <stdio.h>
 #include <stdlib.h>
 #include <string.h>

@@ -1,5 +1,5 @@
-/* Threads that share a store for a second: one writes batches that count each key once more, four read views, in each of which all
- * keys have the same count, and two compact by jobs. It prints a line if nothing else was ever seen. */
+/* Threads that share a store for a second: one writes batches that count each key once more, four read views, in each of
+ * which all keys have the same count, and two compact by jobs. It prints a line if nothing else was ever seen. */
 #define _POSIX_C_SOURCE 200112L
 
 #include <pthread.h>
@@ -61,7 +61,8 @@ static uint64_t count_in(struct ucstore_view *view) {
         keys[key] = (uint8_t)key;
         key_lengths[key] = 1;
     }
-    CHECK(ucstore_view_get_many(view, keys, KEYS, key_lengths, KEYS, lengths, KEYS, values, sizeof values, &size) == UCSTORE_OK);
+    CHECK(ucstore_view_get_many(view, keys, KEYS, key_lengths, KEYS, lengths, KEYS, values, sizeof values, &size)
+          == UCSTORE_OK);
     CHECK(size == sizeof values && ucstore_view_last(view, &last) == UCSTORE_OK);
     for (int key = 0; key < KEYS; key++) {
         CHECK(lengths[key] == NUMBER && KEYS * number(values + NUMBER * key) == last);

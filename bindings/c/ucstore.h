@@ -19,37 +19,39 @@
  *
  *     struct ucstore_view view = {0};
  *
- * Nothing that becomes of the store changes it, not even its close. Each thread reads a view behind a handle of its own, while another
- * one writes. It copies no run, and keeps the memory of those that it shows until it is closed. A snapshot is read through its store
- * alone, and has only a number: each compaction keeps what is read at it, until it is released.
+ * Nothing that becomes of the store changes it, not even its close. Each thread reads a view behind a handle of its own,
+ * while another one writes. It copies no run, and keeps the memory of those that it shows until it is closed. A snapshot
+ * is read through its store alone, and costs no such memory: each compaction keeps what is read at it, until it is
+ * released.
  *
  * A job is a compaction that is done away from its store, made of zeros too:
  *
  *     struct ucstore_job job = {0};
  *
- * `ucstore_job` takes what is compacted next out of the store, `ucstore_job_run` compacts it, and `ucstore_job_end` puts the new run back.
- * The first and the last are short calls on the store. Between them any thread runs the job, while the store is written to and read.
- * It doesn't compact the runs of a job that is out. Several jobs may be out, and end in any order.
+ * `ucstore_job` takes what is compacted next out of the store, `ucstore_job_run` compacts it, and `ucstore_job_end` puts
+ * the new run back. The first and the last are short calls on the store. Between them any thread runs the job, while the
+ * store is written to and read. The store doesn't compact the runs of a job that is out. Several jobs may be out, and end
+ * in any order.
  *
  * A store is in memory. To keep it, write each batch in this order, and open the store from the file's bytes the next time:
  * 1. `ucstore_prepare` judges the batch, takes all memory that it needs, and gives its record. If it is refused, the log stays as it is.
  * 2. Append the record to the file, and sync it. If that fails, cut the file back to where the record begins, and `ucstore_give_up`.
  * 3. `ucstore_commit` takes the batch. It can't fail.
- * Between 1 and 3 reads, views and jobs are free. A write, a flush or a snapshot gives the prepared batch up, and then the file has to be
- * cut back too.
- * What is written otherwise isn't in such a log.
+ * Between 1 and 3 reads, views and jobs are free. A write, a flush or a snapshot gives the prepared batch up, and then the
+ * file has to be cut back too. What is written otherwise isn't in such a log.
  *
  * What C owes:
- * - It neither copies, changes nor frees what is in a handle, a batch, a view or a job, but by these functions. Each may lie anywhere,
- *   and move between calls. It is closed before it ends.
- * - One call at a time on a handle, reads too, on a batch, a view and a job. Two of them may be used by two threads at once, and each
- *   may go from thread to thread.
- * - A job ends on the store that it was taken from, and on no other one. UCSTORE_NOT_OF_STORE tells of most mistakes, not of all.
+ * - It neither copies, changes nor frees what is in a handle, a batch, a view or a job, but by these functions. Each may
+ *   lie anywhere, and move between calls. It is closed before it ends.
+ * - One call at a time on a handle, reads too, on a batch, a view and a job. Two of them may be used by two threads at
+ *   once, and each may go from thread to thread.
+ * - A job ends on the store that it was taken from, and on no other one. UCSTORE_NOT_OF_STORE tells of most mistakes, not
+ *   of all.
  * - Each address leads to as much memory as its type or its length says. If a length is 0, its address is not read, and may
  *   be null. No other address is null. What a function writes overlaps nothing else that it is given.
  * - What a function writes to has a value of its type before: `bool compacted = false;`.
- * - malloc, realloc and free are those of one allocator, whose blocks are aligned for any type. No function is called from
- *   a signal handler, or in a forked child of a process with threads.
+ * - malloc, realloc and free are those of one allocator, whose blocks are aligned for any type, and freed by any thread. No
+ *   function is called from a signal handler, or in a forked child of a process with threads.
  */
 #ifndef UCSTORE_H
 #define UCSTORE_H
@@ -112,7 +114,7 @@ enum ucstore_status {
     UCSTORE_NO_JOB = 21,           /* The handle has no job. */
     UCSTORE_HAS_JOB = 22,          /* The handle has a job already. */
     UCSTORE_NOT_OF_STORE = 23,     /* The job isn't out of the store. */
-    UCSTORE_RUNS_CLAIMED = 24      /* There are as many runs as there may be, and jobs have those that would be compacted. End one. */
+    UCSTORE_RUNS_CLAIMED = 24      /* No run more may be, and jobs have those that would be compacted: end one. */
 };
 
 /* Which operator merges a key's operands into its value. */
@@ -394,8 +396,8 @@ int32_t ucstore_view_get_many(struct ucstore_view *view, const uint8_t *keys, si
                               size_t count, uint64_t *value_lengths, size_t value_count, uint8_t *room, size_t room_length,
                               size_t *size);
 
-/* Scans a view, as `ucstore_scan` does a store. The first scan behind a handle sorts what no run has yet, also for the handles that
- * are made of it later by `ucstore_view_again`.
+/* Scans a view, as `ucstore_scan` does a store. The first scan behind a handle sorts what no run has yet, also for the
+ * handles that `ucstore_view_again` makes of it later.
  * UCSTORE_NO_VIEW, UCSTORE_OUT_OF_MEMORY. */
 int32_t ucstore_view_scan(struct ucstore_view *view, const uint8_t *low, size_t low_length, const uint8_t *high,
                           size_t high_length, bool bounded, uint64_t limit, uint8_t *room, size_t room_length, size_t *size,
@@ -424,8 +426,8 @@ int32_t ucstore_view_close(struct ucstore_view *view);
  * UCSTORE_NO_STORE, UCSTORE_IDS_SPENT, UCSTORE_OUT_OF_MEMORY. */
 int32_t ucstore_compact(struct ucstore *store, bool *compacted);
 
-/* Takes what is compacted next out of the store as a job behind a handle, and tells whether there was anything. Until the job ends the
- * store doesn't compact its runs, and does all else.
+/* Takes what is compacted next out of the store as a job behind a handle, and tells whether there was anything. Until the
+ * job ends the store doesn't compact its runs, and does all else.
  * UCSTORE_HAS_JOB, UCSTORE_NO_STORE, UCSTORE_OUT_OF_MEMORY. */
 int32_t ucstore_job(struct ucstore *store, struct ucstore_job *job, bool *taken);
 
@@ -433,12 +435,14 @@ int32_t ucstore_job(struct ucstore *store, struct ucstore_job *job, bool *taken)
  * UCSTORE_NO_JOB, UCSTORE_OUT_OF_MEMORY. */
 int32_t ucstore_job_run(struct ucstore_job *job);
 
-/* Ends a job on the store that it was taken from: the run that was made stands for the job's runs. `installed` is false if it wasn't run,
- * or if no number is left for the run. The store has the job's runs for other compactions in any case. It takes no memory.
+/* Ends a job on the store that it was taken from: the run that was made stands for the job's runs. `installed` is false
+ * if the job wasn't run, or if no number is left for the run: the store has the job's runs for others then. It takes no
+ * memory.
  * UCSTORE_NO_JOB, UCSTORE_NO_STORE, UCSTORE_NOT_OF_STORE: the job stays. */
 int32_t ucstore_job_end(struct ucstore *store, struct ucstore_job *job, bool *installed);
 
-/* Frees a job without its store, for one whose store is closed. A store that isn't would never compact the job's runs again.
+/* Frees a job without its store, for one whose store is closed. A store that is open never
+ * compacts the runs of such a job again.
  * UCSTORE_NO_JOB. */
 int32_t ucstore_job_close(struct ucstore_job *job);
 

@@ -1,6 +1,6 @@
 -- Jobs that C gives back.
-use Rattle.std.proofs.Common.{◌≡◌, ◌∙◌, refl, sym, ap, subst, inl, inr}
-use Rattle.std.specs.Prelude.{ℤ, Bool, true, false, Option, Some, None}
+use Rattle.std.proofs.Common.{◌≡◌, ◌∙◌, refl, sym, ap, subst, inl}
+use Rattle.std.specs.Prelude.{Bool, Option, Some, None}
 use Rattle.uc_oper.specs.Operation.{Operation}
 use Rattle.uc_version.specs.declared.job_end.JobEnd.{JobEnd}
 use Rattle.uc_version.specs.declared.job_end.JobEnd.TheVariants.{Installed, NotRun, Refused}

@@ -1,6 +1,6 @@
 -- Jobs that a store has just taken out.
-use Rattle.std.proofs.Common.{◌≡◌, ◌≢◌, ℕ, zero, suc, List, [], ◌∷◌, get_or, set, refl, sym, ap, ◌∙◌, subst}
-use Rattle.std.specs.Prelude.{Bool, true, false, Option, Some, None}
+use Rattle.std.proofs.Common.{◌≡◌, ℕ, zero, suc, List, [], ◌∷◌, get_or, set, refl, sym, ap, subst}
+use Rattle.std.specs.Prelude.{true, false, Option, Some, None}
 use Rattle.uc_version_state.specs.declared.stretch.Stretch.{Stretch}
 use Rattle.uc_version_state.specs.Versions.{contents_of}
 use Rattle.uc_version.specs.declared.held_stretch.HeldStretch.{HeldStretch}

@@ -15,7 +15,8 @@ use Rattle.uc_c.specs.Replies.{IfThere}
 abbrev pub HasOut : Engined → EngineTask → Type 0
 HasOut e t = (t.kind ≡ e.kind) × (is_held (owner_in e.live) t.task.claim ≡ true)
 
--- If the store holds the job's claim, the job was made of the runs of that claim. So it is with each job that was taken from it.
+-- If the store holds the job's claim, the job was made of the runs of that claim. So it is with each job that was taken
+-- from it.
 abbrev pub IsOwnJob : Option Engined → Option EngineTask → Type 0
 IsOwnJob None job = ⊤
 IsOwnJob (Some e) None = ⊤

@@ -1,4 +1,5 @@
--- What the functions answer, and what is behind the handle before and after. E is what an engine is to a contract, or a view.
+-- What the functions answer, and what is behind the handle before and after. E is what an engine is to a contract, or a
+-- view.
 use Rattle.std.specs.Prelude.{◌≡◌, ℤ, Option, None, ◌⊎◌, MatchOption, IsSomeAnd}
 use Rattle.uc_c.specs.declared.status.TheConstants.{OK, NO_STORE}
 

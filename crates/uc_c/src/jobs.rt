@@ -12,9 +12,9 @@ use uc_handle::{Handle, JobHandle};
 use uc_oper::Counter;
 use uc_version::{claimable_stretches_can_be_compacted, claims_are_held};
 
-/// Takes the compaction of what is picked next, if anything is, out of the store, puts it behind its handle as a job, and
-/// says whether there was one. Until the job ends, the store doesn't compact its runs. It is refused if the handle has a
-/// job, and for want of memory.
+/// Takes the compaction of what is picked next, if anything is, out of the store, puts it behind its handle as a job,
+/// and says whether there was one. Until the job ends, the store doesn't compact its runs. It is refused if the handle
+/// has a job, and for want of memory.
 #[unsafe(no_mangle)]
 pub extern "C" fn ucstore_job(
     alloc: Global,
@@ -86,8 +86,9 @@ pub extern "C" fn ucstore_job_run(alloc: Global, job: &mut JobHandle) -> i32
     }
 }
 
-/// Ends a job that was taken from the store: puts its run there, if it was run and isn't refused, which `installed` says,
-/// and lets the store compact its runs again. It takes no memory. It is refused if the store doesn't hold the job's claim.
+/// Ends a job that was taken from the store: puts its run there, if it was run and isn't refused, which `installed`
+/// says, and lets the store compact its runs again. It takes no memory. It is refused if the store doesn't hold the
+/// job's claim.
 ///
 /// C owes that the job is the store's own, if the store holds its claim: a job is ended on no other store than the one
 /// that it was taken from. No other function has such a demand.

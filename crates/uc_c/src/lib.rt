@@ -14,9 +14,9 @@
 //! the handle, calls it, puts it back, and answers a status. What is written through an address is written only if the
 //! status is `OK`.
 //!
-//! C gathers operations in a [`BatchHandle`](uc_handle::BatchHandle), which is held in the same way. So are a view, in a
-//! [`ViewHandle`](uc_handle::ViewHandle), and a job, in a [`JobHandle`](uc_handle::JobHandle). Stores and views are read by
-//! the same functions, over [`Readable`](readable::Readable).
+//! C gathers operations in a [`BatchHandle`](uc_handle::BatchHandle), which is held in the same way. So is a view, in a
+//! [`ViewHandle`](uc_handle::ViewHandle), and so is a job, in a [`JobHandle`](uc_handle::JobHandle). Stores and views
+//! are read by the same functions, over [`Readable`](readable::Readable).
 //!
 //! The functions of `logs.rt` need no handle: C keeps a log in a file of its own, appends what they lay out, and walks
 //! over it. Where a walk stops, it tells why through an address.

@@ -11,8 +11,8 @@ use std::alloc::{AllocError, Global};
 use uc_engine::EngineView;
 use uc_handle::{Handle, ViewHandle};
 
-/// Puts a view behind its handle that shows what the store holds now. What is prepared isn't in it. It is refused if the
-/// handle has a view, and for want of memory.
+/// Puts a view behind its handle that shows what the store holds now. What is prepared isn't in it. It is refused if
+/// the handle has a view, and for want of memory.
 #[unsafe(no_mangle)]
 pub extern "C" fn ucstore_view(alloc: Global, handle: &mut Handle, view: &mut ViewHandle) -> i32
     ensures puts { PutsTaken NO_STORE viewed_in handle.old.held result view.old.held view.new.held }
