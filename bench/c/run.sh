@@ -3,7 +3,7 @@
 #
 #     bench/c/run.sh [PART..]
 #
-# The parts are counters and puts, or both where none is named.
+# The parts are counters, puts and opening, or all where none is named.
 #
 # It measures crates/uc_c/out/libuc_c.a (or OURS), which `rt lib` in crates/uc_c builds; `none` leaves it out. All programs are
 # workload.c and one of ucstore.c, rocksdb.c and leveldb.c, built by `cc -std=c99 -O2` in a temporary folder. RocksDB is that
@@ -23,6 +23,9 @@
 # waits, and LevelDB, which has no call for that, compacts everything. No store compresses, all have caches for all blocks and filters of 10 bits a key.
 # RocksDB picks by the rules of ours, in its memory environment and without a log. LevelDB always writes one, to files in /dev/shm.
 #
+# In `opening` a log of OPENED writes (10000000) in batches of 1,000 is opened by opening.c and by ../report/rocksdb.cc, which ends when
+# all is compacted. The time is that of the process, and both have to read the same.
+#
 # Each program runs in a process of its own, in turn, TURNS times (3), and Debian's RocksDB in the first turn alone. Each figure is
 # the median of its turns. RESULTS names a file for the figures as JSON. It takes three minutes.
 set -u -o pipefail
@@ -35,6 +38,7 @@ turns=${TURNS:-3}
 writes=${WRITES:-1300000}
 gets=${GETS:-1000000}
 scans=${SCANS:-10000}
+opened=${OPENED:-10000000}
 folder=$(mktemp -d) || exit 1
 memory=$(mktemp -d -p /dev/shm 2> /dev/null || mktemp -d) || exit 1
 trap 'rm -rf "$folder" "$memory"' EXIT
@@ -81,6 +85,35 @@ build_all() {
     else
         echo "LevelDB is left out: its headers (libleveldb-dev) or g++ aren't there" >&2
     fi
+}
+
+# The seconds that a program takes for a log on standard input.
+seconds_of() { # PROGRAM
+    local before after
+    before=$(date +%s%N)
+    "$folder/$1" < "$memory/log" > /dev/null || fail "$1 fails"
+    after=$(date +%s%N)
+    echo $((after - before))
+}
+
+# Opens a log of many writes.
+run_opening() {
+    local turn name
+    cc -std=c99 -O2 -Wall -Wextra -pedantic -I "$top/bindings/c" "$here/opening.c" "$ours" "$(dirname "$(rt doc)")/c/liblibc_c.a" \
+        -o "$folder/opening" || fail "opening.c doesn't build"
+    rocksdbs=()
+    build_rocksdb "$here/../report/rocksdb.cc"
+    has_rocksdb rocksdb || fail "the opening needs RocksDB without assertions"
+    "$folder/opening" --make "$opened" > "$memory/log" || fail "there is no log"
+    [ "$("$folder/opening" --values < "$memory/log")" = "$("$folder/rocksdb" --values < "$memory/log")" ] || fail "the answers differ: opening"
+    for turn in $(seq "$turns"); do
+        for name in opening rocksdb; do seconds_of "$name" >> "$folder/row.$name"; done
+    done
+    keep_ms 'opening from C' "$opened writes" ours "$(median opening '$1')"
+    keep_ms 'opening from C' "$opened writes" RocksDB "$(median rocksdb '$1')"
+    echo "opening: a log of $opened writes; ms"
+    printf '%-20s %10s\n' ours "$(as_ms "$(median opening '$1')")" RocksDB "$(as_ms "$(median rocksdb '$1')")" / "$(over opening rocksdb '$1')"
+    rm -f "$memory/log" "$folder"/row.*
 }
 
 # What is measured side by side: a name for each row, the program, and how many writes a batch has.
@@ -197,10 +230,10 @@ run_part() { # PART
     rm -f "$folder"/row.*
 }
 
-if [ $# -eq 0 ]; then set -- counters puts; fi
+if [ $# -eq 0 ]; then set -- counters puts opening; fi
 for part; do
     case $part in
-        counters | puts) ;;
+        counters | puts | opening) ;;
         *) fail "there is no part $part" ;;
     esac
 done
@@ -214,10 +247,13 @@ goal 'writes from C' 'counters, batches of 1,000' RocksDB ms 'at most' 0.35
 goal 'writes from C' 'counters, one by one' RocksDB ms 'at most' 0.5
 goal 'lookups from C' 'counters, batches of 1,000' RocksDB ms 'at most' 0.5
 goal 'scans from C' 'counters, batches of 1,000' RocksDB ms 'at most' 0.5
+goal 'opening from C' "$opened writes" RocksDB ms 'at most' 0.2
 goal 'lookups of what is gathered' 'counters, one by one' RocksDB ms 'at most' 0.3
 for work in 'writes from C' 'lookups from C' 'scans from C'; do
     goal "$work" 'counters, batches of 1,000' Rattle ms 'at most' 1.05
 done
-for part; do run_part "$part"; done
+for part; do
+    if [ "$part" = opening ]; then run_opening; else run_part "$part"; fi
+done
 say_machine
 write_results_beside c
