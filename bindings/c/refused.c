@@ -77,8 +77,9 @@ static uint64_t draw(uint64_t limit) {
 static struct ucstore store;
 static struct ucstore_batch gathered;
 
-/* A view, and another handle of it. */
+/* A view, another handle of it, and a job. */
 static struct ucstore_view shown, again;
+static struct ucstore_job out;
 
 static uint8_t history[MOST_LOG];
 static size_t history_length;
@@ -91,13 +92,13 @@ static uint8_t keys[3 * KEYS];
 static uint64_t key_lengths[KEYS];
 static size_t keys_length;
 
-/* What reads see of a store: its last sequence, and the rows there and at each snapshot. And what is gathered, which views there
- * are, and the values that they show: no scan, which would sort before the one that is tried. */
+/* What reads see of a store: its last sequence, and the rows there and at each snapshot. And what is gathered, which views and
+ * jobs there are, and the values that views show: no scan, which would sort before the one that is tried. */
 struct held {
     uint64_t last;
     uint64_t keeps[MOST_KEEPS], value_lengths[KEYS];
     size_t keep_count, size, batch_length, values_length;
-    bool is_shown, is_again;
+    bool is_shown, is_again, is_out;
     uint8_t rows[ROOM], batch[BATCH], values[ROOM];
 };
 
@@ -115,6 +116,7 @@ static void lay_out_keys(void) {
 }
 
 static void look_at_views(struct held *held) {
+    held->is_out = out.at != NULL;
     held->is_shown = shown.at != NULL;
     held->is_again = again.at != NULL;
     held->values_length = 0;
@@ -142,7 +144,8 @@ static void look(struct held *held) {
 }
 
 static bool are_same_views(const struct held *one, const struct held *other) {
-    return one->is_shown == other->is_shown && one->is_again == other->is_again && one->values_length == other->values_length
+    return one->is_out == other->is_out && one->is_shown == other->is_shown && one->is_again == other->is_again
+        && one->values_length == other->values_length
         && memcmp(one->values, other->values, one->values_length) == 0
         && (!one->is_shown || memcmp(one->value_lengths, other->value_lengths, sizeof one->value_lengths) == 0);
 }
@@ -165,7 +168,7 @@ struct call {
 enum {
     PUT, DELETE, MERGE, DELETE_RANGE, BATCH_PUT, BATCH_DELETE, BATCH_MERGE, BATCH_DELETE_RANGE, WRITE, WRITE_BYTES, PREPARE,
     PREPARE_BYTES, FLUSH, SNAPSHOT, RELEASE, GET, GET_AT, GET_MANY, SCAN, SCAN_AT, VIEW, VIEW_AGAIN, VIEW_GET, VIEW_GET_AT,
-    VIEW_GET_MANY, VIEW_SCAN, VIEW_SCAN_AT, VIEW_CLOSE, COMPACT, OPEN, NEXT, KINDS
+    VIEW_GET_MANY, VIEW_SCAN, VIEW_SCAN_AT, VIEW_CLOSE, JOB, JOB_RUN, JOB_END, COMPACT, OPEN, NEXT, KINDS
 };
 
 static size_t draw_text(uint8_t *text, size_t most) {
@@ -251,7 +254,7 @@ static int32_t try_call(const struct call *call) {
     struct ucstore_ended ended = {0, 0, 0};
     size_t size = 0;
     uint64_t number = 0, parts[2] = {1, call->key_length - 1}, lengths[2] = {0, 0};
-    bool compacted = false;
+    bool told = false;
     switch (call->kind) {
     case PUT:
         return ucstore_put(&store, call->key, call->key_length, call->value, call->value_length);
@@ -315,8 +318,14 @@ static int32_t try_call(const struct call *call) {
     case VIEW_CLOSE:
         ucstore_view_close(&again);
         return ucstore_view_close(&shown);
+    case JOB:
+        return ucstore_job(&store, &out, &told);
+    case JOB_RUN:
+        return ucstore_job_run(&out);
+    case JOB_END:
+        return ucstore_job_end(&store, &out, &told);
     case COMPACT:
-        return ucstore_compact(&store, &compacted);
+        return ucstore_compact(&store, &told);
     case OPEN:
         return open_log();
     default:
@@ -364,7 +373,7 @@ static void step(struct held *held) {
     struct call call = draw_call(held);
     int32_t status = with_refusals(&call, held);
     CHECK(status == UCSTORE_OK || status == UCSTORE_NOT_FOUND || status == UCSTORE_NOT_PROTECTED || status == UCSTORE_LOG_ENDS
-          || status == UCSTORE_NO_VIEW || status == UCSTORE_HAS_VIEW);
+          || status == UCSTORE_NO_VIEW || status == UCSTORE_HAS_VIEW || status == UCSTORE_NO_JOB || status == UCSTORE_HAS_JOB);
     if (call.kind == PREPARE || call.kind == PREPARE_BYTES) {
         /* No read sees it before it is taken. */
         look(&before);
@@ -393,6 +402,18 @@ static void create(void) {
     CHECK(status == UCSTORE_OK);
 }
 
+/* Compacts until nothing is picked. So few runs are left only if none is claimed for good. */
+static void compact_all(void) {
+    struct ucstore_report report;
+    bool told = true;
+    ucstore_job_end(&store, &out, &told);
+    for (told = true; told;) {
+        CHECK(ucstore_compact(&store, &told) == UCSTORE_OK);
+    }
+    report.size = sizeof report;
+    CHECK(ucstore_report(&store, &report) == UCSTORE_OK && report.runs < 4);
+}
+
 /* A store that is written, read and compacted meanwhile, and closed. */
 static void soak(size_t calls) {
     static struct held held;
@@ -402,6 +423,7 @@ static void soak(size_t calls) {
     while (calls-- > 0) {
         step(&held);
     }
+    compact_all();
     CHECK(ucstore_batch_close(&gathered) == UCSTORE_OK);
     CHECK(ucstore_close(&store) == UCSTORE_OK);
     ucstore_view_close(&again);

@@ -1,6 +1,6 @@
 /* 50,000 drawn operations for each operator, beside a plain dictionary whose copies are the snapshots and the views: writes,
- * batches by handle and as bytes, snapshots, views, reads, scans and compactions. Then the log of all batches is opened and
- * walked, whole and torn. The words are how many operations there are, and the seed. */
+ * batches by handle and as bytes, snapshots, views, jobs, reads, scans and compactions. Then the log of all batches is opened
+ * and walked, whole and torn. The words are how many operations there are, and the seed. */
 #include <stdio.h>
 #include <stdlib.h>
 #include <string.h>
@@ -14,7 +14,7 @@
         }                                                            \
     } while (0)
 
-enum { TEXT = 12, VALUE = 1 << 12, KEYS = 100, MOST_KEEPS = 12, MOST_VIEWS = 4, BATCH = 12 + 9 * (3 + 2 * TEXT), MOST_LOG = 1 << 24 };
+enum { TEXT = 12, VALUE = 1 << 12, KEYS = 100, MOST_KEEPS = 12, MOST_VIEWS = 4, MOST_JOBS = 3, BATCH = 12 + 9 * (3 + 2 * TEXT), MOST_LOG = 1 << 24 };
 
 /* The kinds of writes are the tags of RocksDB's batches (`dbformat.h`). */
 enum kind { DELETE = 0, PUT = 1, MERGE = 2, DELETE_RANGE = 15 };
@@ -60,6 +60,10 @@ static struct ucstore_batch gathered;
 
 /* What the store should hold, and what each view should. */
 static struct moment live, views[MOST_VIEWS];
+
+/* Compactions that are done away from the store, and whether they were run. */
+static struct ucstore_job jobs[MOST_JOBS];
+static bool ran[MOST_JOBS];
 
 /* All writes, in order, and a log with a batch for each call. */
 static struct write *writes;
@@ -484,6 +488,44 @@ static void check_report(struct moment *of) {
     CHECK((of == &live ? ucstore_last(&store, &last) : ucstore_view_last(&of->view, &last)) == UCSTORE_OK && last == of->last);
 }
 
+/* Jobs. */
+
+/* Ends a job: its run is installed if there is one. */
+static void end_job(size_t one) {
+    bool installed = !ran[one];
+    CHECK(ucstore_job_end(&store, &jobs[one], &installed) == UCSTORE_OK && installed == ran[one] && jobs[one].at == NULL);
+    CHECK(ucstore_job_end(&store, &jobs[one], &installed) == UCSTORE_NO_JOB && installed == ran[one]);
+}
+
+/* Takes a job, runs one, or ends one. */
+static void job(void) {
+    size_t one = (size_t)draw(MOST_JOBS);
+    bool before = draw(2) == 0, taken = before;
+    if (jobs[one].at == NULL) {
+        CHECK(ucstore_job(&store, &jobs[one], &taken) == UCSTORE_OK && taken == (jobs[one].at != NULL));
+        ran[one] = false;
+    } else if (draw(2) == 0) {
+        CHECK(ucstore_job(&store, &jobs[one], &taken) == UCSTORE_HAS_JOB && taken == before);
+        CHECK(ucstore_job_run(&jobs[one]) == UCSTORE_OK);
+        ran[one] = true;
+    } else {
+        end_job(one);
+    }
+}
+
+/* Ends some jobs on the store, or frees those that are left without it. */
+static void close_jobs(bool with_store) {
+    for (size_t one = 0; one < MOST_JOBS; one++) {
+        if (jobs[one].at != NULL && with_store && draw(2) == 0) {
+            end_job(one);
+        } else if (jobs[one].at != NULL && !with_store) {
+            CHECK(draw(2) == 0 || ucstore_job_run(&jobs[one]) == UCSTORE_OK);
+            CHECK(ucstore_job_close(&jobs[one]) == UCSTORE_OK && jobs[one].at == NULL);
+            CHECK(ucstore_job_close(&jobs[one]) == UCSTORE_NO_JOB);
+        }
+    }
+}
+
 /* Reads. */
 
 /* Whether a room has the first bytes of a text, and is as it was behind them. */
@@ -709,7 +751,7 @@ static void check_log(void) {
 }
 
 static void step(void) {
-    uint64_t choice = draw(104);
+    uint64_t choice = draw(110);
     if (choice < 40) {
         write_one();
     } else if (choice < 48) {
@@ -730,8 +772,10 @@ static void step(void) {
         get_many(draw_moment());
     } else if (choice < 100) {
         scan(draw_moment());
-    } else {
+    } else if (choice < 104) {
         view();
+    } else {
+        job();
     }
 }
 
@@ -764,8 +808,10 @@ static void soak(uint32_t drawn_operator, size_t operations) {
         CHECK(ucstore_last(&store, &last) == UCSTORE_OK && last == count);
     }
     check_log();
+    close_jobs(true);
     CHECK(ucstore_batch_close(&gathered) == UCSTORE_OK && gathered.at == NULL);
     CHECK(ucstore_close(&store) == UCSTORE_OK && store.at == NULL);
+    close_jobs(false);
     close_views();
     printf("operator %u: %zu operations, %zu writes\n", (unsigned)merge_operator, operations, count);
 }
@@ -911,6 +957,49 @@ static void without_view(void) {
     CHECK(ucstore_view_close(&none) == UCSTORE_NO_VIEW && seq == 7 && size == 0);
 }
 
+/* A store of 255 runs, which are compacted at once from then on. */
+static void open_full(struct ucstore *full) {
+    struct ucstore_options options;
+    const uint8_t text[] = {'a'};
+    CHECK(ucstore_options_init(&options) == UCSTORE_OK);
+    options.write_buffer_size = 1;
+    options.compaction_trigger = 255;
+    options.stop_trigger = 255;
+    options.max_size_amplification_percent = UINT32_MAX;
+    options.min_merge_width = 300;
+    options.max_merge_width = 300;
+    options.compacts_itself = 0;
+    CHECK(ucstore_create(full, UCSTORE_APPEND, &options) == UCSTORE_OK);
+    for (int run = 0; run < 255; run++) {
+        CHECK(ucstore_put(full, text, 1, text, 1) == UCSTORE_OK && ucstore_flush(full) == UCSTORE_OK);
+    }
+}
+
+/* What jobs are refused, and what is refused because of one. */
+static void refused_jobs(void) {
+    struct ucstore other = {0};
+    struct ucstore_job none = {0}, out = {0};
+    const uint8_t text[] = {'a'};
+    uint64_t seq = 7;
+    bool told = true;
+    CHECK(ucstore_job(&store, &none, &told) == UCSTORE_NO_STORE && told && none.at == NULL);
+    CHECK(ucstore_job_run(&none) == UCSTORE_NO_JOB && ucstore_job_close(&none) == UCSTORE_NO_JOB);
+    CHECK(ucstore_job_end(&store, &none, &told) == UCSTORE_NO_JOB && told);
+    open_full(&store);
+    open_full(&other);
+    CHECK(ucstore_job(&store, &out, &told) == UCSTORE_OK && told);
+    CHECK(ucstore_job(&store, &none, &told) == UCSTORE_OK && !told && none.at == NULL);
+    CHECK(ucstore_job_end(&other, &out, &told) == UCSTORE_NOT_OF_STORE && !told && out.at != NULL);
+    CHECK(ucstore_put(&store, text, 1, text, 1) == UCSTORE_OK);
+    CHECK(ucstore_put(&store, text, 1, text, 1) == UCSTORE_RUNS_CLAIMED);
+    CHECK(ucstore_flush(&store) == UCSTORE_RUNS_CLAIMED && ucstore_snapshot(&store, &seq) == UCSTORE_RUNS_CLAIMED && seq == 7);
+    CHECK(ucstore_job_run(&out) == UCSTORE_OK && ucstore_job_run(&out) == UCSTORE_OK);
+    CHECK(ucstore_job_end(&store, &out, &told) == UCSTORE_OK && told && out.at == NULL);
+    CHECK(ucstore_snapshot(&store, &seq) == UCSTORE_OK && seq == 256);
+    CHECK(ucstore_close(&other) == UCSTORE_OK);
+    CHECK(ucstore_close(&store) == UCSTORE_OK);
+}
+
 /* What is refused. */
 static void refusals(void) {
     struct ucstore_options options;
@@ -923,7 +1012,7 @@ static void refusals(void) {
     uint64_t seq = 7;
     CHECK(ucstore_version() == UCSTORE_ABI);
     CHECK(strcmp(ucstore_status_text(UCSTORE_ROOM), "the room is too small") == 0);
-    CHECK(strcmp(ucstore_status_text(UCSTORE_HAS_VIEW + 1), ucstore_status_text(-1)) == 0);
+    CHECK(strcmp(ucstore_status_text(UCSTORE_RUNS_CLAIMED + 1), ucstore_status_text(-1)) == 0);
     CHECK(ucstore_log_next(text, 1, &place, room, sizeof room, &size, &seq, &ended) == UCSTORE_BAD_PLACE && place.batches == 1);
     CHECK(ucstore_create(&store, UCSTORE_TAIL, &options) == UCSTORE_BAD_SIZE && store.at == NULL);
     CHECK(ucstore_options_init(&options) == UCSTORE_OK && options.write_buffer_size == 4194304 && options.size == sizeof options);
@@ -968,6 +1057,7 @@ int main(int argc, char **argv) {
     without_store();
     without_view();
     refusals();
+    refused_jobs();
     nothing_is_read();
     durable();
     for (uint32_t one = UCSTORE_APPEND; one <= UCSTORE_TAIL; one++) {

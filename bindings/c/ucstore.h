@@ -23,18 +23,28 @@
  * one writes. It copies no run, and keeps the memory of those that it shows until it is closed. A snapshot is read through its store
  * alone, and has only a number: each compaction keeps what is read at it, until it is released.
  *
+ * A job is a compaction that is done away from its store, made of zeros too:
+ *
+ *     struct ucstore_job job = {0};
+ *
+ * `ucstore_job` takes what is compacted next out of the store, `ucstore_job_run` compacts it, and `ucstore_job_end` puts the new run back.
+ * The first and the last are short calls on the store. Between them any thread runs the job, while the store is written to and read.
+ * It doesn't compact the runs of a job that is out. Several jobs may be out, and end in any order.
+ *
  * A store is in memory. To keep it, write each batch in this order, and open the store from the file's bytes the next time:
  * 1. `ucstore_prepare` judges the batch, takes all memory that it needs, and gives its record. If it is refused, the log stays as it is.
  * 2. Append the record to the file, and sync it. If that fails, cut the file back to where the record begins, and `ucstore_give_up`.
  * 3. `ucstore_commit` takes the batch. It can't fail.
- * Between 1 and 3 reads are free. A write, a flush or a snapshot gives the prepared batch up, and then the file has to be cut back too.
+ * Between 1 and 3 reads, views and jobs are free. A write, a flush or a snapshot gives the prepared batch up, and then the file has to be
+ * cut back too.
  * What is written otherwise isn't in such a log.
  *
  * What C owes:
- * - It neither copies, changes nor frees what is in a handle, a batch or a view, but by these functions. Each may lie anywhere, and
- *   move between calls. It is closed before it ends.
- * - One call at a time on a handle, reads too, on a batch, and on a view. Two of them may be used by two threads at once, and each may
- *   go from thread to thread.
+ * - It neither copies, changes nor frees what is in a handle, a batch, a view or a job, but by these functions. Each may lie anywhere,
+ *   and move between calls. It is closed before it ends.
+ * - One call at a time on a handle, reads too, on a batch, a view and a job. Two of them may be used by two threads at once, and each
+ *   may go from thread to thread.
+ * - A job ends on the store that it was taken from, and on no other one. UCSTORE_NOT_OF_STORE tells of most mistakes, not of all.
  * - Each address leads to as much memory as its type or its length says. If a length is 0, its address is not read, and may
  *   be null. No other address is null. What a function writes overlaps nothing else that it is given.
  * - What a function writes to has a value of its type before: `bool compacted = false;`.
@@ -71,6 +81,11 @@ struct ucstore_view {
     void *at;
 };
 
+/* A job: none if it is all zeros. */
+struct ucstore_job {
+    void *at;
+};
+
 /* What a function answers. */
 enum ucstore_status {
     UCSTORE_OK = 0,                /* It did what it was asked. */
@@ -93,7 +108,11 @@ enum ucstore_status {
     UCSTORE_BAD_KEYS = 17,         /* The keys' lengths don't add up to their bytes, or there aren't as many places for answers. */
     UCSTORE_BATCH_FULL = 18,       /* The batch has 2^32 - 1 operations. */
     UCSTORE_NO_VIEW = 19,          /* The handle has no view. */
-    UCSTORE_HAS_VIEW = 20          /* The handle has a view already. */
+    UCSTORE_HAS_VIEW = 20,         /* The handle has a view already. */
+    UCSTORE_NO_JOB = 21,           /* The handle has no job. */
+    UCSTORE_HAS_JOB = 22,          /* The handle has a job already. */
+    UCSTORE_NOT_OF_STORE = 23,     /* The job isn't out of the store. */
+    UCSTORE_RUNS_CLAIMED = 24      /* There are as many runs as there may be, and jobs have those that would be compacted. End one. */
 };
 
 /* Which operator merges a key's operands into its value. */
@@ -128,6 +147,10 @@ static inline const char *ucstore_status_text(int32_t status) {
         "the batch has 2^32 - 1 operations",
         "the handle has no view",
         "the handle has a view already",
+        "the handle has no job",
+        "the handle has a job already",
+        "the job isn't out of the store",
+        "jobs have the runs that would be compacted",
     };
     return status >= 0 && (size_t)status < sizeof texts / sizeof texts[0] ? texts[status] : "unknown status";
 }
@@ -240,18 +263,19 @@ int32_t ucstore_batch_close(struct ucstore_batch *batch);
 
 /* Writes the operations of a batch, with the sequences after the last one: all of them, or none if it is refused. The
  * batch stays as it was.
- * UCSTORE_NO_STORE, UCSTORE_SEQUENCES_SPENT, UCSTORE_IDS_SPENT, UCSTORE_OUT_OF_MEMORY. */
+ * UCSTORE_NO_STORE, UCSTORE_SEQUENCES_SPENT, UCSTORE_IDS_SPENT, UCSTORE_RUNS_CLAIMED, UCSTORE_OUT_OF_MEMORY. */
 int32_t ucstore_write(struct ucstore *store, struct ucstore_batch *batch);
 
 /* Writes a batch, as RocksDB writes it: 8 bytes for a sequence, 4 for a count, and as many records. The operations get
  * that sequence and those after it. If it is 0, they get the sequences after the last one. UCSTORE_SEQUENCES_SPENT
  * also says that the batch's own sequence is above 2^56 - 1.
  * UCSTORE_NO_STORE, UCSTORE_NOT_A_BATCH, UCSTORE_SEQUENCE_BACK, UCSTORE_SEQUENCES_SPENT, UCSTORE_IDS_SPENT,
- * UCSTORE_OUT_OF_MEMORY. */
+ * UCSTORE_RUNS_CLAIMED, UCSTORE_OUT_OF_MEMORY. */
 int32_t ucstore_write_bytes(struct ucstore *store, const uint8_t *batch, size_t batch_length);
 
 /* Sets a key to a value.
- * UCSTORE_NO_STORE, UCSTORE_TOO_LONG, UCSTORE_SEQUENCES_SPENT, UCSTORE_IDS_SPENT, UCSTORE_OUT_OF_MEMORY. */
+ * UCSTORE_NO_STORE, UCSTORE_TOO_LONG, UCSTORE_SEQUENCES_SPENT, UCSTORE_IDS_SPENT, UCSTORE_RUNS_CLAIMED,
+ * UCSTORE_OUT_OF_MEMORY. */
 int32_t ucstore_put(struct ucstore *store, const uint8_t *key, size_t key_length, const uint8_t *value, size_t value_length);
 
 /* Removes a key. The statuses are those of `ucstore_put`. */
@@ -290,12 +314,12 @@ int32_t ucstore_commit(struct ucstore *store);
 int32_t ucstore_give_up(struct ucstore *store);
 
 /* Makes a run of what is gathered.
- * UCSTORE_NO_STORE, UCSTORE_IDS_SPENT, UCSTORE_OUT_OF_MEMORY. */
+ * UCSTORE_NO_STORE, UCSTORE_IDS_SPENT, UCSTORE_RUNS_CLAIMED, UCSTORE_OUT_OF_MEMORY. */
 int32_t ucstore_flush(struct ucstore *store);
 
 /* Takes a snapshot at the last sequence, and tells that. What is gathered becomes a run first. A snapshot that is
  * taken twice is released twice.
- * UCSTORE_NO_STORE, UCSTORE_IDS_SPENT, UCSTORE_OUT_OF_MEMORY. */
+ * UCSTORE_NO_STORE, UCSTORE_IDS_SPENT, UCSTORE_RUNS_CLAIMED, UCSTORE_OUT_OF_MEMORY. */
 int32_t ucstore_snapshot(struct ucstore *store, uint64_t *seq);
 
 /* Releases a snapshot.
@@ -399,6 +423,24 @@ int32_t ucstore_view_close(struct ucstore_view *view);
  * itself needs no such call.
  * UCSTORE_NO_STORE, UCSTORE_IDS_SPENT, UCSTORE_OUT_OF_MEMORY. */
 int32_t ucstore_compact(struct ucstore *store, bool *compacted);
+
+/* Takes what is compacted next out of the store as a job behind a handle, and tells whether there was anything. Until the job ends the
+ * store doesn't compact its runs, and does all else.
+ * UCSTORE_HAS_JOB, UCSTORE_NO_STORE, UCSTORE_OUT_OF_MEMORY. */
+int32_t ucstore_job(struct ucstore *store, struct ucstore_job *job, bool *taken);
+
+/* Compacts the runs of the job, unless that is done. The calling thread does all of it, and touches no store.
+ * UCSTORE_NO_JOB, UCSTORE_OUT_OF_MEMORY. */
+int32_t ucstore_job_run(struct ucstore_job *job);
+
+/* Ends a job on the store that it was taken from: the run that was made stands for the job's runs. `installed` is false if it wasn't run,
+ * or if no number is left for the run. The store has the job's runs for other compactions in any case. It takes no memory.
+ * UCSTORE_NO_JOB, UCSTORE_NO_STORE, UCSTORE_NOT_OF_STORE: the job stays. */
+int32_t ucstore_job_end(struct ucstore *store, struct ucstore_job *job, bool *installed);
+
+/* Frees a job without its store, for one whose store is closed. A store that isn't would never compact the job's runs again.
+ * UCSTORE_NO_JOB. */
+int32_t ucstore_job_close(struct ucstore_job *job);
 
 /* Tells what the store holds, in numbers. It looks at each run once, and at no point.
  * UCSTORE_NO_STORE, UCSTORE_BAD_SIZE. */

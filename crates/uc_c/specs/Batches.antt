@@ -47,7 +47,7 @@ abbrev pub DeclinesOps : ℤ → List Op → Engined → Engined → Type 0
 DeclinesOps status ops e e' =
     StaysUnwritten e e'
     × (((status ≡ SEQUENCES_SPENT) × (2 ^ 56 ≤ last e.live + length ops))
-    ⊎ Names RoomSays status (λ error. HasNoRoom error e'.live.version))
+    ⊎ Names RoomSays status (λ error. HasNoRoom error e'.live))
 
 -- the operations are taken, or the status says why not
 abbrev pub TakesOps : ℤ → List Op → Engined → Engined → Type 0

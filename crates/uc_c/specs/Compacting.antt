@@ -17,16 +17,16 @@ module _ (status : ℤ) (old new : Option Engined) where
   abbrev pub Flushes : Type 0
   Flushes = Tries RoomSays status old new
       (λ e e'. StaysUnwritten e e' × (e'.live.gathered ≡ []))
-      (λ e e' error. HasNoRoom error e'.live.version × StaysUnwritten e e')
+      (λ e e' error. HasNoRoom error e'.live × StaysUnwritten e e')
 
   -- what is picked next is compacted, if anything is, or the status says why not
   abbrev pub Compacts : Bool → Type 0
   Compacts compacted = Tries RoomSays status old new
       (λ e e'. (e'.kind ≡ e.kind) × IsCompacted (meaning_of e.kind) (next_stretch e.live) compacted e.live e'.live)
-      (λ e e' error. HasNoRoom error e.live.version × (e' ≡ e))
+      (λ e e' error. HasNoRoom error e.live × (e' ≡ e))
 
   -- a snapshot is taken at the last sequence, or the status says why not
   abbrev pub TakesOne : ℕ → Type 0
   TakesOne seq = Tries RoomSays status old new
       (λ e e'. (e'.kind ≡ e.kind) × TakesSnapshot (meaning_of e.kind) e.live e'.live seq)
-      (λ e e' error. HasNoRoom error e'.live.version × StaysUnwritten e e')
+      (λ e e' error. HasNoRoom error e'.live × StaysUnwritten e e')

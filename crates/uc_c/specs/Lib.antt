@@ -4,6 +4,7 @@ pub mod FaultCodes
 pub mod Numbers
 pub mod Opening
 pub mod Views
+pub mod Jobs
 pub mod Writing
 pub mod Batches
 pub mod Room

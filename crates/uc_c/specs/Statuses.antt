@@ -10,10 +10,11 @@ use Rattle.uc_live.specs.declared.room_error.RoomError.{RoomError}
 use Rattle.uc_live.specs.declared.room_error.RoomError.TheVariants as rooms
 use Rattle.uc_live.specs.declared.write_error.WriteError.{WriteError}
 use Rattle.uc_live.specs.declared.write_error.WriteError.TheVariants as writes
-use Rattle.uc_c.specs.declared.status.TheConstants.{OUT_OF_MEMORY, BAD_OPTION, IDS_SPENT, SEQUENCES_SPENT, TOO_LONG, NOT_A_BATCH, SEQUENCE_BACK, BATCH_FULL}
+use Rattle.uc_c.specs.declared.status.TheConstants.{OUT_OF_MEMORY, BAD_OPTION, IDS_SPENT, SEQUENCES_SPENT, TOO_LONG, NOT_A_BATCH, SEQUENCE_BACK, BATCH_FULL, RUNS_CLAIMED}
 
 abbrev pub RoomSays : RoomError → ℤ → Type 0
 RoomSays rooms.IdsSpent status = status ≡ IDS_SPENT
+RoomSays rooms.RunsClaimed status = status ≡ RUNS_CLAIMED
 RoomSays rooms.Memory status = status ≡ OUT_OF_MEMORY
 
 abbrev pub OpenSays : LiveOpenError → ℤ → Type 0

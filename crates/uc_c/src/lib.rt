@@ -14,15 +14,16 @@
 //! the handle, calls it, puts it back, and answers a status. What is written through an address is written only if the
 //! status is `OK`.
 //!
-//! C gathers operations in a [`BatchHandle`](uc_handle::BatchHandle), which is held in the same way, and so is a view, in a
-//! [`ViewHandle`](uc_handle::ViewHandle). Stores and views are read by the same functions, over [`Readable`](readable::Readable).
+//! C gathers operations in a [`BatchHandle`](uc_handle::BatchHandle), which is held in the same way. So are a view, in a
+//! [`ViewHandle`](uc_handle::ViewHandle), and a job, in a [`JobHandle`](uc_handle::JobHandle). Stores and views are read by
+//! the same functions, over [`Readable`](readable::Readable).
 //!
 //! The functions of `logs.rt` need no handle: C keeps a log in a file of its own, appends what they lay out, and walks
 //! over it. Where a walk stops, it tells why through an address.
 //!
 //! Read `status.rt` and `specs/Replies.antt` first, for what the functions answer, then `opening.rt`, `batches.rt`,
 //! `writing.rt`, `snapshots.rt`, `readable.rt`, `reading.rt`, `many.rt`, `scanning.rt`, `views.rt`, `view_reading.rt`,
-//! `compacting.rt`, `c_report.rt` and, with `specs/LogWalk.antt`, `logs.rt`.
+//! `compacting.rt`, `jobs.rt`, `job_laws.rt`, `c_report.rt` and, with `specs/LogWalk.antt`, `logs.rt`.
 //!
 //! Tests: its own.
 #![tactic(auto)]
@@ -36,6 +37,10 @@ mod c_options;
 mod c_report;
 mod compacting;
 mod fault_codes;
+mod job_laws;
+#[cfg(test)]
+mod job_tests;
+mod jobs;
 mod log_step;
 mod logs;
 mod many;

@@ -69,6 +69,18 @@ pub const NO_VIEW: i32 = 19;
 /// The handle has a view already.
 pub const HAS_VIEW: i32 = 20;
 
+/// The handle has no job.
+pub const NO_JOB: i32 = 21;
+
+/// The handle has a job already.
+pub const HAS_JOB: i32 = 22;
+
+/// The store doesn't hold the claim of the job.
+pub const NOT_OF_STORE: i32 = 23;
+
+/// There are as many runs as there may be, and jobs have those that would be compacted.
+pub const RUNS_CLAIMED: i32 = 24;
+
 /// The statuses have the numbers that `enum ucstore_status` gives them, in its order.
 pub fn statuses_are_numbered()
     ensures first { statuses.OK ∷ statuses.OUT_OF_MEMORY ∷ statuses.NO_STORE ∷ statuses.HAS_STORE ∷ statuses.NOT_FOUND
@@ -79,6 +91,8 @@ pub fn statuses_are_numbered()
         ∷ statuses.BATCH_FULL ∷ []
         ≡ pos 9 ∷ pos 10 ∷ pos 11 ∷ pos 12 ∷ pos 13 ∷ pos 14 ∷ pos 15 ∷ pos 16 ∷ pos 17 ∷ pos 18 ∷ [] }
     ensures views { statuses.NO_VIEW ∷ statuses.HAS_VIEW ∷ [] ≡ pos 19 ∷ pos 20 ∷ [] }
+    ensures jobs { statuses.NO_JOB ∷ statuses.HAS_JOB ∷ statuses.NOT_OF_STORE ∷ statuses.RUNS_CLAIMED ∷ []
+        ≡ pos 21 ∷ pos 22 ∷ pos 23 ∷ pos 24 ∷ [] }
 {}
 
 /// The status where there is no room for a run.
@@ -87,6 +101,7 @@ pub fn room_status(error: RoomError) -> i32
 {
     match error {
         RoomError::IdsSpent => IDS_SPENT,
+        RoomError::RunsClaimed => RUNS_CLAIMED,
         RoomError::Memory => OUT_OF_MEMORY,
     }
 }
