@@ -139,7 +139,7 @@ LINES = (
     from_c("a million lookups", "lookups from C", "counters", "RocksDB", "lookups from C"),
     from_c("10,000 scans", "scans from C", "counters", "RocksDB", "scans from C"),
     Line("views", "view, closed again", "views", ("view and close",), OURS, NS),
-    Line("views", "job, its owner's part", "owner's part of a job", ("longest",), OURS, NS),
+    Line("views", "job, its owner's part", "owner's part of a job", ("* median",), OURS, NS),
     Line("views", "3 readers of views, M/s", "lookups on views", ("3 readers",), "RocksDB", RATE, shown="",
          name="lookups on views, 3 readers"),
     Line("views", "the same", "lookups on views", ("3 readers",), "one reader", RATE, shown=""),

@@ -7,8 +7,10 @@
  * nothing was written since the last one, of one behind a write, and of a view that is there again and its close, each
  * TIMES times.
  *
- * `jobs`: the store has RUNS runs of POINTS points, which one job compacts, TIMES times anew. It prints the median and
- * the longest nanoseconds of taking and ending a job together, the median of either, and that of running it. */
+ * `jobs`: the store has RUNS runs of POINTS points, which one job compacts, TIMES times anew. Ending it frees the old
+ * runs. It prints the median and the longest nanoseconds of taking and ending a job together, and the median of either;
+ * the same where a view keeps the old runs for another thread to free, and taking it is a part of ending; and the
+ * median of running. */
 #define _POSIX_C_SOURCE 200112L
 
 #include "keys.h"
@@ -149,7 +151,8 @@ struct job_times {
     struct times owner, taking, ending, running;
 };
 
-static void time_job(struct job_times *times) {
+/* Takes, runs and ends a job. A view keeps the old runs, if that is wanted. */
+static void time_job(struct job_times *times, struct ucstore_view *view, bool keeps) {
     struct ucstore_job job = {0};
     bool taken = false, installed = false;
     int64_t start = now(), got, ran, ended;
@@ -158,6 +161,9 @@ static void time_job(struct job_times *times) {
     expect(taken, "there is no job");
     expect_ok(ucstore_job_run(&job), "a job isn't run");
     ran = now();
+    if (keeps) {
+        take(view);
+    }
     expect_ok(ucstore_job_end(&store, &job, &installed), "a job isn't ended");
     ended = now();
     expect(installed, "a job's run is refused");
@@ -167,22 +173,37 @@ static void time_job(struct job_times *times) {
     add_time(&times->owner, got - start + ended - ran);
 }
 
-static void measure_jobs(uint64_t runs, uint64_t points, uint64_t count) {
-    static struct job_times times;
-    for (uint64_t one = 0; one < count; one++) {
-        struct ucstore_view view = {0};
-        create((uint32_t)runs);
-        put_runs(runs, points);
-        expect_runs(runs);
-        time_job(&times);
-        expect_runs(1);
-        take(&view);
-        check_view(&view, runs * points);
-        drop(&view);
-        expect_ok(ucstore_close(&store), "the store isn't closed");
+/* A job over runs of a store that is made for it, with a look at all keys before it is closed. */
+static void measure_job(struct job_times *times, uint64_t runs, uint64_t points, bool keeps) {
+    struct ucstore_view old = {0}, view = {0};
+    create((uint32_t)runs);
+    put_runs(runs, points);
+    expect_runs(runs);
+    time_job(times, &old, keeps);
+    expect_runs(1);
+    if (keeps) {
+        drop(&old);
     }
-    printf("%" PRId64 " %" PRId64 " %" PRId64 " %" PRId64 " %" PRId64 "\n", time_at(&times.owner, 500),
-           times.owner.longest, time_at(&times.taking, 500), time_at(&times.ending, 500), time_at(&times.running, 500));
+    take(&view);
+    check_view(&view, runs * points);
+    drop(&view);
+    expect_ok(ucstore_close(&store), "the store isn't closed");
+}
+
+static void print_owner(const struct job_times *times) {
+    printf("%" PRId64 " %" PRId64 " %" PRId64 " %" PRId64 " ", time_at(&times->owner, 500), times->owner.longest,
+           time_at(&times->taking, 500), time_at(&times->ending, 500));
+}
+
+static void measure_jobs(uint64_t runs, uint64_t points, uint64_t count) {
+    static struct job_times freeing, keeping;
+    for (uint64_t one = 0; one < count; one++) {
+        measure_job(&freeing, runs, points, false);
+        measure_job(&keeping, runs, points, true);
+    }
+    print_owner(&freeing);
+    print_owner(&keeping);
+    printf("%" PRId64 "\n", time_at(&freeing.running, 500));
 }
 
 /* A number of the command line, at least 1. */

@@ -14,7 +14,7 @@
 # - views: a store has 64 runs. A view is taken and closed, where nothing was written since the last one, and behind
 #   each write; and there is one again, which is closed.
 # - jobs: a store has ten runs of 130,000 points, which one job compacts, JOBS times anew (9). The owner's part is
-#   taking and ending it.
+#   taking and ending it. That frees the ten runs, unless a view keeps them for another thread to free. Both are there.
 # - lookups: 1, 2 and 3 threads look keys up for SPAN seconds (5), with a clock around each lookup. Another thread goes
 #   on to write single puts, and one compacts. Ours reads views: the writer takes one after each 1,000 puts, and each
 #   reader has the newest again after each 1,000 lookups, both under a lock. RocksDB reads the newest, and flushes and
@@ -135,14 +135,18 @@ views() {
 }
 
 jobs() {
+    local which column=1
     if [ "$ours" = none ]; then return; fi
     measure "jobs:calls:jobs 10 130000 $jobs"
     echo "a job of ten runs of 130,000 points, $jobs times"
-    keep_call "owner's part of a job" 'median' jobs 1
-    keep_call "owner's part of a job" 'longest' jobs 2
-    keep_call 'parts of a job' 'taking' jobs 3
-    keep_call 'parts of a job' 'ending' jobs 4
-    keep_call 'parts of a job' 'running' jobs 5
+    for which in 'old runs freed' 'old runs kept by a view'; do
+        keep_call "owner's part of a job" "$which, median" jobs "$column"
+        keep_call "owner's part of a job" "$which, longest" jobs $((column + 1))
+        keep_call 'parts of a job' "$which, taking" jobs $((column + 2))
+        keep_call 'parts of a job' "$which, ending" jobs $((column + 3))
+        column=$((column + 4))
+    done
+    keep_call 'parts of a job' running jobs "$column"
     echo
 }
 
