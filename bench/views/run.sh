@@ -18,7 +18,7 @@
 # - lookups: 1, 2 and 3 threads look keys up for SPAN seconds (5), with a clock around each lookup. Another thread goes
 #   on to write single puts, and one compacts. Ours reads views: the writer takes one after each 1,000 puts, and each
 #   reader has the newest again after each 1,000 lookups, both under a lock. RocksDB reads the newest, and flushes and
-#   compacts by two threads of its own.
+#   compacts by two threads of its own. What readers take of processors is there too, since other work takes some.
 # - writes: WRITES keys (3000000) drawn of as many are put one by one, with a clock around each put, beside two threads
 #   that compact by jobs, or RocksDB's own two. Ours flushes by the thread that writes. What is left to compact behind
 #   the last write isn't counted.
@@ -156,7 +156,7 @@ keep_lookups() { # PROGRAM READERS
     name=$(name_of "$1")
     keep 'lookups on views' "$2 readers" "$name" M/s "$(as_millions "$(median "$row" 1)")"
     keep 'writes beside lookups' "$2 readers" "$name" M/s "$(as_millions "$(median "$row" 2)")"
-    for share in median 99 99.9 longest; do
+    for share in median 99 99.9 longest 'of a processor'; do
         keep 'lookups on views' "$2 readers $share" "$name" ns "$(median "$row" "$column")"
         column=$((column + 1))
     done
@@ -169,9 +169,9 @@ print_lookups() { # PROGRAM READERS
     local column row=lookups.$1.$2
     printf '%-10s %7s' "$(name_of "$1")" "$2"
     for column in 1 2; do printf ' %9s' "$(as_millions "$(median "$row" "$column")")"; done
-    for column in 3 4 5 6; do printf ' %9s' "$(median "$row" "$column")"; done
+    for column in 3 4 5 6 7; do printf ' %9s' "$(median "$row" "$column")"; done
     printf ' %9s' "$(over "$row" "lookups.$1.1" 1)"
-    for column in 1 3 4 5; do printf ' %9s' "$(over "$row" "lookups.rocksdb.$2" "$column")"; done
+    for column in 1 3 4 5 7; do printf ' %9s' "$(over "$row" "lookups.rocksdb.$2" "$column")"; done
     printf '\n'
 }
 
@@ -183,7 +183,8 @@ lookups() {
     measure "${rows[@]}"
     echo "lookups and writes in millions a second, lookups in ns, and shares of RocksDB's"
     printf '%-10s %7s' '' readers
-    printf ' %9s' lookups writes median 99 99.9 longest 'x of one' '/ lookups' '/ median' '/ 99' '/ 99.9'
+    printf ' %9s' lookups writes median 99 99.9 longest processor 'x of one' '/ lookups' '/ median' '/ 99' '/ 99.9' \
+        '/ proc.'
     printf '\n'
     for program in $(programs); do
         for readers in 1 2 3; do

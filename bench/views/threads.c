@@ -6,7 +6,7 @@
  * `lookups`: the store has 300,000 keys. One thread goes on to set drawn ones, and shows what it wrote after each 1,000
  * writes, and one compacts. Meanwhile readers look drawn keys up, one by one, and renew what they read after each 1,000
  * lookups. It prints the lookups and the writes a second, and of a lookup the nanoseconds of the median, the 99th and
- * the 99.9th percent, and the longest.
+ * the 99.9th percent, the longest, and what one took of processors, all else that readers do included.
  *
  * `writes`: one thread sets WRITES keys drawn of as many, one by one, while two compact. It prints the nanoseconds of
  * all, the median, the 99.9th percent, the longest, and what that one was.
@@ -29,11 +29,13 @@ static uint64_t filled, keys;
 /* When threads stop. */
 static int64_t end;
 
-/* A thread that reads: the place from which on its keys are drawn, and the times of its lookups. */
+/* A thread that reads: the place from which on its keys are drawn, the times of its lookups, and what it took of
+ * processors. */
 struct reading {
     pthread_t thread;
     uint64_t first;
     struct times times;
+    int64_t spent;
 };
 
 static struct reading readings[MOST_READERS];
@@ -76,6 +78,7 @@ static void *read_drawn(void *state) {
     }
     close_reader(reader);
     reading->times = times;
+    reading->spent = processor_time();
     return NULL;
 }
 
@@ -159,16 +162,19 @@ static uint64_t run_threads(size_t count, int64_t seconds) {
 
 static void measure_lookups(size_t count, uint64_t seconds) {
     static struct times times;
+    int64_t spent = 0;
     uint64_t last;
     expect(count <= MOST_READERS, "there are too many readers");
     fill();
     last = run_threads(count, (int64_t)seconds);
     for (size_t place = 0; place < count; place++) {
         add_times(&times, &readings[place].times);
+        spent += readings[place].spent;
     }
     check_all(last);
-    printf("%" PRIu64 " %" PRIu64 " %" PRId64 " %" PRId64 " %" PRId64 " %" PRId64 "\n", times.count / seconds,
-           (last - filled) / seconds, time_at(&times, 500), time_at(&times, 990), time_at(&times, 999), times.longest);
+    printf("%" PRIu64 " %" PRIu64 " %" PRId64 " %" PRId64 " %" PRId64 " %" PRId64 " %" PRId64 "\n",
+           times.count / seconds, (last - filled) / seconds, time_at(&times, 500), time_at(&times, 990),
+           time_at(&times, 999), times.longest, spent / (int64_t)times.count);
 }
 
 static void measure_writes(uint64_t count) {

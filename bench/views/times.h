@@ -15,10 +15,19 @@ struct times {
     int64_t longest;
 };
 
-static inline int64_t now(void) {
+static inline int64_t at_clock(clockid_t clock) {
     struct timespec time;
-    clock_gettime(CLOCK_MONOTONIC, &time);
+    clock_gettime(clock, &time);
     return (int64_t)time.tv_sec * 1000000000 + time.tv_nsec;
+}
+
+static inline int64_t now(void) {
+    return at_clock(CLOCK_MONOTONIC);
+}
+
+/* What the calling thread has had of processors. */
+static inline int64_t processor_time(void) {
+    return at_clock(CLOCK_THREAD_CPUTIME_ID);
 }
 
 static inline void add_time(struct times *times, int64_t time) {
