@@ -1,11 +1,11 @@
 -- Gathered operations that a store takes as a batch.
-use Rattle.std.proofs.Common.{◌≡◌, ◌+◌, ◌^◌, ◌<◌, ◌≤◌, ℕ, List, [], length, Ok, Err, refl, ap, sym, ◌∙◌, subst, inl, inr, arith}
+use Rattle.std.proofs.Common.{◌≡◌, ◌+◌, ◌^◌, ◌<◌, ◌≤◌, ℕ, List, length, Ok, Err, ap, sym, ◌∙◌, subst, inl, inr}
 use Rattle.std.specs.Prelude.{ℤ}
 use Rattle.std.proofs.lemmas.Bool.{cases_lt}
 use Rattle.uc_bytes.specs.declared.op.Op.{Op}
 use Rattle.uc_bytes.specs.declared.write.Write.{Write}
 use Rattle.uc_batch.specs.Batch.{batch_of, numbered}
-use Rattle.uc_batch.specs.Gathering.{FitTogether, numbered_text}
+use Rattle.uc_batch.specs.Gathering.{numbered_text}
 use Rattle.uc_batch.specs.Spelling.{batch_text}
 use Rattle.uc_batch.specs.declared.error.BatchError.{BatchError}
 use Rattle.uc_live.specs.Going.{GoesOn}
@@ -14,7 +14,7 @@ use Rattle.uc_live.specs.Writing.{IsBatchPrepared, IsBatchWritten, Prepares, nex
 use Rattle.uc_live.specs.declared.write_error.WriteError.{WriteError}
 use Rattle.uc_live.specs.declared.write_error.WriteError.TheVariants.{Faulty, SequencesSpent, TooLong, NoRoom}
 use Rattle.uc_engine.specs.Engines.{Engined, meaning_of}
-use Rattle.uc_c.specs.Batches.{AreLeft, ArePrepared, AreTaken, DeclinesOps}
+use Rattle.uc_c.specs.Batches.{ArePrepared, AreTaken, DeclinesOps}
 use Rattle.uc_c.specs.Statuses.{GatheredSays}
 use Rattle.uc_c.specs.Writing.{DeclinesBatch, IsTold}
 use Rattle.uc_c.specs.declared.status.TheConstants.{OK, ROOM}

@@ -1,5 +1,5 @@
 -- What an opening puts behind a handle.
-use Rattle.std.specs.Prelude.{◌≡◌, ◌≢◌, [], ℕ, ℤ, List, true, false, Option, Some, None, ◌⊎◌, MatchOption, IsSomeAnd}
+use Rattle.std.specs.Prelude.{◌≡◌, ◌≢◌, [], ℕ, ℤ, List, true, false, Option, ◌⊎◌, MatchOption, IsSomeAnd}
 use Rattle.uc_batch.specs.Log.{log_writes}
 use Rattle.uc_live.specs.Going.{GoesOn}
 use Rattle.uc_live.specs.LiveOptions.{are_good}

@@ -1,5 +1,5 @@
 -- What is put behind the handle of a view.
-use Rattle.std.specs.Prelude.{◌≡◌, ◌⊎◌, ℤ, Option, Some, None, MatchOption}
+use Rattle.std.specs.Prelude.{◌≡◌, ◌⊎◌, ℤ, Option, Some, MatchOption}
 use Rattle.uc_engine.specs.EngineViews.{Viewed}
 use Rattle.uc_c.specs.declared.status.TheConstants.{OK, OUT_OF_MEMORY, HAS_VIEW}
 

@@ -1,8 +1,6 @@
-use Rattle.std.proofs.Common.{◌≡◌, ◌∙◌, ◌+◌, ◌++◌, ◌∷◌, [], List, ℕ, take, drop, map, get_or, sym, ap}
+use Rattle.std.proofs.Common.{◌≡◌, ◌∙◌, List, ℕ, take, drop, get_or, sym, ap}
 use Rattle.std.specs.Prelude.{sum, Option}
-use Rattle.std.proofs.lemmas.List.{take_more}
 use Rattle.uc_engine.specs.EngineViews.{value_seen}
-use Rattle.uc_c.specs.Many.{length_told, values_bytes, values_of}
 use Rattle.uc_c.proofs.Cutting.{found_more}
 use Rattle.uc_c.proofs.many.find.Goals as goal
 
