@@ -437,7 +437,8 @@ int32_t ucstore_job_run(struct ucstore_job *job);
 
 /* Ends a job on the store that it was taken from: the run that was made stands for the job's runs. `installed` is false
  * if the job wasn't run, or if no number is left for the run: the store has the job's runs for others then. It takes no
- * memory.
+ * memory. It frees the runs that are replaced, 15 ms for a million writes, unless a view shows them: one that is taken
+ * before, and closed once others may call the store, does that for it.
  * UCSTORE_NO_JOB, UCSTORE_NO_STORE, UCSTORE_NOT_OF_STORE: the job stays. */
 int32_t ucstore_job_end(struct ucstore *store, struct ucstore_job *job, bool *installed);
 
