@@ -24,8 +24,8 @@ impl Db {
     ///
     /// # Errors
     ///
-    /// [`Error::Locked`], [`Error::Damaged`] and [`Error::Missing`], which change nothing; [`Error::File`],
-    /// [`Error::Store`].
+    /// [`Error::Locked`], [`Error::OtherOperator`], [`Error::Damaged`] and [`Error::Missing`], which change nothing;
+    /// [`Error::File`], [`Error::Store`].
     pub fn open(folder: impl AsRef<Path>, options: &Options) -> Result<Db, Error> {
         Db::open_on(Arc::new(DiskFolder::open(folder)?), options)
     }
@@ -127,7 +127,8 @@ impl Db {
     ///
     /// [`Error::Store`] if memory is refused, as for each read.
     pub fn get(&self, key: impl AsRef<[u8]>) -> Result<Option<Vec<u8>>, Error> {
-        self.snapshot()?.get(key)
+        self.shared().counts.lookups.add(1);
+        Ok(self.shared().view()?.get(key)?)
     }
 
     /// For each key its value, if there is one, at one moment. The keys come in any order.
@@ -148,7 +149,8 @@ impl Db {
     ///
     /// Those of [`get`](Db::get).
     pub fn snapshot(&self) -> Result<Snapshot, Error> {
-        Ok(Snapshot::of(self.shared().view()?))
+        let shared = self.shared();
+        Ok(Snapshot::of(shared.view()?, &shared.counts))
     }
 
     /// All keys, with their values, at one moment.

@@ -1,6 +1,9 @@
 //! [`Snapshot`] and [`Rows`]: what a database held at a moment.
 
+use crate::counts::Counts;
 use crate::error::Error;
+use std::fmt;
+use std::sync::Arc;
 use ucstore::{Scan, View};
 
 /// The rows of a range, in the order of their keys' bytes, as they were when it was made. They are fetched in pages.
@@ -22,15 +25,18 @@ pub type Rows = Scan<View>;
 /// # Ok(())
 /// # }
 /// ```
-#[derive(Clone, Debug)]
+#[derive(Clone)]
 pub struct Snapshot {
     view: View,
+    /// Those of its database.
+    counts: Arc<Counts>,
 }
 
 impl Snapshot {
     /// That of a view.
-    pub(crate) fn of(view: View) -> Snapshot {
-        Snapshot { view }
+    pub(crate) fn of(view: View, counts: &Arc<Counts>) -> Snapshot {
+        let counts = Arc::clone(counts);
+        Snapshot { view, counts }
     }
 
     /// The sequence of the last write that it has.
@@ -44,6 +50,7 @@ impl Snapshot {
     ///
     /// [`Error::Store`] if memory is refused, as for each read.
     pub fn get(&self, key: impl AsRef<[u8]>) -> Result<Option<Vec<u8>>, Error> {
+        self.counts.lookups.add(1);
         Ok(self.view.get(key)?)
     }
 
@@ -56,7 +63,9 @@ impl Snapshot {
         &self,
         keys: impl IntoIterator<Item = K>,
     ) -> Result<Vec<Option<Vec<u8>>>, Error> {
-        Ok(self.view.get_many(keys)?)
+        let values = self.view.get_many(keys)?;
+        self.counts.lookups.add(values.len() as u64);
+        Ok(values)
     }
 
     /// All keys, with their values.
@@ -84,5 +93,14 @@ impl Snapshot {
     /// Those of [`iter`](Snapshot::iter).
     pub fn prefix(&self, prefix: impl AsRef<[u8]>) -> Result<Rows, Error> {
         Ok(self.view.again()?.into_prefix(prefix))
+    }
+}
+
+impl fmt::Debug for Snapshot {
+    fn fmt(&self, formatter: &mut fmt::Formatter<'_>) -> fmt::Result {
+        formatter
+            .debug_struct("Snapshot")
+            .field("sequence", &self.sequence())
+            .finish_non_exhaustive()
     }
 }

@@ -323,6 +323,9 @@ impl Folder for Gate {
     fn names(&self) -> io::Result<Vec<String>> {
         self.device.names()
     }
+    fn length(&self, name: &str) -> io::Result<u64> {
+        self.device.length(name)
+    }
     fn read(&self, name: &str) -> io::Result<Vec<u8>> {
         self.device.read(name)
     }
