@@ -39,6 +39,15 @@ impl Snapshot {
         Snapshot { view, counts }
     }
 
+    /// The snapshot once more, for another thread. Nothing is copied.
+    ///
+    /// # Errors
+    ///
+    /// [`Error::Store`] if memory is refused.
+    pub fn again(&self) -> Result<Snapshot, Error> {
+        Ok(Snapshot::of(self.view.again()?, &self.counts))
+    }
+
     /// The sequence of the last write that it has.
     pub fn sequence(&self) -> u64 {
         self.view.last()
