@@ -193,8 +193,13 @@ int32_t ucstore_db_open(const char *folder, const struct ucstore_db_options *opt
  * UCSTORE_DB_OUT_OF_MEMORY. */
 int32_t ucstore_db_in_memory(const struct ucstore_db_options *options, struct ucstore_db **db);
 
-/* Closes a database. What was acknowledged is on the device then. It is freed, whatever this answers but UCSTORE_DB_FORKED.
- * It answers what failed before: UCSTORE_DB_READ_ONLY, or what refused a checkpoint in the background. */
+/* Ends a database, while other threads may still call it. What was acknowledged is on the device then, and the folder may be
+ * opened again. Later writes are UCSTORE_DB_CLOSED, and reads still answer. The handle is closed behind this.
+ * It answers what failed before: UCSTORE_DB_READ_ONLY, or what refused a checkpoint in the background. UCSTORE_DB_CLOSED. */
+int32_t ucstore_db_end(const struct ucstore_db *db);
+
+/* Closes a database, which ends it if that wasn't done, and answers what `ucstore_db_end` does. It is freed, whatever this
+ * answers but UCSTORE_DB_FORKED. */
 int32_t ucstore_db_close(struct ucstore_db *db);
 
 /* Sets a key to a value. It is taken, and acknowledged, as `ucstore_db_write` says. */

@@ -56,13 +56,24 @@ pub unsafe extern "C" fn ucstore_db_in_memory(
     call(|| unsafe { open_by(options, db, Db::in_memory) })
 }
 
+/// Ends a database, whose handle stays.
+#[no_mangle]
+pub unsafe extern "C" fn ucstore_db_end(db: *const DbHandle) -> i32 {
+    // SAFETY: C owes the handle.
+    call(|| Ok(unsafe { Handle::get(db) }?.close()?))
+}
+
 /// Closes a database, and frees its handle.
 #[no_mangle]
 pub unsafe extern "C" fn ucstore_db_close(db: *mut DbHandle) -> i32 {
     call(|| {
         // SAFETY: C owes a handle that no other call uses.
         match unsafe { Handle::end(db) }? {
-            Some(db) => Ok(db.close()?),
+            Some(db) => match db.close() {
+                // It was ended before.
+                Err(db::Error::Closed) => Ok(()),
+                outcome => Ok(outcome?),
+            },
             None => Ok(()),
         }
     })
