@@ -214,19 +214,19 @@ static void try_cursors(struct ucstore_db *db) {
 
 static void try_pages(struct ucstore_db *db) {
     struct ucstore_db_cursor *cursor = NULL;
-    uint64_t ends[6];
+    uint64_t lengths[6];
     char room[16];
     size_t rows = 9, size = 0;
     OK(ucstore_db_cursor(db, NULL, 0, NULL, 0, false, &cursor));
-    CHECK(ucstore_db_cursor_page(cursor, ends, 6, room, 1, &rows, &size) == UCSTORE_DB_ROOM && size == 2 && rows == 9);
-    CHECK(ucstore_db_cursor_page(cursor, ends, 1, room, 16, &rows, &size) == UCSTORE_DB_ROOM && is_at(cursor, "a", "1"));
-    OK(ucstore_db_cursor_page(cursor, ends, 6, room, 5, &rows, &size));
-    CHECK(rows == 2 && size == 4 && memcmp(room, "a1b2", 4) == 0 && ends[0] == 1 && ends[1] == 2 && ends[3] == 4);
-    OK(ucstore_db_cursor_page(cursor, ends, 3, room, 16, &rows, &size));
-    CHECK(rows == 1 && size == 6 && memcmp(room, "balate", 6) == 0);
-    OK(ucstore_db_cursor_page(cursor, ends, 6, room, 16, &rows, &size));
+    CHECK(ucstore_db_cursor_page(cursor, lengths, 6, room, 1, &rows, &size) == UCSTORE_DB_ROOM && size == 2 && rows == 9);
+    CHECK(ucstore_db_cursor_page(cursor, lengths, 1, room, 16, &rows, &size) == UCSTORE_DB_ROOM && is_at(cursor, "a", "1"));
+    OK(ucstore_db_cursor_page(cursor, lengths, 6, room, 5, &rows, &size));
+    CHECK(rows == 2 && size == 4 && memcmp(room, "a1b2", 4) == 0 && lengths[0] == 1 && lengths[3] == 1);
+    OK(ucstore_db_cursor_page(cursor, lengths, 3, room, 16, &rows, &size));
+    CHECK(rows == 1 && size == 6 && memcmp(room, "balate", 6) == 0 && lengths[0] == 2 && lengths[1] == 4);
+    OK(ucstore_db_cursor_page(cursor, lengths, 6, room, 16, &rows, &size));
     CHECK(rows == 2 && size == 5);
-    OK(ucstore_db_cursor_page(cursor, ends, 6, room, 16, &rows, &size));
+    OK(ucstore_db_cursor_page(cursor, lengths, 6, room, 16, &rows, &size));
     CHECK(rows == 0 && size == 0);
     OK(ucstore_db_cursor_close(cursor));
 }

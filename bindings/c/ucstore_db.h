@@ -357,11 +357,11 @@ const char *ucstore_db_cursor_value(const struct ucstore_db_cursor *cursor, size
 int32_t ucstore_db_cursor_status(const struct ucstore_db_cursor *cursor);
 
 /* Copies rows into the room, from the one at which it stands on, and goes behind them: as many as there is room for, and
- * places for. A row is its key and its value, and in `ends` are the places where each of both ends. `ends_length` counts
- * those places, two for a row. `rows` tells how many rows there are, and `size` how many bytes. There are none behind the
- * last one. UCSTORE_DB_ROOM: not one row has room, or places. It stays where it is, and `size` tells how many bytes the row
- * has. UCSTORE_DB_OUT_OF_MEMORY, behind which it stands at no key. */
-int32_t ucstore_db_cursor_page(struct ucstore_db_cursor *cursor, uint64_t *ends, size_t ends_length, void *room,
+ * for whose lengths. A row is its key and its value, one behind the other, and so are the rows. `lengths` tells the lengths
+ * of both for each row, and `lengths_count` for how many lengths there is room. `rows` tells how many rows there are, and
+ * `size` how many bytes. There are none behind the last one. UCSTORE_DB_ROOM: not one row has room. It stays where it is, and
+ * `size` tells how many bytes the row has. UCSTORE_DB_OUT_OF_MEMORY, behind which it stands at no key. */
+int32_t ucstore_db_cursor_page(struct ucstore_db_cursor *cursor, uint64_t *lengths, size_t lengths_count, void *room,
                                size_t room_length, size_t *rows, size_t *size);
 
 /* Frees the cursor. */

@@ -147,9 +147,13 @@ class Db(Reader):
         `progress` is told how far the opening is, and `events` what the database does: by the thread that did it, which
         waits meanwhile. Both may call the database, but for its `close`.
 
-        Raises `Locked`, `Damaged`, `Missing`, `OtherOperator`, `FileFault`, `BadOption` and `OutOfMemory`.
+        Raises `Locked`, `Damaged`, `Missing`, `OtherOperator`, `FileFault`, `BadOption`, `OutOfMemory`, and `ValueError`
+        for a name with a zero byte.
         """
-        self._begin(operator, options, progress, events, "open", os.fsencode(folder))
+        name = os.fsencode(folder)
+        if b"\0" in name:
+            raise ValueError("a zero byte is in the folder's name")
+        self._begin(operator, options, progress, events, "open", name)
 
     @classmethod
     def in_memory(cls, operator: Operator = Operator.APPEND, options: DbOptions = DbOptions()) -> Db:

@@ -94,7 +94,7 @@ impl Cursor {
         self.row.map(|row| (text(row.key), text(row.value)))
     }
 
-    /// Copies rows, each as a key and a value, with the places where both end. It steps over them.
+    /// Copies rows, each as a key and a value, with the lengths of both. It steps over them.
     fn copy(&mut self, page: &mut Page) -> Result<(), Refusal> {
         while let Some((key, value)) = self.row() {
             if !page.add(key, value) {
@@ -106,28 +106,28 @@ impl Cursor {
     }
 }
 
-/// Rows that are copied: the places where each key and each value ends, and their bytes.
+/// Rows that are copied: the lengths of each key and each value, and their bytes.
 struct Page {
-    ends: Room<u64>,
+    lengths: Room<u64>,
     bytes: Room<u8>,
 }
 
 impl Page {
     /// Adds a row, and tells whether there was room.
     fn add(&mut self, key: &[u8], value: &[u8]) -> bool {
-        if self.ends.left() < 2 || self.bytes.left() < key.len() + value.len() {
+        if self.lengths.left() < 2 || self.bytes.left() < key.len() + value.len() {
             return false;
         }
         for text in [key, value] {
             self.bytes.push(text);
-            self.ends.push(&[self.bytes.filled() as u64]);
+            self.lengths.push(&[text.len() as u64]);
         }
         true
     }
 
     /// How many rows there are.
     fn rows(&self) -> usize {
-        self.ends.filled() / 2
+        self.lengths.filled() / 2
     }
 }
 
@@ -333,8 +333,8 @@ pub unsafe extern "C" fn ucstore_db_cursor_status(cursor: *const CursorHandle) -
 #[no_mangle]
 pub unsafe extern "C" fn ucstore_db_cursor_page(
     cursor: *mut CursorHandle,
-    ends: *mut u64,
-    ends_length: usize,
+    lengths: *mut u64,
+    lengths_count: usize,
     room: *mut c_void,
     room_length: usize,
     rows: *mut usize,
@@ -344,7 +344,7 @@ pub unsafe extern "C" fn ucstore_db_cursor_page(
         // SAFETY: C owes the handle, which no other call uses, and the memory.
         let (cursor, mut page, rows, size) = unsafe {
             let page = Page {
-                ends: Room::of(ends, ends_length)?,
+                lengths: Room::of(lengths, lengths_count)?,
                 bytes: Room::of(room.cast(), room_length)?,
             };
             let places = (Place::of(rows)?, Place::of(size)?);
