@@ -389,25 +389,27 @@ static bool is_forked(struct ucstore_db *db, struct ucstore_db_cursor *cursor) {
 static void try_fork(void) {
     struct ucstore_db *db = open_texts("forked");
     struct ucstore_db_cursor *cursor = NULL;
-    int status = 0, channel[2];
-    char byte;
+    int question[2], answer[2];
+    char byte = 0;
     pid_t child;
     put(db, "k", "v");
     OK(ucstore_db_cursor(db, NULL, 0, NULL, 0, false, &cursor));
-    CHECK(pipe(channel) == 0);
+    CHECK(pipe(question) == 0 && pipe(answer) == 0);
     child = fork();
     if (child == 0) {
+        byte = is_forked(db, cursor) ? 'y' : 'n';
         /* It stays until the parent has opened the folder again. */
-        close(channel[1]);
-        _exit(is_forked(db, cursor) && read(channel[0], &byte, 1) == 0 ? 0 : 1);
+        close(question[1]);
+        _exit(write(answer[1], &byte, 1) == 1 && read(question[0], &byte, 1) == 0 ? 0 : 1);
     }
     put(db, "k", "w");
     OK(ucstore_db_cursor_close(cursor));
     OK(ucstore_db_close(db));
+    CHECK(read(answer[0], &byte, 1) == 1 && byte == 'y');
     db = open_texts("forked");
-    CHECK(has(db, "k", "w") && close(channel[1]) == 0 && close(channel[0]) == 0);
-    CHECK(waitpid(child, &status, 0) == child && WIFEXITED(status) && WEXITSTATUS(status) == 0);
+    CHECK(has(db, "k", "w") && close(question[1]) == 0 && waitpid(child, NULL, 0) == child);
     OK(ucstore_db_close(db));
+    CHECK(close(question[0]) == 0 && close(answer[0]) == 0 && close(answer[1]) == 0);
 }
 
 int main(int argc, char **argv) {
