@@ -3,7 +3,8 @@
 #
 #     bindings/test_db.sh [PART..]
 #
-# The parts are rust, c, sanitizers, valgrind, python and ended, or all where none is named.
+# The parts are rust, c, sanitizers, valgrind, python and ended, or all where none is named. `needs` alone says what is missing
+# for them.
 # - rust: crashes and faults of a device at each call, damaged bytes, threads, processes that are ended by signal 9, an example.
 # - c: each function, threads, the cases of bindings/cases and drawn ones, and programs, by gcc and clang and as C++.
 # - sanitizers: those of addresses, undefined behaviour and threads. valgrind: once.
@@ -206,6 +207,7 @@ end_example() {
 }
 
 check_needs
+if [ "${*-}" = needs ]; then exit; fi
 if [ $# -eq 0 ]; then set -- rust c sanitizers valgrind python ended; fi
 install_all
 for part; do

@@ -32,6 +32,11 @@
 //! read waits for a flush, a compaction or a checkpoint. Only behind 64 range deletions the store flushes by itself,
 //! and then the first read may wait.
 //!
+//! # What it tells
+//!
+//! [`Options::progress`] is told how far an opening is, and [`Options::events`] of flushes, compactions, checkpoints, stalls
+//! and faults. [`Stats`] has the numbers, and is shown as a table.
+//!
 //! # The folder
 //!
 //! `LOCK` is locked by the process that has the database open. `OPERATOR` names the operator that the folder was made

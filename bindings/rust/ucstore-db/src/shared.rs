@@ -190,17 +190,19 @@ impl Shared {
 
     /// Slows a write while there are many runs.
     fn slow_down(&self) {
-        let (begun, runs) = (Instant::now(), self.runs.load(Ordering::Relaxed));
+        let runs = self.runs.load(Ordering::Relaxed);
         let is_slow = self.options.compactors > 0 && runs >= self.options.slow_trigger.into();
         let was_slow = self.is_slowed.swap(is_slow, Ordering::Relaxed);
-        if is_slow {
-            if !was_slow {
-                self.tell_stall(runs);
-            }
-            self.counts.slowed.add(1);
-            thread::sleep(SLOW);
-            self.counts.add_stalled(begun);
+        if !is_slow {
+            return;
         }
+        if !was_slow {
+            self.tell_stall(runs);
+        }
+        let begun = Instant::now();
+        thread::sleep(SLOW);
+        self.counts.slowed.add(1);
+        self.counts.add_stalled(begun);
     }
 
     /// Counts and tells that writes are slowed, or wait.
