@@ -176,7 +176,11 @@ pub unsafe extern "C" fn ucstore_db_cursor(
             let bounds = bounds(low, low_length, high, high_length, bounded)?;
             (Handle::get(db)?, bounds, Place::of(cursor)?)
         };
-        place.put(Handle::begin(Cursor::of(db.snapshot()?, low, high)?));
+        place.put(Handle::begin(Cursor::of(
+            db.snapshot_to_scan()?,
+            low,
+            high,
+        )?));
         Ok(())
     })
 }
@@ -196,7 +200,7 @@ pub unsafe extern "C" fn ucstore_db_prefix(
             (Handle::get(db)?, prefix, Place::of(cursor)?)
         };
         let high = end_of_prefix(prefix);
-        let found = Cursor::of(db.snapshot()?, prefix, high.as_deref())?;
+        let found = Cursor::of(db.snapshot_to_scan()?, prefix, high.as_deref())?;
         place.put(Handle::begin(found));
         Ok(())
     })

@@ -153,13 +153,23 @@ impl Db {
         Ok(Snapshot::of(shared.view()?, &shared.counts))
     }
 
+    /// What it holds now, for scans: what no run has yet is sorted, once for all that scan it before the next write.
+    ///
+    /// # Errors
+    ///
+    /// Those of [`get`](Db::get).
+    pub fn snapshot_to_scan(&self) -> Result<Snapshot, Error> {
+        let shared = self.shared();
+        Ok(Snapshot::sorted(shared.sorted_view()?, &shared.counts))
+    }
+
     /// All keys, with their values, at one moment.
     ///
     /// # Errors
     ///
     /// Those of [`get`](Db::get), also for each row.
     pub fn iter(&self) -> Result<Rows, Error> {
-        self.snapshot()?.iter()
+        self.snapshot_to_scan()?.iter()
     }
 
     /// The keys from `low` to below `high`, or to the last one, with their values, at one moment.
@@ -168,7 +178,7 @@ impl Db {
     ///
     /// Those of [`iter`](Db::iter).
     pub fn range(&self, low: impl AsRef<[u8]>, high: Option<&[u8]>) -> Result<Rows, Error> {
-        self.snapshot()?.range(low, high)
+        self.snapshot_to_scan()?.range(low, high)
     }
 
     /// The keys that begin with these bytes, with their values, at one moment.
@@ -177,7 +187,7 @@ impl Db {
     ///
     /// Those of [`iter`](Db::iter).
     pub fn prefix(&self, prefix: impl AsRef<[u8]>) -> Result<Rows, Error> {
-        self.snapshot()?.prefix(prefix)
+        self.snapshot_to_scan()?.prefix(prefix)
     }
 
     /// Makes a run of what is gathered in memory. Nothing has to call this.

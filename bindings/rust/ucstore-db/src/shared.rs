@@ -227,6 +227,11 @@ impl Shared {
         self.newest.view(&self.store)
     }
 
+    /// A view as [`view`](Shared::view) gives it, in which scans have nothing to sort.
+    pub(crate) fn sorted_view(&self) -> Result<View, Error> {
+        self.newest.sorted_view(&self.store)
+    }
+
     /// Makes a run of what is gathered.
     pub(crate) fn flush(&self) -> Result<(), Error> {
         let log = lock(&self.log);

@@ -2,6 +2,8 @@
 
 use crate::counts::Counts;
 use crate::error::Error;
+use crate::newest::sort;
+use std::cell::Cell;
 use std::fmt;
 use std::sync::Arc;
 use ucstore::{Scan, View};
@@ -28,6 +30,8 @@ pub type Rows = Scan<View>;
 #[derive(Clone)]
 pub struct Snapshot {
     view: View,
+    /// Whether what no run has yet is sorted in it, for scans.
+    is_sorted: Cell<bool>,
     /// Those of its database.
     counts: Arc<Counts>,
 }
@@ -35,8 +39,18 @@ pub struct Snapshot {
 impl Snapshot {
     /// That of a view.
     pub(crate) fn of(view: View, counts: &Arc<Counts>) -> Snapshot {
-        let counts = Arc::clone(counts);
-        Snapshot { view, counts }
+        Snapshot {
+            view,
+            is_sorted: Cell::new(false),
+            counts: Arc::clone(counts),
+        }
+    }
+
+    /// That of a view in which scans have nothing to sort.
+    pub(crate) fn sorted(view: View, counts: &Arc<Counts>) -> Snapshot {
+        let snapshot = Snapshot::of(view, counts);
+        snapshot.is_sorted.set(true);
+        snapshot
     }
 
     /// The snapshot once more, for another thread. Nothing is copied.
@@ -45,7 +59,11 @@ impl Snapshot {
     ///
     /// [`Error::Store`] if memory is refused.
     pub fn again(&self) -> Result<Snapshot, Error> {
-        Ok(Snapshot::of(self.view.again()?, &self.counts))
+        Ok(Snapshot {
+            view: self.view.again()?,
+            is_sorted: self.is_sorted.clone(),
+            counts: Arc::clone(&self.counts),
+        })
     }
 
     /// The sequence of the last write that it has.
@@ -92,7 +110,7 @@ impl Snapshot {
     ///
     /// Those of [`iter`](Snapshot::iter).
     pub fn range(&self, low: impl AsRef<[u8]>, high: Option<&[u8]>) -> Result<Rows, Error> {
-        Ok(self.view.again()?.into_scan(low, high))
+        Ok(self.view_to_scan()?.into_scan(low, high))
     }
 
     /// The keys that begin with these bytes, with their values.
@@ -101,7 +119,15 @@ impl Snapshot {
     ///
     /// Those of [`iter`](Snapshot::iter).
     pub fn prefix(&self, prefix: impl AsRef<[u8]>) -> Result<Rows, Error> {
-        Ok(self.view.again()?.into_prefix(prefix))
+        Ok(self.view_to_scan()?.into_prefix(prefix))
+    }
+
+    /// The view once more, for a scan. The first one sorts it for all.
+    fn view_to_scan(&self) -> Result<View, Error> {
+        if !self.is_sorted.replace(true) {
+            sort(&self.view).inspect_err(|_| self.is_sorted.set(false))?;
+        }
+        Ok(self.view.again()?)
     }
 }
 
