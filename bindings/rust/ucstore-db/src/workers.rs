@@ -4,6 +4,7 @@ use crate::error::Error;
 use crate::lock;
 use crate::options::Sync;
 use crate::shared::Shared;
+use std::mem;
 use std::sync::atomic::Ordering;
 use std::sync::{Arc, Mutex};
 use std::thread::{self, JoinHandle, Thread};
@@ -61,10 +62,14 @@ impl Workers {
         let store = lock(&self.shared.store);
         self.shared.work.notify_all();
         drop(store);
-        for thread in lock(&self.threads).drain(..) {
+        let threads = mem::take(&mut *lock(&self.threads));
+        for thread in threads {
             thread.thread().unpark();
-            // One that panicked has said so.
-            let _ = thread.join();
+            // One that tells an event may close the database, and ends behind that.
+            if thread.thread().id() != thread::current().id() {
+                // One that panicked has said so.
+                let _ = thread.join();
+            }
         }
         self.shared.close_log()
     }
