@@ -80,7 +80,7 @@ try_rust() {
     (
         cd "$work/rust"
         unset LD_LIBRARY_PATH
-        TMPDIR=$work cargo test --offline --quiet -j 2 -p ucstore-db ${LONG:+--release}
+        TMPDIR=$work cargo test --offline --quiet -j 2 -p ucstore-db -p ucstore-db-c ${LONG:+--release}
         DOCS_RS=1 RUSTDOCFLAGS=-Dwarnings cargo doc --offline --quiet --no-deps -j 2 -p ucstore-db
         cargo build --offline --quiet -j 2 -p ucstore-db --example words
     )
