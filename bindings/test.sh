@@ -86,28 +86,28 @@ expect() { # NAME WANTED FOUND
 
 first='5 visits, 2 before'
 
-# The example counts words, is cut off in the middle of a record, and goes on. So it does behind zeros.
-run_example() {
+# The program counts words, is cut off in the middle of a record, and goes on. So it does behind zeros.
+run_logged() {
     local log=$work/words.log
-    expect example $'a 3\nb 1\nc 1' "$(printf 'a b a\nc a\n' | "$work/example" "$log")"
+    expect logged.c $'a 3\nb 1\nc 1' "$(printf 'a b a\nc a\n' | "$work/logged" "$log")"
     truncate -s -1 "$log"
-    expect 'example, torn' $'a 2\nb 3' "$(echo 'b b' | "$work/example" "$log")"
+    expect 'logged.c, torn' $'a 2\nb 3' "$(echo 'b b' | "$work/logged" "$log")"
     truncate -s +100 "$log"
-    expect 'example, behind zeros' $'a 3\nb 3' "$(echo a | "$work/example" "$log")"
-    expect 'example, again' $'a 3\nb 3' "$("$work/example" "$log" < /dev/null)"
+    expect 'logged.c, behind zeros' $'a 3\nb 3' "$(echo a | "$work/logged" "$log")"
+    expect 'logged.c, again' $'a 3\nb 3' "$("$work/logged" "$log" < /dev/null)"
 }
 
 # A long log stays whole, and goes on at its end.
-run_long_example() {
+run_long_logged() {
     local log=$work/long.log size
     python3 "$here/c/long_log.py" 65 > "$log"
     size=$(stat -c %s "$log")
     [ "$size" -eq $((65 << 20)) ] || fail "the long log has $size bytes"
-    expect 'example, long log' 'a 65' "$("$work/example" "$log" < /dev/null)"
-    expect 'example, long log behind a read' "$size" "$(stat -c %s "$log")"
-    expect 'example, long log and a word' $'a 66\nb 1' "$(echo a b | "$work/example" "$log")"
-    [ "$(stat -c %s "$log")" -gt "$size" ] || fail "the example doesn't add to a long log"
-    expect 'example, long log again' $'a 66\nb 1' "$("$work/example" "$log" < /dev/null)"
+    expect 'logged.c, long log' 'a 65' "$("$work/logged" "$log" < /dev/null)"
+    expect 'logged.c, long log behind a read' "$size" "$(stat -c %s "$log")"
+    expect 'logged.c, long log and a word' $'a 66\nb 1' "$(echo a b | "$work/logged" "$log")"
+    [ "$(stat -c %s "$log")" -gt "$size" ] || fail "logged.c doesn't add to a long log"
+    expect 'logged.c, long log again' $'a 66\nb 1' "$("$work/logged" "$log" < /dev/null)"
     rm "$log"
 }
 
@@ -118,28 +118,29 @@ try_manual() {
     [ ! -s "$work/said" ] || fail "the manual has faults: $(head -3 "$work/said")"
 }
 
-# The code of README.md's section stands in the first programs, which the other parts run. What the shell runs comes before.
+# The code of README.md's section stands in the first programs, which the other parts and test_db.sh run. What the shell runs
+# comes before.
 try_pages() {
     local line count=0
     while IFS= read -r line; do
-        grep -qF -- "$line" "$here/c/first.c" "$here/rust/ucstore/examples/first.rs" "$here/python/first.py" ||
+        grep -qF -- "$line" "$here"/c/{db_,}first.c "$here/rust/ucstore/examples/first.rs" "$here/python/db_first.py" ||
             fail "README.md has a line that no first program has: $line"
         count=$((count + 1))
-    done < <(awk '/^## / { inside = 0 } /^## From C, Rust, Python/ { found = 1 } found && /^In C/ { inside = 1 }
+    done < <(awk '/^## / { inside = 0 } /^## From C, Rust, Python/ { found = 1 } found && /^Durable in C/ { inside = 1 }
         inside && sub(/^    +/, "")' "$here/../README.md")
     [ "$count" -gt 0 ] || fail "README.md has no code from C, Rust and Python"
 }
 
 try_c() {
     local name
-    for name in first example test play million; do
+    for name in first logged test play million; do
         compile_c "$name"
         compile_cpp "$name"
     done
     expect first.c "$first" "$("$work/first")"
     expect 'first.c, as C++' "$first" "$("$work/first_cpp")"
-    run_example
-    run_long_example
+    run_logged
+    run_long_logged
     "$work/play" "$here"/cases/*.txt
     "$work/play_cpp" "$here"/cases/*.txt
     "$work/million"

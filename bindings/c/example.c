@@ -1,144 +1,79 @@
-/* Counts words, and goes on where it was stopped:
+/* Counts the words of files into a folder, each file by a thread, and prints how often each came:
  *
- *     example LOG < TEXT
+ *     example FOLDER FILE..
  *
- * Each line is a batch of merges. The log's file has it before the store does. */
-#define _POSIX_C_SOURCE 200112L
-
+ * A line's words are on the device before the next one is read, together with the place behind it. So the program may be
+ * ended at any moment, and goes on where it was: each word is counted once. */
+#include <pthread.h>
 #include <stdio.h>
 #include <stdlib.h>
 #include <string.h>
-#include <sys/stat.h>
-#include <ucstore.h>
-#include <unistd.h>
+#include <ucstore_db.h>
 
-/* A line is shorter, and so is a word. */
-enum { LINE = 128, ROOM = 1 << 16 };
+static struct ucstore_db *db;
 
-static struct ucstore store;
-static struct ucstore_batch batch;
-static FILE *file;
-static uint64_t length;
-
-static void expect(bool done, const char *what) {
-    if (!done) {
-        fprintf(stderr, "example: %s\n", what);
+static void check(int32_t status) {
+    if (status != UCSTORE_DB_OK) {
+        fprintf(stderr, "example: %s\n", ucstore_db_error_text());
         exit(1);
     }
 }
 
-static uint64_t number(const uint8_t *text) {
-    uint64_t value = 0;
-    for (int place = 7; place >= 0; place--) {
-        value = value << 8 | text[place];
-    }
-    return value;
-}
-
-/* All bytes of the log's file, which the caller frees. A file that can't be read to its end is no log. */
-static uint8_t *read_log(size_t *log_length) {
-    struct stat found;
-    size_t have = 0;
-    uint8_t *log;
-    expect(fstat(fileno(file), &found) == 0 && (uint64_t)found.st_size < SIZE_MAX, "can't tell the log's size");
-    *log_length = (size_t)found.st_size;
-    log = (uint8_t *)malloc(*log_length + 1);
-    expect(log != NULL, "there is no memory for the log");
-    rewind(file);
-    while (have < *log_length) {
-        size_t count = fread(log + have, 1, *log_length - have, file);
-        expect(count > 0, "can't read the log");
-        have += count;
-    }
-    expect(getc(file) == EOF && !ferror(file), "can't read the log");
-    return log;
-}
-
-/* Where the log goes on: behind its last whole batch. */
-static uint64_t end_of(const uint8_t *log, size_t log_length) {
-    static uint8_t room[ROOM];
-    struct ucstore_log_place place = {0, 0, 0};
-    struct ucstore_ended ended = {0, 0, 0};
-    int32_t status = UCSTORE_OK;
-    while (status == UCSTORE_OK) {
-        size_t size = 0;
-        uint64_t writes = 0;
-        status = ucstore_log_next(log, log_length, &place, room, ROOM, &size, &writes, &ended);
-    }
-    expect(status == UCSTORE_LOG_ENDS, "can't read the log");
-    return place.offset;
-}
-
-/* Opens the store from the log, and cuts off what was being written when it was stopped. */
-static void open_store(const char *name) {
-    struct ucstore_options options;
-    struct ucstore_ended ended = {0, 0, 0};
-    size_t log_length;
-    uint8_t *log;
-    file = fopen(name, "a+b");
-    expect(file != NULL, "can't open the log");
-    log = read_log(&log_length);
-    ucstore_options_init(&options);
-    expect(ucstore_open(&store, UCSTORE_COUNTER, &options, log, log_length, &ended) == UCSTORE_OK, "can't open the store");
-    expect(ended.kind == UCSTORE_CLEAN || ended.kind == UCSTORE_TORN, "the log is damaged");
-    length = end_of(log, log_length);
-    expect(ftruncate(fileno(file), (off_t)length) == 0, "can't cut the log");
-    free(log);
-}
-
-/* Writes the batch to the log's file, waits for its device, and takes it into the store. A program that goes on after a failed write has to
- * cut the record off first, since a second one gets the same sequence, and a log is read up to there. */
-static void write_batch(void) {
-    static uint8_t record[ROOM];
-    size_t size = 0;
-    expect(ucstore_prepare(&store, &batch, length, record, sizeof record, &size) == UCSTORE_OK, "the batch isn't taken");
-    expect(fwrite(record, 1, size, file) == size && fflush(file) == 0 && fsync(fileno(file)) == 0, "can't write the log");
-    length += size;
-    ucstore_commit(&store);
-    ucstore_batch_clear(&batch);
-}
-
-/* Counts the words of a line. */
-static void count_words(char *line) {
+/* Counts the words of a file, from the place on that the key of its name has. No word begins with a tab. */
+static void *count(void *name) {
     static const uint8_t one[8] = {1};
-    for (char *word = strtok(line, " \t\n"); word != NULL; word = strtok(NULL, " \t\n")) {
-        expect(ucstore_batch_merge(&batch, (const uint8_t *)word, strlen(word), one, sizeof one) == UCSTORE_OK,
-               "there is no memory for the batch");
+    char key[4096], line[4096], *rest, *word;
+    long place = 0;
+    size_t size, length = (size_t)snprintf(key, sizeof key, "\t%s", (const char *)name);
+    struct ucstore_db_batch *batch;
+    FILE *file = fopen((const char *)name, "r");
+    check(ucstore_db_batch_create(&batch));
+    ucstore_db_get(db, key, length, &place, sizeof place, &size);
+    if (file == NULL || fseek(file, place, SEEK_SET) != 0) {
+        perror((const char *)name);
+        exit(1);
     }
-    write_batch();
+    while (fgets(line, sizeof line, file) != NULL) {
+        for (word = strtok_r(line, " \t\n", &rest); word != NULL; word = strtok_r(NULL, " \t\n", &rest)) {
+            check(ucstore_db_batch_merge(batch, word, strlen(word), one, sizeof one));
+        }
+        place = ftell(file);
+        check(ucstore_db_batch_put(batch, key, length, &place, sizeof place));
+        check(ucstore_db_write(db, batch));
+        check(ucstore_db_batch_clear(batch));
+    }
+    check(ucstore_db_batch_close(batch));
+    fclose(file);
+    return NULL;
 }
 
-/* Prints the words with their counts, a page of rows at a time. */
+/* Prints each word with its count. */
 static void print_counts(void) {
-    static uint8_t room[ROOM];
-    uint8_t low[LINE + 1] = {0};
-    size_t low_length = 0, size = 0;
-    uint64_t rows = 1;
-    while (rows > 0) {
-        const uint8_t *row = room;
-        expect(ucstore_scan(&store, low, low_length, low, 0, false, 100, room, ROOM, &size, &rows) == UCSTORE_OK,
-               "can't scan the store");
-        for (uint64_t place = 0; place < rows; place++) {
-            size_t word_length = (size_t)number(row);
-            printf("%.*s %llu\n", (int)word_length, (const char *)row + 8, (unsigned long long)number(row + 16 + word_length));
-            /* No key is between a word and the word with a zero byte behind it. */
-            memcpy(low, row + 8, word_length);
-            low[word_length] = 0;
-            low_length = word_length + 1;
-            row += 24 + word_length;
-        }
+    struct ucstore_db_cursor *cursor;
+    size_t length, size;
+    uint64_t times = 0;
+    for (check(ucstore_db_cursor(db, "\n", 1, NULL, 0, false, &cursor)); ucstore_db_cursor_valid(cursor);
+         check(ucstore_db_cursor_next(cursor))) {
+        const char *word = ucstore_db_cursor_key(cursor, &length);
+        memcpy(&times, ucstore_db_cursor_value(cursor, &size), sizeof times);
+        printf("%.*s %llu\n", (int)length, word, (unsigned long long)times);
     }
+    check(ucstore_db_cursor_close(cursor));
 }
 
 int main(int argc, char **argv) {
-    char line[LINE];
-    expect(argc == 2, "usage: example LOG < TEXT");
-    open_store(argv[1]);
-    while (fgets(line, sizeof line, stdin) != NULL) {
-        count_words(line);
+    struct ucstore_db_options options;
+    pthread_t threads[64];
+    check(ucstore_db_options_init(&options));
+    options.merge_operator = UCSTORE_DB_COUNTER;
+    check(ucstore_db_open(argc > 1 ? argv[1] : "", &options, &db));
+    for (int file = 2; file < argc && file < 64; file++) {
+        pthread_create(&threads[file], NULL, count, argv[file]);
+    }
+    for (int file = 2; file < argc && file < 64; file++) {
+        pthread_join(threads[file], NULL);
     }
     print_counts();
-    ucstore_batch_close(&batch);
-    expect(ucstore_close(&store) == UCSTORE_OK && fclose(file) == 0, "can't close");
+    check(ucstore_db_close(db));
     return 0;
 }

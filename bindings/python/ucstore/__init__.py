@@ -16,6 +16,8 @@ The store itself is in memory. Its owner keeps a log in a file: `Store.prepare` 
     >>> with Store.open(Operator.APPEND, log) as store:
     ...     store[b"colour"], str(store.ended)
     (b'blue', 'clean')
+
+`Db` is a database in a folder, which is durable, and which threads share.
 """
 
 import ctypes
@@ -27,10 +29,12 @@ from pathlib import Path
 from typing import Iterable, Iterator, List, NamedTuple, Optional, Tuple, TypeVar, Union
 
 __all__ = [
-    "BadOption", "BatchFault", "BatchFull", "Delete", "DeleteRange", "End", "Ended", "IdsSpent", "Job", "LogFault",
-    "LogWrites", "Merge", "NoJob", "NoStore", "NoView", "NotABatch", "NotProtected", "Operation", "Operator", "Options",
-    "OutOfMemory", "Put", "Report", "RunsClaimed", "SequenceBack", "SequencesSpent", "Snapshot", "Store", "TooLong",
-    "UcstoreError", "UnknownOperator", "View", "Write", "WriteBatch", "batch_bytes", "log_writes",
+    "BadOption", "BatchFault", "BatchFull", "Closed", "Damaged", "Db", "DbBatch", "DbError", "DbOptions",
+    "DbSnapshot", "DbStats", "Delete", "DeleteRange", "End", "Ended", "Event", "EventKind", "FileFault", "Forked",
+    "IdsSpent", "Job", "Locked", "LogFault", "LogWrites", "Merge", "Missing", "NoJob", "NoStore", "NoView",
+    "NotABatch", "NotProtected", "Operation", "Operator", "Options", "OtherOperator", "OutOfMemory", "Progress",
+    "Put", "ReadOnly", "Report", "RunsClaimed", "SequenceBack", "SequencesSpent", "Snapshot", "Store", "Sync",
+    "TooLong", "UcstoreError", "UnknownOperator", "View", "Write", "WriteBatch", "batch_bytes", "log_writes",
 ]
 
 
@@ -1116,3 +1120,11 @@ class LogWrites:
 def log_writes(log: bytes) -> LogWrites:
     """The writes of a log, given as its bytes."""
     return LogWrites(log)
+
+
+# Behind what they use of this module.
+from ._db import Db, DbBatch, DbSnapshot  # noqa: E402
+from ._db_types import (  # noqa: E402
+    Closed, Damaged, DbError, DbOptions, DbStats, Event, EventKind, FileFault, Forked, Locked, Missing, OtherOperator,
+    Progress, ReadOnly, Sync,
+)

@@ -23,8 +23,9 @@ pub(crate) struct BaseFile {
 }
 
 impl BaseFile {
-    /// Writes a base with the rows of a view. It has its name once all is on the device.
-    pub(crate) fn write(folder: &dyn Folder, number: u64, view: View) -> Result<(), Error> {
+    /// Writes a base with the rows of a view, and returns how many bytes it has. It has its name once all is on the
+    /// device.
+    pub(crate) fn write(folder: &dyn Folder, number: u64, view: View) -> Result<u64, Error> {
         let name = Name::Partial(number).text();
         let mut base = BaseFile {
             file: folder.create(&name).map_err(Error::of_file(&name))?,
@@ -45,7 +46,8 @@ impl BaseFile {
         folder
             .rename(&name, &whole)
             .map_err(Error::of_file(&whole))?;
-        folder.sync().map_err(Error::of_file(""))
+        folder.sync().map_err(Error::of_file(""))?;
+        Ok(base.length)
     }
 
     /// Adds a row.

@@ -2,6 +2,7 @@
 
 use crate::base_file::BaseFile;
 use crate::error::Error;
+use crate::event::Event;
 use crate::folder::Folder;
 use crate::lock;
 use crate::log::Log;
@@ -10,6 +11,7 @@ use crate::shared::Shared;
 use std::sync::atomic::Ordering;
 use std::sync::Arc;
 use std::thread;
+use std::time::Instant;
 use ucstore::View;
 
 /// What a checkpoint holds, and where.
@@ -26,18 +28,32 @@ impl Shared {
     ///
     /// If it fails, what was logged is where it was: a crash at any step loses nothing.
     pub(crate) fn checkpoint(&self) -> Result<(), Error> {
+        let outcome = self.make_checkpoint();
+        self.events.tell();
+        outcome
+    }
+
+    /// Makes a checkpoint, of which is told behind its locks.
+    fn make_checkpoint(&self) -> Result<(), Error> {
+        let begun_at = Instant::now();
         let mut due = lock(&self.checkpointing);
         let Some(begun) = self.begin_checkpoint()? else {
             return Ok(());
         };
         // Behind a failure it isn't tried again before as much more was logged.
         *due = self.log_bytes() + self.options.checkpoint_least;
-        BaseFile::write(&*begun.folder, begun.number, begun.view)?;
+        let bytes = BaseFile::write(&*begun.folder, begun.number, begun.view)?;
         if let Some(log) = &mut *lock(&self.log) {
             log.older = 0;
         }
         *due = self.options.checkpoint_least;
         self.counts.checkpoints.add(1);
+        self.counts.base_bytes.add(bytes);
+        self.events.push(Event::Checkpointed {
+            file: Name::Base(begun.number).text(),
+            bytes,
+            took: begun_at.elapsed(),
+        });
         remove_before(&*begun.folder, begun.number)
     }
 

@@ -4,6 +4,7 @@ use crate::error::Error;
 use crate::lock;
 use crate::shared::Shared;
 use std::sync::atomic::Ordering;
+use std::time::Instant;
 use ucstore::Job;
 
 impl Shared {
@@ -39,6 +40,7 @@ impl Shared {
 
     /// Runs a job, and ends it. If it is refused, its runs are given back.
     fn run(&self, mut job: Job) -> Result<bool, Error> {
+        let begun = Instant::now();
         let outcome = job.run();
         let store = lock(&self.store);
         // The last view of the runs that are replaced frees them, behind the store's lock.
@@ -49,6 +51,7 @@ impl Shared {
         drop(store);
         drop(replaced);
         self.counts.compactions.add(is_done.into());
+        self.tell_compaction(is_done, begun);
         outcome?;
         Ok(is_done)
     }

@@ -1,21 +1,70 @@
 //! [`Counts`]: what a database counts.
 
+use crate::sync_times::SyncTimes;
 use std::sync::atomic::{AtomicU64, Ordering};
+use std::time::{Duration, Instant};
 
 /// How often something was done since the database was opened.
-#[derive(Default)]
 pub(crate) struct Counts {
+    pub(crate) opened: Instant,
     pub(crate) batches: Count,
     pub(crate) groups: Count,
     pub(crate) syncs: Count,
+    pub(crate) sync_times: SyncTimes,
     pub(crate) slowed: Count,
+    pub(crate) stalls: Count,
+    /// For how many microseconds writes were slowed or waited.
+    pub(crate) stalled: Count,
+    pub(crate) flushes: Count,
     pub(crate) compactions: Count,
     pub(crate) checkpoints: Count,
+    pub(crate) lookups: Count,
+    /// The bytes of the batches that were taken.
+    pub(crate) user_bytes: Count,
+    /// The bytes that were appended to logs.
+    pub(crate) logged_bytes: Count,
+    /// The bytes of the bases that were written.
+    pub(crate) base_bytes: Count,
 }
 
 /// A number that threads raise.
 #[derive(Default)]
 pub(crate) struct Count(AtomicU64);
+
+impl Counts {
+    /// Counts a sync.
+    pub(crate) fn add_sync(&self, took: Duration) {
+        self.syncs.add(1);
+        self.sync_times.add(took);
+    }
+
+    /// Counts for how long a write was slowed or waited.
+    pub(crate) fn add_stalled(&self, begun: Instant) {
+        self.stalled.add(begun.elapsed().as_micros() as u64);
+    }
+}
+
+impl Default for Counts {
+    fn default() -> Counts {
+        Counts {
+            opened: Instant::now(),
+            batches: Count::default(),
+            groups: Count::default(),
+            syncs: Count::default(),
+            sync_times: SyncTimes::default(),
+            slowed: Count::default(),
+            stalls: Count::default(),
+            stalled: Count::default(),
+            flushes: Count::default(),
+            compactions: Count::default(),
+            checkpoints: Count::default(),
+            lookups: Count::default(),
+            user_bytes: Count::default(),
+            logged_bytes: Count::default(),
+            base_bytes: Count::default(),
+        }
+    }
+}
 
 impl Count {
     /// Raises it.

@@ -24,8 +24,8 @@ impl Db {
     ///
     /// # Errors
     ///
-    /// [`Error::Locked`], [`Error::Damaged`] and [`Error::Missing`], which change nothing; [`Error::File`],
-    /// [`Error::Store`].
+    /// [`Error::Locked`], [`Error::OtherOperator`], [`Error::Damaged`] and [`Error::Missing`], which change nothing;
+    /// [`Error::File`], [`Error::Store`].
     pub fn open(folder: impl AsRef<Path>, options: &Options) -> Result<Db, Error> {
         Db::open_on(Arc::new(DiskFolder::open(folder)?), options)
     }
@@ -127,7 +127,8 @@ impl Db {
     ///
     /// [`Error::Store`] if memory is refused, as for each read.
     pub fn get(&self, key: impl AsRef<[u8]>) -> Result<Option<Vec<u8>>, Error> {
-        self.snapshot()?.get(key)
+        self.shared().counts.lookups.add(1);
+        Ok(self.shared().view()?.get(key)?)
     }
 
     /// For each key its value, if there is one, at one moment. The keys come in any order.
@@ -148,7 +149,18 @@ impl Db {
     ///
     /// Those of [`get`](Db::get).
     pub fn snapshot(&self) -> Result<Snapshot, Error> {
-        Ok(Snapshot::of(self.shared().view()?))
+        let shared = self.shared();
+        Ok(Snapshot::of(shared.view()?, &shared.counts))
+    }
+
+    /// What it holds now, for scans: what no run has yet is sorted, once for all that scan it before the next write.
+    ///
+    /// # Errors
+    ///
+    /// Those of [`get`](Db::get).
+    pub fn snapshot_to_scan(&self) -> Result<Snapshot, Error> {
+        let shared = self.shared();
+        Ok(Snapshot::sorted(shared.sorted_view()?, &shared.counts))
     }
 
     /// All keys, with their values, at one moment.
@@ -157,7 +169,7 @@ impl Db {
     ///
     /// Those of [`get`](Db::get), also for each row.
     pub fn iter(&self) -> Result<Rows, Error> {
-        self.snapshot()?.iter()
+        self.snapshot_to_scan()?.iter()
     }
 
     /// The keys from `low` to below `high`, or to the last one, with their values, at one moment.
@@ -166,7 +178,7 @@ impl Db {
     ///
     /// Those of [`iter`](Db::iter).
     pub fn range(&self, low: impl AsRef<[u8]>, high: Option<&[u8]>) -> Result<Rows, Error> {
-        self.snapshot()?.range(low, high)
+        self.snapshot_to_scan()?.range(low, high)
     }
 
     /// The keys that begin with these bytes, with their values, at one moment.
@@ -175,7 +187,7 @@ impl Db {
     ///
     /// Those of [`iter`](Db::iter).
     pub fn prefix(&self, prefix: impl AsRef<[u8]>) -> Result<Rows, Error> {
-        self.snapshot()?.prefix(prefix)
+        self.snapshot_to_scan()?.prefix(prefix)
     }
 
     /// Makes a run of what is gathered in memory. Nothing has to call this.

@@ -5,6 +5,7 @@ use crate::folder::{File, Folder};
 use std::fs::{self, OpenOptions, TryLockError};
 use std::io::{self, Write};
 use std::path::{Path, PathBuf};
+use std::process;
 
 /// The file that is locked.
 const LOCK: &str = "LOCK";
@@ -13,8 +14,9 @@ const LOCK: &str = "LOCK";
 #[derive(Debug)]
 pub struct DiskFolder {
     path: PathBuf,
-    /// Its lock ends with it.
-    _lock: fs::File,
+    lock: fs::File,
+    /// The process that has locked it.
+    process: u32,
 }
 
 impl DiskFolder {
@@ -34,9 +36,23 @@ impl DiskFolder {
             .open(path.join(LOCK))
             .map_err(Error::of_file(&file))?;
         match lock.try_lock() {
-            Ok(()) => Ok(DiskFolder { path, _lock: lock }),
+            Ok(()) => Ok(DiskFolder {
+                path,
+                lock,
+                process: process::id(),
+            }),
             Err(TryLockError::WouldBlock) => Err(Error::Locked { file }),
             Err(TryLockError::Error(error)) => Err(Error::of_file(&file)(error)),
+        }
+    }
+}
+
+impl Drop for DiskFolder {
+    /// Unlocks it, also if a child of the process still has the file. A child doesn't unlock what is its parent's.
+    fn drop(&mut self) {
+        if self.process == process::id() {
+            // What fails here ends with the file.
+            let _ = self.lock.unlock();
         }
     }
 }
@@ -61,6 +77,10 @@ impl Folder for DiskFolder {
         fs::read_dir(&self.path)?
             .map(|entry| Ok(entry?.file_name().to_string_lossy().into_owned()))
             .collect()
+    }
+
+    fn length(&self, name: &str) -> io::Result<u64> {
+        Ok(fs::metadata(self.path.join(name))?.len())
     }
 
     fn read(&self, name: &str) -> io::Result<Vec<u8>> {

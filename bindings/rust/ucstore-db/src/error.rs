@@ -1,5 +1,6 @@
 //! [`Error`]: why a call is refused.
 
+use crate::operator_file::{word, OPERATOR};
 use std::fmt;
 use std::io;
 use std::sync::Arc;
@@ -35,6 +36,13 @@ pub enum Error {
     Missing {
         /// Its name.
         file: String,
+    },
+    /// The folder was made with another operator. Nothing was changed.
+    OtherOperator {
+        /// The one that it was made with.
+        made: ucstore::Operator,
+        /// The one that was asked for.
+        asked: ucstore::Operator,
     },
     /// Nothing can be written any more.
     ReadOnly {
@@ -84,6 +92,12 @@ impl fmt::Display for Error {
                 fault,
             } => write!(formatter, "{file} is damaged at {offset}: {fault}"),
             Error::Missing { file } => write!(formatter, "{file} isn't there"),
+            Error::OtherOperator { made, asked } => write!(
+                formatter,
+                "{OPERATOR} names {}: the folder can't be opened with {}",
+                word(*made),
+                word(*asked)
+            ),
             Error::ReadOnly { cause } => write!(formatter, "nothing can be written: {cause}"),
             Error::Closed => formatter.write_str("the database is closed"),
         }

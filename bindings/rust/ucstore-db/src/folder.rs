@@ -9,6 +9,8 @@ use std::io;
 pub trait Folder: Send + Sync {
     /// The names of all files.
     fn names(&self) -> io::Result<Vec<String>>;
+    /// How many bytes a file has.
+    fn length(&self, name: &str) -> io::Result<u64>;
     /// The bytes of a file.
     fn read(&self, name: &str) -> io::Result<Vec<u8>>;
     /// A file without bytes, whether there was one of the name or not.

@@ -32,9 +32,15 @@
 //! read waits for a flush, a compaction or a checkpoint. Only behind 64 range deletions the store flushes by itself,
 //! and then the first read may wait.
 //!
+//! # What it tells
+//!
+//! [`Options::progress`] is told how far an opening is, and [`Options::events`] of flushes, compactions, checkpoints, stalls
+//! and faults. [`Stats`] has the numbers, and is shown as a table.
+//!
 //! # The folder
 //!
-//! `LOCK` is locked by the process that has the database open. `000001.log` and those behind it are write-ahead logs as
+//! `LOCK` is locked by the process that has the database open. `OPERATOR` names the operator that the folder was made
+//! with. `000001.log` and those behind it are write-ahead logs as
 //! RocksDB writes them. A checkpoint `000007.base` is such a log too, and holds what the logs before `000007.log`
 //! wrote. A [`Folder`] of another device may stand for the file system.
 #![forbid(unsafe_code)]
@@ -47,22 +53,27 @@ mod counts;
 mod db;
 mod disk_folder;
 mod error;
+mod event;
 mod folder;
 mod group;
 mod log;
 mod name;
 mod newest;
+mod operator_file;
 mod options;
+mod reading;
 mod recovery;
 mod replay;
 mod shared;
 mod snapshot;
 mod stats;
+mod sync_times;
 mod workers;
 
 pub use db::Db;
 pub use disk_folder::DiskFolder;
 pub use error::Error;
+pub use event::{Event, Listener, Progress};
 pub use folder::{File, Folder};
 pub use options::{Options, Sync};
 pub use snapshot::{Rows, Snapshot};

@@ -1,9 +1,11 @@
 //! [`Log`]: the log that a database writes.
 
+use crate::counts::Counts;
 use crate::error::Error;
 use crate::folder::{File, Folder};
 use crate::name::Name;
 use std::sync::Arc;
+use std::time::Instant;
 
 /// The log that a database writes, and the folder that it is in.
 pub(crate) struct Log {
@@ -16,6 +18,7 @@ pub(crate) struct Log {
     pub(crate) older: u64,
     /// Whether all bytes are on the device.
     is_synced: bool,
+    counts: Arc<Counts>,
 }
 
 impl Log {
@@ -25,6 +28,7 @@ impl Log {
         number: u64,
         length: u64,
         older: u64,
+        counts: Arc<Counts>,
     ) -> Result<Log, Error> {
         let name = Name::Log(number).text();
         let file = folder.open(&name).map_err(Error::of_file(&name))?;
@@ -36,6 +40,7 @@ impl Log {
             older,
             // What an ended process wrote may not be on the device.
             is_synced: false,
+            counts,
         })
     }
 
@@ -48,17 +53,19 @@ impl Log {
             self.sync()?;
         }
         self.length += record.len() as u64;
+        self.counts.logged_bytes.add(record.len() as u64);
         Ok(())
     }
 
-    /// Waits until all bytes are on the device. Tells whether some weren't.
-    pub(crate) fn sync(&mut self) -> Result<bool, Error> {
-        if self.is_synced {
-            return Ok(false);
+    /// Waits until all bytes are on the device.
+    pub(crate) fn sync(&mut self) -> Result<(), Error> {
+        if !self.is_synced {
+            let begun = Instant::now();
+            self.file.sync().map_err(self.refusal())?;
+            self.counts.add_sync(begun.elapsed());
+            self.is_synced = true;
         }
-        self.file.sync().map_err(self.refusal())?;
-        self.is_synced = true;
-        Ok(true)
+        Ok(())
     }
 
     /// Goes on in a new log, once this one and the new one's name are on the device.

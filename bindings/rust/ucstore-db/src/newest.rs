@@ -18,6 +18,8 @@ struct Held {
     view: View,
     /// How many groups it has.
     taken: u64,
+    /// Whether what no run has yet is sorted in it, for scans.
+    is_sorted: bool,
 }
 
 impl Newest {
@@ -26,6 +28,7 @@ impl Newest {
         let held = Held {
             view: store.view()?,
             taken: 0,
+            is_sorted: false,
         };
         Ok(Newest {
             held: Mutex::new(held),
@@ -45,6 +48,24 @@ impl Newest {
         Ok(held.view.again()?)
     }
 
+    /// A view as [`view`](Newest::view) gives it, in which what no run has yet is sorted. It is sorted once, while others read.
+    pub(crate) fn sorted_view(&self, store: &Mutex<Store>) -> Result<View, Error> {
+        let mut held = lock(&self.held);
+        self.renew_held(&mut held, store)?;
+        let (view, taken) = (held.view.again()?, held.taken);
+        if held.is_sorted {
+            return Ok(view);
+        }
+        drop(held);
+        sort(&view)?;
+        let mut held = lock(&self.held);
+        if held.taken == taken {
+            held.view = view.again()?;
+            held.is_sorted = true;
+        }
+        Ok(view)
+    }
+
     /// Renews the view for readers that come while the store is locked for long.
     pub(crate) fn renew(&self, store: &Mutex<Store>) -> Result<(), Error> {
         self.renew_held(&mut lock(&self.held), store)
@@ -59,7 +80,14 @@ impl Newest {
             // What only the old view holds is freed behind the store's lock.
             drop(store);
             held.view = view;
+            held.is_sorted = false;
         }
         Ok(())
     }
+}
+
+/// Sorts what no run has yet in a view, for it and those that are made of it: its first scan does so.
+pub(crate) fn sort(view: &View) -> Result<(), Error> {
+    view.scan("", Some(b"")).next_row()?;
+    Ok(())
 }

@@ -1,5 +1,6 @@
 //! [`Options`] and [`Sync`]: how a database is kept.
 
+use crate::event::{Event, Listener, Progress};
 use ucstore::Operator;
 
 /// When a write is on the device.
@@ -22,7 +23,8 @@ pub enum Sync {
 /// ```
 #[derive(Clone, Debug, PartialEq, Eq)]
 pub struct Options {
-    /// Which operator merges a key's operands into its value. A folder is opened with the one that it was made with.
+    /// Which operator merges a key's operands into its value. A folder is opened with the one that it was made with, which
+    /// its file `OPERATOR` names.
     pub operator: Operator,
     /// When a write is on the device.
     pub sync: Sync,
@@ -38,6 +40,10 @@ pub struct Options {
     pub checkpoint_least: u64,
     /// Opens a damaged folder up to the damage. Nothing can be written then.
     pub recover_to_fault: bool,
+    /// Is told how far the opening of a folder is: behind each MiB, and each file.
+    pub progress: Option<Listener<Progress>>,
+    /// Is told what the database does.
+    pub events: Option<Listener<Event>>,
 }
 
 impl Options {
@@ -61,6 +67,8 @@ impl Default for Options {
             checkpoint_ratio: 2,
             checkpoint_least: 64 << 20,
             recover_to_fault: false,
+            progress: None,
+            events: None,
         }
     }
 }

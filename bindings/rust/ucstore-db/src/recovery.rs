@@ -1,14 +1,17 @@
 //! [`Recovery`]: a database as its folder has it.
 
+use crate::counts::Counts;
 use crate::error::Error;
 use crate::folder::Folder;
 use crate::log::Log;
 use crate::name::Name;
+use crate::operator_file;
 use crate::options::Options;
+use crate::reading::Reading;
 use crate::replay::Replay;
 use std::mem;
 use std::sync::Arc;
-use ucstore::Store;
+use ucstore::{Operator, Store};
 
 /// The files of a folder.
 struct Files {
@@ -17,6 +20,8 @@ struct Files {
     logs: Vec<u64>,
     /// What holds nothing that isn't elsewhere.
     spent: Vec<Name>,
+    /// Whether one names the operator.
+    has_operator: bool,
 }
 
 /// A store as its folder has it. Nothing is changed there before [`Recovery::into_log`].
@@ -24,6 +29,7 @@ pub(crate) struct Recovery {
     pub(crate) store: Store,
     /// The damage behind which nothing was read.
     pub(crate) fault: Option<Error>,
+    operator: Operator,
     files: Files,
     /// The last log that has batches.
     number: u64,
@@ -41,6 +47,7 @@ impl Files {
     /// Finds the newest base, and the logs behind it.
     fn of(folder: &dyn Folder) -> Result<Files, Error> {
         let texts = folder.names().map_err(Error::of_file(""))?;
+        let has_operator = texts.iter().any(|text| text == operator_file::OPERATOR);
         let mut names: Vec<Name> = texts.iter().filter_map(|text| Name::of(text)).collect();
         names.sort();
         let bases = names.iter().filter_map(|name| match name {
@@ -64,8 +71,20 @@ impl Files {
             Some(number) => Err(Error::Missing {
                 file: Name::Log(number).text(),
             }),
-            None => Ok(Files { base, logs, spent }),
+            None => Ok(Files {
+                base,
+                logs,
+                spent,
+                has_operator,
+            }),
         }
+    }
+
+    /// The names of those that are read.
+    fn names(&self) -> impl Iterator<Item = Name> + '_ {
+        let base = self.base.map(Name::Base);
+        base.into_iter()
+            .chain(self.logs.iter().copied().map(Name::Log))
     }
 }
 
@@ -76,6 +95,7 @@ impl Recovery {
         let mut recovery = Recovery {
             store: Store::create(options.operator, &options.to_store())?,
             fault: None,
+            operator: options.operator,
             number: files.base.unwrap_or(1),
             files,
             length: 0,
@@ -83,21 +103,38 @@ impl Recovery {
             older: 0,
             is_behind_base: false,
         };
-        match recovery.replay_all(folder) {
-            Err(fault @ Error::Damaged { .. }) if options.recover_to_fault => {
-                recovery.fault = Some(fault);
-            }
-            outcome => outcome?,
-        }
+        let mut reading = Reading::of(folder, recovery.files.names(), &options.progress)?;
+        recovery.judge(recovery.check_operator(folder), options)?;
+        let outcome = recovery.replay_all(folder, &mut reading);
+        recovery.judge(outcome, options)?;
         Ok(recovery)
+    }
+
+    /// Takes damage for the end of what is read, if the options say so.
+    fn judge(&mut self, outcome: Result<(), Error>, options: &Options) -> Result<(), Error> {
+        match outcome {
+            Err(fault @ Error::Damaged { .. }) if options.recover_to_fault => {
+                self.fault.get_or_insert(fault);
+                Ok(())
+            }
+            outcome => outcome,
+        }
+    }
+
+    /// Checks that the folder was made with the operator, if it names one.
+    fn check_operator(&self, folder: &dyn Folder) -> Result<(), Error> {
+        if !self.files.has_operator {
+            return Ok(());
+        }
+        operator_file::check(folder, self.operator)
     }
 
     /// Writes what the files have to the store, up to the first fault. The base and all logs but the last one that has
     /// bytes have to be whole.
-    fn replay_all(&mut self, folder: &dyn Folder) -> Result<(), Error> {
+    fn replay_all(&mut self, folder: &dyn Folder, reading: &mut Reading) -> Result<(), Error> {
         if let Some(number) = self.files.base {
             let name = Name::Base(number);
-            self.replay(name, &read(folder, name)?)?;
+            self.replay(name, &read(folder, name)?, reading)?;
             self.check_whole(name)?;
             self.length = 0;
             self.is_behind_base = true;
@@ -108,15 +145,18 @@ impl Recovery {
                 self.check_whole(Name::Log(self.number))?;
                 self.older += self.length;
                 self.number = number;
-                self.replay(Name::Log(number), &log)?;
+                self.replay(Name::Log(number), &log, reading)?;
             }
         }
         Ok(())
     }
 
     /// Writes what a file has to the store, up to its first fault.
-    fn replay(&mut self, name: Name, log: &[u8]) -> Result<(), Error> {
-        let replay = Replay::of(&self.store, log, mem::take(&mut self.is_behind_base))?;
+    fn replay(&mut self, name: Name, log: &[u8], reading: &mut Reading) -> Result<(), Error> {
+        let is_behind_base = mem::take(&mut self.is_behind_base);
+        let tell = |offset| reading.tell(name, offset);
+        let replay = Replay::of(&self.store, log, is_behind_base, tell)?;
+        reading.end(name, log.len() as u64);
         self.length = replay.end;
         self.rest = log.len() as u64 - replay.end;
         match replay.fault(log, self.store.last()) {
@@ -143,7 +183,14 @@ impl Recovery {
 
     /// Makes the folder ready for writes: cuts off what a crash left, and removes what isn't needed. Returns the store,
     /// and the log that goes on.
-    pub(crate) fn into_log(self, folder: Arc<dyn Folder>) -> Result<(Store, Log), Error> {
+    pub(crate) fn into_log(
+        self,
+        folder: Arc<dyn Folder>,
+        counts: &Arc<Counts>,
+    ) -> Result<(Store, Log), Error> {
+        if !self.files.has_operator {
+            operator_file::write(&*folder, self.operator)?;
+        }
         let name = Name::Log(self.number).text();
         if self.files.logs.is_empty() {
             folder.create(&name).map_err(Error::of_file(&name))?;
@@ -165,7 +212,8 @@ impl Recovery {
             remove(&*folder, name)?;
         }
         folder.sync().map_err(Error::of_file(""))?;
-        let log = Log::open(folder, self.number, self.length, self.older)?;
+        let counts = Arc::clone(counts);
+        let log = Log::open(folder, self.number, self.length, self.older, counts)?;
         Ok((self.store, log))
     }
 }

@@ -19,8 +19,14 @@ pub(crate) struct Replay {
 
 impl Replay {
     /// Writes the batches of a log to a store, with the sequences that they had: those behind the store's last one. The
-    /// log behind a base may begin later, because a base has fewer writes than it was made of.
-    pub(crate) fn of(store: &Store, log: &[u8], is_behind_base: bool) -> Result<Replay, Error> {
+    /// log behind a base may begin later, because a base has fewer writes than it was made of. Tells the offset behind
+    /// each batch.
+    pub(crate) fn of(
+        store: &Store,
+        log: &[u8],
+        is_behind_base: bool,
+        mut tell: impl FnMut(u64),
+    ) -> Result<Replay, Error> {
         let mut writes = log_writes(log);
         let mut gathered = Gathered::default();
         let mut offset = 0;
@@ -28,6 +34,7 @@ impl Replay {
             // Another batch was fetched.
             if writes.offset() != offset {
                 gathered.write(store)?;
+                tell(offset);
                 if write.sequence != store.last() + 1 && !(is_behind_base && offset == 0) {
                     return Ok(Replay {
                         end: offset,

@@ -2,6 +2,7 @@
 
 use crate::counts::Counts;
 use crate::error::Error;
+use crate::event::{Event, Events};
 use crate::folder::Folder;
 use crate::group::{Group, Groups, Role};
 use crate::lock;
@@ -12,7 +13,7 @@ use crate::recovery::Recovery;
 use std::sync::atomic::{AtomicBool, AtomicU64, Ordering};
 use std::sync::{Arc, Condvar, Mutex, MutexGuard, OnceLock, PoisonError};
 use std::thread::{self, Thread};
-use std::time::Duration;
+use std::time::{Duration, Instant};
 use ucstore::{Store, View};
 
 /// By how much a write is slowed while there are many runs.
@@ -38,7 +39,10 @@ pub(crate) struct Shared {
     failure: Mutex<Option<Error>>,
     /// What failed first in a thread of the database's own.
     noted: Mutex<Option<Error>>,
-    pub(crate) counts: Counts,
+    pub(crate) counts: Arc<Counts>,
+    pub(crate) events: Events,
+    /// Whether writes are slowed.
+    is_slowed: AtomicBool,
     /// How many bytes the writes have at most that no run has yet. It is changed while the log is locked.
     gathered: AtomicU64,
     /// How many runs there were behind the last write or compaction.
@@ -57,14 +61,15 @@ impl Shared {
     ) -> Result<Shared, Error> {
         let Some(folder) = folder else {
             let store = Store::create(options.operator, &options.to_store())?;
-            return Shared::of(store, None, None, options);
+            return Shared::of(store, None, None, options, Arc::default());
         };
+        let counts = Arc::default();
         let mut recovery = Recovery::read(&*folder, options)?;
         if let Some(fault) = recovery.fault.take() {
-            return Shared::of(recovery.store, None, Some(fault), options);
+            return Shared::of(recovery.store, None, Some(fault), options, counts);
         }
-        let (store, log) = recovery.into_log(folder)?;
-        Shared::of(store, Some(log), None, options)
+        let (store, log) = recovery.into_log(folder, &counts)?;
+        Shared::of(store, Some(log), None, options, counts)
     }
 
     /// What is shared of a store and its log.
@@ -73,6 +78,7 @@ impl Shared {
         log: Option<Log>,
         fault: Option<Error>,
         options: &Options,
+        counts: Arc<Counts>,
     ) -> Result<Shared, Error> {
         let report = store.report();
         // What was recovered isn't measured: it is flushed before the next write.
@@ -89,7 +95,9 @@ impl Shared {
             groups: Groups::default(),
             failure: Mutex::new(fault.map(Error::into_cause)),
             noted: Mutex::new(None),
-            counts: Counts::default(),
+            counts,
+            events: Events::of(options.events.clone()),
+            is_slowed: AtomicBool::new(false),
             is_closing: AtomicBool::new(false),
             checkpointer: OnceLock::new(),
             is_checkpoint_due: AtomicBool::new(false),
@@ -114,6 +122,7 @@ impl Shared {
         let told = self.take(&mut log, &group);
         drop(log);
         group.outcome.tell(told.clone());
+        self.events.tell();
         told
     }
 
@@ -131,12 +140,12 @@ impl Shared {
                 lock(&self.store).give_up();
                 return Err(self.fail(error));
             }
-            self.counts.syncs.add(group.is_synced.into());
         }
         self.commit(log);
         self.gathered.fetch_add(group.memory(), Ordering::Relaxed);
         self.counts.groups.add(1);
         self.counts.batches.add(group.batches);
+        self.counts.user_bytes.add(group.batch.len() as u64);
         Ok(())
     }
 
@@ -146,10 +155,19 @@ impl Shared {
         let mut store = lock(&self.store);
         loop {
             match call(&store) {
-                Err(ucstore::Error::RunsClaimed) => store = self.wait_for_work(store),
+                Err(ucstore::Error::RunsClaimed) => store = self.wait_for_job(store),
                 outcome => return Ok(outcome?),
             }
         }
+    }
+
+    /// Waits until there may be a job, or one has ended, for a write.
+    fn wait_for_job<'a>(&self, store: MutexGuard<'a, Store>) -> MutexGuard<'a, Store> {
+        let begun = Instant::now();
+        self.tell_stall(store.report().runs);
+        let store = self.wait_for_work(store);
+        self.counts.add_stalled(begun);
+        store
     }
 
     /// Commits what is prepared, and wakes whom it gives work.
@@ -172,12 +190,36 @@ impl Shared {
 
     /// Slows a write while there are many runs.
     fn slow_down(&self) {
-        if self.options.compactors > 0
-            && self.runs.load(Ordering::Relaxed) >= self.options.slow_trigger.into()
-        {
-            self.counts.slowed.add(1);
-            thread::sleep(SLOW);
+        let runs = self.runs.load(Ordering::Relaxed);
+        let is_slow = self.options.compactors > 0 && runs >= self.options.slow_trigger.into();
+        let was_slow = self.is_slowed.swap(is_slow, Ordering::Relaxed);
+        if !is_slow {
+            return;
         }
+        if !was_slow {
+            self.tell_stall(runs);
+        }
+        let begun = Instant::now();
+        thread::sleep(SLOW);
+        self.counts.slowed.add(1);
+        self.counts.add_stalled(begun);
+    }
+
+    /// Counts and tells that writes are slowed, or wait.
+    fn tell_stall(&self, runs: u64) {
+        self.counts.stalls.add(1);
+        self.events.push(Event::Stalled { runs });
+    }
+
+    /// Tells that runs were compacted, if they were. The thread holds no lock.
+    pub(crate) fn tell_compaction(&self, is_done: bool, begun: Instant) {
+        if is_done {
+            self.events.push(Event::Compacted {
+                runs: self.runs.load(Ordering::Relaxed),
+                took: begun.elapsed(),
+            });
+        }
+        self.events.tell();
     }
 
     /// A view that has each write that was acknowledged before.
@@ -185,33 +227,54 @@ impl Shared {
         self.newest.view(&self.store)
     }
 
+    /// A view as [`view`](Shared::view) gives it, in which scans have nothing to sort.
+    pub(crate) fn sorted_view(&self) -> Result<View, Error> {
+        self.newest.sorted_view(&self.store)
+    }
+
     /// Makes a run of what is gathered.
     pub(crate) fn flush(&self) -> Result<(), Error> {
-        let _log = lock(&self.log);
-        self.flush_gathered()
+        let log = lock(&self.log);
+        let outcome = self.flush_gathered();
+        drop(log);
+        self.events.tell();
+        outcome
     }
 
     /// Makes a run of what is gathered, while the log is locked: the store would do so within a write. Nobody who reads
     /// meanwhile has to renew the view.
     fn flush_gathered(&self) -> Result<(), Error> {
+        let begun = Instant::now();
         self.newest.renew(&self.store)?;
-        let runs = self.call(|store| store.flush().map(|()| store.report().runs))?;
-        self.gathered.store(0, Ordering::Relaxed);
+        let (gathered, runs) = self.call(|store| {
+            let gathered = store.report().gathered;
+            store.flush().map(|()| (gathered, store.report().runs))
+        })?;
+        let bytes = self.gathered.swap(0, Ordering::Relaxed);
         self.tell_runs(runs);
+        if gathered > 0 {
+            self.counts.flushes.add(1);
+            self.events.push(Event::Flushed {
+                runs,
+                bytes,
+                took: begun.elapsed(),
+            });
+        }
         Ok(())
     }
 
     /// Waits until all acknowledged writes are on the device.
     pub(crate) fn sync(&self) -> Result<(), Error> {
-        self.sync_log(&mut lock(&self.log))
+        let outcome = self.sync_log(&mut lock(&self.log));
+        self.events.tell();
+        outcome
     }
 
     /// Syncs the log, unless it failed before: what a failed sync leaves isn't known.
     fn sync_log(&self, log: &mut Option<Log>) -> Result<(), Error> {
         self.check()?;
         if let Some(log) = log {
-            let is_done = log.sync().map_err(|error| self.fail(error))?;
-            self.counts.syncs.add(is_done.into());
+            log.sync().map_err(|error| self.fail(error))?;
         }
         Ok(())
     }
@@ -232,6 +295,8 @@ impl Shared {
         let outcome = self.sync_log(&mut log);
         self.fail(Error::Closed);
         *log = None;
+        drop(log);
+        self.events.tell();
         outcome?;
         lock(&self.noted).take().map_or(Ok(()), Err)
     }
@@ -251,12 +316,30 @@ impl Shared {
     /// Refuses all writes from now on, for the first reason that there is. Returns what they are told.
     pub(crate) fn fail(&self, error: Error) -> Error {
         let mut failure = lock(&self.failure);
-        failure.get_or_insert(error.into_cause()).clone()
+        let is_first = failure.is_none();
+        let failure = failure.get_or_insert(error.into_cause()).clone();
+        if is_first {
+            self.tell_failure(&failure);
+        }
+        failure
     }
 
     /// Notes what failed in a thread of the database's own.
     pub(crate) fn note(&self, error: Error) {
+        if !matches!(error, Error::ReadOnly { .. }) {
+            self.tell_failure(&error);
+            self.events.tell();
+        }
         lock(&self.noted).get_or_insert(error);
+    }
+
+    /// Tells that a log or a checkpoint failed. An end that was asked for is no failure.
+    fn tell_failure(&self, error: &Error) {
+        if !matches!(error, Error::Closed) {
+            self.events.push(Event::Failed {
+                error: error.clone(),
+            });
+        }
     }
 
     /// Why nothing can be written, if that is so.

@@ -1,6 +1,11 @@
 //! [`Snapshot`] and [`Rows`]: what a database held at a moment.
 
+use crate::counts::Counts;
 use crate::error::Error;
+use crate::newest::sort;
+use std::cell::Cell;
+use std::fmt;
+use std::sync::Arc;
 use ucstore::{Scan, View};
 
 /// The rows of a range, in the order of their keys' bytes, as they were when it was made. They are fetched in pages.
@@ -22,15 +27,43 @@ pub type Rows = Scan<View>;
 /// # Ok(())
 /// # }
 /// ```
-#[derive(Clone, Debug)]
+#[derive(Clone)]
 pub struct Snapshot {
     view: View,
+    /// Whether what no run has yet is sorted in it, for scans.
+    is_sorted: Cell<bool>,
+    /// Those of its database.
+    counts: Arc<Counts>,
 }
 
 impl Snapshot {
     /// That of a view.
-    pub(crate) fn of(view: View) -> Snapshot {
-        Snapshot { view }
+    pub(crate) fn of(view: View, counts: &Arc<Counts>) -> Snapshot {
+        Snapshot {
+            view,
+            is_sorted: Cell::new(false),
+            counts: Arc::clone(counts),
+        }
+    }
+
+    /// That of a view in which scans have nothing to sort.
+    pub(crate) fn sorted(view: View, counts: &Arc<Counts>) -> Snapshot {
+        let snapshot = Snapshot::of(view, counts);
+        snapshot.is_sorted.set(true);
+        snapshot
+    }
+
+    /// The snapshot once more, for another thread. Nothing is copied.
+    ///
+    /// # Errors
+    ///
+    /// [`Error::Store`] if memory is refused.
+    pub fn again(&self) -> Result<Snapshot, Error> {
+        Ok(Snapshot {
+            view: self.view.again()?,
+            is_sorted: self.is_sorted.clone(),
+            counts: Arc::clone(&self.counts),
+        })
     }
 
     /// The sequence of the last write that it has.
@@ -44,6 +77,7 @@ impl Snapshot {
     ///
     /// [`Error::Store`] if memory is refused, as for each read.
     pub fn get(&self, key: impl AsRef<[u8]>) -> Result<Option<Vec<u8>>, Error> {
+        self.counts.lookups.add(1);
         Ok(self.view.get(key)?)
     }
 
@@ -56,7 +90,9 @@ impl Snapshot {
         &self,
         keys: impl IntoIterator<Item = K>,
     ) -> Result<Vec<Option<Vec<u8>>>, Error> {
-        Ok(self.view.get_many(keys)?)
+        let values = self.view.get_many(keys)?;
+        self.counts.lookups.add(values.len() as u64);
+        Ok(values)
     }
 
     /// All keys, with their values.
@@ -74,7 +110,7 @@ impl Snapshot {
     ///
     /// Those of [`iter`](Snapshot::iter).
     pub fn range(&self, low: impl AsRef<[u8]>, high: Option<&[u8]>) -> Result<Rows, Error> {
-        Ok(self.view.again()?.into_scan(low, high))
+        Ok(self.view_to_scan()?.into_scan(low, high))
     }
 
     /// The keys that begin with these bytes, with their values.
@@ -83,6 +119,23 @@ impl Snapshot {
     ///
     /// Those of [`iter`](Snapshot::iter).
     pub fn prefix(&self, prefix: impl AsRef<[u8]>) -> Result<Rows, Error> {
-        Ok(self.view.again()?.into_prefix(prefix))
+        Ok(self.view_to_scan()?.into_prefix(prefix))
+    }
+
+    /// The view once more, for a scan. The first one sorts it for all.
+    fn view_to_scan(&self) -> Result<View, Error> {
+        if !self.is_sorted.replace(true) {
+            sort(&self.view).inspect_err(|_| self.is_sorted.set(false))?;
+        }
+        Ok(self.view.again()?)
+    }
+}
+
+impl fmt::Debug for Snapshot {
+    fn fmt(&self, formatter: &mut fmt::Formatter<'_>) -> fmt::Result {
+        formatter
+            .debug_struct("Snapshot")
+            .field("sequence", &self.sequence())
+            .finish_non_exhaustive()
     }
 }

@@ -3,10 +3,14 @@
 use crate::lock;
 use crate::shared::Shared;
 use std::fmt;
+use std::time::Duration;
 
-/// What a database holds, and what it did since it was opened. Shown, it is a line for each number.
+/// What a database holds, and what it did since it was opened. Shown, it is a table with a line for each number.
 #[derive(Clone, Copy, Debug, Default, PartialEq, Eq)]
+#[non_exhaustive]
 pub struct Stats {
+    /// For how long it is open.
+    pub uptime: Duration,
     /// The sequence of the last write.
     pub last: u64,
     /// How many runs there are.
@@ -21,10 +25,28 @@ pub struct Stats {
     pub batches: u64,
     /// How many records of the log they shared.
     pub groups: u64,
-    /// How often the log was synced.
+    /// The bytes of the batches.
+    pub user_bytes: u64,
+    /// The bytes that were appended to logs for them.
+    pub logged_bytes: u64,
+    /// The bytes of the bases that were written.
+    pub base_bytes: u64,
+    /// How many keys were looked up, in it and in its snapshots.
+    pub lookups: u64,
+    /// How often a log was synced.
     pub syncs: u64,
-    /// How often a write was slowed because there were many runs.
+    /// The time that half of the last 1,024 syncs kept to.
+    pub sync_p50: Duration,
+    /// The time that 99 percent of the last 1,024 syncs kept to.
+    pub sync_p99: Duration,
+    /// How often writes began to be slowed, or waited for a compaction.
+    pub stalls: u64,
+    /// How many groups of writes were slowed because there were many runs.
     pub slowed: u64,
+    /// For how long writes were slowed or waited.
+    pub stalled: Duration,
+    /// How many runs were made of what was gathered, but for those that the store made itself.
+    pub flushes: u64,
     /// How many compactions there were, but for those that the store made itself.
     pub compactions: u64,
     /// How many checkpoints were made.
@@ -39,7 +61,9 @@ impl Stats {
         let log_bytes = shared.log_bytes();
         let report = lock(&shared.store).report();
         let counts = &shared.counts;
+        let [sync_p50, sync_p99] = counts.sync_times.percentiles([50, 99]);
         Stats {
+            uptime: counts.opened.elapsed(),
             last: report.last,
             runs: report.runs,
             bytes: report.bytes,
@@ -47,32 +71,140 @@ impl Stats {
             log_bytes,
             batches: counts.batches.get(),
             groups: counts.groups.get(),
+            user_bytes: counts.user_bytes.get(),
+            logged_bytes: counts.logged_bytes.get(),
+            base_bytes: counts.base_bytes.get(),
+            lookups: counts.lookups.get(),
             syncs: counts.syncs.get(),
+            sync_p50,
+            sync_p99,
+            stalls: counts.stalls.get(),
             slowed: counts.slowed.get(),
+            stalled: Duration::from_micros(counts.stalled.get()),
+            flushes: counts.flushes.get(),
             compactions: counts.compactions.get(),
             checkpoints: counts.checkpoints.get(),
             is_read_only: shared.check().is_err(),
         }
     }
+
+    /// How many bytes were written to files for each byte of the batches: 0 if there were none.
+    pub fn write_amplification(&self) -> f64 {
+        match self.user_bytes {
+            0 => 0.0,
+            bytes => (self.logged_bytes + self.base_bytes) as f64 / bytes as f64,
+        }
+    }
+
+    /// How many batches a record of the log has on average: 0 if there were none.
+    fn batches_a_group(&self) -> f64 {
+        self.batches as f64 / self.groups.max(1) as f64
+    }
+}
+
+/// A number of bytes, in the largest unit of which it has one.
+struct Bytes(u64);
+
+impl fmt::Display for Bytes {
+    fn fmt(&self, formatter: &mut fmt::Formatter<'_>) -> fmt::Result {
+        const UNITS: [&str; 4] = ["KiB", "MiB", "GiB", "TiB"];
+        let unit = (self.0.max(1).ilog2() / 10).min(UNITS.len() as u32);
+        match unit {
+            0 => write!(formatter, "{} B", self.0),
+            unit => {
+                let count = self.0 as f64 / (1u64 << (10 * unit)) as f64;
+                write!(formatter, "{count:.1} {}", UNITS[unit as usize - 1])
+            }
+        }
+    }
+}
+
+/// A duration, in milliseconds.
+struct Millis(Duration);
+
+impl fmt::Display for Millis {
+    fn fmt(&self, formatter: &mut fmt::Formatter<'_>) -> fmt::Result {
+        write!(formatter, "{:.3} ms", self.0.as_secs_f64() * 1000.0)
+    }
 }
 
 impl fmt::Display for Stats {
     fn fmt(&self, formatter: &mut fmt::Formatter<'_>) -> fmt::Result {
-        for (name, number) in [
-            ("last", self.last),
-            ("runs", self.runs),
-            ("bytes", self.bytes),
-            ("gathered", self.gathered),
-            ("log bytes", self.log_bytes),
-            ("batches", self.batches),
-            ("groups", self.groups),
-            ("syncs", self.syncs),
-            ("slowed", self.slowed),
-            ("compactions", self.compactions),
-            ("checkpoints", self.checkpoints),
-        ] {
-            writeln!(formatter, "{name} {number}")?;
+        let rows: [(&str, &dyn fmt::Display); 22] = [
+            ("last sequence", &self.last),
+            ("runs", &self.runs),
+            ("bytes of runs", &Bytes(self.bytes)),
+            ("writes in the memtable", &self.gathered),
+            ("bytes of logs", &Bytes(self.log_bytes)),
+            ("batches", &self.batches),
+            ("groups", &self.groups),
+            ("batches a group", &format!("{:.2}", self.batches_a_group())),
+            ("bytes of batches", &Bytes(self.user_bytes)),
+            ("bytes written to logs", &Bytes(self.logged_bytes)),
+            ("bytes written to bases", &Bytes(self.base_bytes)),
+            (
+                "write amplification",
+                &format!("{:.2}", self.write_amplification()),
+            ),
+            ("lookups", &self.lookups),
+            ("syncs", &self.syncs),
+            ("sync, p50", &Millis(self.sync_p50)),
+            ("sync, p99", &Millis(self.sync_p99)),
+            ("stalls", &self.stalls),
+            ("slowed groups", &self.slowed),
+            ("stalled", &Millis(self.stalled)),
+            ("flushes", &self.flushes),
+            ("compactions", &self.compactions),
+            ("checkpoints", &self.checkpoints),
+        ];
+        let seconds = self.uptime.as_secs_f64();
+        writeln!(formatter, "** Database, open for {seconds:.1} s **")?;
+        for (name, value) in rows {
+            writeln!(formatter, "{name:<24} {:>14}", value.to_string())?;
         }
-        write!(formatter, "read only {}", self.is_read_only)
+        write!(formatter, "{:<24} {:>14}", "read only", self.is_read_only)
+    }
+}
+
+#[cfg(test)]
+mod tests {
+    use super::*;
+
+    #[test]
+    fn bytes_are_shown_in_their_unit() {
+        let shown = [0, 1, 1023, 1024, 1536, 1 << 20, u64::MAX].map(|it| Bytes(it).to_string());
+        let wanted = [
+            "0 B",
+            "1 B",
+            "1023 B",
+            "1.0 KiB",
+            "1.5 KiB",
+            "1.0 MiB",
+            "16777216.0 TiB",
+        ];
+        assert_eq!(shown, wanted);
+    }
+
+    #[test]
+    fn stats_are_a_table() {
+        let stats = Stats {
+            batches: 7,
+            groups: 2,
+            user_bytes: 100,
+            logged_bytes: 110,
+            base_bytes: 40,
+            sync_p99: Duration::from_micros(1234),
+            ..Default::default()
+        };
+        let text = stats.to_string();
+        for line in [
+            "batches                               7",
+            "batches a group                    3.50",
+            "write amplification                1.50",
+            "sync, p99                      1.234 ms",
+            "read only                         false",
+        ] {
+            assert!(text.lines().any(|it| it == line), "{text}");
+        }
     }
 }

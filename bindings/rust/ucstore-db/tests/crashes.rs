@@ -193,6 +193,6 @@ fn a_database_goes_on_behind_a_checkpoint_that_failed() {
         again.checkpoint().unwrap();
         drop(again);
         assert_eq!(map_of(&open(&device).unwrap()).len(), 2);
-        assert_eq!(device.files().len(), 2);
+        assert_eq!(device.logs().len(), 2);
     }
 }

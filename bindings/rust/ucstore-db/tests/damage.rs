@@ -45,8 +45,8 @@ impl Story {
         for key in keys.chars() {
             db.merge(key.to_string(), "some text").unwrap();
             self.maps.push(map_of(db));
-            let files = self.device.files();
-            self.lengths.push(files.values().last().unwrap().len());
+            let logs = self.device.logs();
+            self.lengths.push(logs.values().last().unwrap().len());
         }
     }
 
@@ -70,8 +70,8 @@ fn open_to_fault(device: &Device) -> Result<Db, Error> {
 fn a_log_may_end_at_any_byte() {
     let mut story = Story::new();
     story.write("abcab");
-    let files = story.device.files();
-    let (name, log) = files.iter().next().unwrap();
+    let logs = story.device.logs();
+    let (name, log) = logs.iter().next().unwrap();
     for length in 0..=log.len() {
         let torn = Files::from([(name.clone(), log[..length].to_vec())]);
         let device = Device::of(&torn);
@@ -97,9 +97,7 @@ fn a_log_may_end_before_zeros() {
     let mut story = Story::new();
     story.write("ab");
     let mut files = story.device.files();
-    for log in files.values_mut() {
-        log.resize(100_000, 0);
-    }
+    files.get_mut("000001.log").unwrap().resize(100_000, 0);
     let device = Device::of(&files);
     let db = open(&device).unwrap();
     assert_eq!(map_of(&db), story.maps[2]);
@@ -108,8 +106,8 @@ fn a_log_may_end_before_zeros() {
 
 /// Damages each byte. The folder isn't opened, or else only what could be a torn end is lost: the last batch.
 fn damage_each_byte(story: &Story) {
-    let files = story.device.files();
-    let (last_name, last_log) = files.iter().next_back().unwrap();
+    let (files, logs) = (story.device.files(), story.device.logs());
+    let (last_name, last_log) = logs.iter().next_back().unwrap();
     let last_batch = story.lengths[story.lengths.len() - 2];
     for (name, bytes) in &files {
         for place in 0..bytes.len() {
@@ -157,7 +155,7 @@ fn a_damaged_byte_of_a_base_or_a_log_is_named() {
     let mut story = Story::new();
     story.write("abca");
     open(&story.device).unwrap().checkpoint().unwrap();
-    assert_eq!(story.device.files().len(), 2);
+    assert_eq!(story.device.logs().len(), 2);
     story.write("dea");
     damage_each_byte(&story);
 }
@@ -167,9 +165,8 @@ fn a_damaged_byte_of_an_older_log_is_named() {
     let mut story = Story::new();
     story.write("abca");
     story.write_behind("dea");
-    let mut names: Vec<_> = story.device.files().into_keys().collect();
-    names.sort();
-    assert_eq!(names, ["000001.log", "000002.log"]);
+    let names: Vec<_> = story.device.files().into_keys().collect();
+    assert_eq!(names, ["000001.log", "000002.log", "OPERATOR"]);
     damage_each_byte(&story);
 }
 
@@ -203,7 +200,7 @@ fn a_file_that_is_missing_is_named() {
     story.write_behind("c");
     story.write_behind("d");
     let files = story.device.files();
-    assert_eq!(files.len(), 3);
+    assert_eq!(files.len(), 4);
     for name in ["000001.log", "000002.log"] {
         let mut fewer = files.clone();
         fewer.remove(name);
@@ -217,7 +214,7 @@ fn a_file_that_is_missing_is_named() {
     let mut fewer = device.files();
     assert_eq!(
         fewer.keys().collect::<Vec<_>>(),
-        ["000004.base", "000004.log"]
+        ["000004.base", "000004.log", "OPERATOR"]
     );
     fewer.remove("000004.log");
     assert!(matches!(

@@ -273,7 +273,8 @@ fn a_closed_database_refuses_writes() {
     assert!(matches!(clone.write(&Batch::new()), Err(Error::Closed)));
     assert!(matches!(clone.close(), Err(Error::Closed)));
     assert_eq!(number(clone.get("k").unwrap()), 1);
-    assert!(clone.stats().to_string().ends_with("read only true"));
+    assert!(clone.stats().is_read_only);
+    assert!(clone.stats().to_string().ends_with(" true"));
 }
 
 /// A device whose syncs wait while it is shut.
@@ -322,6 +323,9 @@ impl Gate {
 impl Folder for Gate {
     fn names(&self) -> io::Result<Vec<String>> {
         self.device.names()
+    }
+    fn length(&self, name: &str) -> io::Result<u64> {
+        self.device.length(name)
     }
     fn read(&self, name: &str) -> io::Result<Vec<u8>> {
         self.device.read(name)

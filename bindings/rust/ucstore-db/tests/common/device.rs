@@ -10,6 +10,7 @@ use ucstore_db::{File, Folder};
 #[derive(Clone, Copy, Debug, PartialEq, Eq)]
 pub enum Call {
     Names,
+    Length,
     Read,
     Create,
     Open,
@@ -22,8 +23,9 @@ pub enum Call {
 }
 
 impl Call {
-    pub const ALL: [Call; 10] = [
+    pub const ALL: [Call; 11] = [
         Call::Names,
+        Call::Length,
         Call::Read,
         Call::Create,
         Call::Open,
@@ -112,6 +114,13 @@ impl Device {
             (name.clone(), disk.contents[*number].bytes.clone())
         };
         disk.names.iter().map(file).collect()
+    }
+
+    /// Its logs and bases.
+    pub fn logs(&self) -> BTreeMap<String, Vec<u8>> {
+        let mut files = self.files();
+        files.retain(|name, _| name.starts_with('0'));
+        files
     }
 
     /// How many calls there were, and how many of them failed.
@@ -238,6 +247,12 @@ impl Content {
 impl Folder for Device {
     fn names(&self) -> io::Result<Vec<String>> {
         Ok(self.begun(Call::Names)?.names.keys().cloned().collect())
+    }
+
+    fn length(&self, name: &str) -> io::Result<u64> {
+        let disk = self.begun(Call::Length)?;
+        let number = disk.number(name)?;
+        Ok(disk.contents[number].bytes.len() as u64)
     }
 
     fn read(&self, name: &str) -> io::Result<Vec<u8>> {

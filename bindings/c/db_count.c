@@ -1,0 +1,85 @@
+/* Eight threads that count until they are ended, by signal 9 too, and say each number once it is acknowledged:
+ *
+ *     db_count FOLDER          counts
+ *     db_count FOLDER read     prints what each thread has counted
+ *
+ * Each counts under two keys at once, which have the same number at each moment. */
+#include <pthread.h>
+#include <stdio.h>
+#include <stdlib.h>
+#include <string.h>
+#include <ucstore_db.h>
+
+enum { THREADS = 8, LINE = 64 };
+
+static struct ucstore_db *db;
+
+static void check(int32_t status) {
+    if (status != UCSTORE_DB_OK) {
+        fprintf(stderr, "db_count: %s\n", ucstore_db_error_text());
+        exit(1);
+    }
+}
+
+/* What a thread has counted under both of its keys. */
+static uint64_t counted(unsigned thread) {
+    const uint64_t lengths[2] = {2, 2};
+    uint64_t found[2], values[2] = {0, 0};
+    char keys[LINE];
+    size_t size = 0;
+    snprintf(keys, sizeof keys, "a%ub%u", thread, thread);
+    check(ucstore_db_get_many(db, keys, 4, lengths, 2, found, values, sizeof values, &size));
+    if (values[0] != values[1]) {
+        fprintf(stderr, "db_count: thread %u has half of a batch\n", thread);
+        exit(1);
+    }
+    return values[0];
+}
+
+static void *count(void *context) {
+    static const uint8_t one[8] = {1};
+    unsigned thread = *(const unsigned *)context;
+    struct ucstore_db_batch *batch = NULL;
+    char key[LINE], line[LINE];
+    check(ucstore_db_batch_create(&batch));
+    snprintf(key, sizeof key, "a%u", thread);
+    check(ucstore_db_batch_merge(batch, key, 2, one, sizeof one));
+    *key = 'b';
+    check(ucstore_db_batch_merge(batch, key, 2, one, sizeof one));
+    for (uint64_t number = counted(thread) + 1;; number++) {
+        check(ucstore_db_write(db, batch));
+        /* One call writes a line. */
+        snprintf(line, sizeof line, "counted %u %llu\n", thread, (unsigned long long)number);
+        fputs(line, stdout);
+        if (thread == 0 && number % 20 == 0) {
+            check(ucstore_db_checkpoint(db));
+        }
+        counted((thread + 1) % THREADS);
+    }
+    return NULL;
+}
+
+int main(int argc, char **argv) {
+    struct ucstore_db_options options;
+    unsigned numbers[THREADS];
+    pthread_t threads[THREADS];
+    setvbuf(stdout, NULL, _IOLBF, BUFSIZ);
+    check(ucstore_db_options_init(&options));
+    options.merge_operator = UCSTORE_DB_COUNTER;
+    options.write_buffer_size = 2000;
+    options.checkpoint_least = 20000;
+    check(ucstore_db_open(argc > 1 ? argv[1] : "", &options, &db));
+    for (unsigned thread = 0; thread < THREADS; thread++) {
+        numbers[thread] = thread;
+        if (argc > 2) {
+            printf("counted %u %llu\n", thread, (unsigned long long)counted(thread));
+        } else if (pthread_create(&threads[thread], NULL, count, &numbers[thread]) != 0) {
+            return 1;
+        }
+    }
+    if (argc == 2) {
+        pthread_join(threads[0], NULL);
+    }
+    check(ucstore_db_close(db));
+    return 0;
+}

@@ -1,0 +1,438 @@
+/* Tries the database of `ucstore_db.h`: what each function answers, and what it refuses.
+ *
+ *     db_test FOLDER
+ *
+ * FOLDER is there, and empty. It prints a line if all is as it has to be. */
+#define _XOPEN_SOURCE 700
+
+#include <pthread.h>
+#include <signal.h>
+#include <stdio.h>
+#include <stdlib.h>
+#include <string.h>
+#include <sys/resource.h>
+#include <sys/wait.h>
+#include <ucstore_db.h>
+#include <unistd.h>
+
+#define CHECK(test)                                                                            \
+    do {                                                                                       \
+        if (!(test)) {                                                                         \
+            fprintf(stderr, "%s:%d: %s (%s)\n", __FILE__, __LINE__, #test, ucstore_db_error_text()); \
+            exit(1);                                                                           \
+        }                                                                                      \
+    } while (0)
+#define OK(call) CHECK((call) == UCSTORE_DB_OK)
+
+enum { PATH = 4096, KINDS = 5 };
+
+static const char *top;
+static const uint8_t one[8] = {1};
+
+/* The path of a file or folder below the top. */
+static const char *below(const char *name) {
+    static char path[PATH];
+    snprintf(path, sizeof path, "%s/%s", top, name);
+    return path;
+}
+
+static struct ucstore_db_options counters(void) {
+    struct ucstore_db_options options;
+    OK(ucstore_db_options_init(&options));
+    options.merge_operator = UCSTORE_DB_COUNTER;
+    return options;
+}
+
+static struct ucstore_db *open_with(const char *name, const struct ucstore_db_options *options) {
+    struct ucstore_db *db = NULL;
+    OK(ucstore_db_open(below(name), options, &db));
+    return db;
+}
+
+static struct ucstore_db *open_texts(const char *name) {
+    struct ucstore_db_options options;
+    OK(ucstore_db_options_init(&options));
+    return open_with(name, &options);
+}
+
+static void put(struct ucstore_db *db, const char *key, const char *value) {
+    OK(ucstore_db_put(db, key, strlen(key), value, strlen(value)));
+}
+
+/* Whether a call was refused with a status, and said a text. */
+static bool is_refused(int32_t status, int32_t wanted, const char *text) {
+    return status == wanted && strstr(ucstore_db_error_text(), text) != NULL;
+}
+
+/* Whether a key has a value. */
+static bool has(struct ucstore_db *db, const char *key, const char *value) {
+    char room[64];
+    size_t size = 0;
+    return ucstore_db_get(db, key, strlen(key), room, sizeof room, &size) == UCSTORE_DB_OK && size == strlen(value) &&
+           memcmp(room, value, size) == 0;
+}
+
+static void try_versions(void) {
+    struct ucstore_db_options options;
+    CHECK(ucstore_db_version() == UCSTORE_DB_ABI);
+    OK(ucstore_db_options_init(&options));
+    CHECK(options.size == sizeof options && options.sync == UCSTORE_DB_SYNC_ALWAYS && options.compactors == 2);
+    CHECK(options.write_buffer_size == 4 << 20 && options.checkpoint_least == 64 << 20 && options.event == NULL);
+}
+
+static void try_refused_options(void) {
+    struct ucstore_db_options options = counters();
+    struct ucstore_db *db = NULL;
+    CHECK(is_refused(ucstore_db_open(NULL, &options, &db), UCSTORE_DB_NULL, "null"));
+    CHECK(is_refused(ucstore_db_open(below("none"), NULL, &db), UCSTORE_DB_NULL, "null"));
+    CHECK(is_refused(ucstore_db_open(below("none"), &options, NULL), UCSTORE_DB_NULL, "null"));
+    options.size--;
+    CHECK(is_refused(ucstore_db_in_memory(&options, &db), UCSTORE_DB_BAD_SIZE, "size"));
+    options = counters();
+    options.merge_operator = 4;
+    CHECK(is_refused(ucstore_db_in_memory(&options, &db), UCSTORE_DB_UNKNOWN_OPERATOR, "operator"));
+    options = counters();
+    options.sync = 3;
+    CHECK(is_refused(ucstore_db_in_memory(&options, &db), UCSTORE_DB_BAD_OPTION, "option"));
+    options = counters();
+    options.write_buffer_size = 0;
+    CHECK(is_refused(ucstore_db_in_memory(&options, &db), UCSTORE_DB_BAD_OPTION, "option"));
+    CHECK(db == NULL && access(below("none"), F_OK) != 0);
+}
+
+static void try_refused_folders(void) {
+    struct ucstore_db_options options = counters();
+    struct ucstore_db *first = open_with("refused", &options), *other = NULL;
+    CHECK(is_refused(ucstore_db_open(below("refused"), &options, &other), UCSTORE_DB_LOCKED, "LOCK"));
+    OK(ucstore_db_close(first));
+    options.merge_operator = UCSTORE_DB_MAXIMUM;
+    CHECK(is_refused(ucstore_db_open(below("refused"), &options, &other), UCSTORE_DB_OTHER_OPERATOR, "names counter"));
+    CHECK(is_refused(ucstore_db_open(below("refused/LOCK/x"), &options, &other), UCSTORE_DB_FILE, "LOCK"));
+    CHECK(other == NULL);
+}
+
+static void try_null(struct ucstore_db *db) {
+    size_t size = 0;
+    uint64_t lengths[2] = {1, 1};
+    CHECK(ucstore_db_put(NULL, "k", 1, "v", 1) == UCSTORE_DB_NULL);
+    CHECK(ucstore_db_put(db, NULL, 1, "v", 1) == UCSTORE_DB_NULL);
+    CHECK(ucstore_db_get(db, "k", 1, NULL, 1, &size) == UCSTORE_DB_NULL);
+    CHECK(ucstore_db_get(db, "k", 1, NULL, 0, NULL) == UCSTORE_DB_NULL);
+    CHECK(ucstore_db_put(db, "k", SIZE_MAX, "v", 1) == UCSTORE_DB_TOO_LONG);
+    CHECK(ucstore_db_get_many(db, "abc", 3, lengths, 2, lengths, NULL, 0, &size) == UCSTORE_DB_BAD_KEYS);
+    CHECK(ucstore_db_write(db, NULL) == UCSTORE_DB_NULL);
+    CHECK(!ucstore_db_cursor_valid(NULL) && ucstore_db_cursor_key(NULL, &size) == NULL && size == 0);
+    CHECK(ucstore_db_cursor_next(NULL) == UCSTORE_DB_NULL && ucstore_db_cursor_status(NULL) == UCSTORE_DB_NULL);
+    OK(ucstore_db_close(NULL));
+    OK(ucstore_db_batch_close(NULL));
+    OK(ucstore_db_snapshot_close(NULL));
+    OK(ucstore_db_cursor_close(NULL));
+}
+
+static void try_lookups(struct ucstore_db *db) {
+    const uint64_t lengths[] = {1, 2, 0, 1};
+    uint64_t found[4];
+    char room[9] = "........";
+    size_t size = 77;
+    put(db, "a", "first");
+    put(db, "", "empty");
+    put(db, "b", "");
+    CHECK(ucstore_db_get(db, "none", 4, room, 8, &size) == UCSTORE_DB_NOT_FOUND && size == 77);
+    OK(ucstore_db_get(db, "a", 1, room, 2, &size));
+    CHECK(size == 5 && memcmp(room, "fi......", 8) == 0);
+    OK(ucstore_db_get(db, NULL, 0, room, 8, &size));
+    CHECK(size == 5 && memcmp(room, "empty...", 8) == 0);
+    OK(ucstore_db_get(db, "b", 1, NULL, 0, &size));
+    CHECK(size == 0);
+    OK(ucstore_db_get_many(db, "bnoa", 4, lengths, 4, found, room, 8, &size));
+    CHECK(size == 10 && memcmp(room, "emptyfir", 8) == 0);
+    CHECK(found[0] == 0 && found[1] == UINT64_MAX && found[2] == 5 && found[3] == 5);
+    OK(ucstore_db_get_many(db, NULL, 0, NULL, 0, NULL, NULL, 0, &size));
+    CHECK(size == 0);
+}
+
+static void try_batches(struct ucstore_db *db) {
+    struct ucstore_db_batch *batch = NULL;
+    uint64_t count = 0;
+    OK(ucstore_db_batch_create(&batch));
+    OK(ucstore_db_write(db, batch));
+    OK(ucstore_db_batch_put(batch, "p", 1, "1", 1));
+    OK(ucstore_db_batch_merge(batch, "p", 1, "2", 1));
+    OK(ucstore_db_batch_delete(batch, "a", 1));
+    OK(ucstore_db_batch_delete_range(batch, "b", 1, "c", 1));
+    OK(ucstore_db_batch_count(batch, &count));
+    CHECK(count == 4 && has(db, "a", "first"));
+    OK(ucstore_db_write_with(db, batch, false));
+    CHECK(has(db, "p", "1,2") && !has(db, "a", "first") && !has(db, "b", ""));
+    OK(ucstore_db_batch_clear(batch));
+    OK(ucstore_db_batch_merge(batch, "p", 1, "3", 1));
+    OK(ucstore_db_write_with(db, batch, true));
+    OK(ucstore_db_batch_close(batch));
+    CHECK(has(db, "p", "1,2,3"));
+    OK(ucstore_db_delete(db, "p", 1));
+    OK(ucstore_db_delete_range(db, NULL, 0, "z", 1));
+    CHECK(!has(db, "p", "1,2,3") && !has(db, "", "empty"));
+    OK(ucstore_db_sync(db));
+}
+
+/* Whether a cursor stands at a row. */
+static bool is_at(const struct ucstore_db_cursor *cursor, const char *key, const char *value) {
+    size_t key_length = 0, value_length = 0;
+    const char *found = ucstore_db_cursor_key(cursor, &key_length), *under = ucstore_db_cursor_value(cursor, &value_length);
+    return ucstore_db_cursor_valid(cursor) && key_length == strlen(key) && value_length == strlen(value) &&
+           memcmp(found, key, key_length) == 0 && memcmp(under, value, value_length) == 0;
+}
+
+static void try_cursors(struct ucstore_db *db) {
+    struct ucstore_db_cursor *cursor = NULL;
+    size_t length = 7;
+    put(db, "a", "1");
+    put(db, "b", "2");
+    put(db, "b\xff", "3");
+    put(db, "c", "4");
+    OK(ucstore_db_cursor(db, "a\1", 2, "c", 1, true, &cursor));
+    put(db, "ba", "late");
+    CHECK(is_at(cursor, "b", "2"));
+    OK(ucstore_db_cursor_seek(cursor, "b\x01", 2));
+    CHECK(is_at(cursor, "b\xff", "3"));
+    OK(ucstore_db_cursor_next(cursor));
+    CHECK(!ucstore_db_cursor_valid(cursor) && ucstore_db_cursor_key(cursor, &length) == NULL && length == 0);
+    OK(ucstore_db_cursor_next(cursor));
+    OK(ucstore_db_cursor_status(cursor));
+    OK(ucstore_db_cursor_seek(cursor, NULL, 0));
+    CHECK(is_at(cursor, "b", "2"));
+    OK(ucstore_db_cursor_close(cursor));
+    OK(ucstore_db_prefix(db, "b\xff", 2, &cursor));
+    CHECK(is_at(cursor, "b\xff", "3"));
+    OK(ucstore_db_cursor_next(cursor));
+    CHECK(!ucstore_db_cursor_valid(cursor));
+    OK(ucstore_db_cursor_close(cursor));
+    OK(ucstore_db_prefix(db, "\xff\xff", 2, &cursor));
+    CHECK(!ucstore_db_cursor_valid(cursor));
+    OK(ucstore_db_cursor_close(cursor));
+}
+
+static void try_pages(struct ucstore_db *db) {
+    struct ucstore_db_cursor *cursor = NULL;
+    uint64_t lengths[6];
+    char room[16];
+    size_t rows = 9, size = 0;
+    OK(ucstore_db_cursor(db, NULL, 0, NULL, 0, false, &cursor));
+    CHECK(ucstore_db_cursor_page(cursor, lengths, 6, room, 1, &rows, &size) == UCSTORE_DB_ROOM && size == 2 && rows == 9);
+    CHECK(ucstore_db_cursor_page(cursor, lengths, 1, room, 16, &rows, &size) == UCSTORE_DB_ROOM && is_at(cursor, "a", "1"));
+    OK(ucstore_db_cursor_page(cursor, lengths, 6, room, 5, &rows, &size));
+    CHECK(rows == 2 && size == 4 && memcmp(room, "a1b2", 4) == 0 && lengths[0] == 1 && lengths[3] == 1);
+    OK(ucstore_db_cursor_page(cursor, lengths, 3, room, 16, &rows, &size));
+    CHECK(rows == 1 && size == 6 && memcmp(room, "balate", 6) == 0 && lengths[0] == 2 && lengths[1] == 4);
+    OK(ucstore_db_cursor_page(cursor, lengths, 6, room, 16, &rows, &size));
+    CHECK(rows == 2 && size == 5);
+    OK(ucstore_db_cursor_page(cursor, lengths, 6, room, 16, &rows, &size));
+    CHECK(rows == 0 && size == 0);
+    OK(ucstore_db_cursor_close(cursor));
+}
+
+static void try_snapshots(struct ucstore_db *db) {
+    struct ucstore_db_snapshot *before = NULL, *again = NULL;
+    struct ucstore_db_cursor *cursor = NULL;
+    uint64_t sequence = 0, length = 1, found = 0;
+    char room[4];
+    size_t size = 0;
+    OK(ucstore_db_snapshot(db, &before));
+    OK(ucstore_db_delete(db, "a", 1));
+    OK(ucstore_db_snapshot_again(before, &again));
+    OK(ucstore_db_snapshot_close(before));
+    OK(ucstore_db_snapshot_sequence(again, &sequence));
+    CHECK(sequence > 0 && !has(db, "a", "1"));
+    OK(ucstore_db_snapshot_get(again, "a", 1, room, sizeof room, &size));
+    CHECK(size == 1 && room[0] == '1');
+    OK(ucstore_db_snapshot_get_many(again, "a", 1, &length, 1, &found, room, sizeof room, &size));
+    CHECK(found == 1 && ucstore_db_snapshot_get(again, "zz", 2, room, 4, &size) == UCSTORE_DB_NOT_FOUND);
+    OK(ucstore_db_snapshot_cursor(again, NULL, 0, NULL, 0, false, &cursor));
+    CHECK(is_at(cursor, "a", "1"));
+    OK(ucstore_db_cursor_close(cursor));
+    OK(ucstore_db_snapshot_prefix(again, "c", 1, &cursor));
+    OK(ucstore_db_snapshot_close(again));
+    /* What is read outlives the database. */
+    OK(ucstore_db_close(db));
+    CHECK(is_at(cursor, "c", "4"));
+    OK(ucstore_db_cursor_seek(cursor, "c", 1));
+    CHECK(is_at(cursor, "c", "4"));
+    OK(ucstore_db_cursor_close(cursor));
+}
+
+/* How often each kind of event was told, and whether a text said this. */
+struct told {
+    pthread_mutex_t lock;
+    struct ucstore_db *db;
+    unsigned events[KINDS], openings;
+    uint64_t read, whole;
+    char text[256];
+};
+
+static void hear_event(void *context, const struct ucstore_db_event *event) {
+    struct told *told = (struct told *)context;
+    struct ucstore_db_stats stats;
+    stats.size = sizeof stats;
+    CHECK(event->kind < KINDS && pthread_mutex_lock(&told->lock) == 0);
+    told->events[event->kind]++;
+    snprintf(told->text, sizeof told->text, "%s", event->text);
+    CHECK(pthread_mutex_unlock(&told->lock) == 0);
+    /* A function that is told may call the database. */
+    CHECK(told->db == NULL || ucstore_db_stats(told->db, &stats) == UCSTORE_DB_OK);
+}
+
+static void hear_progress(void *context, const struct ucstore_db_progress *progress) {
+    struct told *told = (struct told *)context;
+    CHECK(progress->read >= told->read && progress->read <= progress->whole && strstr(progress->file, ".") != NULL);
+    told->openings++;
+    told->read = progress->read;
+    told->whole = progress->whole;
+}
+
+static void try_events(void) {
+    static struct told told;
+    struct ucstore_db_options options = counters();
+    struct ucstore_db_stats stats;
+    char room[2048], cut[10];
+    size_t size = 0;
+    CHECK(pthread_mutex_init(&told.lock, NULL) == 0);
+    options.event = hear_event;
+    options.progress = hear_progress;
+    options.event_context = options.progress_context = &told;
+    told.db = open_with("events", &options);
+    for (int round = 0; round < 4; round++) {
+        OK(ucstore_db_merge(told.db, "k", 1, one, sizeof one));
+        OK(ucstore_db_flush(told.db));
+    }
+    OK(ucstore_db_compact(told.db));
+    OK(ucstore_db_checkpoint(told.db));
+    CHECK(told.events[UCSTORE_DB_FLUSHED] == 4 && told.events[UCSTORE_DB_CHECKPOINTED] == 1);
+    CHECK(strcmp(told.text, "000002.base") == 0 || told.events[UCSTORE_DB_COMPACTED] > 0);
+    stats.size = 1;
+    CHECK(ucstore_db_stats(told.db, &stats) == UCSTORE_DB_BAD_SIZE);
+    stats.size = sizeof stats;
+    OK(ucstore_db_stats(told.db, &stats));
+    CHECK(stats.batches == 4 && stats.flushes == 4 && stats.checkpoints == 1 && stats.syncs >= 4 && stats.last == 4);
+    CHECK(stats.user_bytes == 4 * 24 && stats.logged_bytes == 4 * 31 && stats.base_bytes > 0);
+    CHECK(stats.size == sizeof stats && stats.sync_p50 <= stats.sync_p99);
+    OK(ucstore_db_stats_text(told.db, room, sizeof room, &size));
+    CHECK(strlen(room) == size && strstr(room, "write amplification") != NULL);
+    OK(ucstore_db_stats_text(told.db, cut, sizeof cut, &size));
+    CHECK(strlen(cut) == 9 && strncmp(cut, "** Database", 9) == 0);
+    OK(ucstore_db_close(told.db));
+    told.db = NULL;
+    OK(ucstore_db_close(open_with("events", &options)));
+    CHECK(told.openings > 0 && told.read == told.whole && told.whole > 0);
+    CHECK(pthread_mutex_destroy(&told.lock) == 0);
+}
+
+/* Turns a byte of a file around. */
+static void damage(const char *name, long place) {
+    FILE *file = fopen(below(name), "r+b");
+    int byte;
+    CHECK(file != NULL && fseek(file, place, SEEK_SET) == 0);
+    byte = fgetc(file);
+    CHECK(byte != EOF && fseek(file, place, SEEK_SET) == 0 && fputc(byte ^ 0xff, file) != EOF && fclose(file) == 0);
+}
+
+static void try_damage(void) {
+    struct ucstore_db_options options;
+    struct ucstore_db *db = open_texts("damage");
+    put(db, "a", "1");
+    put(db, "b", "2");
+    put(db, "c", "3");
+    OK(ucstore_db_close(db));
+    /* Each record has a header of 7 bytes, a batch's of 12, and a put of 5: this is in the second one. */
+    damage("damage/000001.log", 30);
+    db = NULL;
+    OK(ucstore_db_options_init(&options));
+    CHECK(is_refused(ucstore_db_open(below("damage"), &options, &db), UCSTORE_DB_DAMAGED, "000001.log is damaged at 24"));
+    CHECK(db == NULL);
+    options.recovers_to_fault = 1;
+    db = open_with("damage", &options);
+    CHECK(has(db, "a", "1") && !has(db, "b", "2"));
+    CHECK(is_refused(ucstore_db_put(db, "k", 1, "v", 1), UCSTORE_DB_READ_ONLY, "000001.log is damaged at 24"));
+    CHECK(is_refused(ucstore_db_failure(db), UCSTORE_DB_READ_ONLY, "000001.log"));
+    CHECK(ucstore_db_close(db) == UCSTORE_DB_READ_ONLY);
+}
+
+/* A log that can't be written any more refuses writes, and what was acknowledged stays. */
+static void try_full_device(void) {
+    static char value[3000];
+    struct rlimit limit, before;
+    struct ucstore_db *db = open_texts("full");
+    put(db, "a", "1");
+    OK(ucstore_db_failure(db));
+    CHECK(signal(SIGXFSZ, SIG_IGN) != SIG_ERR && getrlimit(RLIMIT_FSIZE, &before) == 0);
+    limit = before;
+    limit.rlim_cur = 2000;
+    CHECK(setrlimit(RLIMIT_FSIZE, &limit) == 0);
+    CHECK(is_refused(ucstore_db_put(db, "b", 1, value, sizeof value), UCSTORE_DB_READ_ONLY, "000001.log: File too large"));
+    CHECK(setrlimit(RLIMIT_FSIZE, &before) == 0);
+    CHECK(ucstore_db_put(db, "c", 1, "3", 1) == UCSTORE_DB_READ_ONLY && ucstore_db_sync(db) == UCSTORE_DB_READ_ONLY);
+    CHECK(ucstore_db_checkpoint(db) == UCSTORE_DB_READ_ONLY && has(db, "a", "1") && !has(db, "c", "3"));
+    CHECK(is_refused(ucstore_db_close(db), UCSTORE_DB_READ_ONLY, "000001.log"));
+    db = open_texts("full");
+    CHECK(has(db, "a", "1") && !has(db, "c", "3"));
+    put(db, "c", "3");
+    OK(ucstore_db_close(db));
+}
+
+/* What a forked child is told. */
+static bool is_forked(struct ucstore_db *db, struct ucstore_db_cursor *cursor) {
+    size_t size = 0;
+    return is_refused(ucstore_db_put(db, "k", 1, "v", 1), UCSTORE_DB_FORKED, "forked") &&
+           ucstore_db_get(db, "k", 1, NULL, 0, &size) == UCSTORE_DB_FORKED && !ucstore_db_cursor_valid(cursor) &&
+           ucstore_db_cursor_close(cursor) == UCSTORE_DB_FORKED && ucstore_db_close(db) == UCSTORE_DB_FORKED;
+}
+
+static void try_fork(void) {
+    struct ucstore_db *db = open_texts("forked");
+    struct ucstore_db_cursor *cursor = NULL;
+    int question[2], answer[2];
+    char byte = 0;
+    pid_t child;
+    put(db, "k", "v");
+    OK(ucstore_db_cursor(db, NULL, 0, NULL, 0, false, &cursor));
+    CHECK(pipe(question) == 0 && pipe(answer) == 0);
+    child = fork();
+    if (child == 0) {
+        byte = is_forked(db, cursor) ? 'y' : 'n';
+        /* It stays until the parent has opened the folder again. */
+        close(question[1]);
+        _exit(write(answer[1], &byte, 1) == 1 && read(question[0], &byte, 1) == 0 ? 0 : 1);
+    }
+    put(db, "k", "w");
+    OK(ucstore_db_cursor_close(cursor));
+    OK(ucstore_db_close(db));
+    CHECK(read(answer[0], &byte, 1) == 1 && byte == 'y');
+    db = open_texts("forked");
+    CHECK(has(db, "k", "w") && close(question[1]) == 0 && waitpid(child, NULL, 0) == child);
+    OK(ucstore_db_close(db));
+    CHECK(close(question[0]) == 0 && close(answer[0]) == 0 && close(answer[1]) == 0);
+}
+
+int main(int argc, char **argv) {
+    struct ucstore_db *db;
+    if (argc != 2) {
+        fprintf(stderr, "db_test FOLDER\n");
+        return 2;
+    }
+    top = argv[1];
+    try_versions();
+    try_refused_options();
+    try_refused_folders();
+    try_fork();
+    db = open_texts("texts");
+    try_null(db);
+    try_lookups(db);
+    try_batches(db);
+    try_cursors(db);
+    try_pages(db);
+    try_snapshots(db);
+    try_events();
+    try_damage();
+    try_full_device();
+    printf("calls of the database are as they have to be\n");
+    return 0;
+}

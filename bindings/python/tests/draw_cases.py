@@ -1,0 +1,87 @@
+"""Draws a file of cases (bindings/cases has its form), with what the model answers:
+
+    draw_cases.py SEED CASES > FILE
+
+The model knows no memtable, no run and no log. The players of C and Python play the file over a database.
+"""
+
+import random
+import sys
+
+from test_cases import rewritten
+
+KEYS = ["a", "ab", "abc", "b", "ba", "c", '""', '"\\x00"', '"a\\x00"', '"\\xff"', '"\\xff\\xff"', "20*k", "300*k"]
+TEXTS = ["1", "22", "333", '""', '"\\xff\\x00"', "40*v", "700*w"]
+NUMBERS = ["u64:1", "u64:7", "u64:18446744073709551615", "no", '""']
+OPTIONS = ["", " write_buffer_size=1", " write_buffer_size=64", " write_buffer_size=64 compacts_itself=0 compaction_trigger=2"]
+
+
+class Drawn:
+    """The lines of a file."""
+
+    def __init__(self, seed):
+        self.random = random.Random(seed)
+        self.lines = []
+        self.names = []
+        self.count = 0
+
+    def texts(self):
+        return NUMBERS if self.operator == "counter" else TEXTS
+
+    def create(self):
+        self.operator = self.random.choice(["append", "counter", "maximum", "tail"])
+        self.names = []
+        self.lines.append(f"create {self.operator}{self.random.choice(OPTIONS)}")
+
+    def key(self):
+        return self.random.choice(KEYS)
+
+    def write(self, indent=""):
+        """A write of one operation."""
+        kind = self.random.choice(["put", "put", "merge", "merge", "merge", "delete", "range"])
+        second = {"delete": "", "range": f" {self.key()}"}.get(kind, f" {self.random.choice(self.texts())}")
+        self.lines.append(f"{indent}{kind} {self.key()}{second}")
+
+    def batch(self):
+        self.lines.append("batch")
+        for _ in range(self.random.randrange(5)):
+            self.write("  ")
+
+    def read(self):
+        at = f" at {self.random.choice(self.names)}" if self.names and self.random.random() < 0.5 else ""
+        kind = self.random.randrange(4)
+        if kind == 0:
+            self.lines.append(f"get {self.key()}{at}")
+        elif kind == 1:
+            self.lines.append(f"scan {self.key()} {self.key()} limit {self.random.randrange(1, 5)}{at}")
+        elif kind == 2:
+            self.lines.append(f"count {self.key()}{at}")
+        else:
+            self.lines.append(f"prefix {self.key()}")
+
+    def snapshot(self):
+        """Takes a snapshot, or releases one."""
+        if len(self.names) < 5 and self.random.random() < 0.6:
+            self.count += 1
+            self.names.append(f"s{self.count}")
+            self.lines.append(f"snapshot {self.names[-1]}")
+        elif self.names:
+            self.lines.append(f"release {self.names.pop(self.random.randrange(len(self.names)))}")
+
+    def step(self):
+        steps = [self.write, self.batch, self.read, self.snapshot, lambda: self.lines.append(self.random.choice(["flush", "compact"]))]
+        self.random.choices(steps, [8, 3, 5, 2, 1])[0]()
+
+    def case(self):
+        """A case, which goes on with the store of the one before, or begins with a new one."""
+        if not self.lines or self.random.random() < 0.2:
+            self.create()
+        for _ in range(self.random.randrange(5, 25)):
+            self.step()
+        self.lines += ["scan", "last", "----", ""]
+
+
+drawn = Drawn(int(sys.argv[1]))
+for _ in range(int(sys.argv[2])):
+    drawn.case()
+print("\n".join(rewritten(drawn.lines)))

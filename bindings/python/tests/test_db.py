@@ -1,0 +1,451 @@
+"""Tries `ucstore.Db`: what its calls answer and refuse, threads, forks, what it tells, and how fast it scans."""
+
+import collections
+import ctypes
+import doctest
+import os
+import subprocess
+import sys
+import tempfile
+import threading
+import time
+import unittest
+from pathlib import Path
+
+import ucstore
+from ucstore import (
+    BadOption, BatchFull, Closed, Damaged, Db, DbOptions, EventKind, FileFault, Forked, Locked, Operator,
+    OtherOperator, Progress, ReadOnly, Sync, TooLong, UcstoreError, UnknownOperator, _db, _db_library, _db_reader,
+)
+
+THREADS = 8
+ONE = (1).to_bytes(8, "little")
+
+
+def number(value):
+    """A counter's number."""
+    return int.from_bytes(value or b"", "little")
+
+
+class InFolder(unittest.TestCase):
+    """A test with a folder of its own."""
+
+    def setUp(self):
+        temporary = tempfile.TemporaryDirectory()
+        self.addCleanup(temporary.cleanup)
+        self.folder = Path(temporary.name) / "db"
+
+
+class Calls(InFolder):
+    def test_it_is_used_like_a_dict(self):
+        with Db(self.folder) as db:
+            db[b"b"] = b"2"
+            db[b"a"] = b"1"
+            db.merge(b"a", b"more")
+            db[b""] = b""
+            self.assertEqual(db[b"a"], b"1,more")
+            self.assertEqual((b"b" in db, b"c" in db, db.get(b"c"), db.get(b"c", b"none")), (True, False, None, b"none"))
+            self.assertEqual(list(db), [b"", b"a", b"b"])
+            self.assertEqual(db.get_many([b"b", b"c", b""]), [b"2", None, b""])
+            self.assertEqual(db.get_many([]), [])
+            del db[b"b"]
+            with self.assertRaises(KeyError) as refused:
+                db[b"b"]
+            self.assertEqual(refused.exception.args, (b"b",))
+        with Db(self.folder) as db:
+            self.assertEqual(dict(db.items()), {b"": b"", b"a": b"1,more"})
+
+    def test_keys_and_values_are_like_bytes(self):
+        with Db.in_memory() as db:
+            db[bytearray(b"key")] = memoryview(b"-value-")[1:-1]
+            self.assertEqual(db[memoryview(b"key")], b"value")
+            self.assertEqual(db[memoryview(b"kxexyx")[::2]], b"value")
+            self.assertEqual(list(db.items(prefix=bytearray(b"k"))), [(b"key", b"value")])
+            for other in "key", 7, None, [1]:
+                with self.assertRaises(TypeError):
+                    db[other] = b"v"
+                with self.assertRaises(TypeError):
+                    db.get(other)
+
+    def test_values_of_any_size(self):
+        with Db(self.folder) as db:
+            for size in 0, 1, 511, 512, 513, 100_000, 3_000_000:
+                value = os.urandom(size)
+                db[b"k"] = value
+                self.assertEqual(db[b"k"], value)
+                self.assertEqual(db.get_many([b"k", b"k"]), [value, value])
+                self.assertEqual(list(db.values()), [value])
+
+    def test_scans_have_bounds_or_a_prefix(self):
+        with Db.in_memory() as db:
+            rows = [(b"%05d" % key, b"v" * (key % 50)) for key in range(3000)] + [(b"\xff", b"1"), (b"\xff\xff", b"2")]
+            for key, value in reversed(rows):
+                db[key] = value
+            self.assertEqual(list(db.items()), rows)
+            self.assertEqual(list(db.keys(b"00100", b"00203")), [b"%05d" % key for key in range(100, 203)])
+            self.assertEqual(list(db.items(b"02999")), rows[-3:])
+            self.assertEqual(list(db.values(prefix=b"\xff")), [b"1", b"2"])
+            self.assertEqual(list(db.keys(prefix=b"0012")), [b"%05d" % key for key in range(120, 130)])
+            self.assertEqual(list(db.keys(prefix=b"")), [key for key, _ in rows])
+            self.assertEqual(list(db.items(b"5", b"4")), [])
+            for bounds in (b"a", None), (b"", b"b"):
+                with self.assertRaises(TypeError):
+                    db.items(*bounds, prefix=b"p")
+
+    def test_a_scan_is_of_its_moment(self):
+        with Db.in_memory() as db:
+            for key in range(1000):
+                db[b"%03d" % key] = b"old"
+            rows = db.items()
+            self.assertEqual(next(rows), (b"000", b"old"))
+            db.delete_range(b"", b"z")
+            self.assertEqual(sum(value == b"old" for _, value in rows), 999)
+            self.assertEqual(list(db), [])
+
+    def test_snapshots(self):
+        db = Db.in_memory(Operator.COUNTER)
+        db.merge(b"k", ONE)
+        with db.snapshot() as before:
+            db.merge(b"k", ONE)
+            self.assertEqual((number(before[b"k"]), number(db[b"k"])), (1, 2))
+            self.assertEqual(before.get_many([b"k", b"l"]), [ONE, None])
+            rows = before.items()
+            db.close()
+            self.assertEqual((before.sequence, list(before.keys(prefix=b"k"))), (1, [b"k"]))
+        self.assertEqual(list(rows), [(b"k", ONE)])
+        with self.assertRaises(Closed):
+            before[b"k"]
+        with self.assertRaises(Closed):
+            before.keys()
+        before.close()
+
+    def test_batches_are_taken_whole(self):
+        with Db(self.folder) as db:
+            with db.write_batch() as batch:
+                batch[b"a"] = b"1"
+                batch.put(b"b", b"2")
+                batch.merge(b"b", b"3")
+                del batch[b"a"]
+                batch.delete_range(b"x", b"z")
+                self.assertEqual((len(batch), list(db)), (5, []))
+            self.assertEqual(list(db.items()), [(b"b", b"2,3")])
+            with self.assertRaises(ZeroDivisionError):
+                with db.write_batch() as batch:
+                    batch.put(b"c", b"never")
+                    1 / 0
+            self.assertNotIn(b"c", db)
+            with self.assertRaises(Closed):
+                batch.put(b"c", b"never")
+            batch = db.write_batch()
+            batch.put(b"d", b"4")
+            for synced in None, True, False:
+                db.write(batch, synced)
+            batch.clear()
+            db.write(batch)
+            self.assertEqual((db[b"d"], db.stats().batches), (b"4", 4))
+
+    def test_options_are_those_of_the_library(self):
+        default = _db_library.Options()
+        self.assertEqual(init_options()(ctypes.byref(default)), 0)
+        self.assertEqual(default.size, ctypes.sizeof(default))
+        for name, value in zip(DbOptions._fields, DbOptions()):
+            self.assertEqual(getattr(default, name), value, name)
+        for options in DbOptions(write_buffer_size=0), DbOptions(compactors=1 << 32), DbOptions(sync=7):
+            with self.assertRaises(BadOption):
+                Db(self.folder, options=options)
+        with self.assertRaises(UnknownOperator):
+            Db(self.folder, 9)
+        with self.assertRaises(ValueError):
+            Db("a\0b")
+
+    def test_texts_may_be_too_long(self):
+        """Of 2^32 bytes or more: this takes the memory of one. A caller with less doesn't get so far."""
+        if os.environ.get("LONG"):
+            with Db.in_memory() as db:
+                with self.assertRaises(TooLong):
+                    db[b"k"] = bytes(1 << 32)
+                self.assertEqual(list(db), [])
+
+    def test_other_calls(self):
+        with Db(self.folder, options=DbOptions(sync=Sync.NEVER)) as db:
+            for key in range(20):
+                db[b"%d" % key] = b"v"
+                db.flush()
+            db.delete(b"7")
+            db.sync()
+            db.compact()
+            db.checkpoint()
+            stats = db.stats()
+            self.assertEqual((stats.last, stats.batches, stats.checkpoints), (21, 21, 1))
+            self.assertTrue(stats.flushes == 20 and stats.base_bytes > 0 and stats.sync_p50 <= stats.sync_p99)
+            self.assertIn("write amplification", db.stats_text())
+            self.assertIsNone(db.failure())
+            self.assertEqual(len(list(db)), 19)
+
+
+def init_options():
+    """The library's function that fills in options."""
+    name = os.environ.get("UCSTORE_DB_LIBRARY") or "libucstore_db.so.1"
+    return ctypes.CDLL(name).ucstore_db_options_init
+
+
+class Refusals(InFolder):
+    def test_a_folder_is_opened_once(self):
+        with Db(self.folder, Operator.COUNTER):
+            with self.assertRaisesRegex(Locked, "LOCK is locked"):
+                Db(self.folder, Operator.COUNTER)
+        with self.assertRaisesRegex(OtherOperator, "OPERATOR names counter: .* append"):
+            Db(self.folder)
+        file = self.folder / "LOCK" / "x"
+        with self.assertRaises(FileFault):
+            Db(file)
+
+    def test_damage_is_named(self):
+        with Db(self.folder) as db:
+            for key in b"a", b"b", b"c":
+                db[key] = b"value"
+        log = self.folder / "000001.log"
+        text = bytearray(log.read_bytes())
+        text[40] ^= 0xFF
+        log.write_bytes(text)
+        with self.assertRaisesRegex(Damaged, "000001.log is damaged at 28: a fault at 28"):
+            Db(self.folder)
+        with self.assertRaises(ReadOnly):
+            with Db(self.folder, options=DbOptions(recovers_to_fault=True)) as db:
+                self.assertEqual(list(db), [b"a"])
+                self.assertIsInstance(db.failure(), ReadOnly)
+                db[b"k"] = b"v"
+        self.assertEqual(log.read_bytes(), text)
+
+    def test_a_closed_one_is_refused(self):
+        db = Db(self.folder)
+        rows = db.items()
+        batch = db.write_batch()
+        db.close()
+        db.close()
+        for call in db.stats, db.flush, db.snapshot, db.items, lambda: db[b"k"], lambda: db.put(b"k", b"v"):
+            with self.assertRaises(Closed):
+                call()
+        with self.assertRaises(Closed):
+            db.write(batch)
+        self.assertEqual(list(rows), [])
+        Db(self.folder).close()
+
+    def test_errors_are_of_their_kinds(self):
+        for error in Locked, Damaged, FileFault, Forked, BatchFull:
+            self.assertTrue(issubclass(error, UcstoreError))
+        self.assertTrue(issubclass(FileFault, OSError))
+
+    def test_a_child_is_refused_by_name(self):
+        db, memory = Db(self.folder), Db.in_memory()
+        db[b"k"] = b"v"
+        snapshot, rows = db.snapshot(), db.items()
+        child = os.fork()
+        if child == 0:
+            os._exit(0 if self.is_forked(db, memory, snapshot, rows) else 1)
+        db[b"k"] = b"w"
+        self.assertEqual(os.waitpid(child, 0)[1], 0)
+        self.assertEqual((db[b"k"], snapshot[b"k"]), (b"w", b"v"))
+        db.close()
+        Db(self.folder).close()
+
+    def is_forked(self, db, memory, snapshot, rows):
+        """Whether each call is refused, and a database of the child's own is not."""
+        calls = (
+            lambda: db.put(b"k", b"v"), lambda: db[b"k"], lambda: memory.stats(), lambda: snapshot[b"k"], lambda: list(rows),
+            db.close, db.write_batch().__len__,
+        )
+        for call in calls[:-1]:
+            try:
+                call()
+            except Forked as error:
+                if "forked" not in str(error):
+                    return False
+            else:
+                return False
+        with Db(self.folder.with_name("child")) as own:
+            own[b"k"] = b"v"
+            return own[b"k"] == b"v" and calls[-1]() == 0
+
+
+class Told(InFolder):
+    def test_events(self):
+        told = []
+        with Db(self.folder, events=told.append) as db:
+            db[b"k"] = b"v"
+            db.flush()
+            db.checkpoint()
+        self.assertEqual([event.kind for event in told], [EventKind.FLUSHED, EventKind.CHECKPOINTED])
+        flushed, checkpointed = told
+        self.assertTrue(flushed.runs == 1 and flushed.bytes > 0 and flushed.error is None and flushed.seconds >= 0)
+        self.assertEqual((checkpointed.text, checkpointed.bytes), ("000002.base", os.path.getsize(self.folder / "000002.base")))
+
+    def test_a_function_that_is_told_may_call(self):
+        seen = []
+
+        def tell(event):
+            seen.append((db[b"k"], db.stats().flushes, event.kind))
+
+        db = Db(self.folder, events=tell)
+        db[b"k"] = b"v"
+        db.flush()
+        db.close()
+        self.assertEqual(seen, [(b"v", 1, EventKind.FLUSHED)])
+
+    def test_the_progress_of_an_opening(self):
+        with Db(self.folder, options=DbOptions(sync=Sync.NEVER)) as db:
+            for key in range(40):
+                db[b"%d" % key] = bytes(100_000)
+        told = []
+        with Db(self.folder, progress=told.append) as db:
+            self.assertEqual(len(list(db)), 40)
+        size = os.path.getsize(self.folder / "000001.log")
+        self.assertTrue(len(told) >= 4 and told == sorted(told, key=lambda progress: progress.read))
+        self.assertEqual(told[-1], Progress("000001.log", size, size))
+
+    def test_a_failure_is_told(self):
+        told = []
+        db = Db(self.folder, events=told.append)
+        db[b"k"] = b"v"
+        # A checkpoint can't be made where nothing can be made.
+        os.rename(self.folder, self.folder.with_name("gone"))
+        with self.assertRaisesRegex(ReadOnly, "000002.log: No such file"):
+            db.checkpoint()
+        self.assertEqual([type(event.error) for event in told], [ReadOnly])
+        with self.assertRaises(ReadOnly):
+            db[b"k"] = b"w"
+        self.assertEqual(db[b"k"], b"v")
+        with self.assertRaises(ReadOnly):
+            db.close()
+
+
+class Threads(InFolder):
+    def test_counters_agree_at_each_moment(self):
+        options = DbOptions(write_buffer_size=2000, checkpoint_least=20_000, sync=Sync.EVERY, sync_milliseconds=5)
+        rounds, failures = 200, []
+        with Db(self.folder, Operator.COUNTER, options) as db:
+
+            def count(thread):
+                for turn in range(rounds):
+                    with db.write_batch() as batch:
+                        batch.merge(b"k%d" % ((7 * thread + turn) % 16), ONE)
+                        batch.merge(b"whole", ONE)
+                    if turn % 20 == thread:
+                        with db.snapshot() as snapshot:
+                            whole = number(snapshot.get(b"whole"))
+                            if whole != sum(map(number, snapshot.values(prefix=b"k"))):
+                                failures.append(whole)
+                    if turn % 100 == 10 * thread:
+                        (db.flush, db.compact, db.checkpoint)[thread % 3]()
+
+            run_all(count)
+        with Db(self.folder, Operator.COUNTER) as db:
+            self.assertEqual((number(db[b"whole"]), failures), (rounds * THREADS, []))
+
+    def test_a_close_beside_calls(self):
+        for _ in range(20):
+            db = Db(self.folder)
+            kinds = []
+
+            def work(thread):
+                try:
+                    while True:
+                        db[b"%d" % thread] = b"v"
+                        list(db.items())
+                except Closed:
+                    kinds.append(thread)
+
+            def close():
+                time.sleep(0.005)
+                db.close()
+
+            closer = threading.Thread(target=close)
+            closer.start()
+            run_all(work)
+            closer.join()
+            self.assertEqual(len(kinds), THREADS)
+
+    def test_other_threads_run_meanwhile(self):
+        """A long call of the library lets another thread count."""
+        with Db(self.folder, options=DbOptions(sync=Sync.NEVER)) as db:
+            counted, is_done = [0], threading.Event()
+
+            def count():
+                while not is_done.is_set():
+                    counted[0] += 1
+
+            with db.write_batch() as batch:
+                for key in range(100_000):
+                    batch.put(b"%d" % key, b"v" * 20)
+            counter = threading.Thread(target=count)
+            counter.start()
+            try:
+                before, begun = counted[0], time.perf_counter()
+                db.checkpoint()
+                took, rounds = time.perf_counter() - begun, counted[0] - before
+            finally:
+                is_done.set()
+                counter.join()
+            self.assertGreater(rounds, 1000 * took)
+
+
+def run_all(work):
+    """Runs a function in threads, each with its number."""
+    threads = [threading.Thread(target=work, args=(number,)) for number in range(THREADS)]
+    for thread in threads:
+        thread.start()
+    for thread in threads:
+        thread.join()
+
+
+class Ends(InFolder):
+    def test_an_interpreter_that_ends_closes_what_is_open(self):
+        program = (
+            "import sys, ucstore\n"
+            "options = ucstore.DbOptions(write_buffer_size=100)\n"
+            "db = ucstore.Db(sys.argv[1], options=options, events=lambda event: None)\n"
+            "for key in range(1000): db[b'%d' % key] = b'v'\n"
+            "rows = db.items()\n"
+            "next(rows)\n"
+        )
+        subprocess.run([sys.executable, "-c", program, self.folder], check=True, timeout=60)
+        with Db(self.folder) as db:
+            self.assertEqual(len(list(db)), 1000)
+
+
+class Speed(InFolder):
+    def test_a_row_of_a_scan(self):
+        """It is measured in processor time. Beside other work a row takes up to three times as long."""
+        count, options = 200_000, DbOptions(sync=Sync.NEVER)
+        with Db(self.folder, options=options) as db:
+            with db.write_batch() as batch:
+                for key in range(count):
+                    batch.put(b"%08d" % key, b"v" * 20)
+            db.flush()
+            self.assertEqual(sum(1 for _ in db.items()), count)
+            best = min(self.seconds(db) for _ in range(9))
+        nanoseconds = 1e9 * best / count
+        print(f"a row of a scan takes {nanoseconds:.0f} ns")
+        self.assertLess(nanoseconds, 300 if os.environ.get("QUIET") else 900)
+
+    def seconds(self, db):
+        """What passing over all rows takes."""
+        begun = time.thread_time()
+        collections.deque(db.items(), maxlen=0)
+        return time.thread_time() - begun
+
+
+class Pages(unittest.TestCase):
+    def test_the_examples_of_the_pages(self):
+        for module in _db, _db_reader, ucstore:
+            failures, tried = doctest.testmod(module)
+            self.assertEqual(failures, 0)
+        self.assertGreater(tried, 0)
+
+    def test_what_is_given_out_is_there(self):
+        for name in ucstore.__all__:
+            self.assertTrue(hasattr(ucstore, name), name)
+
+
+if __name__ == "__main__":
+    unittest.main()

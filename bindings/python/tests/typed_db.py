@@ -1,0 +1,59 @@
+"""Uses each call of `ucstore.Db` as a typed program does. mypy reads it, and nothing runs it."""
+
+from pathlib import Path
+from typing import Dict, Iterator, List, Optional, Tuple
+
+from ucstore import Db, DbBatch, DbOptions, DbSnapshot, DbStats, Event, EventKind, Operator, Progress, Sync, UcstoreError
+
+
+def hear(event: Event) -> None:
+    kind: EventKind = event.kind
+    error: Optional[UcstoreError] = event.error
+    print(kind.name, event.runs, event.bytes, event.seconds, event.text, error)
+
+
+def watch(progress: Progress) -> None:
+    print(progress.file, progress.read / progress.whole)
+
+
+def write(db: Db, batch: DbBatch) -> None:
+    db[b"key"] = bytearray(b"value")
+    db.put(memoryview(b"key"), b"value")
+    db.merge(b"key", b"operand")
+    db.delete(b"key")
+    del db[b"key"]
+    db.delete_range(b"a", b"b")
+    batch.put(b"key", b"value")
+    batch[b"key"] = b"value"
+    batch.merge(b"key", b"operand")
+    batch.delete(b"key")
+    batch.delete_range(b"a", b"b")
+    db.write(batch)
+    db.write(batch, synced=True)
+
+
+def read(db: Db, snapshot: DbSnapshot) -> Dict[bytes, bytes]:
+    value: bytes = db[b"key"]
+    perhaps: Optional[bytes] = snapshot.get(b"key", value)
+    many: List[Optional[bytes]] = db.get_many([b"a", bytearray(b"b")])
+    rows: Iterator[Tuple[bytes, bytes]] = snapshot.items(b"a", high=b"b")
+    keys: Iterator[bytes] = db.keys(prefix=b"a")
+    values: Iterator[bytes] = db.values()
+    print(perhaps, many, list(keys), list(values), b"key" in db, [key for key in db], snapshot.sequence)
+    return dict(rows)
+
+
+def main(folder: Path) -> None:
+    options = DbOptions(sync=Sync.EVERY, sync_milliseconds=100)
+    with Db(folder, Operator.COUNTER, options, progress=watch, events=hear) as db, Db.in_memory() as other:
+        with db.write_batch() as batch, db.snapshot() as snapshot:
+            write(other, batch)
+            print(read(other, snapshot))
+        stats: DbStats = db.stats()
+        text: str = db.stats_text()
+        failure: Optional[UcstoreError] = db.failure()
+        print(stats.sync_p99, text, failure)
+        db.sync()
+        db.flush()
+        db.compact()
+        db.checkpoint()

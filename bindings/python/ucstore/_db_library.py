@@ -1,0 +1,178 @@
+"""The functions of `ucstore_db.h`, by ctypes: see `Db`."""
+
+from __future__ import annotations
+
+import ctypes
+import os
+import threading
+from pathlib import Path
+from typing import Any, Callable, Dict, Optional, Sequence
+
+from . import BadOption, Operator, UcstoreError
+from ._db_types import DbOptions, DbStats, Event, EventKind, Progress, error_of
+
+# Statuses that aren't errors of their own.
+OK, NOT_FOUND, ROOM = 0, 4, 14
+
+_Pointer, _Size, _U64 = ctypes.c_void_p, ctypes.c_size_t, ctypes.c_uint64
+
+
+class _Progress(ctypes.Structure):
+    _fields_ = [("file", ctypes.c_char_p), ("read", _U64), ("whole", _U64)]
+
+
+class _Event(ctypes.Structure):
+    _fields_ = [
+        ("kind", ctypes.c_uint32), ("status", ctypes.c_int32), ("runs", _U64), ("bytes", _U64), ("microseconds", _U64),
+        ("text", ctypes.c_char_p),
+    ]
+
+
+_ProgressFunction = ctypes.CFUNCTYPE(None, _Pointer, ctypes.POINTER(_Progress))
+_EventFunction = ctypes.CFUNCTYPE(None, _Pointer, ctypes.POINTER(_Event))
+
+
+class Options(ctypes.Structure):
+    _fields_ = [
+        ("size", _Size), ("merge_operator", ctypes.c_uint32), ("sync", ctypes.c_uint32), ("sync_milliseconds", _U64),
+        ("write_buffer_size", _U64), ("compaction_trigger", ctypes.c_uint32), ("stop_trigger", ctypes.c_uint32),
+        ("size_ratio", ctypes.c_uint32), ("max_size_amplification_percent", ctypes.c_uint32),
+        ("min_merge_width", ctypes.c_uint32), ("max_merge_width", ctypes.c_uint32), ("compactors", ctypes.c_uint32),
+        ("slow_trigger", ctypes.c_uint32), ("checkpoint_ratio", _U64), ("checkpoint_least", _U64),
+        ("recovers_to_fault", ctypes.c_uint32), ("progress", _ProgressFunction), ("progress_context", _Pointer),
+        ("event", _EventFunction), ("event_context", _Pointer),
+    ]
+
+    @classmethod
+    def of(cls, operator: Operator, options: DbOptions) -> Options:
+        """The options as C sees them. A number that a field has no room for would be cut silently."""
+        found = cls(ctypes.sizeof(cls), operator, *options)
+        if any(getattr(found, name) != value for name, value in zip(DbOptions._fields, options)):
+            raise BadOption()
+        return found
+
+
+class Stats(ctypes.Structure):
+    _fields_ = [("size", _Size), *((name, _U64) for name in DbStats._fields)]
+
+
+# The types of the arguments: a text is its address and its length.
+_TEXT = (ctypes.c_char_p, _Size)
+_PLACE = (_Pointer, _Size)
+_GET = (_Pointer, *_TEXT, *_PLACE, _Pointer)
+_GET_MANY = (_Pointer, *_TEXT, _Pointer, _Size, _Pointer, *_PLACE, _Pointer)
+_CURSOR = (_Pointer, *_TEXT, *_TEXT, ctypes.c_bool, _Pointer)
+_PREFIX = (_Pointer, *_TEXT, _Pointer)
+
+_SIGNATURES: Dict[str, Sequence[Any]] = {
+    "open": (ctypes.c_char_p, _Pointer, _Pointer),
+    "in_memory": (_Pointer, _Pointer),
+    "end": (_Pointer,),
+    "close": (_Pointer,),
+    "put": (_Pointer, *_TEXT, *_TEXT),
+    "merge": (_Pointer, *_TEXT, *_TEXT),
+    "delete": (_Pointer, *_TEXT),
+    "delete_range": (_Pointer, *_TEXT, *_TEXT),
+    "write": (_Pointer, _Pointer),
+    "write_with": (_Pointer, _Pointer, ctypes.c_bool),
+    "sync": (_Pointer,),
+    "get": _GET,
+    "get_many": _GET_MANY,
+    "cursor": _CURSOR,
+    "prefix": _PREFIX,
+    "snapshot": (_Pointer, _Pointer),
+    "flush": (_Pointer,),
+    "compact": (_Pointer,),
+    "checkpoint": (_Pointer,),
+    "failure": (_Pointer,),
+    "stats": (_Pointer, _Pointer),
+    "stats_text": (_Pointer, *_PLACE, _Pointer),
+    "batch_create": (_Pointer,),
+    "batch_put": (_Pointer, *_TEXT, *_TEXT),
+    "batch_merge": (_Pointer, *_TEXT, *_TEXT),
+    "batch_delete": (_Pointer, *_TEXT),
+    "batch_delete_range": (_Pointer, *_TEXT, *_TEXT),
+    "batch_clear": (_Pointer,),
+    "batch_count": (_Pointer, _Pointer),
+    "batch_close": (_Pointer,),
+    "snapshot_sequence": (_Pointer, _Pointer),
+    "snapshot_get": _GET,
+    "snapshot_get_many": _GET_MANY,
+    "snapshot_cursor": _CURSOR,
+    "snapshot_prefix": _PREFIX,
+    "snapshot_close": (_Pointer,),
+    "cursor_page": (_Pointer, *_PLACE, *_PLACE, _Pointer, _Pointer),
+    "cursor_close": (_Pointer,),
+}
+
+# The version of the library's functions.
+_ABI = 1
+
+# A function of the library, which answers a status.
+_Function = Callable[..., int]
+
+
+class Library:
+    """The functions of `ucstore_db.h`, without their prefix."""
+
+    def __init__(self) -> None:
+        name = f"libucstore_db.so.{_ABI}"
+        beside = Path(__file__).with_name(name)
+        found = ctypes.CDLL(os.environ.get("UCSTORE_DB_LIBRARY") or (str(beside) if beside.exists() else name))
+        if found.ucstore_db_version() != _ABI:
+            raise ImportError(f"the functions of {found._name} aren't of version {_ABI}")
+        self.error_text = found.ucstore_db_error_text
+        self.error_text.restype = ctypes.c_char_p
+        self.functions: Dict[str, _Function] = {}
+        for name, types in _SIGNATURES.items():
+            function = getattr(found, f"ucstore_db_{name}")
+            function.argtypes, function.restype = types, ctypes.c_int32
+            self.functions[name] = function
+
+    def error(self, status: int) -> UcstoreError:
+        """What a status says, that the last call of this thread answered."""
+        return error_of(status, self.error_text().decode(errors="replace"))
+
+
+_loaded: Optional[Library] = None
+_loading = threading.Lock()
+
+
+def library() -> Library:
+    """The library, which is loaded once."""
+    global _loaded
+    with _loading:
+        if _loaded is None:
+            _loaded = Library()
+        return _loaded
+
+
+def progress_function(tell: Optional[Callable[[Progress], None]]) -> Any:
+    """A function for C that tells how far an opening is."""
+    if tell is None:
+        return _ProgressFunction(0)
+
+    hear: Callable[[Progress], None] = tell
+
+    def told(_: Any, progress: Any) -> None:
+        found = progress.contents
+        hear(Progress(found.file.decode(), found.read, found.whole))
+
+    return _ProgressFunction(told)
+
+
+def event_function(tell: Optional[Callable[[Event], None]]) -> Any:
+    """A function for C that tells what a database does. Of kinds that this module doesn't know it tells nothing."""
+    if tell is None:
+        return _EventFunction(0)
+
+    hear: Callable[[Event], None] = tell
+
+    def told(_: Any, event: Any) -> None:
+        found = event.contents
+        if found.kind <= max(EventKind):
+            text = found.text.decode(errors="replace")
+            error = error_of(found.status, text) if found.kind == EventKind.FAILED else None
+            hear(Event(EventKind(found.kind), found.runs, found.bytes, found.microseconds / 1e6, text, error))
+
+    return _EventFunction(told)

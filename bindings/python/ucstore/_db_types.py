@@ -1,0 +1,206 @@
+"""What a database refuses, how it is kept, and what it tells: see `Db`."""
+
+from __future__ import annotations
+
+import enum
+from typing import Dict, NamedTuple, Optional, Type
+
+from . import BadOption, BatchFull, IdsSpent, OutOfMemory, SequencesSpent, TooLong, UcstoreError, UnknownOperator
+
+
+class DbError(UcstoreError):
+    """A call of a database that was refused. Its text names the file, the offset and the cause."""
+
+
+class FileFault(DbError, OSError):
+    """A file can't be read or written."""
+
+    status = 64
+
+
+class Locked(DbError):
+    """Another process has the folder open, or another `Db` of this one."""
+
+    status = 65
+
+
+class Damaged(DbError):
+    """A file isn't as it was written. Nothing was changed."""
+
+    status = 66
+
+
+class Missing(DbError):
+    """A file isn't there. Nothing was changed."""
+
+    status = 67
+
+
+class OtherOperator(DbError, ValueError):
+    """The folder was made with another operator. Nothing was changed."""
+
+    status = 68
+
+
+class ReadOnly(DbError):
+    """Nothing can be written any more: a log failed, or is damaged."""
+
+    status = 69
+
+
+class Closed(DbError, ValueError):
+    """The database, its batch or its snapshot was closed."""
+
+    status, text = 70, "it is closed"
+
+
+class Forked(DbError):
+    """The process was forked behind the opening. A child opens a database of its own."""
+
+    status = 71
+
+
+_ERRORS: Dict[int, Type[UcstoreError]] = {
+    error.status: error
+    for error in (
+        OutOfMemory, UnknownOperator, BadOption, IdsSpent, SequencesSpent, TooLong, BatchFull, FileFault, Locked, Damaged,
+        Missing, OtherOperator, ReadOnly, Closed, Forked,
+    )
+}
+
+
+def error_of(status: int, text: str) -> UcstoreError:
+    """What a status says, with the text of the library."""
+    return _ERRORS.get(status, DbError)(text)
+
+
+class Sync(enum.IntEnum):
+    """When a write is on the device."""
+
+    ALWAYS = 0
+    """When it is acknowledged."""
+    EVERY = 1
+    """About `DbOptions.sync_milliseconds` after that."""
+    NEVER = 2
+    """When the system puts it there. A process that ends loses nothing by it."""
+
+
+class DbOptions(NamedTuple):
+    """How a database is kept. The names of the store's part are those of RocksDB's options."""
+
+    sync: Sync = Sync.ALWAYS
+    """When a write is on the device."""
+    sync_milliseconds: int = 0
+    """For `Sync.EVERY`."""
+    write_buffer_size: int = 4194304
+    """From how many bytes on the memtable is full, at least 1."""
+    compaction_trigger: int = 4
+    """From how many runs on something is compacted, at least 1."""
+    stop_trigger: int = 36
+    """From how many runs on a write compacts before it goes on, `compaction_trigger` to 255."""
+    size_ratio: int = 1
+    """By how many percent a run may be larger than those above it to be compacted with them."""
+    max_size_amplification_percent: int = 200
+    """Above how many percent of the oldest run's size the newer ones are compacted with it."""
+    min_merge_width: int = 2
+    """The least number of runs for a compaction by size ratio, at least 2."""
+    max_merge_width: int = 4294967295
+    """The greatest number of runs for a compaction, at least `min_merge_width`."""
+    compactors: int = 2
+    """How many threads compact. Without any the store compacts within writes."""
+    slow_trigger: int = 20
+    """From how many runs on writes are slowed, by a millisecond each time."""
+    checkpoint_ratio: int = 2
+    """By how many times the logs exceed the data when a checkpoint is made."""
+    checkpoint_least: int = 67108864
+    """How many bytes the logs have at least when a checkpoint is made."""
+    recovers_to_fault: bool = False
+    """Whether a damaged folder is opened up to the damage. Nothing can be written then."""
+
+
+class Progress(NamedTuple):
+    """How far an opening is."""
+
+    file: str
+    """The name of the file that is read."""
+    read: int
+    """How many bytes of all files were read."""
+    whole: int
+    """How many bytes all files have."""
+
+
+class EventKind(enum.IntEnum):
+    """What a database did."""
+
+    FLUSHED = 0
+    """Bytes that were gathered became a run."""
+    COMPACTED = 1
+    """Runs were compacted to one."""
+    CHECKPOINTED = 2
+    """A base was written, whose name is the text. The logs before it are gone."""
+    STALLED = 3
+    """Writes are slowed, or wait, from now on: there are too many runs."""
+    FAILED = 4
+    """A log or a checkpoint failed: the error says why."""
+
+
+class Event(NamedTuple):
+    """Something that a database did. What its kind doesn't name is 0, and the text empty."""
+
+    kind: EventKind
+    runs: int
+    """How many runs there are."""
+    bytes: int
+    """How many bytes a flush or a checkpoint has."""
+    seconds: float
+    """How long it took."""
+    text: str
+    error: Optional[UcstoreError]
+    """Of a failure: behind `ReadOnly` nothing can be written any more."""
+
+
+class DbStats(NamedTuple):
+    """What a database holds, and what it did since it was opened. Times are in microseconds."""
+
+    uptime: int
+    """For how long it is open."""
+    last: int
+    """The sequence of the last write."""
+    runs: int
+    """How many runs there are."""
+    bytes: int
+    """The bytes of all runs."""
+    gathered: int
+    """How many writes no run has yet."""
+    log_bytes: int
+    """The bytes of the logs that no checkpoint holds."""
+    batches: int
+    """How many batches were taken."""
+    groups: int
+    """How many records of the log they shared."""
+    user_bytes: int
+    """The bytes of the batches."""
+    logged_bytes: int
+    """The bytes that were appended to logs for them."""
+    base_bytes: int
+    """The bytes of the checkpoints that were written."""
+    lookups: int
+    """How many keys were looked up, in it and in its snapshots."""
+    syncs: int
+    """How often a log was synced."""
+    sync_p50: int
+    """The time that half of the last 1,024 syncs kept to."""
+    sync_p99: int
+    """The time that 99 percent of them kept to."""
+    stalls: int
+    """How often writes began to be slowed, or waited for a compaction."""
+    slowed: int
+    """How many groups of writes were slowed."""
+    stalled: int
+    """For how long writes were slowed or waited."""
+    flushes: int
+    """How many runs were made of what was gathered, but for those that the store made itself."""
+    compactions: int
+    """How many compactions there were, but for those that the store made itself."""
+    checkpoints: int
+    """How many checkpoints were made."""

@@ -1,0 +1,124 @@
+//! The functions of `struct ucstore_db_batch`.
+
+use crate::call::call;
+use crate::handle::{BatchHandle, Handle};
+use crate::memory::{text, Place};
+use db::Batch;
+use std::ffi::c_void;
+
+/// Makes a batch without operations.
+#[no_mangle]
+pub unsafe extern "C" fn ucstore_db_batch_create(batch: *mut *mut BatchHandle) -> i32 {
+    call(|| {
+        // SAFETY: C owes the memory.
+        let place = unsafe { Place::of(batch) }?;
+        place.put(Handle::begin(Batch::new()));
+        Ok(())
+    })
+}
+
+/// Adds that a key is set to a value.
+#[no_mangle]
+pub unsafe extern "C" fn ucstore_db_batch_put(
+    batch: *mut BatchHandle,
+    key: *const c_void,
+    key_length: usize,
+    value: *const c_void,
+    value_length: usize,
+) -> i32 {
+    call(|| {
+        // SAFETY: C owes the handle, which no other call uses, and both texts.
+        let (batch, key, value) = unsafe {
+            let texts = (text(key, key_length)?, text(value, value_length)?);
+            (Handle::get_mut(batch)?, texts.0, texts.1)
+        };
+        batch.put(key, value)?;
+        Ok(())
+    })
+}
+
+/// Adds that a key is combined with an operand.
+#[no_mangle]
+pub unsafe extern "C" fn ucstore_db_batch_merge(
+    batch: *mut BatchHandle,
+    key: *const c_void,
+    key_length: usize,
+    operand: *const c_void,
+    operand_length: usize,
+) -> i32 {
+    call(|| {
+        // SAFETY: C owes the handle, which no other call uses, and both texts.
+        let (batch, key, operand) = unsafe {
+            let texts = (text(key, key_length)?, text(operand, operand_length)?);
+            (Handle::get_mut(batch)?, texts.0, texts.1)
+        };
+        batch.merge(key, operand)?;
+        Ok(())
+    })
+}
+
+/// Adds that a key is removed.
+#[no_mangle]
+pub unsafe extern "C" fn ucstore_db_batch_delete(
+    batch: *mut BatchHandle,
+    key: *const c_void,
+    key_length: usize,
+) -> i32 {
+    call(|| {
+        // SAFETY: C owes the handle, which no other call uses, and the text.
+        let (batch, key) = unsafe { (Handle::get_mut(batch)?, text(key, key_length)?) };
+        batch.delete(key)?;
+        Ok(())
+    })
+}
+
+/// Adds that the keys of a range are removed.
+#[no_mangle]
+pub unsafe extern "C" fn ucstore_db_batch_delete_range(
+    batch: *mut BatchHandle,
+    begin: *const c_void,
+    begin_length: usize,
+    end: *const c_void,
+    end_length: usize,
+) -> i32 {
+    call(|| {
+        // SAFETY: C owes the handle, which no other call uses, and both texts.
+        let (batch, begin, end) = unsafe {
+            let texts = (text(begin, begin_length)?, text(end, end_length)?);
+            (Handle::get_mut(batch)?, texts.0, texts.1)
+        };
+        batch.delete_range(begin, end)?;
+        Ok(())
+    })
+}
+
+/// Removes all operations.
+#[no_mangle]
+pub unsafe extern "C" fn ucstore_db_batch_clear(batch: *mut BatchHandle) -> i32 {
+    call(|| {
+        // SAFETY: C owes the handle, which no other call uses.
+        unsafe { Handle::get_mut(batch) }?.clear();
+        Ok(())
+    })
+}
+
+/// Tells how many operations there are.
+#[no_mangle]
+pub unsafe extern "C" fn ucstore_db_batch_count(batch: *const BatchHandle, count: *mut u64) -> i32 {
+    call(|| {
+        // SAFETY: C owes the handle, which no other call uses, and the memory.
+        let (batch, place) = unsafe { (Handle::get(batch)?, Place::of(count)?) };
+        place.put(batch.len() as u64);
+        Ok(())
+    })
+}
+
+/// Frees a batch.
+#[no_mangle]
+pub unsafe extern "C" fn ucstore_db_batch_close(batch: *mut BatchHandle) -> i32 {
+    call(|| {
+        // SAFETY: C owes the handle, which no other call uses.
+        drop(unsafe { Handle::end(batch) }?);
+        Ok(())
+    })
+}

@@ -1,0 +1,376 @@
+//! [`Cursor`], and the functions of `struct ucstore_db_cursor`.
+
+use crate::call::{call, Refusal};
+use crate::handle::{CursorHandle, DbHandle, Handle, SnapshotHandle};
+use crate::memory::{text, Place, Room};
+use crate::status::Status;
+use db::{Error, Rows, Snapshot};
+use std::ffi::{c_char, c_void};
+use std::ptr;
+use std::slice;
+
+/// A row of a range of keys, at which it stands.
+pub struct Cursor {
+    snapshot: Snapshot,
+    low: Vec<u8>,
+    high: Option<Vec<u8>>,
+    rows: Rows,
+    /// What `rows` lent last; none behind the last row.
+    row: Option<Row>,
+    /// Why no row could be fetched, if that is so.
+    failure: Option<Error>,
+}
+
+/// A key and its value, which lie in the page of the rows.
+#[derive(Clone, Copy)]
+struct Row {
+    key: Lent,
+    value: Lent,
+}
+
+/// A text that is lent.
+#[derive(Clone, Copy)]
+struct Lent {
+    at: *const u8,
+    length: usize,
+}
+
+impl From<&[u8]> for Lent {
+    fn from(text: &[u8]) -> Lent {
+        Lent {
+            at: text.as_ptr(),
+            length: text.len(),
+        }
+    }
+}
+
+impl Cursor {
+    /// One at the first row of a range of a snapshot.
+    fn of(snapshot: Snapshot, low: &[u8], high: Option<&[u8]>) -> Result<Cursor, Refusal> {
+        let mut cursor = Cursor {
+            rows: snapshot.range(low, high)?,
+            snapshot,
+            low: low.to_vec(),
+            high: high.map(<[u8]>::to_vec),
+            row: None,
+            failure: None,
+        };
+        cursor.step()?;
+        Ok(cursor)
+    }
+
+    /// Goes to the first row of the range at or above a key.
+    fn seek(&mut self, key: &[u8]) -> Result<(), Refusal> {
+        self.row = None;
+        let low = key.max(&self.low);
+        self.rows = self.snapshot.range(low, self.high.as_deref())?;
+        self.failure = None;
+        self.step()
+    }
+
+    /// Goes to the next row.
+    fn step(&mut self) -> Result<(), Refusal> {
+        self.row = None;
+        match self.rows.next_row() {
+            Ok(row) => {
+                self.row = row.map(|(key, value)| Row {
+                    key: key.into(),
+                    value: value.into(),
+                });
+                Ok(())
+            }
+            Err(error) => {
+                let error = Error::from(error);
+                self.failure = Some(error.clone());
+                Err(error.into())
+            }
+        }
+    }
+
+    /// The row at which it stands.
+    fn row(&self) -> Option<(&[u8], &[u8])> {
+        // SAFETY: `rows` lent both until its next call, and each such call is behind a change of `row`.
+        let text = |lent: Lent| unsafe { slice::from_raw_parts(lent.at, lent.length) };
+        self.row.map(|row| (text(row.key), text(row.value)))
+    }
+
+    /// Copies rows, each as a key and a value, with the lengths of both. It steps over them.
+    fn copy(&mut self, page: &mut Page) -> Result<(), Refusal> {
+        while let Some((key, value)) = self.row() {
+            if !page.add(key, value) {
+                break;
+            }
+            self.step()?;
+        }
+        Ok(())
+    }
+}
+
+/// Rows that are copied: the lengths of each key and each value, and their bytes.
+struct Page {
+    lengths: Room<u64>,
+    bytes: Room<u8>,
+}
+
+impl Page {
+    /// Adds a row, and tells whether there was room.
+    fn add(&mut self, key: &[u8], value: &[u8]) -> bool {
+        if self.lengths.left() < 2 || self.bytes.left() < key.len() + value.len() {
+            return false;
+        }
+        for text in [key, value] {
+            self.bytes.push(text);
+            self.lengths.push(&[text.len() as u64]);
+        }
+        true
+    }
+
+    /// How many rows there are.
+    fn rows(&self) -> usize {
+        self.lengths.filled() / 2
+    }
+}
+
+/// The bounds of a range: the second one is none if it isn't bounded.
+///
+/// # Safety
+///
+/// As for [`text`].
+unsafe fn bounds<'a>(
+    low: *const c_void,
+    low_length: usize,
+    high: *const c_void,
+    high_length: usize,
+    bounded: bool,
+) -> Result<(&'a [u8], Option<&'a [u8]>), Refusal> {
+    // SAFETY: The caller owes as much.
+    let (low, high) = unsafe {
+        let high = bounded.then(|| text(high, high_length)).transpose()?;
+        (text(low, low_length)?, high)
+    };
+    Ok((low, high))
+}
+
+/// The least key above all that begin with a prefix; none if there is no key above them.
+fn end_of_prefix(prefix: &[u8]) -> Option<Vec<u8>> {
+    let last = prefix.iter().rposition(|byte| *byte != u8::MAX)?;
+    let mut end = prefix[..=last].to_vec();
+    end[last] += 1;
+    Some(end)
+}
+
+/// A cursor over a range of what a database holds now.
+#[no_mangle]
+pub unsafe extern "C" fn ucstore_db_cursor(
+    db: *const DbHandle,
+    low: *const c_void,
+    low_length: usize,
+    high: *const c_void,
+    high_length: usize,
+    bounded: bool,
+    cursor: *mut *mut CursorHandle,
+) -> i32 {
+    call(|| {
+        // SAFETY: C owes the handle, the texts and the memory.
+        let (db, (low, high), place) = unsafe {
+            let bounds = bounds(low, low_length, high, high_length, bounded)?;
+            (Handle::get(db)?, bounds, Place::of(cursor)?)
+        };
+        place.put(Handle::begin(Cursor::of(
+            db.snapshot_to_scan()?,
+            low,
+            high,
+        )?));
+        Ok(())
+    })
+}
+
+/// A cursor over the keys that begin with some bytes, of what a database holds now.
+#[no_mangle]
+pub unsafe extern "C" fn ucstore_db_prefix(
+    db: *const DbHandle,
+    prefix: *const c_void,
+    prefix_length: usize,
+    cursor: *mut *mut CursorHandle,
+) -> i32 {
+    call(|| {
+        // SAFETY: C owes the handle, the text and the memory.
+        let (db, prefix, place) = unsafe {
+            let prefix = text(prefix, prefix_length)?;
+            (Handle::get(db)?, prefix, Place::of(cursor)?)
+        };
+        let high = end_of_prefix(prefix);
+        let found = Cursor::of(db.snapshot_to_scan()?, prefix, high.as_deref())?;
+        place.put(Handle::begin(found));
+        Ok(())
+    })
+}
+
+/// A cursor over a range of a snapshot.
+#[no_mangle]
+pub unsafe extern "C" fn ucstore_db_snapshot_cursor(
+    snapshot: *const SnapshotHandle,
+    low: *const c_void,
+    low_length: usize,
+    high: *const c_void,
+    high_length: usize,
+    bounded: bool,
+    cursor: *mut *mut CursorHandle,
+) -> i32 {
+    call(|| {
+        // SAFETY: C owes the handle, which no other call uses, the texts and the memory.
+        let (snapshot, (low, high), place) = unsafe {
+            let bounds = bounds(low, low_length, high, high_length, bounded)?;
+            (Handle::get(snapshot)?, bounds, Place::of(cursor)?)
+        };
+        place.put(Handle::begin(Cursor::of(snapshot.again()?, low, high)?));
+        Ok(())
+    })
+}
+
+/// A cursor over the keys of a snapshot that begin with some bytes.
+#[no_mangle]
+pub unsafe extern "C" fn ucstore_db_snapshot_prefix(
+    snapshot: *const SnapshotHandle,
+    prefix: *const c_void,
+    prefix_length: usize,
+    cursor: *mut *mut CursorHandle,
+) -> i32 {
+    call(|| {
+        // SAFETY: C owes the handle, which no other call uses, the text and the memory.
+        let (snapshot, prefix, place) = unsafe {
+            let prefix = text(prefix, prefix_length)?;
+            (Handle::get(snapshot)?, prefix, Place::of(cursor)?)
+        };
+        let high = end_of_prefix(prefix);
+        let found = Cursor::of(snapshot.again()?, prefix, high.as_deref())?;
+        place.put(Handle::begin(found));
+        Ok(())
+    })
+}
+
+/// Goes to the first row at or above a key.
+#[no_mangle]
+pub unsafe extern "C" fn ucstore_db_cursor_seek(
+    cursor: *mut CursorHandle,
+    key: *const c_void,
+    key_length: usize,
+) -> i32 {
+    call(|| {
+        // SAFETY: C owes the handle, which no other call uses, and the text.
+        let (cursor, key) = unsafe { (Handle::get_mut(cursor)?, text(key, key_length)?) };
+        cursor.seek(key)
+    })
+}
+
+/// Goes to the next row.
+#[no_mangle]
+pub unsafe extern "C" fn ucstore_db_cursor_next(cursor: *mut CursorHandle) -> i32 {
+    // SAFETY: C owes the handle, which no other call uses.
+    call(|| unsafe { Handle::get_mut(cursor) }?.step())
+}
+
+/// Whether it stands at a row.
+#[no_mangle]
+pub unsafe extern "C" fn ucstore_db_cursor_valid(cursor: *const CursorHandle) -> bool {
+    // SAFETY: C owes the handle, which no other call changes.
+    unsafe { Handle::get(cursor) }.is_ok_and(|cursor| cursor.row.is_some())
+}
+
+/// Lends the key of the row.
+#[no_mangle]
+pub unsafe extern "C" fn ucstore_db_cursor_key(
+    cursor: *const CursorHandle,
+    length: *mut usize,
+) -> *const c_char {
+    // SAFETY: C owes the handle, which no other call changes, and the memory.
+    unsafe { lend(cursor, length, |row| row.key) }
+}
+
+/// Lends the value of the row.
+#[no_mangle]
+pub unsafe extern "C" fn ucstore_db_cursor_value(
+    cursor: *const CursorHandle,
+    length: *mut usize,
+) -> *const c_char {
+    // SAFETY: C owes the handle, which no other call changes, and the memory.
+    unsafe { lend(cursor, length, |row| row.value) }
+}
+
+/// Lends a text of the row: null and a length of 0 if there is none.
+///
+/// # Safety
+///
+/// As for [`Handle::get`] and [`Place::of`].
+unsafe fn lend(
+    cursor: *const CursorHandle,
+    length: *mut usize,
+    part: impl FnOnce(Row) -> Lent,
+) -> *const c_char {
+    // SAFETY: The caller owes as much.
+    let (cursor, place) = unsafe { (Handle::get(cursor), Place::of(length)) };
+    let nothing = Lent {
+        at: ptr::null(),
+        length: 0,
+    };
+    let row = cursor.ok().and_then(|cursor| cursor.row);
+    let lent = row.map_or(nothing, part);
+    if let Ok(place) = place {
+        place.put(lent.length);
+    }
+    lent.at.cast()
+}
+
+/// Tells why no row could be fetched, if that is so.
+#[no_mangle]
+pub unsafe extern "C" fn ucstore_db_cursor_status(cursor: *const CursorHandle) -> i32 {
+    call(|| {
+        // SAFETY: C owes the handle, which no other call changes.
+        match &unsafe { Handle::get(cursor) }?.failure {
+            Some(error) => Err(error.clone().into()),
+            None => Ok(()),
+        }
+    })
+}
+
+/// Copies rows from the one on at which it stands, and goes behind them.
+#[no_mangle]
+pub unsafe extern "C" fn ucstore_db_cursor_page(
+    cursor: *mut CursorHandle,
+    lengths: *mut u64,
+    lengths_count: usize,
+    room: *mut c_void,
+    room_length: usize,
+    rows: *mut usize,
+    size: *mut usize,
+) -> i32 {
+    call(|| {
+        // SAFETY: C owes the handle, which no other call uses, and the memory.
+        let (cursor, mut page, rows, size) = unsafe {
+            let page = Page {
+                lengths: Room::of(lengths, lengths_count)?,
+                bytes: Room::of(room.cast(), room_length)?,
+            };
+            let places = (Place::of(rows)?, Place::of(size)?);
+            (Handle::get_mut(cursor)?, page, places.0, places.1)
+        };
+        cursor.copy(&mut page)?;
+        if let (0, Some((key, value))) = (page.rows(), cursor.row()) {
+            size.put(key.len() + value.len());
+            return Err(Status::Room.into());
+        }
+        rows.put(page.rows());
+        size.put(page.bytes.filled());
+        Ok(())
+    })
+}
+
+/// Frees a cursor.
+#[no_mangle]
+pub unsafe extern "C" fn ucstore_db_cursor_close(cursor: *mut CursorHandle) -> i32 {
+    call(|| {
+        // SAFETY: C owes the handle, which no other call uses.
+        drop(unsafe { Handle::end(cursor) }?);
+        Ok(())
+    })
+}

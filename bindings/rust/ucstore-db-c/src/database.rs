@@ -1,0 +1,282 @@
+//! The functions of `struct ucstore_db`.
+
+use crate::call::{call, Refusal};
+use crate::handle::{BatchHandle, DbHandle, Handle, SnapshotHandle};
+use crate::memory::{text, Place};
+use crate::options::COptions;
+use crate::snapshot::{Keys, Value, Values};
+use crate::status::Status;
+use db::Db;
+use std::ffi::{c_char, c_void, CStr, OsStr};
+use std::os::unix::ffi::OsStrExt;
+
+/// Opens a database and puts its address where C wants it.
+///
+/// # Safety
+///
+/// C owes the options and the place.
+unsafe fn open_by(
+    options: *const COptions,
+    place: *mut *mut DbHandle,
+    open: impl FnOnce(&db::Options) -> Result<Db, db::Error>,
+) -> Result<(), Refusal> {
+    // SAFETY: C owes the memory.
+    let place = unsafe { Place::of(place) }?;
+    // SAFETY: C owes the struct.
+    let options = unsafe { options.as_ref() }.ok_or(Status::Null)?;
+    place.put(Handle::begin(open(&options.read()?)?));
+    Ok(())
+}
+
+/// Opens the database of a folder.
+#[no_mangle]
+pub unsafe extern "C" fn ucstore_db_open(
+    folder: *const c_char,
+    options: *const COptions,
+    db: *mut *mut DbHandle,
+) -> i32 {
+    call(|| {
+        if folder.is_null() {
+            return Err(Status::Null.into());
+        }
+        // SAFETY: C owes a text that ends with a zero byte.
+        let folder = OsStr::from_bytes(unsafe { CStr::from_ptr(folder) }.to_bytes());
+        // SAFETY: C owes as much.
+        unsafe { open_by(options, db, |options| Db::open(folder, options)) }
+    })
+}
+
+/// Makes an empty database that ends with its process.
+#[no_mangle]
+pub unsafe extern "C" fn ucstore_db_in_memory(
+    options: *const COptions,
+    db: *mut *mut DbHandle,
+) -> i32 {
+    // SAFETY: C owes as much.
+    call(|| unsafe { open_by(options, db, Db::in_memory) })
+}
+
+/// Ends a database, whose handle stays.
+#[no_mangle]
+pub unsafe extern "C" fn ucstore_db_end(db: *const DbHandle) -> i32 {
+    // SAFETY: C owes the handle.
+    call(|| Ok(unsafe { Handle::get(db) }?.close()?))
+}
+
+/// Closes a database, and frees its handle.
+#[no_mangle]
+pub unsafe extern "C" fn ucstore_db_close(db: *mut DbHandle) -> i32 {
+    call(|| {
+        // SAFETY: C owes a handle that no other call uses.
+        match unsafe { Handle::end(db) }? {
+            Some(db) => match db.close() {
+                // It was ended before.
+                Err(db::Error::Closed) => Ok(()),
+                outcome => Ok(outcome?),
+            },
+            None => Ok(()),
+        }
+    })
+}
+
+/// Sets a key to a value.
+#[no_mangle]
+pub unsafe extern "C" fn ucstore_db_put(
+    db: *const DbHandle,
+    key: *const c_void,
+    key_length: usize,
+    value: *const c_void,
+    value_length: usize,
+) -> i32 {
+    call(|| {
+        // SAFETY: C owes the handle and both texts.
+        let (db, key, value) = unsafe {
+            (
+                Handle::get(db)?,
+                text(key, key_length)?,
+                text(value, value_length)?,
+            )
+        };
+        Ok(db.put(key, value)?)
+    })
+}
+
+/// Combines a key with an operand.
+#[no_mangle]
+pub unsafe extern "C" fn ucstore_db_merge(
+    db: *const DbHandle,
+    key: *const c_void,
+    key_length: usize,
+    operand: *const c_void,
+    operand_length: usize,
+) -> i32 {
+    call(|| {
+        // SAFETY: C owes the handle and both texts.
+        let (db, key, operand) = unsafe {
+            (
+                Handle::get(db)?,
+                text(key, key_length)?,
+                text(operand, operand_length)?,
+            )
+        };
+        Ok(db.merge(key, operand)?)
+    })
+}
+
+/// Removes a key.
+#[no_mangle]
+pub unsafe extern "C" fn ucstore_db_delete(
+    db: *const DbHandle,
+    key: *const c_void,
+    key_length: usize,
+) -> i32 {
+    call(|| {
+        // SAFETY: C owes the handle and the text.
+        let (db, key) = unsafe { (Handle::get(db)?, text(key, key_length)?) };
+        Ok(db.delete(key)?)
+    })
+}
+
+/// Removes the keys of a range.
+#[no_mangle]
+pub unsafe extern "C" fn ucstore_db_delete_range(
+    db: *const DbHandle,
+    begin: *const c_void,
+    begin_length: usize,
+    end: *const c_void,
+    end_length: usize,
+) -> i32 {
+    call(|| {
+        // SAFETY: C owes the handle and both texts.
+        let (db, begin, end) = unsafe {
+            (
+                Handle::get(db)?,
+                text(begin, begin_length)?,
+                text(end, end_length)?,
+            )
+        };
+        Ok(db.delete_range(begin, end)?)
+    })
+}
+
+/// Takes a batch, acknowledged as the options say.
+#[no_mangle]
+pub unsafe extern "C" fn ucstore_db_write(db: *const DbHandle, batch: *const BatchHandle) -> i32 {
+    call(|| {
+        // SAFETY: C owes both handles, and no other call uses the batch.
+        let (db, batch) = unsafe { (Handle::get(db)?, Handle::get(batch)?) };
+        Ok(db.write(batch)?)
+    })
+}
+
+/// Takes a batch, which is on the device when this returns, or not.
+#[no_mangle]
+pub unsafe extern "C" fn ucstore_db_write_with(
+    db: *const DbHandle,
+    batch: *const BatchHandle,
+    synced: bool,
+) -> i32 {
+    call(|| {
+        // SAFETY: C owes both handles, and no other call uses the batch.
+        let (db, batch) = unsafe { (Handle::get(db)?, Handle::get(batch)?) };
+        Ok(db.write_with(batch, synced)?)
+    })
+}
+
+/// Waits until all acknowledged writes are on the device.
+#[no_mangle]
+pub unsafe extern "C" fn ucstore_db_sync(db: *const DbHandle) -> i32 {
+    // SAFETY: C owes the handle.
+    call(|| Ok(unsafe { Handle::get(db) }?.sync()?))
+}
+
+/// Copies the value under a key.
+#[no_mangle]
+pub unsafe extern "C" fn ucstore_db_get(
+    db: *const DbHandle,
+    key: *const c_void,
+    key_length: usize,
+    room: *mut c_void,
+    room_length: usize,
+    size: *mut usize,
+) -> i32 {
+    call(|| {
+        // SAFETY: C owes the handle, the text and the memory.
+        let (db, key, value) = unsafe {
+            let value = Value::of(room, room_length, size)?;
+            (Handle::get(db)?, text(key, key_length)?, value)
+        };
+        value.put(db.get(key)?)
+    })
+}
+
+/// Copies the values of many keys, at one moment.
+#[no_mangle]
+pub unsafe extern "C" fn ucstore_db_get_many(
+    db: *const DbHandle,
+    keys: *const c_void,
+    keys_length: usize,
+    key_lengths: *const u64,
+    count: usize,
+    value_lengths: *mut u64,
+    room: *mut c_void,
+    room_length: usize,
+    size: *mut usize,
+) -> i32 {
+    call(|| {
+        // SAFETY: C owes the handle, the texts and the memory.
+        let (db, keys, values) = unsafe {
+            let keys = Keys::of(keys, keys_length, key_lengths, count)?;
+            let values = Values::of(value_lengths, count, room, room_length, size)?;
+            (Handle::get(db)?, keys, values)
+        };
+        values.put(db.get_many(keys.iter())?)
+    })
+}
+
+/// What a database holds now.
+#[no_mangle]
+pub unsafe extern "C" fn ucstore_db_snapshot(
+    db: *const DbHandle,
+    snapshot: *mut *mut SnapshotHandle,
+) -> i32 {
+    call(|| {
+        // SAFETY: C owes the handle and the memory.
+        let (db, place) = unsafe { (Handle::get(db)?, Place::of(snapshot)?) };
+        place.put(Handle::begin(db.snapshot()?));
+        Ok(())
+    })
+}
+
+/// Makes a run of what is gathered.
+#[no_mangle]
+pub unsafe extern "C" fn ucstore_db_flush(db: *const DbHandle) -> i32 {
+    // SAFETY: C owes the handle.
+    call(|| Ok(unsafe { Handle::get(db) }?.flush()?))
+}
+
+/// Compacts until nothing is picked.
+#[no_mangle]
+pub unsafe extern "C" fn ucstore_db_compact(db: *const DbHandle) -> i32 {
+    // SAFETY: C owes the handle.
+    call(|| Ok(unsafe { Handle::get(db) }?.compact()?))
+}
+
+/// Writes all that a database holds to a base.
+#[no_mangle]
+pub unsafe extern "C" fn ucstore_db_checkpoint(db: *const DbHandle) -> i32 {
+    // SAFETY: C owes the handle.
+    call(|| Ok(unsafe { Handle::get(db) }?.checkpoint()?))
+}
+
+/// Tells why nothing can be written any more, if that is so.
+#[no_mangle]
+pub unsafe extern "C" fn ucstore_db_failure(db: *const DbHandle) -> i32 {
+    call(|| {
+        // SAFETY: C owes the handle.
+        match unsafe { Handle::get(db) }?.failure() {
+            Some(error) => Err(error.into()),
+            None => Ok(()),
+        }
+    })
+}

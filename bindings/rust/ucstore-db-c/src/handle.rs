@@ -1,0 +1,70 @@
+//! [`Handle`]: what is behind an address that C holds.
+
+use crate::call::Refusal;
+use crate::cursor::Cursor;
+use crate::process::Process;
+use crate::status::Status;
+use db::{Batch, Db, Snapshot};
+
+/// Something that C holds the address of, and the process that has it.
+pub struct Handle<T> {
+    held: T,
+    process: Process,
+}
+
+/// `struct ucstore_db`.
+pub type DbHandle = Handle<Db>;
+/// `struct ucstore_db_batch`.
+pub type BatchHandle = Handle<Batch>;
+/// `struct ucstore_db_snapshot`.
+pub type SnapshotHandle = Handle<Snapshot>;
+/// `struct ucstore_db_cursor`.
+pub type CursorHandle = Handle<Cursor>;
+
+impl<T> Handle<T> {
+    /// The address of something, which C gives back to [`end`](Handle::end).
+    pub(crate) fn begin(held: T) -> *mut Handle<T> {
+        let process = Process::current();
+        Box::into_raw(Box::new(Handle { held, process }))
+    }
+
+    /// What is behind an address.
+    ///
+    /// # Safety
+    ///
+    /// The address is null, or [`begin`](Handle::begin) gave it and it hasn't ended. Nothing else changes it meanwhile.
+    pub(crate) unsafe fn get<'a>(at: *const Handle<T>) -> Result<&'a T, Refusal> {
+        // SAFETY: The caller owes as much.
+        let handle = unsafe { at.as_ref() }.ok_or(Status::Null)?;
+        handle.process.check()?;
+        Ok(&handle.held)
+    }
+
+    /// What is behind an address, to change it.
+    ///
+    /// # Safety
+    ///
+    /// As for [`get`](Handle::get). Nothing else reads it meanwhile.
+    pub(crate) unsafe fn get_mut<'a>(at: *mut Handle<T>) -> Result<&'a mut T, Refusal> {
+        // SAFETY: The caller owes as much.
+        let handle = unsafe { at.as_mut() }.ok_or(Status::Null)?;
+        handle.process.check()?;
+        Ok(&mut handle.held)
+    }
+
+    /// Takes what is behind an address, which ends. None if it is null. A forked child leaves it where it is.
+    ///
+    /// # Safety
+    ///
+    /// As for [`get_mut`](Handle::get_mut).
+    pub(crate) unsafe fn end(at: *mut Handle<T>) -> Result<Option<T>, Refusal> {
+        if at.is_null() {
+            return Ok(None);
+        }
+        // SAFETY: The caller owes as much.
+        unsafe { Handle::get(at) }?;
+        // SAFETY: It came from a box, and C doesn't use it any more.
+        let handle = unsafe { Box::from_raw(at) };
+        Ok(Some(handle.held))
+    }
+}

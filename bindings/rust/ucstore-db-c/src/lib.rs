@@ -1,0 +1,44 @@
+//! The functions of `bindings/c/ucstore_db.h` over [`db::Db`]. The header says what each does, and what its caller owes.
+//! Here they are: read `call.rs` and `handle.rs` first. `bindings/check_db_header` compares both.
+//!
+//! # Why the calls are sound
+//!
+//! The header lets C pass addresses of what it owns, with lengths, and those that the library gave. Null is refused. What
+//! is lent to C lies in a handle, and stays until the call that the header names. A panic becomes a status.
+#![deny(unsafe_op_in_unsafe_fn)]
+#![warn(missing_docs, clippy::undocumented_unsafe_blocks)]
+// What a caller owes stands in the header.
+#![allow(clippy::missing_safety_doc)]
+
+mod batch;
+mod call;
+mod cursor;
+mod database;
+mod events;
+mod handle;
+mod memory;
+mod options;
+mod process;
+mod snapshot;
+mod stats;
+mod status;
+
+pub use batch::*;
+pub use call::ucstore_db_error_text;
+pub use cursor::*;
+pub use database::*;
+pub use events::{CEvent, CProgress, EventFunction, ProgressFunction};
+pub use handle::{BatchHandle, CursorHandle, DbHandle, Handle, SnapshotHandle};
+pub use options::{ucstore_db_options_init, COptions};
+pub use snapshot::*;
+pub use stats::{ucstore_db_stats, ucstore_db_stats_text, CStats};
+pub use status::Status;
+
+/// The version of the functions. It grows when one of them, or a status, changes its meaning.
+pub const ABI: u32 = 1;
+
+/// Tells [`ABI`].
+#[no_mangle]
+pub extern "C" fn ucstore_db_version() -> u32 {
+    ABI
+}

@@ -1,0 +1,151 @@
+//! [`COptions`]: how a database is kept, as C has it.
+
+use crate::call::{call, Refusal};
+use crate::events::{events_of, progress_of, EventFunction, ProgressFunction};
+use crate::memory::Place;
+use crate::status::Status;
+use db::{ucstore, Operator, Options, Sync};
+use std::ffi::c_void;
+
+const SYNC_ALWAYS: u32 = 0;
+const SYNC_EVERY: u32 = 1;
+const SYNC_NEVER: u32 = 2;
+
+/// `struct ucstore_db_options`.
+#[repr(C)]
+pub struct COptions {
+    /// The size of the struct.
+    pub size: usize,
+    /// The number of the operator.
+    pub merge_operator: u32,
+    /// When a write is on the device.
+    pub sync: u32,
+    /// Behind how many milliseconds it is, if it is synced every so often.
+    pub sync_milliseconds: u64,
+    /// From how many bytes on the memtable is full.
+    pub write_buffer_size: u64,
+    /// From how many runs on something is compacted.
+    pub compaction_trigger: u32,
+    /// From how many runs on a write compacts.
+    pub stop_trigger: u32,
+    /// By how many percent a run may be larger than those above it.
+    pub size_ratio: u32,
+    /// Above how many percent of the oldest run the newer ones are compacted with it.
+    pub max_size_amplification_percent: u32,
+    /// The least number of runs for a compaction by size ratio.
+    pub min_merge_width: u32,
+    /// The greatest number of runs for a compaction.
+    pub max_merge_width: u32,
+    /// How many threads compact.
+    pub compactors: u32,
+    /// From how many runs on writes are slowed.
+    pub slow_trigger: u32,
+    /// By how many times the logs exceed the data when a checkpoint is made.
+    pub checkpoint_ratio: u64,
+    /// How many bytes the logs have at least when a checkpoint is made.
+    pub checkpoint_least: u64,
+    /// Not 0 to open a damaged folder up to the damage.
+    pub recovers_to_fault: u32,
+    /// Is told how far an opening is.
+    pub progress: ProgressFunction,
+    /// What it is given.
+    pub progress_context: *mut c_void,
+    /// Is told what the database does.
+    pub event: EventFunction,
+    /// What it is given.
+    pub event_context: *mut c_void,
+}
+
+impl COptions {
+    /// The options of the database.
+    pub(crate) fn read(&self) -> Result<Options, Refusal> {
+        if self.size != size_of::<COptions>() {
+            return Err(Status::BadSize.into());
+        }
+        Ok(Options {
+            operator: operator_of(self.merge_operator)?,
+            sync: self.read_sync()?,
+            store: self.read_store(),
+            compactors: self.compactors as usize,
+            slow_trigger: self.slow_trigger,
+            checkpoint_ratio: self.checkpoint_ratio,
+            checkpoint_least: self.checkpoint_least,
+            recover_to_fault: self.recovers_to_fault != 0,
+            progress: progress_of(self.progress, self.progress_context),
+            events: events_of(self.event, self.event_context),
+        })
+    }
+
+    fn read_sync(&self) -> Result<Sync, Refusal> {
+        match self.sync {
+            SYNC_ALWAYS => Ok(Sync::Always),
+            SYNC_EVERY => Ok(Sync::EveryMs(self.sync_milliseconds)),
+            SYNC_NEVER => Ok(Sync::Never),
+            _ => Err(Status::BadOption.into()),
+        }
+    }
+
+    fn read_store(&self) -> ucstore::Options {
+        ucstore::Options {
+            write_buffer_size: self.write_buffer_size,
+            compaction_trigger: self.compaction_trigger,
+            stop_trigger: self.stop_trigger,
+            size_ratio: self.size_ratio,
+            max_size_amplification_percent: self.max_size_amplification_percent,
+            min_merge_width: self.min_merge_width,
+            max_merge_width: self.max_merge_width,
+            ..Default::default()
+        }
+    }
+}
+
+impl Default for COptions {
+    /// The database's own defaults.
+    fn default() -> COptions {
+        let options = Options::default();
+        COptions {
+            size: size_of::<COptions>(),
+            merge_operator: options.operator as u32,
+            sync: SYNC_ALWAYS,
+            sync_milliseconds: 0,
+            write_buffer_size: options.store.write_buffer_size,
+            compaction_trigger: options.store.compaction_trigger,
+            stop_trigger: options.store.stop_trigger,
+            size_ratio: options.store.size_ratio,
+            max_size_amplification_percent: options.store.max_size_amplification_percent,
+            min_merge_width: options.store.min_merge_width,
+            max_merge_width: options.store.max_merge_width,
+            compactors: options.compactors as u32,
+            slow_trigger: options.slow_trigger,
+            checkpoint_ratio: options.checkpoint_ratio,
+            checkpoint_least: options.checkpoint_least,
+            recovers_to_fault: options.recover_to_fault.into(),
+            progress: None,
+            progress_context: std::ptr::null_mut(),
+            event: None,
+            event_context: std::ptr::null_mut(),
+        }
+    }
+}
+
+/// The operator of a number.
+fn operator_of(number: u32) -> Result<Operator, Refusal> {
+    match number {
+        0 => Ok(Operator::Append),
+        1 => Ok(Operator::Counter),
+        2 => Ok(Operator::Maximum),
+        3 => Ok(Operator::Tail),
+        _ => Err(Status::UnknownOperator.into()),
+    }
+}
+
+/// Fills in the default options.
+#[no_mangle]
+pub unsafe extern "C" fn ucstore_db_options_init(options: *mut COptions) -> i32 {
+    call(|| {
+        // SAFETY: C owes the memory.
+        let place = unsafe { Place::of(options) }?;
+        place.put(COptions::default());
+        Ok(())
+    })
+}

@@ -1,0 +1,127 @@
+//! [`CStats`]: what a database holds and did, as C has it.
+
+use crate::call::call;
+use crate::handle::{DbHandle, Handle};
+use crate::memory::{Place, Room};
+use crate::status::Status;
+use db::Stats;
+use std::ffi::c_char;
+use std::time::Duration;
+
+/// `struct ucstore_db_stats`.
+#[repr(C)]
+pub struct CStats {
+    /// The size of the struct.
+    pub size: usize,
+    /// For how many microseconds it is open.
+    pub uptime: u64,
+    /// The sequence of the last write.
+    pub last: u64,
+    /// How many runs there are.
+    pub runs: u64,
+    /// The bytes of all runs.
+    pub bytes: u64,
+    /// How many writes no run has yet.
+    pub gathered: u64,
+    /// The bytes of the logs that no checkpoint holds.
+    pub log_bytes: u64,
+    /// How many batches were taken.
+    pub batches: u64,
+    /// How many records of the log they shared.
+    pub groups: u64,
+    /// The bytes of the batches.
+    pub user_bytes: u64,
+    /// The bytes that were appended to logs.
+    pub logged_bytes: u64,
+    /// The bytes of the bases that were written.
+    pub base_bytes: u64,
+    /// How many keys were looked up.
+    pub lookups: u64,
+    /// How often a log was synced.
+    pub syncs: u64,
+    /// The microseconds that half of the last 1,024 syncs kept to.
+    pub sync_p50: u64,
+    /// The microseconds that 99 percent of them kept to.
+    pub sync_p99: u64,
+    /// How often writes began to be slowed, or waited.
+    pub stalls: u64,
+    /// How many groups of writes were slowed.
+    pub slowed: u64,
+    /// For how many microseconds writes were slowed or waited.
+    pub stalled: u64,
+    /// How many runs were made of what was gathered.
+    pub flushes: u64,
+    /// How many compactions there were.
+    pub compactions: u64,
+    /// How many checkpoints were made.
+    pub checkpoints: u64,
+}
+
+impl From<Stats> for CStats {
+    fn from(stats: Stats) -> CStats {
+        let micros = |duration: Duration| duration.as_micros() as u64;
+        CStats {
+            size: size_of::<CStats>(),
+            uptime: micros(stats.uptime),
+            last: stats.last,
+            runs: stats.runs,
+            bytes: stats.bytes,
+            gathered: stats.gathered,
+            log_bytes: stats.log_bytes,
+            batches: stats.batches,
+            groups: stats.groups,
+            user_bytes: stats.user_bytes,
+            logged_bytes: stats.logged_bytes,
+            base_bytes: stats.base_bytes,
+            lookups: stats.lookups,
+            syncs: stats.syncs,
+            sync_p50: micros(stats.sync_p50),
+            sync_p99: micros(stats.sync_p99),
+            stalls: stats.stalls,
+            slowed: stats.slowed,
+            stalled: micros(stats.stalled),
+            flushes: stats.flushes,
+            compactions: stats.compactions,
+            checkpoints: stats.checkpoints,
+        }
+    }
+}
+
+/// Tells what a database holds and did, in numbers.
+#[no_mangle]
+pub unsafe extern "C" fn ucstore_db_stats(db: *const DbHandle, stats: *mut CStats) -> i32 {
+    call(|| {
+        // SAFETY: C owes the handle, and a struct that has a size.
+        let (db, place) = unsafe { (Handle::get(db)?, Place::of(stats)?) };
+        // SAFETY: As above; the place isn't null.
+        if unsafe { (*stats).size } != size_of::<CStats>() {
+            return Err(Status::BadSize.into());
+        }
+        place.put(db.stats().into());
+        Ok(())
+    })
+}
+
+/// Tells it as a table.
+#[no_mangle]
+pub unsafe extern "C" fn ucstore_db_stats_text(
+    db: *const DbHandle,
+    room: *mut c_char,
+    room_length: usize,
+    size: *mut usize,
+) -> i32 {
+    call(|| {
+        // SAFETY: C owes the handle and the memory.
+        let (db, mut room, size) = unsafe {
+            let room = Room::<u8>::of(room.cast(), room_length)?;
+            (Handle::get(db)?, room, Place::of(size)?)
+        };
+        let text = db.stats().to_string();
+        // The last byte of the room is for the zero.
+        let kept = text.len().min(room.left().saturating_sub(1));
+        room.push(&text.as_bytes()[..kept]);
+        room.push(&[0]);
+        size.put(text.len());
+        Ok(())
+    })
+}

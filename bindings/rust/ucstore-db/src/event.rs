@@ -1,0 +1,142 @@
+//! [`Event`], [`Progress`] and [`Listener`]: what a database tells while it works.
+
+use crate::error::Error;
+use crate::lock;
+use std::fmt;
+use std::mem;
+use std::sync::{Arc, Mutex};
+use std::time::Duration;
+
+/// Something that a database did, or that happened to it.
+#[derive(Clone, Debug)]
+#[non_exhaustive]
+pub enum Event {
+    /// What was gathered became a run.
+    Flushed {
+        /// How many runs there are now.
+        runs: u64,
+        /// About how many bytes were gathered.
+        bytes: u64,
+        /// How long it took.
+        took: Duration,
+    },
+    /// Runs were compacted to one.
+    Compacted {
+        /// How many runs there are now.
+        runs: u64,
+        /// How long it took.
+        took: Duration,
+    },
+    /// A base was written, and the logs before it are gone.
+    Checkpointed {
+        /// The name of the base.
+        file: String,
+        /// How many bytes it has.
+        bytes: u64,
+        /// How long it took.
+        took: Duration,
+    },
+    /// Writes are slowed, or wait, from now on: there are too many runs.
+    Stalled {
+        /// How many runs there are.
+        runs: u64,
+    },
+    /// A log or a checkpoint in the background failed.
+    Failed {
+        /// Why. Behind [`Error::ReadOnly`] nothing can be written any more.
+        error: Error,
+    },
+}
+
+/// How far the opening of a folder is.
+#[derive(Clone, Debug, PartialEq, Eq)]
+pub struct Progress {
+    /// The name of the file that is read.
+    pub file: String,
+    /// How many bytes of all files were read.
+    pub read: u64,
+    /// How many bytes all files have.
+    pub whole: u64,
+}
+
+/// A function of the owner's that is told things. A clone is the same one.
+///
+/// It is called by the thread that did something, which holds no lock: the function may call the database. What comes
+/// next waits for it.
+///
+/// ```
+/// # use ucstore_db::{Db, Event, Listener, Options};
+/// # fn main() -> Result<(), ucstore_db::Error> {
+/// let events = Some(Listener::new(|event: &Event| println!("{event:?}")));
+/// let db = Db::in_memory(&Options { events, ..Default::default() })?;
+/// # Ok(())
+/// # }
+/// ```
+pub struct Listener<T>(Arc<dyn Fn(&T) + Send + Sync>);
+
+impl<T> Listener<T> {
+    /// One that calls a function.
+    pub fn new(function: impl Fn(&T) + Send + Sync + 'static) -> Listener<T> {
+        Listener(Arc::new(function))
+    }
+
+    /// Tells it something.
+    pub(crate) fn tell(&self, told: &T) {
+        (self.0)(told);
+    }
+}
+
+impl<T> Clone for Listener<T> {
+    fn clone(&self) -> Listener<T> {
+        Listener(Arc::clone(&self.0))
+    }
+}
+
+/// Two are equal if they are the same one.
+impl<T> PartialEq for Listener<T> {
+    fn eq(&self, other: &Listener<T>) -> bool {
+        Arc::ptr_eq(&self.0, &other.0)
+    }
+}
+
+impl<T> Eq for Listener<T> {}
+
+impl<T> fmt::Debug for Listener<T> {
+    fn fmt(&self, formatter: &mut fmt::Formatter<'_>) -> fmt::Result {
+        formatter.debug_tuple("Listener").finish_non_exhaustive()
+    }
+}
+
+/// The events that are told once no lock is held.
+#[derive(Default)]
+pub(crate) struct Events {
+    listener: Option<Listener<Event>>,
+    waiting: Mutex<Vec<Event>>,
+}
+
+impl Events {
+    /// Those for a listener, if there is one.
+    pub(crate) fn of(listener: Option<Listener<Event>>) -> Events {
+        Events {
+            listener,
+            waiting: Mutex::default(),
+        }
+    }
+
+    /// Adds an event, which waits until the thread holds no lock.
+    pub(crate) fn push(&self, event: Event) {
+        if self.listener.is_some() {
+            lock(&self.waiting).push(event);
+        }
+    }
+
+    /// Tells what waits. The thread holds no lock.
+    pub(crate) fn tell(&self) {
+        if let Some(listener) = &self.listener {
+            let waiting = mem::take(&mut *lock(&self.waiting));
+            for event in &waiting {
+                listener.tell(event);
+            }
+        }
+    }
+}

@@ -1,0 +1,57 @@
+//! The file `OPERATOR`, which names the operator that a folder was made with.
+
+use crate::error::Error;
+use crate::folder::Folder;
+use ucstore::Operator;
+
+/// The file, and what it is called until it is on the device.
+pub(crate) const OPERATOR: &str = "OPERATOR";
+const NEW: &str = "OPERATOR.new";
+
+const ALL: [Operator; 4] = [
+    Operator::Append,
+    Operator::Counter,
+    Operator::Maximum,
+    Operator::Tail,
+];
+
+/// What an operator is called.
+pub(crate) fn word(operator: Operator) -> &'static str {
+    match operator {
+        Operator::Append => "append",
+        Operator::Counter => "counter",
+        Operator::Maximum => "maximum",
+        Operator::Tail => "tail",
+    }
+}
+
+/// The line of the file.
+fn line(operator: Operator) -> String {
+    format!("{}\n", word(operator))
+}
+
+/// Checks that a folder's file names the operator.
+pub(crate) fn check(folder: &dyn Folder, asked: Operator) -> Result<(), Error> {
+    let found = folder.read(OPERATOR).map_err(Error::of_file(OPERATOR))?;
+    match ALL.into_iter().find(|it| line(*it).as_bytes() == found) {
+        Some(made) if made == asked => Ok(()),
+        Some(made) => Err(Error::OtherOperator { made, asked }),
+        None => Err(Error::Damaged {
+            file: OPERATOR.into(),
+            offset: 0,
+            fault: "it names no operator".into(),
+        }),
+    }
+}
+
+/// Writes the file of a folder, and waits until it is on the device.
+pub(crate) fn write(folder: &dyn Folder, operator: Operator) -> Result<(), Error> {
+    let mut file = folder.create(NEW).map_err(Error::of_file(NEW))?;
+    file.append(line(operator).as_bytes())
+        .and_then(|()| file.sync())
+        .map_err(Error::of_file(NEW))?;
+    folder
+        .rename(NEW, OPERATOR)
+        .map_err(Error::of_file(OPERATOR))?;
+    folder.sync().map_err(Error::of_file(""))
+}
