@@ -1,4 +1,4 @@
-"""The table of docs/BENCHMARKS.md: which rows of the results make its lines, and how a line's cells are written."""
+"""The table of bench/FIGURES.md: which rows of the results make its lines, and how a line's cells are written."""
 
 from decimal import ROUND_HALF_UP, Decimal
 from fnmatch import fnmatchcase
@@ -261,7 +261,7 @@ def measured_text(rows):
     for row in rows:
         name = row["machine"]["name"]
         if name not in LETTERS:
-            raise SystemExit(f"bench/plot: the machine {name} has no letter in bench/table.py and docs/BENCHMARKS.md")
+            raise SystemExit(f"bench/plot: the machine {name} has no letter in bench/table.py and bench/FIGURES.md")
         day = row["date"][8:] if row["date"].startswith(MONTH) else row["date"]
         texts.append(f"{LETTERS[name]}-{day}")
     return ", ".join(dict.fromkeys(texts))
@@ -283,7 +283,7 @@ def line_text(line, results, is_first):
         return ""
     rows = [worst_of(all_rows)] if line.style == "worst" else all_rows
     over = rows_of(line, results, line.ratio_cases) if line.ratio_cases else rows
-    link = f"[{line.benchmark}](../bench/{line.benchmark}/RESULTS.md)" if is_first else ""
+    link = f"[{line.benchmark}]({line.benchmark}/RESULTS.md)" if is_first else ""
     cells = [
         line.label.format(count=len(all_rows)), our_text(line, rows), baseline_text(line, rows), ratio_text(line, over),
         goal_text(rows, all_rows), link, measured_text(rows),

@@ -46,6 +46,8 @@ impl Shared {
         // The last view of the runs that are replaced frees them, behind the store's lock.
         let replaced = store.view();
         let is_done = store.end_job(job).expect("a job of this store");
+        // Readers let go of the runs that are replaced.
+        self.newest.raise();
         self.runs.store(store.report().runs, Ordering::Relaxed);
         self.work.notify_all();
         drop(store);

@@ -16,6 +16,9 @@ use std::thread::{self, Thread};
 use std::time::{Duration, Instant};
 use ucstore::{Store, View};
 
+/// From how many bytes on scans make a run of what is gathered.
+const MOST_SORTED: u64 = 32 << 10;
+
 /// By how much a write is slowed while there are many runs.
 const SLOW: Duration = Duration::from_millis(1);
 
@@ -229,9 +232,24 @@ impl Shared {
         self.newest.view(&self.store)
     }
 
-    /// A view as [`view`](Shared::view) gives it, in which scans have nothing to sort.
+    /// A view for scans, in which what no run has yet is sorted.
     pub(crate) fn sorted_view(&self) -> Result<View, Error> {
+        self.flush_for_scans();
         self.newest.sorted_view(&self.store)
+    }
+
+    /// Makes a run of what is gathered, if that is much, so that it isn't sorted anew behind each write. It waits for no writer and
+    /// no compaction: what isn't flushed is sorted, and what is refused here is refused to a write.
+    fn flush_for_scans(&self) {
+        let is_much = self.gathered.load(Ordering::Relaxed) >= MOST_SORTED;
+        if !is_much || self.runs.load(Ordering::Relaxed) >= self.options.slow_trigger.into() {
+            return;
+        }
+        if let Ok(log) = self.log.try_lock() {
+            let _ = self.flush_gathered();
+            drop(log);
+            self.events.tell();
+        }
     }
 
     /// Makes a run of what is gathered.
@@ -250,7 +268,10 @@ impl Shared {
         self.newest.renew(&self.store)?;
         let (gathered, runs) = self.call(|store| {
             let gathered = store.report().gathered;
-            store.flush().map(|()| (gathered, store.report().runs))
+            store.flush()?;
+            // Readers let go of the memtables.
+            self.newest.raise();
+            Ok((gathered, store.report().runs))
         })?;
         let bytes = self.gathered.swap(0, Ordering::Relaxed);
         self.tell_runs(runs);

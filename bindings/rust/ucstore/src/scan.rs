@@ -6,8 +6,11 @@ use crate::source::Source;
 use std::iter::FusedIterator;
 use std::ops;
 
+/// How many rows the first page has at most: many scans read no more. Each page may have twice as many as the one before.
+const FIRST_ROWS: u64 = 16;
+
 /// How many rows a page has at most.
-const PAGE_ROWS: u64 = 128;
+const PAGE_ROWS: u64 = 512;
 
 /// The bytes of a page at first.
 const PAGE_BYTES: usize = 16 * 1024;
@@ -48,6 +51,8 @@ pub struct Scan<S> {
     left: u64,
     /// How many rows the next page has at most.
     limit: u64,
+    /// How many rows a page may ask for: all of them fitted so far.
+    most: u64,
     /// Whether no page comes behind this one.
     is_last: bool,
 }
@@ -70,7 +75,8 @@ impl<S: Source> Scan<S> {
             page: Vec::new(),
             place: 0,
             left: 0,
-            limit: PAGE_ROWS,
+            limit: FIRST_ROWS,
+            most: PAGE_ROWS,
             is_last: false,
         }
     }
@@ -91,8 +97,8 @@ impl<S: Source> Scan<S> {
         Ok(Some((&self.page[key], &self.page[value])))
     }
 
-    /// Fetches the next page. Behind one whose rows don't all fit, the next asks for no more rows than did. The page
-    /// grows only if its first row doesn't fit.
+    /// Fetches the next page. Behind one whose rows don't all fit, none asks for more rows than did. The page grows only
+    /// if its first row doesn't fit.
     fn fetch(&mut self) -> Result<(), Error> {
         if self.page.is_empty() {
             self.page.resize(PAGE_BYTES, 0);
@@ -108,11 +114,10 @@ impl<S: Source> Scan<S> {
             let all_fit = size <= self.page.len();
             if all_fit || rows > 0 {
                 self.is_last = all_fit && rows < self.limit;
-                self.limit = if all_fit {
-                    PAGE_ROWS.min(self.limit * 2)
-                } else {
-                    rows
-                };
+                if !all_fit {
+                    self.most = rows;
+                }
+                self.limit = self.most.min(self.limit * 2);
                 (self.left, self.place) = (rows, 0);
                 return Ok(());
             }
