@@ -24,7 +24,7 @@ trap 'rm -rf "$work" "$room"' EXIT
 export HOME=${HOME:-$(getent passwd "$(id -u)" | cut -d: -f6)}
 export PATH=$PATH:${CARGO_HOME:-$HOME/.cargo}/bin
 seed=${SEED:-1}
-cases_drawn=60
+cases_drawn=30
 if [ -n "${LONG:-}" ]; then cases_drawn=600; fi
 strict=(-Wall -Wextra -Werror -pedantic)
 # What a database has too: no sequences of batches, and no reports.
@@ -122,25 +122,26 @@ run_programs() { # COMPILER.. -- LIBRARY..
     expect 'db_first.c, again' '10 visits, 7 before' "$(cd "$work" && ./db_first)"
 }
 
-# Files of cases by one compiler.
-run_cases() { # COMPILER.. -- LIBRARY..
-    compile play "$@"
+# Plays files of cases.
+run_cases() { # FILE..
     rm -rf "$room"/*
-    FOLDER=$room "$work/play" "${played[@]}" "$work/drawn.txt"
+    FOLDER=$room "$work/play" "$@"
 }
 
 try_c() {
     run_programs gcc -std=c99 -O2 -- "${flags[@]}"
     run_programs g++ -O2 -x c++ -- "${static[@]}"
     run_programs clang -std=c99 -O2 -- "${static[@]}"
-    run_cases g++ -O2 -x c++ -- "${flags[@]}"
+    compile play g++ -O2 -x c++ -- "${flags[@]}"
+    run_cases "$work/drawn.txt"
 }
 
 # The library isn't compiled for the sanitizer of threads, which doesn't see its locks. So it looks at C's part alone.
 try_sanitizers() {
     local number checked=(-std=c99 -O1 -g -fno-sanitize-recover=all)
     run_programs gcc "${checked[@]}" -fsanitize=address,undefined -- "${static[@]}"
-    run_cases gcc "${checked[@]}" -fsanitize=address,undefined -- "${static[@]}"
+    compile play gcc "${checked[@]}" -fsanitize=address,undefined -- "${static[@]}"
+    run_cases "${played[@]}" "$work/drawn.txt"
     compile db_threads clang "${checked[@]}" -fsanitize=thread -- "${flags[@]}"
     echo 'called_from_lib:libucstore_db.so.1' > "$work/passed_over"
     for number in 1 2; do
@@ -194,22 +195,24 @@ try_ended() {
     end_example
 }
 
-# Ends the example again and again until it has counted all words of four files. Each is counted once.
+# Ends the example again and again, each time later, until it has counted all words of four files. Each is counted once.
 end_example() {
-    local number tries=0
+    local number tries=0 milliseconds=10
     compile example gcc -std=gnu99 -O2 -- "${flags[@]}"
     for number in 1 2 3 4; do
-        awk -v seed="$number" 'BEGIN { srand(seed); for (line = 0; line < 300; line++)
+        awk -v seed="$number" 'BEGIN { srand(seed); for (line = 0; line < 500; line++)
             printf "w%d w%d\tw%d\n", 20 * rand(), 20 * rand(), 20 * rand() }' > "$work/text$number"
     done
-    cat "$work"/text? | tr '\t' '\n' | tr ' ' '\n' | sort | uniq -c | awk '{ print $2, $1 }' | LC_ALL=C sort > "$work/wanted"
+    cat "$work"/text? | tr ' \t' '\n\n' | sort | uniq -c | awk '{ print $2, $1 }' | LC_ALL=C sort > "$work/wanted"
     # The shell says of each end that it was one.
-    until { timeout -s KILL "0.$((RANDOM % 4))$((1 + RANDOM % 9))" \
+    until { timeout -s KILL "$(printf '0.%03d' "$milliseconds")" \
         "$work/example" "$work/words_c" "$work"/text? > "$work/counts" 2> "$work/said"; } 2> /dev/null; do
         [ ! -s "$work/said" ] || fail "$(cat "$work/said")"
         tries=$((tries + 1))
+        if [ "$milliseconds" -lt 900 ]; then milliseconds=$((milliseconds + 7)); fi
         [ "$tries" -lt 500 ] || fail "the example never ends"
     done
+    [ "$tries" -gt 0 ] || fail "the example wasn't ended before it was done"
     LC_ALL=C sort "$work/counts" | diff "$work/wanted" - >&2 || fail "the example of C counts wrongly behind $tries ends"
     echo "the example was ended $tries times"
 }

@@ -72,6 +72,16 @@ static uint64_t sum_of(struct ucstore_db_snapshot *snapshot) {
     return whole;
 }
 
+/* A snapshot that is there from the begin on, which all threads read. */
+static struct ucstore_db_snapshot *first;
+
+static void read_first(void) {
+    uint64_t found = 0;
+    size_t size = 0;
+    OK(ucstore_db_snapshot_get(first, "begun", 5, &found, sizeof found, &size));
+    CHECK(found == 1 && ucstore_db_snapshot_get(first, "whole", 5, &found, sizeof found, &size) == UCSTORE_DB_NOT_FOUND);
+}
+
 static void read_db(void) {
     struct ucstore_db_snapshot *snapshot = NULL;
     uint64_t sum, found = 0;
@@ -104,6 +114,7 @@ static void *work(void *context) {
         OK(ucstore_db_batch_merge(batch, &key, 1, one, sizeof one));
         OK(ucstore_db_batch_merge(batch, "whole", 5, one, sizeof one));
         OK(ucstore_db_write(db, batch));
+        read_first();
         if (round % 16 == number) {
             read_db();
         }
@@ -125,6 +136,9 @@ int main(int argc, char **argv) {
         return 2;
     }
     db = opened(argv[1]);
+    OK(ucstore_db_merge(db, "begun", 5, one, sizeof one));
+    OK(ucstore_db_snapshot(db, &first));
+    OK(ucstore_db_delete(db, "begun", 5));
     for (unsigned number = 0; number < THREADS; number++) {
         numbers[number] = number;
         CHECK(pthread_create(&threads[number], NULL, work, &numbers[number]) == 0);
@@ -132,6 +146,8 @@ int main(int argc, char **argv) {
     for (unsigned number = 0; number < THREADS; number++) {
         CHECK(pthread_join(threads[number], NULL) == 0);
     }
+    read_first();
+    OK(ucstore_db_snapshot_close(first));
     OK(ucstore_db_close(db));
     db = opened(argv[1]);
     OK(ucstore_db_snapshot(db, &snapshot));

@@ -11,8 +11,8 @@
  * What is acknowledged is there again when the folder is opened, also behind the end of the process by a signal. All data is
  * in memory too, and a folder is read whole when it is opened. Flushes, compactions and checkpoints are made by themselves.
  *
- * Any thread may use a database, several at once. Batches, snapshots and cursors may go from thread to thread, and take one
- * call at a time.
+ * Any thread may use a database and a snapshot, several at once. The calls on a snapshot wait for one another, unless each
+ * thread has a handle of its own. Batches and cursors may go from thread to thread, and take one call at a time.
  *
  * Each function answers one of the statuses below, but for those that lend or tell something. What a refused call says is in
  * `ucstore_db_error_text`, for each thread its own: which file, at which offset, and why. On any status but UCSTORE_DB_OK
@@ -298,7 +298,7 @@ int32_t ucstore_db_batch_count(const struct ucstore_db_batch *batch, uint64_t *c
 /* Frees the batch. */
 int32_t ucstore_db_batch_close(struct ucstore_db_batch *batch);
 
-/* Makes another handle of a snapshot, for another thread. Nothing is copied. Each of the two is closed.
+/* Makes another handle of a snapshot, so that another thread doesn't wait. Nothing is copied. Each of the two is closed.
  * UCSTORE_DB_OUT_OF_MEMORY. */
 int32_t ucstore_db_snapshot_again(const struct ucstore_db_snapshot *snapshot, struct ucstore_db_snapshot **again);
 

@@ -11,6 +11,7 @@ import sys
 from test_cases import rewritten
 
 KEYS = ["a", "ab", "abc", "b", "ba", "c", '""', '"\\x00"', '"a\\x00"', '"\\xff"', '"\\xff\\xff"', "20*k", "300*k"]
+NAMES = ["one", "two", "three", "four", "five"]
 TEXTS = ["1", "22", "333", '""', '"\\xff\\x00"', "40*v", "700*w"]
 NUMBERS = ["u64:1", "u64:7", "u64:18446744073709551615", "no", '""']
 OPTIONS = ["", " write_buffer_size=1", " write_buffer_size=64", " write_buffer_size=64 compacts_itself=0 compaction_trigger=2"]
@@ -23,7 +24,6 @@ class Drawn:
         self.random = random.Random(seed)
         self.lines = []
         self.names = []
-        self.count = 0
 
     def texts(self):
         return NUMBERS if self.operator == "counter" else TEXTS
@@ -61,10 +61,10 @@ class Drawn:
 
     def snapshot(self):
         """Takes a snapshot, or releases one."""
-        if len(self.names) < 5 and self.random.random() < 0.6:
-            self.count += 1
-            self.names.append(f"s{self.count}")
-            self.lines.append(f"snapshot {self.names[-1]}")
+        free = [name for name in NAMES if name not in self.names]
+        if free and self.random.random() < 0.6:
+            self.names.append(free[0])
+            self.lines.append(f"snapshot {free[0]}")
         elif self.names:
             self.lines.append(f"release {self.names.pop(self.random.randrange(len(self.names)))}")
 

@@ -221,10 +221,10 @@ pub unsafe extern "C" fn ucstore_db_snapshot_cursor(
     cursor: *mut *mut CursorHandle,
 ) -> i32 {
     call(|| {
-        // SAFETY: C owes the handle, which no other call uses, the texts and the memory.
+        // SAFETY: C owes the handle, the texts and the memory.
         let (snapshot, (low, high), place) = unsafe {
             let bounds = bounds(low, low_length, high, high_length, bounded)?;
-            (Handle::get(snapshot)?, bounds, Place::of(cursor)?)
+            (SnapshotHandle::lock(snapshot)?, bounds, Place::of(cursor)?)
         };
         place.put(Handle::begin(Cursor::of(snapshot.again()?, low, high)?));
         Ok(())
@@ -240,10 +240,10 @@ pub unsafe extern "C" fn ucstore_db_snapshot_prefix(
     cursor: *mut *mut CursorHandle,
 ) -> i32 {
     call(|| {
-        // SAFETY: C owes the handle, which no other call uses, the text and the memory.
+        // SAFETY: C owes the handle, the text and the memory.
         let (snapshot, prefix, place) = unsafe {
             let prefix = text(prefix, prefix_length)?;
-            (Handle::get(snapshot)?, prefix, Place::of(cursor)?)
+            (SnapshotHandle::lock(snapshot)?, prefix, Place::of(cursor)?)
         };
         let high = end_of_prefix(prefix);
         let found = Cursor::of(snapshot.again()?, prefix, high.as_deref())?;

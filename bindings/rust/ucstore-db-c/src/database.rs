@@ -243,7 +243,7 @@ pub unsafe extern "C" fn ucstore_db_snapshot(
     call(|| {
         // SAFETY: C owes the handle and the memory.
         let (db, place) = unsafe { (Handle::get(db)?, Place::of(snapshot)?) };
-        place.put(Handle::begin(db.snapshot()?));
+        place.put(SnapshotHandle::begin_snapshot(db.snapshot()?));
         Ok(())
     })
 }

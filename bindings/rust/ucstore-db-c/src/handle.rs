@@ -5,6 +5,7 @@ use crate::cursor::Cursor;
 use crate::process::Process;
 use crate::status::Status;
 use db::{Batch, Db, Snapshot};
+use std::sync::{Mutex, MutexGuard, PoisonError};
 
 /// Something that C holds the address of, and the process that has it.
 pub struct Handle<T> {
@@ -16,20 +17,41 @@ pub struct Handle<T> {
 pub type DbHandle = Handle<Db>;
 /// `struct ucstore_db_batch`.
 pub type BatchHandle = Handle<Batch>;
-/// `struct ucstore_db_snapshot`.
-pub type SnapshotHandle = Handle<Snapshot>;
+/// `struct ucstore_db_snapshot`, whose calls wait for one another.
+pub type SnapshotHandle = Handle<Mutex<Snapshot>>;
 /// `struct ucstore_db_cursor`.
 pub type CursorHandle = Handle<Cursor>;
 
-// The header lets any thread use a database, and the others go from thread to thread.
+// The header lets any thread use a database and a snapshot, and the others go from thread to thread.
 const _: () = {
     const fn is_shared<T: Send + Sync>() {}
     const fn is_sent<T: Send>() {}
     is_shared::<Db>();
+    is_shared::<Mutex<Snapshot>>();
     is_sent::<Batch>();
-    is_sent::<Snapshot>();
     is_sent::<Cursor>();
 };
+
+impl SnapshotHandle {
+    /// The address of a snapshot.
+    pub(crate) fn begin_snapshot(snapshot: Snapshot) -> *mut SnapshotHandle {
+        Handle::begin(Mutex::new(snapshot))
+    }
+
+    /// The snapshot behind an address, when no other thread uses it.
+    ///
+    /// # Safety
+    ///
+    /// As for [`get`](Handle::get).
+    pub(crate) unsafe fn lock<'a>(
+        at: *const SnapshotHandle,
+    ) -> Result<MutexGuard<'a, Snapshot>, Refusal> {
+        // SAFETY: The caller owes as much.
+        let snapshot = unsafe { Handle::get(at) }?;
+        // One that a panic left is whole: reads change nothing.
+        Ok(snapshot.lock().unwrap_or_else(PoisonError::into_inner))
+    }
+}
 
 impl<T> Handle<T> {
     /// The address of something, which C gives back to [`end`](Handle::end).

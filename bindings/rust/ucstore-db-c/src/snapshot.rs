@@ -132,9 +132,9 @@ pub unsafe extern "C" fn ucstore_db_snapshot_again(
     again: *mut *mut SnapshotHandle,
 ) -> i32 {
     call(|| {
-        // SAFETY: C owes the handle, which no other call uses, and the memory.
-        let (snapshot, place) = unsafe { (Handle::get(snapshot)?, Place::of(again)?) };
-        place.put(Handle::begin(snapshot.again()?));
+        // SAFETY: C owes the handle and the memory.
+        let (snapshot, place) = unsafe { (SnapshotHandle::lock(snapshot)?, Place::of(again)?) };
+        place.put(SnapshotHandle::begin_snapshot(snapshot.again()?));
         Ok(())
     })
 }
@@ -146,8 +146,8 @@ pub unsafe extern "C" fn ucstore_db_snapshot_sequence(
     sequence: *mut u64,
 ) -> i32 {
     call(|| {
-        // SAFETY: C owes the handle, which no other call uses, and the memory.
-        let (snapshot, place) = unsafe { (Handle::get(snapshot)?, Place::of(sequence)?) };
+        // SAFETY: C owes the handle and the memory.
+        let (snapshot, place) = unsafe { (SnapshotHandle::lock(snapshot)?, Place::of(sequence)?) };
         place.put(snapshot.sequence());
         Ok(())
     })
@@ -164,10 +164,14 @@ pub unsafe extern "C" fn ucstore_db_snapshot_get(
     size: *mut usize,
 ) -> i32 {
     call(|| {
-        // SAFETY: C owes the handle, which no other call uses, the text and the memory.
+        // SAFETY: C owes the handle, the text and the memory.
         let (snapshot, key, value) = unsafe {
             let value = Value::of(room, room_length, size)?;
-            (Handle::get(snapshot)?, text(key, key_length)?, value)
+            (
+                SnapshotHandle::lock(snapshot)?,
+                text(key, key_length)?,
+                value,
+            )
         };
         value.put(snapshot.get(key)?)
     })
@@ -187,11 +191,11 @@ pub unsafe extern "C" fn ucstore_db_snapshot_get_many(
     size: *mut usize,
 ) -> i32 {
     call(|| {
-        // SAFETY: C owes the handle, which no other call uses, the texts and the memory.
+        // SAFETY: C owes the handle, the texts and the memory.
         let (snapshot, keys, values) = unsafe {
             let keys = Keys::of(keys, keys_length, key_lengths, count)?;
             let values = Values::of(value_lengths, count, room, room_length, size)?;
-            (Handle::get(snapshot)?, keys, values)
+            (SnapshotHandle::lock(snapshot)?, keys, values)
         };
         values.put(snapshot.get_many(keys.iter())?)
     })
