@@ -80,7 +80,7 @@ try_rust() {
     (
         cd "$work/rust"
         unset LD_LIBRARY_PATH
-        TMPDIR=$work cargo test --offline --quiet -j 2 -p ucstore-db ${LONG:+--release}
+        TMPDIR=$work cargo test --offline --quiet -j 2 -p ucstore-db -p ucstore-db-c ${LONG:+--release}
         DOCS_RS=1 RUSTDOCFLAGS=-Dwarnings cargo doc --offline --quiet --no-deps -j 2 -p ucstore-db
         cargo build --offline --quiet -j 2 -p ucstore-db --example words
     )
@@ -111,15 +111,21 @@ compile() { # NAME COMPILER.. -- LIBRARY..
 # The programs by one compiler, and what they say.
 run_programs() { # COMPILER.. -- LIBRARY..
     local name
-    for name in db_test db_threads db_first play; do
+    for name in db_test db_threads db_first; do
         compile "$name" "$@"
     done
-    rm -rf "$work"/{calls,threads,visits} "$room"/*
+    rm -rf "$work"/{calls,threads,visits}
     mkdir "$work/calls"
     "$work/db_test" "$work/calls"
     "$work/db_threads" "$work/threads"
     expect db_first.c '5 visits, 2 before' "$(cd "$work" && ./db_first)"
     expect 'db_first.c, again' '10 visits, 7 before' "$(cd "$work" && ./db_first)"
+}
+
+# Files of cases by one compiler.
+run_cases() { # COMPILER.. -- LIBRARY..
+    compile play "$@"
+    rm -rf "$room"/*
     FOLDER=$room "$work/play" "${played[@]}" "$work/drawn.txt"
 }
 
@@ -127,12 +133,14 @@ try_c() {
     run_programs gcc -std=c99 -O2 -- "${flags[@]}"
     run_programs g++ -O2 -x c++ -- "${static[@]}"
     run_programs clang -std=c99 -O2 -- "${static[@]}"
+    run_cases g++ -O2 -x c++ -- "${flags[@]}"
 }
 
 # The library isn't compiled for the sanitizer of threads, which doesn't see its locks. So it looks at C's part alone.
 try_sanitizers() {
     local number checked=(-std=c99 -O1 -g -fno-sanitize-recover=all)
     run_programs gcc "${checked[@]}" -fsanitize=address,undefined -- "${static[@]}"
+    run_cases gcc "${checked[@]}" -fsanitize=address,undefined -- "${static[@]}"
     compile db_threads clang "${checked[@]}" -fsanitize=thread -- "${flags[@]}"
     echo 'called_from_lib:libucstore_db.so.1' > "$work/passed_over"
     for number in 1 2; do

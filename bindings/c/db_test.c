@@ -265,6 +265,7 @@ struct told {
     pthread_mutex_t lock;
     struct ucstore_db *db;
     unsigned events[KINDS], openings;
+    int32_t status;
     uint64_t read, whole;
     char text[256];
 };
@@ -275,6 +276,7 @@ static void hear_event(void *context, const struct ucstore_db_event *event) {
     stats.size = sizeof stats;
     CHECK(event->kind < KINDS && pthread_mutex_lock(&told->lock) == 0);
     told->events[event->kind]++;
+    told->status = event->status;
     snprintf(told->text, sizeof told->text, "%s", event->text);
     CHECK(pthread_mutex_unlock(&told->lock) == 0);
     /* A function that is told may call the database. */
@@ -359,8 +361,15 @@ static void try_damage(void) {
 /* A log that can't be written any more refuses writes, and what was acknowledged stays. */
 static void try_full_device(void) {
     static char value[3000];
+    static struct told told;
+    struct ucstore_db_options options;
     struct rlimit limit, before;
-    struct ucstore_db *db = open_texts("full");
+    struct ucstore_db *db;
+    OK(ucstore_db_options_init(&options));
+    options.event = hear_event;
+    options.event_context = &told;
+    CHECK(pthread_mutex_init(&told.lock, NULL) == 0);
+    db = open_with("full", &options);
     put(db, "a", "1");
     OK(ucstore_db_failure(db));
     CHECK(signal(SIGXFSZ, SIG_IGN) != SIG_ERR && getrlimit(RLIMIT_FSIZE, &before) == 0);
@@ -369,12 +378,41 @@ static void try_full_device(void) {
     CHECK(setrlimit(RLIMIT_FSIZE, &limit) == 0);
     CHECK(is_refused(ucstore_db_put(db, "b", 1, value, sizeof value), UCSTORE_DB_READ_ONLY, "000001.log: File too large"));
     CHECK(setrlimit(RLIMIT_FSIZE, &before) == 0);
+    CHECK(told.events[UCSTORE_DB_FAILED] == 1 && told.status == UCSTORE_DB_READ_ONLY && strstr(told.text, "000001.log") != NULL);
     CHECK(ucstore_db_put(db, "c", 1, "3", 1) == UCSTORE_DB_READ_ONLY && ucstore_db_sync(db) == UCSTORE_DB_READ_ONLY);
     CHECK(ucstore_db_checkpoint(db) == UCSTORE_DB_READ_ONLY && has(db, "a", "1") && !has(db, "c", "3"));
     CHECK(is_refused(ucstore_db_close(db), UCSTORE_DB_READ_ONLY, "000001.log"));
     db = open_texts("full");
     CHECK(has(db, "a", "1") && !has(db, "c", "3"));
     put(db, "c", "3");
+    OK(ucstore_db_close(db));
+}
+
+/* What was ended refuses writes, and is read as before. Its folder may be opened again. */
+static void try_end(void) {
+    struct ucstore_db *db = open_texts("ended"), *again;
+    put(db, "a", "1");
+    OK(ucstore_db_end(db));
+    CHECK(is_refused(ucstore_db_put(db, "b", 1, "2", 1), UCSTORE_DB_CLOSED, "closed") && has(db, "a", "1"));
+    CHECK(ucstore_db_end(db) == UCSTORE_DB_CLOSED && ucstore_db_failure(db) == UCSTORE_DB_CLOSED);
+    again = open_texts("ended");
+    CHECK(has(again, "a", "1"));
+    OK(ucstore_db_close(db));
+    OK(ucstore_db_close(again));
+}
+
+static void try_memory(void) {
+    struct ucstore_db_options options = counters();
+    struct ucstore_db *db = NULL;
+    uint64_t found = 0;
+    size_t size = 0;
+    OK(ucstore_db_in_memory(&options, &db));
+    OK(ucstore_db_merge(db, "k", 1, one, sizeof one));
+    OK(ucstore_db_merge(db, "k", 1, one, sizeof one));
+    OK(ucstore_db_checkpoint(db));
+    OK(ucstore_db_sync(db));
+    OK(ucstore_db_get(db, "k", 1, &found, sizeof found, &size));
+    CHECK(found == 2 && size == sizeof found);
     OK(ucstore_db_close(db));
 }
 
@@ -423,6 +461,8 @@ int main(int argc, char **argv) {
     try_refused_options();
     try_refused_folders();
     try_fork();
+    try_end();
+    try_memory();
     db = open_texts("texts");
     try_null(db);
     try_lookups(db);

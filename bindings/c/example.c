@@ -2,7 +2,7 @@
  *
  *     example FOLDER FILE..
  *
- * A line's words are on the device before the next one is read, together with the place behind it. So the program may be
+ * A line's words are on the device before the next line is read, and the place behind it with them. So the program may be
  * ended at any moment, and goes on where it was: each word is counted once. */
 #include <pthread.h>
 #include <stdio.h>
@@ -12,37 +12,38 @@
 
 static struct ucstore_db *db;
 
-static void check(int32_t status) {
-    if (status != UCSTORE_DB_OK) {
-        fprintf(stderr, "example: %s\n", ucstore_db_error_text());
+static void check(bool done, const char *why) {
+    if (!done) {
+        fprintf(stderr, "example: %s\n", why);
         exit(1);
     }
 }
 
-/* Counts the words of a file, from the place on that the key of its name has. No word begins with a tab. */
+static void ok(int32_t status) {
+    check(status == UCSTORE_DB_OK, ucstore_db_error_text());
+}
+
+/* Counts the words of a file. The key of its name, behind a tab that no word has, tells the place from which on. */
 static void *count(void *name) {
     static const uint8_t one[8] = {1};
-    char key[4096], line[4096], *rest, *word;
-    long place = 0;
+    char key[4096], line[4096], *rest;
     size_t size, length = (size_t)snprintf(key, sizeof key, "\t%s", (const char *)name);
+    long place = 0;
     struct ucstore_db_batch *batch;
     FILE *file = fopen((const char *)name, "r");
-    check(ucstore_db_batch_create(&batch));
     ucstore_db_get(db, key, length, &place, sizeof place, &size);
-    if (file == NULL || fseek(file, place, SEEK_SET) != 0) {
-        perror((const char *)name);
-        exit(1);
-    }
+    check(file != NULL && fseek(file, place, SEEK_SET) == 0, "can't read a file");
+    ok(ucstore_db_batch_create(&batch));
     while (fgets(line, sizeof line, file) != NULL) {
-        for (word = strtok_r(line, " \t\n", &rest); word != NULL; word = strtok_r(NULL, " \t\n", &rest)) {
-            check(ucstore_db_batch_merge(batch, word, strlen(word), one, sizeof one));
+        for (char *word = strtok_r(line, " \t\n", &rest); word != NULL; word = strtok_r(NULL, " \t\n", &rest)) {
+            ok(ucstore_db_batch_merge(batch, word, strlen(word), one, sizeof one));
         }
         place = ftell(file);
-        check(ucstore_db_batch_put(batch, key, length, &place, sizeof place));
-        check(ucstore_db_write(db, batch));
-        check(ucstore_db_batch_clear(batch));
+        ok(ucstore_db_batch_put(batch, key, length, &place, sizeof place));
+        ok(ucstore_db_write(db, batch));
+        ok(ucstore_db_batch_clear(batch));
     }
-    check(ucstore_db_batch_close(batch));
+    ok(ucstore_db_batch_close(batch));
     fclose(file);
     return NULL;
 }
@@ -51,29 +52,31 @@ static void *count(void *name) {
 static void print_counts(void) {
     struct ucstore_db_cursor *cursor;
     size_t length, size;
-    uint64_t times = 0;
-    for (check(ucstore_db_cursor(db, "\n", 1, NULL, 0, false, &cursor)); ucstore_db_cursor_valid(cursor);
-         check(ucstore_db_cursor_next(cursor))) {
+    uint64_t times;
+    for (ok(ucstore_db_cursor(db, "\n", 1, NULL, 0, false, &cursor)); ucstore_db_cursor_valid(cursor);
+         ok(ucstore_db_cursor_next(cursor))) {
         const char *word = ucstore_db_cursor_key(cursor, &length);
         memcpy(&times, ucstore_db_cursor_value(cursor, &size), sizeof times);
         printf("%.*s %llu\n", (int)length, word, (unsigned long long)times);
     }
-    check(ucstore_db_cursor_close(cursor));
+    ok(ucstore_db_cursor_close(cursor));
 }
 
 int main(int argc, char **argv) {
+    pthread_t *threads = (pthread_t *)calloc((size_t)argc + 1, sizeof *threads);
     struct ucstore_db_options options;
-    pthread_t threads[64];
-    check(ucstore_db_options_init(&options));
+    check(argc > 1 && threads != NULL, "usage: example FOLDER FILE..");
+    ucstore_db_options_init(&options);
     options.merge_operator = UCSTORE_DB_COUNTER;
-    check(ucstore_db_open(argc > 1 ? argv[1] : "", &options, &db));
-    for (int file = 2; file < argc && file < 64; file++) {
-        pthread_create(&threads[file], NULL, count, argv[file]);
+    ok(ucstore_db_open(argv[1], &options, &db));
+    for (int file = 2; file < argc; file++) {
+        check(pthread_create(&threads[file], NULL, count, argv[file]) == 0, "can't start a thread");
     }
-    for (int file = 2; file < argc && file < 64; file++) {
+    for (int file = 2; file < argc; file++) {
         pthread_join(threads[file], NULL);
     }
     print_counts();
-    check(ucstore_db_close(db));
+    ok(ucstore_db_close(db));
+    free(threads);
     return 0;
 }

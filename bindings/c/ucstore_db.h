@@ -116,7 +116,7 @@ struct ucstore_db_event {
 };
 
 /* Functions that are told. What is told is lent for the call. They are called by the thread that did something, several at
- * once, and hold it up meanwhile. They may call the database, but for its close. */
+ * once, and hold it up meanwhile. They may call the database, but for its close, and throw no exception. */
 typedef void (*ucstore_db_progress_function)(void *context, const struct ucstore_db_progress *progress);
 typedef void (*ucstore_db_event_function)(void *context, const struct ucstore_db_event *event);
 

@@ -196,8 +196,8 @@ class Reader(Handle):
             self._check(status)
             if size.value <= length:
                 return ctypes.string_at(room, size.value)
-            # The value may have grown since.
-            length = size.value
+            # The value may have grown since. Few lengths are few types of ctypes.
+            length = 1 << size.value.bit_length()
             room = (ctypes.c_char * length)()
 
     def _cursor(self, low: Bytes, high: Optional[Bytes], prefix: Optional[Bytes]) -> Cursor:

@@ -78,3 +78,59 @@ pub extern "C" fn ucstore_db_error_text() -> *const c_char {
     SAID.try_with(|said| said.borrow().as_ptr())
         .unwrap_or(Status::Internal.text().as_ptr())
 }
+
+#[cfg(test)]
+mod tests {
+    use super::*;
+    use std::thread;
+
+    /// What the last call of this thread said.
+    fn said() -> String {
+        // SAFETY: It is a text that ends with a zero byte, and no call is under way.
+        let text = unsafe { CStr::from_ptr(ucstore_db_error_text()) };
+        text.to_str().unwrap().into()
+    }
+
+    #[test]
+    fn a_panic_is_a_status() {
+        assert_eq!(call(|| panic!("all {} lost", 3)), Status::Internal as i32);
+        assert_eq!(said(), "the library panicked: all 3 lost");
+        assert_eq!(call(|| panic!("lost")), Status::Internal as i32);
+        assert_eq!(said(), "the library panicked: lost");
+        let other = || std::panic::panic_any(7);
+        assert_eq!(call(other), Status::Internal as i32);
+        assert_eq!(said(), "the library panicked: without a text");
+    }
+
+    #[test]
+    fn each_thread_has_a_text_of_its_own() {
+        assert_eq!(call(|| Err(Status::Forked.into())), Status::Forked as i32);
+        thread::spawn(|| assert_eq!(said(), "done")).join().unwrap();
+        // A call that is done leaves it.
+        assert_eq!(call(|| Ok(())), 0);
+        assert_eq!(said(), "the process was forked behind the opening");
+    }
+
+    #[test]
+    fn an_error_says_its_file_and_offset() {
+        let cause = Error::Damaged {
+            file: "000001.log".into(),
+            offset: 24,
+            fault: "a zero\0byte".into(),
+        };
+        let refusal = Refusal::from(cause.clone());
+        // What can't be a text of C is what the status says.
+        assert_eq!(&*refusal.text, c"a file isn't as it was written");
+        let Error::Damaged { file, offset, .. } = cause else {
+            unreachable!();
+        };
+        let fault = "cut".into();
+        let refusal = Refusal::from(Error::Damaged {
+            file,
+            offset,
+            fault,
+        });
+        assert_eq!(refusal.status, Status::Damaged);
+        assert_eq!(&*refusal.text, c"000001.log is damaged at 24: cut");
+    }
+}

@@ -35,6 +35,9 @@ struct Lent {
     length: usize,
 }
 
+// SAFETY: It leads to a page that the cursor owns, wherever that is.
+unsafe impl Send for Lent {}
+
 impl From<&[u8]> for Lent {
     fn from(text: &[u8]) -> Lent {
         Lent {

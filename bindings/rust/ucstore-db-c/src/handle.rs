@@ -21,6 +21,16 @@ pub type SnapshotHandle = Handle<Snapshot>;
 /// `struct ucstore_db_cursor`.
 pub type CursorHandle = Handle<Cursor>;
 
+// The header lets any thread use a database, and the others go from thread to thread.
+const _: () = {
+    const fn is_shared<T: Send + Sync>() {}
+    const fn is_sent<T: Send>() {}
+    is_shared::<Db>();
+    is_sent::<Batch>();
+    is_sent::<Snapshot>();
+    is_sent::<Cursor>();
+};
+
 impl<T> Handle<T> {
     /// The address of something, which C gives back to [`end`](Handle::end).
     pub(crate) fn begin(held: T) -> *mut Handle<T> {

@@ -101,3 +101,41 @@ impl<T: Copy> Room<T> {
         }
     }
 }
+
+#[cfg(test)]
+mod tests {
+    use super::*;
+    use std::ptr;
+
+    #[test]
+    fn null_is_refused_where_something_is_read_or_written() {
+        // SAFETY: No memory is looked at.
+        unsafe {
+            assert!(text(ptr::null(), 0).is_ok_and(<[u8]>::is_empty));
+            let refused = [
+                text(ptr::null(), 1).map(drop),
+                text(ptr::null(), usize::MAX).map(drop),
+                items::<u64>(ptr::null(), usize::MAX / 4).map(drop),
+                Place::<u64>::of(ptr::null_mut()).map(drop),
+                Room::<u8>::of(ptr::null_mut(), 1).map(drop),
+                Room::<u8>::of(ptr::null_mut(), 0).map(drop),
+            ];
+            let statuses = refused.map(|it| it.err().map(|refusal| refusal.status));
+            let (null, long) = (Some(Status::Null), Some(Status::TooLong));
+            assert_eq!(statuses, [null, long, long, null, null, None]);
+        }
+    }
+
+    #[test]
+    fn a_room_takes_what_fits() {
+        let mut memory = [7u8; 4];
+        // SAFETY: It is as large as is said, but for its last byte.
+        let mut room = unsafe { Room::of(memory.as_mut_ptr(), 3) }.ok().unwrap();
+        room.push(b"ab");
+        room.push(b"");
+        assert_eq!((room.filled(), room.left()), (2, 1));
+        room.push(b"cd");
+        assert_eq!((room.filled(), room.left()), (3, 0));
+        assert_eq!(&memory, b"abc\x07");
+    }
+}

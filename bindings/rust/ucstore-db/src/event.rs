@@ -61,8 +61,8 @@ pub struct Progress {
 
 /// A function of the owner's that is told things. A clone is the same one.
 ///
-/// It is called by the thread that did something, which holds no lock: the function may call the database. What comes
-/// next waits for it.
+/// It is called by the thread that did something, which holds no lock: the function may call the database, also to close it.
+/// What the thread does next waits for it.
 ///
 /// ```
 /// # use ucstore_db::{Db, Event, Listener, Options};

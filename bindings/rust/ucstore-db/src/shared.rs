@@ -156,21 +156,21 @@ impl Shared {
     /// ended.
     fn call<T>(&self, call: impl Fn(&Store) -> Result<T, ucstore::Error>) -> Result<T, Error> {
         let mut store = lock(&self.store);
+        let mut begun = None;
         loop {
             match call(&store) {
-                Err(ucstore::Error::RunsClaimed) => store = self.wait_for_job(store),
-                outcome => return Ok(outcome?),
+                Err(ucstore::Error::RunsClaimed) => {
+                    begun.get_or_insert_with(|| self.begin_stall(store.report().runs));
+                    store = self.wait_for_work(store);
+                }
+                outcome => {
+                    if let Some(begun) = begun {
+                        self.counts.add_stalled(begun);
+                    }
+                    return Ok(outcome?);
+                }
             }
         }
-    }
-
-    /// Waits until there may be a job, or one has ended, for a write.
-    fn wait_for_job<'a>(&self, store: MutexGuard<'a, Store>) -> MutexGuard<'a, Store> {
-        let begun = Instant::now();
-        self.tell_stall(store.report().runs);
-        let store = self.wait_for_work(store);
-        self.counts.add_stalled(begun);
-        store
     }
 
     /// Commits what is prepared, and wakes whom it gives work.
@@ -199,19 +199,21 @@ impl Shared {
         if !is_slow {
             return;
         }
-        if !was_slow {
-            self.tell_stall(runs);
-        }
-        let begun = Instant::now();
+        let begun = if was_slow {
+            Instant::now()
+        } else {
+            self.begin_stall(runs)
+        };
         thread::sleep(SLOW);
         self.counts.slowed.add(1);
         self.counts.add_stalled(begun);
     }
 
-    /// Counts and tells that writes are slowed, or wait.
-    fn tell_stall(&self, runs: u64) {
+    /// Counts and tells that writes are slowed, or wait, from now on.
+    fn begin_stall(&self, runs: u64) -> Instant {
         self.counts.stalls.add(1);
         self.events.push(Event::Stalled { runs });
+        Instant::now()
     }
 
     /// Tells that runs were compacted, if they were. The thread holds no lock.

@@ -4,10 +4,17 @@ use crate::error::Error;
 use crate::lock;
 use crate::options::Sync;
 use crate::shared::Shared;
+use std::cell::Cell;
+use std::mem;
 use std::sync::atomic::Ordering;
 use std::sync::{Arc, Mutex};
-use std::thread::{self, JoinHandle, Thread};
+use std::thread::{self, JoinHandle, Thread, ThreadId};
 use std::time::Duration;
+
+thread_local! {
+    /// The number of a thread of a database's own. Others aren't asked for theirs, which takes memory.
+    static WORKER: Cell<Option<ThreadId>> = const { Cell::new(None) };
+}
 
 /// The threads that compact, make checkpoints, and sync. They end where this is dropped.
 pub(crate) struct Workers {
@@ -46,7 +53,10 @@ impl Workers {
         let shared = Arc::clone(&self.shared);
         let handle = thread::Builder::new()
             .name(format!("ucstore-{name}"))
-            .spawn(move || work(&shared))
+            .spawn(move || {
+                WORKER.set(Some(thread::current().id()));
+                work(&shared);
+            })
             .map_err(Error::of_file(""))?;
         let thread = handle.thread().clone();
         lock(&self.threads).push(handle);
@@ -61,10 +71,14 @@ impl Workers {
         let store = lock(&self.shared.store);
         self.shared.work.notify_all();
         drop(store);
-        for thread in lock(&self.threads).drain(..) {
+        let threads = mem::take(&mut *lock(&self.threads));
+        for thread in threads {
             thread.thread().unpark();
-            // One that panicked has said so.
-            let _ = thread.join();
+            // One that tells an event may close the database, and ends behind that.
+            if WORKER.get() != Some(thread.thread().id()) {
+                // One that panicked has said so.
+                let _ = thread.join();
+            }
         }
         self.shared.close_log()
     }

@@ -160,6 +160,34 @@ fn a_listener_may_call_the_database() {
 }
 
 #[test]
+fn a_listener_may_close_the_database() {
+    static DB: OnceLock<Db> = OnceLock::new();
+    let (told, _) = Told::listener();
+    let seen = Arc::clone(&told.0);
+    let events = Listener::new(move |event: &Event| {
+        // A thread of the database's own tells of a compaction.
+        if matches!(event, Event::Compacted { .. }) {
+            let outcome = DB.get().unwrap().close();
+            seen.lock().unwrap().push(outcome.is_ok());
+        }
+    });
+    let mut options = Options {
+        events: Some(events),
+        ..Default::default()
+    };
+    options.store.compaction_trigger = 2;
+    let device = Device::default();
+    let db = DB.get_or_init(|| open_with(&device, &options).unwrap());
+    for _ in 0..2 {
+        db.put("k", "v").unwrap();
+        db.flush().unwrap();
+    }
+    told.wait_for(|is_closed| *is_closed);
+    assert!(matches!(db.put("k", "v"), Err(Error::Closed)));
+    assert_eq!(map_of(&open(&device).unwrap()).len(), 1);
+}
+
+#[test]
 fn the_progress_of_an_opening_is_told() {
     let device = Device::default();
     let db = open(&device).unwrap();
