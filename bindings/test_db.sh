@@ -70,7 +70,7 @@ install_all() {
 
 # A library has the functions of the header and no other names, which would clash with those of programs.
 check_names() { # OPTION LIBRARY
-    nm "$1" --defined-only "$2" | awk 'NF == 3 { print $3 }' | sort | diff "$work/declared" - >&2 ||
+    nm "$1" --defined-only "$2" | awk 'NF == 3 && $2 != "A" { sub(/@.*/, "", $3); print $3 }' | sort | diff "$work/declared" - >&2 ||
         fail "$2 has other names than the header"
 }
 

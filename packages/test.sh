@@ -65,8 +65,9 @@ report='ucstore report --operator append --memtable 1 --trigger 2 < examples/rep
 
 # Python's first program, and its short tests beside a plain model.
 python_works='
-    mkdir tried && cp python/first.py python/tests/test_cases.py tried
+    mkdir tried && cp python/first.py python/db_first.py python/tests/test_cases.py tried
     $PYTHON tried/first.py
+    (cd tried && $PYTHON db_first.py)
     sed -i "s|Path(__file__).resolve().parents\[2\]|Path(\"/work\")|" tried/test_cases.py
     (cd tried && $PYTHON -m unittest -q test_cases)'
 
@@ -106,6 +107,7 @@ debian() {
         apt-get -qq install -y --reinstall ./*.deb
         $report
         cc c/first.c \$(pkg-config --cflags --libs ucstore) -o first && ./first
+        cc c/db_first.c \$(pkg-config --cflags --libs ucstore_db) -o db_first && ./db_first
         PYTHON=/usr/bin/python3; $python_works
         apt-get -qq purge -y 'ucstore' 'libucstore*' 'python3-ucstore'" "the .deb packages"
 }

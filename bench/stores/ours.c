@@ -59,7 +59,7 @@ bool get(struct session *session, struct text key, struct text *value) {
 
 size_t get_many(struct session *session, const struct text *keys, size_t count) {
     uint8_t all[MOST_KEYS * 16] = {0};
-    uint64_t lengths[MOST_KEYS], value_lengths[MOST_KEYS];
+    uint64_t lengths[MOST_KEYS] = {0}, value_lengths[MOST_KEYS];
     size_t used = 0, size = 0, found = 0;
     expect(count <= MOST_KEYS, "there are too many keys");
     for (size_t place = 0; place < count; place++) {

@@ -150,9 +150,9 @@ bool get(struct session *session, struct text key, struct text *value) {
 enum { MOST_KEYS = 256 };
 
 size_t get_many(struct session *session, const struct text *keys, size_t count) {
-    const char *texts[MOST_KEYS];
+    const char *texts[MOST_KEYS] = {NULL};
     char *values[MOST_KEYS], *errors[MOST_KEYS];
-    size_t key_lengths[MOST_KEYS], value_lengths[MOST_KEYS], found = 0;
+    size_t key_lengths[MOST_KEYS] = {0}, value_lengths[MOST_KEYS], found = 0;
     (void)session;
     expect(count <= MOST_KEYS, "there are too many keys");
     for (size_t place = 0; place < count; place++) {
@@ -189,11 +189,18 @@ void close_session(struct session *session) {
     free(session);
 }
 
-/* How much of a property is left. */
+/* A property that is a number. */
 static uint64_t property(const char *name) {
     uint64_t value = 1;
     expect(rocksdb_property_int(db, name, &value) == 0, name);
     return value;
+}
+
+/* Whether something runs. Whether compactions are pending isn't asked: that is also said where none are picked. */
+static bool is_busy(void) {
+    return property("rocksdb.num-running-flushes") + property("rocksdb.num-running-compactions") +
+               property("rocksdb.mem-table-flush-pending") >
+           0;
 }
 
 void settle(void) {
@@ -202,11 +209,8 @@ void settle(void) {
     rocksdb_flush(db, flushing, &error);
     expect_none(error);
     rocksdb_flushoptions_destroy(flushing);
-    for (int idle = 0; idle < 3; idle++) {
-        if (property("rocksdb.num-running-flushes") + property("rocksdb.num-running-compactions") +
-                property("rocksdb.compaction-pending") > 0) {
-            idle = 0;
-        }
+    for (int idle = 0; idle < 3;) {
+        idle = is_busy() ? 0 : idle + 1;
         usleep(1000);
     }
 }
