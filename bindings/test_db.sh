@@ -195,6 +195,16 @@ try_ended() {
     end_example
 }
 
+# Runs a program for so many milliseconds at most. Tells whether it was done by then. The shell says of an end that it was one.
+run_for() { # MILLISECONDS PROGRAM..
+    local process
+    "${@:2}" > "$work/counts" 2> "$work/said" &
+    process=$!
+    sleep "$(printf '0.%03d' "$1")"
+    kill -KILL "$process" 2> /dev/null || true
+    wait "$process" 2> /dev/null
+}
+
 # Ends the example again and again, each time later, until it has counted all words of four files. Each is counted once.
 end_example() {
     local number tries=0 milliseconds=10
@@ -204,9 +214,7 @@ end_example() {
             printf "w%d w%d\tw%d\n", 20 * rand(), 20 * rand(), 20 * rand() }' > "$work/text$number"
     done
     cat "$work"/text? | tr ' \t' '\n\n' | sort | uniq -c | awk '{ print $2, $1 }' | LC_ALL=C sort > "$work/wanted"
-    # The shell says of each end that it was one.
-    until { timeout -s KILL "$(printf '0.%03d' "$milliseconds")" \
-        "$work/example" "$work/words_c" "$work"/text? > "$work/counts" 2> "$work/said"; } 2> /dev/null; do
+    until run_for "$milliseconds" "$work/example" "$work/words_c" "$work"/text?; do
         [ ! -s "$work/said" ] || fail "$(cat "$work/said")"
         tries=$((tries + 1))
         if [ "$milliseconds" -lt 900 ]; then milliseconds=$((milliseconds + 7)); fi

@@ -124,6 +124,7 @@ def main():
     return 1 if failed or whole == 0 else 0
 
 
-with tempfile.TemporaryDirectory() as TOP:
-    status = main()
-sys.exit(status)
+if __name__ == "__main__":
+    with tempfile.TemporaryDirectory() as TOP:
+        status = main()
+    sys.exit(status)
