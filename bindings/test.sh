@@ -126,8 +126,8 @@ try_pages() {
         grep -qF -- "$line" "$here"/c/{db_,}first.c "$here/rust/ucstore/examples/first.rs" "$here/python/db_first.py" ||
             fail "README.md has a line that no first program has: $line"
         count=$((count + 1))
-    done < <(awk '/^## / { inside = 0 } /^## From C, Rust, Python/ { found = 1 } found && /^Durable in C/ { inside = 1 }
-        inside && sub(/^    +/, "")' "$here/../README.md")
+    done < <(awk '/^## / { inside = 0 } /here is Python/ || /^Durable in C/ { inside = 1 } inside && sub(/^    +/, "")' \
+        "$here/../README.md")
     [ "$count" -gt 0 ] || fail "README.md has no code from C, Rust and Python"
 }
 

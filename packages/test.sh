@@ -6,9 +6,9 @@
 # - objects: the shared objects have the right names and versions of symbols, no others, and no executable stack or
 #   writable table of addresses; the same tree gives the same packages twice.
 # - debian: a root of Debian 12 without the Rattle kit gets the .deb packages by apt; lintian finds nothing in them.
-# - wheel: the same root gets the wheel in an environment of its own, and so does one of the oldest Debian whose glibc the
-#   wheel's name allows.
-# - tar: both roots unpack the archive anywhere, and a C program is built against it.
+# - wheel: the same root gets the wheel in an environment of its own. One of Debian 11, whose glibc is older than the wheel's name
+#   says, refuses it.
+# - tar: both roots unpack the archive anywhere, and C programs are built against it: in Debian 11 those of the store alone.
 # - crates: cargo builds a program over the packaged crates, against the archive's library.
 #
 # In each root the programs of bindings/, `ucstore report` over an example, and the short tests of Python run. It needs root,
@@ -52,7 +52,7 @@ run_in() { # SUITE LINE
     mkdir -p "$root/work"
     cp -R "$top/bindings/c" "$top/bindings/python" "$top/bindings/cases" "$root/work"
     cp -RL "$top/examples" "$root/work/examples"
-    cp "$dist"/* "$root/work"
+    cp "$dist"/*.* "$root/work"
     chroot "$root" /bin/bash -euc "cd /work; export HOME=/root PATH=/usr/local/bin:/usr/bin:/bin:/usr/sbin:/sbin; $2" \
         > "$work/said" 2>&1 || {
         tail -20 "$work/said" >&2
@@ -81,7 +81,7 @@ check_object() { # LIBRARY SYMBOLS SONAME
     grep -q GNU_RELRO "$work/segments" || fail "$1 has a writable table of addresses"
     ! grep -E 'GNU_STACK.*RWE' "$work/segments" || fail "$1 has an executable stack"
     ! grep -E 'LOAD.*RWE' "$work/segments" || fail "$1 has a segment that is written and executed"
-    nm -D --defined-only --with-symbol-versions "$1" | awk '{ print $3 }' | sort | diff "$2" - ||
+    nm -D --defined-only --with-symbol-versions "$1" | awk '$2 != "A" { print $3 }' | sort | diff "$2" - ||
         fail "$1 has other symbols than $(basename "$2")"
 }
 
@@ -92,9 +92,9 @@ objects() {
     for one in "$top"/abi/*.symbols; do
         check_object "$(echo "$work"/tar/*/lib/"$(basename "$one" .symbols)")" "$one" "$(basename "$one" .symbols)"
     done
-    cp "$dist"/* "$work/first"
+    cp "$dist"/*.* "$work/first"
     "$top/package" > /dev/null
-    for one in "$dist"/*; do
+    for one in "$dist"/*.*; do
         cmp "$one" "$work/first/$(basename "$one")" || fail "$(basename "$one") differs when it is made again"
     done
 }
@@ -112,23 +112,18 @@ debian() {
         apt-get -qq purge -y 'ucstore' 'libucstore*' 'python3-ucstore'" "the .deb packages"
 }
 
-# The oldest Debian that can be had here.
-oldest() {
-    if [ -n "${OLDEST:-}" ]; then echo "$OLDEST"; else echo bullseye; fi
-}
-
 wheel() {
-    local suite
-    for suite in bookworm "$(oldest)"; do
-        run_in "$suite" "
-            python3 -m venv env && env/bin/pip install -q --no-index ./ucstore-*.whl
-            PYTHON=env/bin/python; $python_works" "the wheel"
-    done
+    run_in bookworm "
+        python3 -m venv env && env/bin/pip install -q --no-index ./ucstore-*.whl
+        PYTHON=/work/env/bin/python; $python_works" "the wheel"
+    run_in bullseye "
+        python3 -m venv env
+        ! env/bin/pip install -q --no-index ./ucstore-*.whl" "the wheel is installed where its glibc isn't"
 }
 
 tar_archive() {
     local suite
-    for suite in bookworm "$(oldest)"; do
+    for suite in bookworm bullseye; do
         run_in "$suite" "
             mkdir elsewhere && tar -C elsewhere -xzf ucstore-$version-x86_64-linux.tar.gz
             here=\$(echo /work/elsewhere/ucstore-*)
