@@ -1,5 +1,5 @@
 //! [`PointSlice`]: points that are neighbours.
-ghost use Rattle.std.specs.Prelude.{◌≡◌, ◌≤◌, ◌<◌, ◌-◌, ◌↔◌, true, false, Bool, Some, [], length, take, drop, IsTrue};
+ghost use Rattle.std.specs.Prelude.{◌≡◌, ◌≤◌, ◌<◌, ◌^◌, ◌-◌, ◌↔◌, true, false, Bool, Some, [], length, take, drop, IsTrue};
 ghost use Rattle.std.specs.List.{slice_get};
 ghost use Rattle.std.specs.List.Sorted.{IsPartitionPoint, IsPartitionedBy};
 
@@ -18,14 +18,14 @@ pub struct PointSlice<'a> {
 }
 
 impl<'a> Model for PointSlice<'a> {
-    ghost use Rattle.std.specs.Prelude.{List, ◌-◌, ◌≤◌, length, take, drop};
+    ghost use Rattle.std.specs.Prelude.{List, ◌-◌, ◌≤◌, ◌<◌, ◌^◌, length, take, drop};
     ghost use Rattle.uc_run_entry.specs.declared.entry.Entry.{Entry};
 
     ghost Value = { List Entry };
 
     ghost view = { λ s. take (s.end - s.begin) (drop s.begin s.points.now) };
 
-    ghost invariant = { λ s. (s.begin ≤ s.end) × (s.end ≤ length s.points.now) };
+    ghost invariant = { λ s. (s.begin ≤ s.end) × (s.end ≤ length s.points.now) × (s.end < 2 ^ 63) };
 }
 
 impl<'a> PointSlice<'a> {
@@ -44,7 +44,8 @@ impl<'a> PointSlice<'a> {
     /// How many points there are.
     #[inline]
     pub fn len(&self) -> usize
-        ensures { result ≡ length self.now }
+        ensures count { result ≡ length self.now }
+        ensures bound { result < 2 ^ 63 }
     {
         self.end - self.begin
     }
