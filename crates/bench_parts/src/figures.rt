@@ -2,7 +2,8 @@
 use std::alloc::{AllocError, Global};
 use std::fmt;
 use uc_run::{Fragment, Run};
-use uc_run_entry::{Point, WhatRef};
+use uc_run_entry::WhatRef;
+use uc_run_points::PointRef;
 
 /// How many points and fragments a run has, how large they are, and a checksum of them.
 #[derive(Drop)]
@@ -17,8 +18,9 @@ impl Figures {
     /// The figures of a run.
     pub(crate) fn of(alloc: Global, run: &Run) -> Result<Figures, AllocError> {
         let mut checksum = 0;
-        for point in run.entries() {
-            checksum = with_point(checksum, point);
+        let points = run.entries().as_slice();
+        for place in 0..points.len() {
+            checksum = with_point(checksum, &points.at(place));
         }
         for fragment in run.fragments() {
             checksum = with_fragment(alloc, checksum, fragment)?;
@@ -57,7 +59,7 @@ fn with_bytes(checksum: u64, bytes: &[u8]) -> u64 {
 }
 
 /// A checksum and then a point.
-fn with_point(checksum: u64, point: &Point) -> u64 {
+fn with_point(checksum: u64, point: &PointRef<'_>) -> u64 {
     let (kind, text): (u64, &[u8]) = match point.what() {
         WhatRef::Put(value) => (1, value),
         WhatRef::Delete => (2, &[]),

@@ -1,5 +1,5 @@
 -- What a test of each element, or of neighbours, says.
-use Rattle.std.proofs.Common.{◌≡◌, ℕ, zero, suc, ◌<◌, Bool, true, false, ltb, IsTrue, List, [], ◌∷◌, length, get_or, map, refl, arith}
+use Rattle.std.proofs.Common.{◌≡◌, ℕ, zero, suc, ◌<◌, Bool, true, false, ltb, IsTrue, List, [], ◌∷◌, length, get_or, refl, arith}
 use Rattle.std.specs.Prelude.{◌↔◌}
 use Rattle.std.specs.List.{AllByRecursion, AllWithin, HoldsAt, IsAllAdjacentAnswer}
 use Rattle.std.specs.List.Sorted.{IsStrictlySortedBy}
@@ -20,46 +20,25 @@ tells_less a b = ((λ t. grind (arith, nat_tests)), (λ e. grind (arith, nat_tes
 pub rising_by : (ns : List ℕ) (b : Bool) → IsAllAdjacentAnswer (λ x y r. r ≡ ltb x y) ns b → IsTrue b ↔ IsStrictlySortedBy nat_cmp ns
 rising_by ns b h = sorted_by nat_cmp nat_cmp_total (λ x y. ltb x y) tells_less ns b h
 
--- what a test of each element answers, where elements are seen in another way
-module _ {X Y : Type 0} (f : X → Y) (P : Y → Type 0) where
-  from_within : (xs : List X) → AllWithin (λ x. P (f x)) xs 0 (length xs) → AllByRecursion P (map f xs)
+-- what a test of each element answers
+module _ {X : Type 0} (P : X → Type 0) where
+  from_within : (xs : List X) → AllWithin P xs 0 (length xs) → AllByRecursion P xs
   from_within [] h = tt
   from_within (x ∷ xs) h = (h 0 x (omega arith) (omega arith), from_within xs (λ k d a b. h (suc k) d (omega arith) (omega (arith, b))))
 
-  at_place : (xs : List X) (k : ℕ) → k < length xs → AllByRecursion P (map f xs) → (d : X) → P (f (get_or xs k d))
+  at_place : (xs : List X) (k : ℕ) → k < length xs → AllByRecursion P xs → (d : X) → P (get_or xs k d)
   at_place [] k l h d = absurd (omega (arith, l))
   at_place (x ∷ xs) zero l h d = h.0
   at_place (x ∷ xs) (suc k) l h d = at_place xs k (omega (arith, l)) h.1 d
 
-  fails_at : (xs : List X) (k : ℕ) → k < length xs → HoldsAt (λ x. P (f x) → ⊥) xs k → AllByRecursion P (map f xs) → ⊥
+  fails_at : (xs : List X) (k : ℕ) → k < length xs → HoldsAt (λ x. P x → ⊥) xs k → AllByRecursion P xs → ⊥
   fails_at [] k l fails h = omega (arith, l)
   fails_at (x ∷ xs) k l fails h = fails x (at_place (x ∷ xs) k l h x)
 
-  pub all_by : (xs : List X) (b : Bool) → MatchBool b (AllWithin (λ x. P (f x)) xs 0 (length xs)) ((k : ℕ) × (k < length xs) × HoldsAt (λ x. P (f x) → ⊥) xs k) → IsTrue b ↔ AllByRecursion P (map f xs)
+  pub all_by : (xs : List X) (b : Bool) → MatchBool b (AllWithin P xs 0 (length xs)) ((k : ℕ) × (k < length xs) × HoldsAt (λ x. P x → ⊥) xs k) → IsTrue b ↔ AllByRecursion P xs
   all_by xs true h = ((λ t. from_within xs h), (λ all. refl))
   all_by xs false h = ((λ t. absurd (false≢true t)), (λ all. absurd (fails_at xs h.0 h.1 h.2 all)))
 
-  from_head : (xs : List X) → AllByRecursion (λ x. P (f x)) xs → AllByRecursion P (map f xs)
-  from_head [] h = tt
-  from_head (x ∷ xs) h = (h.0, from_head xs h.1)
-
-  to_head : (xs : List X) → AllByRecursion P (map f xs) → AllByRecursion (λ x. P (f x)) xs
-  to_head [] h = tt
-  to_head (x ∷ xs) h = (h.0, to_head xs h.1)
-
-module _ {Y : Type 0} (f : Y → Entry) where
-  mapped : (ys : List Y) → IsStrictlySortedBy (λ x y. nat_cmp (f y).seq (f x).seq) ys → PointsFall (map f ys)
-  unfolding IsStrictlySortedBy
-  mapped [] h = tt
-  mapped (y ∷ ys) h = (from_head f (λ q. nat_cmp q.seq (f y).seq ≡ Less) ys h.0, mapped ys h.1)
-
-  unmapped : (ys : List Y) → PointsFall (map f ys) → IsStrictlySortedBy (λ x y. nat_cmp (f y).seq (f x).seq) ys
-  unfolding IsStrictlySortedBy
-  unmapped [] h = tt
-  unmapped (y ∷ ys) h = (to_head f (λ q. nat_cmp q.seq (f y).seq ≡ Less) ys h.0, unmapped ys h.1)
-
-  -- points by falling sequence
-  pub falling_by : (ys : List Y) (b : Bool) → IsAllAdjacentAnswer (λ x y r. r ≡ ltb (f y).seq (f x).seq) ys b → IsTrue b ↔ PointsFall (map f ys)
-  falling_by ys b h =
-      let by = sorted_by (λ (x y : Y). nat_cmp (f y).seq (f x).seq) (back_total (on_total (λ (y : Y). (f y).seq) nat_cmp_total)) (λ x y. ltb (f y).seq (f x).seq) (λ x y. tells_less (f y).seq (f x).seq) ys b h in
-      ((λ t. mapped ys (by.0 t)), (λ s. by.1 (unmapped ys s)))
+-- points by falling sequence
+pub falling_by : (ps : List Entry) (b : Bool) → IsAllAdjacentAnswer (λ (p q : Entry) r. r ≡ ltb q.seq p.seq) ps b → IsTrue b ↔ PointsFall ps
+falling_by ps b h = sorted_by (λ (p q : Entry). nat_cmp q.seq p.seq) (back_total (on_total (λ (p : Entry). p.seq) nat_cmp_total)) (λ p q. ltb q.seq p.seq) (λ p q. tells_less q.seq p.seq) ps b h

@@ -33,3 +33,4 @@ pub mod OnTop
 pub mod Best
 pub mod Newest
 pub mod Apart
+pub mod Named

@@ -72,34 +72,19 @@ module _ {Y : Type 0} (n : Y → ℕ) where
       older_is k ys i (omega (arith, le)) (behind k y ys i point)
       ∙ ap (λ b. cond b (y ∷ filter (λ z. leb (n z) k) ys) (filter (λ z. leb (n z) k) ys)) (sym (not_below k (n y) (point.0 0 y (omega arith) (omega arith))))
 
--- ---- of what is seen of the list
-
-map-filter : {X Y : Type 0} (f : Y → X) (test : X → Bool) (ys : List Y) → map f (filter (λ y. test (f y)) ys) ≡ filter test (map f ys)
-map-filter f test [] = refl
-map-filter {X} {Y} f test (y ∷ ys) = put (test (f y)) (map-filter f test ys)
-  where
-    put : (b : Bool) → map f (filter (λ y. test (f y)) ys) ≡ filter test (map f ys) → map f (cond b (y ∷ filter (λ y. test (f y)) ys) (filter (λ y. test (f y)) ys)) ≡ cond b (f y ∷ filter test (map f ys)) (filter test (map f ys))
-    put true e = ap (λ (xs : List X). f y ∷ xs) e
-    put false e = e
-
-all-unmapped : {X Y : Type 0} (f : Y → X) (P : X → Type 0) (ys : List Y) → AllByRecursion P (map f ys) → AllByRecursion (λ y. P (f y)) ys
-all-unmapped f P [] h = tt
-all-unmapped f P (y ∷ ys) h = (h.0, all-unmapped f P ys h.1)
-
 less_number : (a b : ℕ) → nat_cmp a b ≡ Less → a < b
 less_number a b e = grind (arith, nat_tests)
 
-module _ {Y : Type 0} (f : Y → Entry) where
-  pub points_as : (ys : List Y) → PointsFall (map f ys) → FallsAs (λ y. (f y).seq) ys
-  unfolding IsStrictlySortedBy
-  points_as [] h = tt
-  points_as (y ∷ ys) h = (all-unmapped f (λ q. q.seq < (f y).seq) ys (all-map (λ q. nat_cmp q.seq (f y).seq ≡ Less) (λ q. q.seq < (f y).seq) (λ q e. less_number q.seq (f y).seq e) (map f ys) h.0), points_as ys h.1)
+pub points_as : (ps : List Entry) → PointsFall ps → FallsAs (λ (p : Entry). p.seq) ps
+unfolding IsStrictlySortedBy
+points_as [] h = tt
+points_as (p ∷ ps) h = (all-map (λ q. nat_cmp q.seq p.seq ≡ Less) (λ q. q.seq < p.seq) (λ q e. less_number q.seq p.seq e) ps h.0, points_as ps h.1)
 
-  pub newer_points : (k : ℕ) (ys : List Y) (i : ℕ) → i ≤ length ys → IsPartitionPoint (λ y. ltb k (f y).seq ≡ true) (λ y. ltb k (f y).seq ≡ false) ys i → map f (take i ys) ≡ filter (λ p. ltb k p.seq) (map f ys)
-  newer_points k ys i le point = ap (map f) (newer_is (λ y. (f y).seq) k ys i le point) ∙ map-filter f (λ p. ltb k p.seq) ys
+pub newer_points : (k : ℕ) (ps : List Entry) (i : ℕ) → i ≤ length ps → IsPartitionPoint (λ p. ltb k p.seq ≡ true) (λ p. ltb k p.seq ≡ false) ps i → take i ps ≡ filter (λ p. ltb k p.seq) ps
+newer_points k ps i le point = newer_is (λ (p : Entry). p.seq) k ps i le point
 
-  pub older_points : (k : ℕ) (ys : List Y) (i : ℕ) → i ≤ length ys → IsPartitionPoint (λ y. ltb k (f y).seq ≡ true) (λ y. ltb k (f y).seq ≡ false) ys i → map f (drop i ys) ≡ filter (λ p. leb p.seq k) (map f ys)
-  older_points k ys i le point = ap (map f) (older_is (λ y. (f y).seq) k ys i le point) ∙ map-filter f (λ p. leb p.seq k) ys
+pub older_points : (k : ℕ) (ps : List Entry) (i : ℕ) → i ≤ length ps → IsPartitionPoint (λ p. ltb k p.seq ≡ true) (λ p. ltb k p.seq ≡ false) ps i → drop i ps ≡ filter (λ p. leb p.seq k) ps
+older_points k ps i le point = older_is (λ (p : Entry). p.seq) k ps i le point
 
 pub seqs_as : (ns : List ℕ) → IsFalling ns → FallsAs (λ k. k) ns
 unfolding IsStrictlySortedBy

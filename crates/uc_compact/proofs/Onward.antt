@@ -111,10 +111,6 @@ cleared_is seq (k ∷ ns) n fall e =
 
 -- ---- points
 
-pub first_seen : {Y : Type 0} (f : Y → Entry) (ys : List Y) (y : Y) → slice_get ys 0 ≡ Some y → slice_get (map f ys) 0 ≡ Some (f y)
-first_seen f [] y e = absurd cc
-first_seen {Y} f (z ∷ ys) y e = let same : z ≡ y = cc in ap (λ (x : Y). Some (f x)) same
-
 points_below_first : (p : Entry) (ps : List Entry) → PointsFall (p ∷ ps) → AllByRecursion (λ q. q.seq < p.seq) ps
 unfolding IsStrictlySortedBy
 points_below_first p ps h = all-map (λ q. nat_cmp q.seq p.seq ≡ Less) (λ q. q.seq < p.seq) (λ q e. less_number q.seq p.seq e) ps h.0
@@ -187,18 +183,16 @@ pub append-none : {X : Type 0} (kept rest whole : List X) → rest ≡ [] → ke
 append-none {X} kept rest whole none so_far = sym (append-nil kept) ∙ ap (λ (xs : List X). kept ++ xs) (sym none) ∙ so_far
 
 -- what is left is a part of the list
-module _ {Y : Type 0} (f : Y → Entry) (ys : List Y) (count : ℕ) where
-  pub left_is : (ps : List Entry) → map f (drop count ys) ≡ ps → map f (take (length ys - count) (drop count ys)) ≡ ps
-  left_is ps e = ap (map f) (take_rest ys count) ∙ e
+module _ (ps : List Entry) (count : ℕ) where
+  pub left_is : (more : List Entry) → drop count ps ≡ more → take (length ps - count) (drop count ps) ≡ more
+  left_is more e = take_rest ps count ∙ e
 
-  pub left_fewer : (keeps : List ℕ) (y : Y) → slice_get ys 0 ≡ Some y → AllByRecursion (λ q. 0 < q.seq) (map f ys) → (s : Stripe) → s ≡ stripe_of keeps (f y).seq →
-      map f (drop count ys) ≡ filter (λ q. leb q.seq s.above) (map f ys) → length (take (length ys - count) (drop count ys)) < length ys
-  left_fewer keeps y first some s is e =
-      let less : length (filter (λ q. leb q.seq s.above) (map f ys)) < length (map f ys) = points_fewer keeps (map f ys) (f y) (first_seen f ys y first) some s is in
-      let left : length (map f (take (length ys - count) (drop count ys))) ≡ length (filter (λ q. leb q.seq s.above) (map f ys)) = ap length (left_is (filter (λ q. leb q.seq s.above) (map f ys)) e) in
-      let part : length (map f (take (length ys - count) (drop count ys))) ≡ length (take (length ys - count) (drop count ys)) = length-map (take (length ys - count) (drop count ys)) f in
-      let whole : length (map f ys) ≡ length ys = length-map ys f in
-      omega (arith, less, left, part, whole)
+  pub left_fewer : (keeps : List ℕ) (p : Entry) → slice_get ps 0 ≡ Some p → AllByRecursion (λ q. 0 < q.seq) ps → (s : Stripe) → s ≡ stripe_of keeps p.seq →
+      drop count ps ≡ filter (λ q. leb q.seq s.above) ps → length (take (length ps - count) (drop count ps)) < length ps
+  left_fewer keeps p first some s is e =
+      let less : length (filter (λ q. leb q.seq s.above) ps) < length ps = points_fewer keeps ps p first some s is in
+      let left : length (take (length ps - count) (drop count ps)) ≡ length (filter (λ q. leb q.seq s.above) ps) = ap length (left_is (filter (λ q. leb q.seq s.above) ps) e) in
+      omega (arith, less, left)
 
 pub same_point : (m : Operation) (key : List ℕ) {a b : Bool} {ps qs : List Entry} {ns ks : List ℕ} → a ≡ b → ps ≡ qs → ns ≡ ks → point_for m a key ps ns ≡ point_for m b key qs ks
 same_point m key {a} {b} {ps} {qs} {ns} {ks} bottom points seqs =

@@ -1,16 +1,18 @@
 //! [`Cursor`]: the place of a merge in one run.
-ghost use Rattle.std.specs.Prelude.{◌≡◌, ◌≤◌, ◌++◌, length, map, option_map, take, drop, OnOk};
+ghost use Rattle.std.specs.Prelude.{◌≡◌, ◌++◌, true, Some, option_map, take, drop, IfSome, IfNone, OnOk};
+ghost use Rattle.std.specs.List.{slice_get};
+ghost use Rattle.uc_bytes.specs.Bytes.{same_bytes};
 ghost use Rattle.uc_compact.specs.Heads as heads;
 
 use std::alloc::AllocError;
 use std::marker::Model;
 use uc_run::same_text;
-use uc_run_entry::Point;
+use uc_run_points::{PointRef, PointSlice, PointsAhead};
 
 /// The points of a run that are still ahead. A contract sees it as their list.
 #[derive(Debug, Drop)]
 pub(crate) struct Cursor<'a> {
-    ahead: &'a [Point],
+    ahead: PointsAhead<'a>,
 }
 
 impl<'a> Model for Cursor<'a> {
@@ -19,37 +21,45 @@ impl<'a> Model for Cursor<'a> {
 
     ghost Value = { List Entry };
 
-    ghost view = { λ c. c.ahead.now };
+    ghost view = { λ c. c.ahead };
 }
 
-/// How many of the first points are of the key.
-fn first_named(points: &[Point], key: &[u8]) -> usize
-    ensures bound { result ≤ length points.now }
-    ensures count { result ≡ heads.first_named key.now points.now }
+/// The next point, if there is one of the key.
+fn next_named<'a>(ahead: &PointsAhead<'a>, key: &[u8]) -> Option<PointRef<'a>>
+    ensures found { IfSome result (λ p. (slice_get ahead.now 0 ≡ Some p) × (same_bytes p.key key.now ≡ true)) }
+    ensures none { IfNone result (heads.first_named key.now ahead.now ≡ 0) }
 {
-    let mut count = 0;
-    while count < points.len() && same_text(points[count].key(), key) {
-        count += 1;
+    match ahead.first() {
+        Some(point) if same_text(point.key(), key) => Some(point),
+        _ => None,
     }
-    count
 }
 
-/// Pushes each point.
-fn push_each<'a>(points: &mut Vec<&'a Point>, named: &'a [Point]) -> Result<(), AllocError>
-    ensures { OnOk result (map (λ p. p.now) points.new.items ≡ map (λ p. p.now) points.old.items ++ named.now) }
+/// Pushes the next points as long as they are of the key, and passes over them.
+fn take_named<'a>(
+    ahead: &mut PointsAhead<'a>,
+    key: &[u8],
+    points: &mut Vec<PointRef<'a>>,
+) -> Result<(), AllocError>
+    ensures taken { OnOk result
+        (points.new.items ≡ points.old.items ++ take (heads.first_named key.now ahead.old) ahead.old) }
+    ensures left { OnOk result (ahead.new ≡ drop (heads.first_named key.now ahead.old) ahead.old) }
 {
-    for point in named {
+    while let Some(point) = next_named(ahead, key) {
         points.push(point)?;
+        ahead.pass(1);
     }
     Ok(())
 }
 
 impl<'a> Cursor<'a> {
     /// Before the first of the points.
-    pub(crate) fn new(points: &'a [Point]) -> Cursor<'a>
+    pub(crate) fn new(points: &PointSlice<'a>) -> Cursor<'a>
         ensures { result ≡ points.now }
     {
-        Cursor { ahead: points }
+        Cursor {
+            ahead: points.ahead(),
+        }
     }
 
     /// The key of the next point.
@@ -62,22 +72,16 @@ impl<'a> Cursor<'a> {
         }
     }
 
-    /// Pushes the next points as long as they are of the key, and moves past them. After an `Err` it stays where it
-    /// was.
+    /// Pushes the next points as long as they are of the key, and moves past them. After an `Err` it may have moved past some.
     pub(crate) fn take_named(
         &mut self,
         key: &[u8],
-        points: &mut Vec<&'a Point>,
+        points: &mut Vec<PointRef<'a>>,
     ) -> Result<(), AllocError>
         ensures taken { OnOk result
-            (map (λ p. p.now) points.new.items ≡
-            map (λ p. p.now) points.old.items
-            ++ take (heads.first_named key.now self.old) self.old) }
+            (points.new.items ≡ points.old.items ++ take (heads.first_named key.now self.old) self.old) }
         ensures left { OnOk result (self.new ≡ drop (heads.first_named key.now self.old) self.old) }
     {
-        let count = first_named(self.ahead, key);
-        push_each(points, &self.ahead[..count])?;
-        self.ahead = &self.ahead[count..];
-        Ok(())
+        take_named(&mut self.ahead, key, points)
     }
 }

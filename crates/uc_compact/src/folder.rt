@@ -6,7 +6,7 @@ use std::alloc::{AllocError, Global};
 use std::marker::Sync;
 use std::thread::{Threads, join};
 use uc_oper::{Effect, Operator};
-use uc_run_entry::Point;
+use uc_run_points::PointRef;
 
 /// More points than this are folded in two threads.
 const MANY: usize = 5_000;
@@ -17,19 +17,24 @@ pub trait Folder<O: Operator> {
     ghost can_fold: { Self → Type 0 };
 
     /// What points of one key, the newest first, make of an effect before them. An `Err` loses that effect.
-    fn fold(&self, alloc: Global, before: Effect, points: &[&Point]) -> Result<Effect, AllocError>
+    fn fold(
+        &self,
+        alloc: Global,
+        before: Effect,
+        points: &[PointRef<'_>],
+    ) -> Result<Effect, AllocError>
         requires { can_fold self.now }
         ensures { IfOk result (λ effect.
-            effect ≡ lookup.points_effect O.meaning before (map (λ p. p.now) points.now)) };
+            effect ≡ lookup.points_effect O.meaning before points.now) };
 }
 
 /// An effect, and then the points, the newest first, in one thread. An `Err` loses the effect.
 fn folded_onto<O: Operator>(
     alloc: Global,
     before: Effect,
-    points: &[&Point],
+    points: &[PointRef<'_>],
 ) -> Result<Effect, AllocError>
-    ensures { IfOk result (λ effect. effect ≡ lookup.points_effect O.meaning before (map (λ p. p.now) points.now)) }
+    ensures { IfOk result (λ effect. effect ≡ lookup.points_effect O.meaning before points.now) }
 {
     let mut effect = before;
     for place in (0..points.len()).rev() {
@@ -44,9 +49,9 @@ fn folded_by_halves<O: Operator + Sync>(
     rt: &(impl Threads + Sync),
     alloc: Global,
     before: Effect,
-    points: &[&Point],
+    points: &[PointRef<'_>],
 ) -> Result<Effect, AllocError>
-    ensures { IfOk result (λ effect. effect ≡ lookup.points_effect O.meaning before (map (λ p. p.now) points.now)) }
+    ensures { IfOk result (λ effect. effect ≡ lookup.points_effect O.meaning before points.now) }
 {
     let (newer, older) = points.split_at(points.len() / 2);
     let (older, newer) = join(
@@ -63,9 +68,9 @@ pub fn fold_in_threads<O: Operator + Sync>(
     rt: &(impl Threads + Sync),
     alloc: Global,
     before: Effect,
-    points: &[&Point],
+    points: &[PointRef<'_>],
 ) -> Result<Effect, AllocError>
-    ensures { IfOk result (λ effect. effect ≡ lookup.points_effect O.meaning before (map (λ p. p.now) points.now)) }
+    ensures { IfOk result (λ effect. effect ≡ lookup.points_effect O.meaning before points.now) }
 {
     if points.len() > MANY {
         folded_by_halves::<O>(rt, alloc, before, points)
@@ -81,7 +86,12 @@ pub struct Alone;
 impl<O: Operator> Folder<O> for Alone {
     ghost can_fold = { λ _. ⊤ };
 
-    fn fold(&self, alloc: Global, before: Effect, points: &[&Point]) -> Result<Effect, AllocError> {
+    fn fold(
+        &self,
+        alloc: Global,
+        before: Effect,
+        points: &[PointRef<'_>],
+    ) -> Result<Effect, AllocError> {
         folded_onto::<O>(alloc, before, points)
     }
 }
@@ -90,15 +100,22 @@ impl<O: Operator> Folder<O> for Alone {
 #[derive(Drop)]
 pub struct By<F>(pub F);
 
-impl<O: Operator, F: Fn(Global, Effect, &[&Point]) -> Result<Effect, AllocError> + Drop> Folder<O>
-    for By<F> {
+impl<
+    O: Operator,
+    F: Fn(Global, Effect, &[PointRef<'_>]) -> Result<Effect, AllocError> + Drop,
+> Folder<O> for By<F> {
     ghost can_fold = { λ by. (alloc : _) (before : _) (points : _) →
         F.pre by.0 alloc before points
         × ((result : _) → F.post by.0 alloc before points result →
         IfOk result (λ effect.
-        effect ≡ lookup.points_effect O.meaning before (map (λ p. p.now) points.now))) };
+        effect ≡ lookup.points_effect O.meaning before points.now)) };
 
-    fn fold(&self, alloc: Global, before: Effect, points: &[&Point]) -> Result<Effect, AllocError> {
+    fn fold(
+        &self,
+        alloc: Global,
+        before: Effect,
+        points: &[PointRef<'_>],
+    ) -> Result<Effect, AllocError> {
         (self.0)(alloc, before, points)
     }
 }

@@ -10,13 +10,13 @@ use crate::falling::points_above;
 use crate::folder::Folder;
 use std::alloc::{AllocError, Global};
 use uc_oper::{Effect, Operator};
-use uc_run_entry::Point;
+use uc_run_points::PointRef;
 
 /// The points, the newest first, without those that a newer one overwrites.
-fn lasting<'b, 'a>(points: &'b [&'a Point]) -> &'b [&'a Point]
+fn lasting<'b, 'a>(points: &'b [PointRef<'a>]) -> &'b [PointRef<'a>]
     ensures { (m : Operation) (before : EffectOf) →
-        lookup.points_effect m before (map (λ p. p.now) result.now) ≡
-        lookup.points_effect m before (map (λ p. p.now) points.now) }
+        lookup.points_effect m before result.now ≡
+        lookup.points_effect m before points.now }
 {
     match points.iter().position(|point| point.overwrites()) {
         None => points,
@@ -29,10 +29,10 @@ fn points_effect<O: Operator, F: Folder<O>>(
     folder: &F,
     alloc: Global,
     before: Effect,
-    points: &[&Point],
+    points: &[PointRef<'_>],
 ) -> Result<Effect, AllocError>
     requires { F.can_fold folder.now }
-    ensures { IfOk result (λ effect. effect ≡ lookup.points_effect O.meaning before (map (λ p. p.now) points.now)) }
+    ensures { IfOk result (λ effect. effect ≡ lookup.points_effect O.meaning before points.now) }
 {
     folder.fold(alloc, before, lasting(points))
 }
@@ -42,13 +42,13 @@ fn points_effect<O: Operator, F: Folder<O>>(
 pub(crate) fn effect_above_newest<O: Operator, F: Folder<O>>(
     folder: &F,
     alloc: Global,
-    points: &[&Point],
+    points: &[PointRef<'_>],
     newest: Option<u64>,
 ) -> Result<Effect, AllocError>
     requires can { F.can_fold folder.now }
-    requires fall { PointsFall (map (λ p. p.now) points.now) }
+    requires fall { PointsFall points.now }
     ensures { IfOk result (λ effect.
-        effect ≡ lookup.above_newest O.meaning (map (λ p. p.now) points.now) (option_to_list newest)) }
+        effect ≡ lookup.above_newest O.meaning points.now (option_to_list newest)) }
 {
     match newest {
         None => points_effect::<O, F>(folder, alloc, Effect::Keep, points),

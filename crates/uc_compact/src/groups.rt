@@ -11,7 +11,7 @@ use crate::cursor::Cursor;
 use std::alloc::{AllocError, Global};
 use std::marker::Model;
 use uc_run::{Head, Heads};
-use uc_run_entry::Point;
+use uc_run_points::{PointRef, PointSlice};
 
 /// The place of a merge in several runs. A contract sees it as the groups that are still ahead: for each key its
 /// points, those of the first run first.
@@ -35,8 +35,8 @@ impl<'a> Model for Groups<'a> {
 }
 
 /// A cursor for each run, before its first point.
-fn cursors_over<'a>(alloc: Global, runs: &[&'a [Point]]) -> Result<Vec<Cursor<'a>>, AllocError>
-    ensures { IfOk result (λ cursors. cursors.items ≡ map (λ points. points.now) runs.now) }
+fn cursors_over<'a>(alloc: Global, runs: &[PointSlice<'a>]) -> Result<Vec<Cursor<'a>>, AllocError>
+    ensures { IfOk result (λ cursors. cursors.items ≡ runs.now) }
 {
     let mut cursors = Vec::with_capacity(alloc, runs.len())?;
     for points in runs {
@@ -51,13 +51,13 @@ fn take_from_each<'a>(
     cursors: &mut [Cursor<'a>],
     heads: &mut Heads<'a>,
     head: Head<'_>,
-    points: &mut Vec<&'a Point>,
+    points: &mut Vec<PointRef<'a>>,
 ) -> Result<(), AllocError>
     requires keys { heads.old.keys ≡ map first_key cursors.old }
     requires number { head.number ≡ number_of heads.old.front head.key.now }
     ensures taken { OnOk result
-        (map (λ p. p.now) points.new.items ≡
-        map (λ p. p.now) points.old.items
+        (points.new.items ≡
+        points.old.items
         ++ flat_map (λ ps. take (first_named head.entry.key.now ps) ps) cursors.old) }
     ensures left { OnOk result (cursors.new ≡ map (λ ps. drop (first_named head.entry.key.now ps) ps) cursors.old) }
     ensures heads { OnOk result (heads.new.keys ≡ map first_key cursors.new) }
@@ -74,9 +74,9 @@ fn take_from_each<'a>(
 
 impl<'a> Groups<'a> {
     /// All groups of runs, each of which has its points in order.
-    pub fn over(alloc: Global, runs: &[&'a [Point]]) -> Result<Groups<'a>, AllocError>
-        requires { AllByRecursion (λ points. IsStrictlySortedBy entry_cmp points.now) runs.now }
-        ensures { IfOk result (λ groups. groups ≡ groups_of (flat_map (λ points. points.now) runs.now)) }
+    pub fn over(alloc: Global, runs: &[PointSlice<'a>]) -> Result<Groups<'a>, AllocError>
+        requires { AllByRecursion (IsStrictlySortedBy entry_cmp) runs.now }
+        ensures { IfOk result (λ groups. groups ≡ groups_of (flat_map (λ points. points) runs.now)) }
     {
         let cursors = cursors_over(alloc, runs)?;
         let heads = Heads::of_runs(alloc, runs)?;
@@ -85,9 +85,12 @@ impl<'a> Groups<'a> {
 
     /// The next key. Its points replace those in `points`; there are none if there is no key. After an `Err` `points`
     /// is empty, and nothing is ahead any more.
-    pub fn next_into(&mut self, points: &mut Vec<&'a Point>) -> Result<Option<&'a [u8]>, AllocError>
+    pub fn next_into(
+        &mut self,
+        points: &mut Vec<PointRef<'a>>,
+    ) -> Result<Option<&'a [u8]>, AllocError>
         ensures comes { IfOk result (λ key.
-            Comes self.old (option_map (λ k. k.now) key) (map (λ p. p.now) points.new.items)
+            Comes self.old (option_map (λ k. k.now) key) points.new.items
             self.new) }
         ensures err { OnErr result (self.new ≡ []) }
         ensures none_named { OnErr result (points.new.items ≡ []) }

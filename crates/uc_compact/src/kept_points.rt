@@ -15,7 +15,8 @@ use crate::keeping::Keeping;
 use crate::over::Over;
 use std::alloc::{AllocError, Global};
 use uc_oper::{Effect, Operator};
-use uc_run_entry::{Point, What, WhatRef};
+use uc_run_entry::{What, WhatRef};
+use uc_run_points::{PointRef, Points};
 
 /// What a point says that replaces an effect. No value needs no point if something else clears the key.
 fn what_of(effect: Effect, cleared: bool) -> Option<What>
@@ -67,70 +68,63 @@ fn is_below(newest: Option<u64>, seq: u64) -> bool
     }
 }
 
-/// The point that replaces a stripe's points of a key, if they need one. `range` is the newest range deletion of the
-/// stripe over the key, if there is one.
-fn point_for<O: Operator, F: Folder<O>>(
+/// Pushes the point that replaces a stripe's points of a key, if they need one. `range` is the newest range deletion of the
+/// stripe over the key, if there is one. An `Err` pushes nothing.
+fn push_point_for<O: Operator, F: Folder<O>>(
     folder: &F,
     alloc: Global,
+    kept: &mut Points,
     bottom: bool,
     key: &[u8],
-    points: &[&Point],
+    points: &[PointRef<'_>],
     range: Option<u64>,
-) -> Result<Option<Point>, AllocError>
+) -> Result<(), AllocError>
     requires can { F.can_fold folder.now }
-    requires fall { PointsFall (map (λ p. p.now) points.now) }
-    requires from_one { AllByRecursion (λ p. 0 < p.seq) (map (λ p. p.now) points.now) }
-    ensures { IfOk result (λ point.
-        point ≡ choice.point_for O.meaning bottom key.now (map (λ p. p.now) points.now) (option_to_list range)) }
+    requires fall { PointsFall points.now }
+    requires from_one { AllByRecursion (λ p. 0 < p.seq) points.now }
+    ensures pushed { OnOk result
+        (kept.new ≡
+        kept.old
+        ++ cons_option (choice.point_for O.meaning bottom key.now points.now (option_to_list range)) []) }
+    ensures as_it_was { OnErr result (kept.new ≡ kept.old) }
 {
     let Some(newest) = points.first() else {
-        return Ok(None);
+        return Ok(());
     };
     let seq = newest.seq();
     // A put that nothing hides stays as it is, so its value is copied once.
     if let WhatRef::Put(value) = newest.what()
         && is_below(range, seq)
     {
-        return Ok(Some(Point::new(alloc, key, seq, WhatRef::Put(value))?));
+        return kept.push(key, seq, WhatRef::Put(value));
     }
     let effect = effect_above_newest::<O, F>(folder, alloc, points, range)?;
     let cleared = is_cleared(seq, range);
     match what_kept::<O>(alloc, bottom, effect, cleared)? {
-        None => Ok(None),
-        Some(what) => Ok(Some(Point::new(alloc, key, seq, WhatRef::of(&what))?)),
+        None => Ok(()),
+        Some(what) => kept.push(key, seq, WhatRef::of(&what)),
     }
-}
-
-/// Pushes a point if there is one. An `Err` pushes nothing.
-fn push_some(kept: &mut Vec<Point>, point: Option<Point>) -> Result<(), AllocError>
-    ensures pushed { OnOk result (kept.new.items ≡ kept.old.items ++ cons_option point []) }
-    ensures as_it_was { OnErr result (kept.new.items ≡ kept.old.items) }
-{
-    if let Some(point) = point {
-        kept.push(point)?;
-    }
-    Ok(())
 }
 
 /// Pushes the points that replace a key's points, stripe by stripe. An `Err` may leave some of them pushed.
 fn push_each_stripe<O: Operator, F: Folder<O>>(
     folder: &F,
     alloc: Global,
-    kept: &mut Vec<Point>,
+    kept: &mut Points,
     key: &[u8],
-    points: &[&Point],
+    points: &[PointRef<'_>],
     seqs: &Over<'_>,
     keeping: &Keeping<'_>,
 ) -> Result<(), AllocError>
     requires can { F.can_fold folder.now }
-    requires of_one_key { AreOfOneKey (map (λ p. p.now) points.now) seqs.now }
+    requires of_one_key { AreOfOneKey points.now seqs.now }
     requires keeps_rise { IsStrictlySortedBy nat_cmp keeping.now.keeps }
     ensures pushed { OnOk result
-        (kept.new.items ≡
-        kept.old.items
-        ++ points_for O.meaning keeping.now key.now (map (λ p. p.now) points.now)
+        (kept.new ≡
+        kept.old
+        ++ points_for O.meaning keeping.now key.now points.now
         seqs.now) }
-    ensures begins { IsPrefix kept.old.items kept.new.items }
+    ensures begins { IsPrefix kept.old kept.new }
 {
     let mut rest = points;
     while let Some(newest) = rest.first() {
@@ -138,10 +132,7 @@ fn push_each_stripe<O: Operator, F: Folder<O>>(
         let (own, count) = stripe.own_points(rest);
         let range = stripe.newest_of(seqs);
         let bottom = keeping.is_bottom(&stripe);
-        push_some(
-            kept,
-            point_for::<O, F>(folder, alloc, bottom, key, own, range)?,
-        )?;
+        push_point_for::<O, F>(folder, alloc, kept, bottom, key, own, range)?;
         rest = &rest[count..];
     }
     Ok(())
@@ -155,26 +146,26 @@ fn push_each_stripe<O: Operator, F: Folder<O>>(
 pub fn push_kept_points<O: Operator, F: Folder<O>>(
     folder: &F,
     alloc: Global,
-    kept: &mut Vec<Point>,
+    kept: &mut Points,
     key: &[u8],
-    points: &[&Point],
+    points: &[PointRef<'_>],
     seqs: &Over<'_>,
     keeping: &Keeping<'_>,
 ) -> Result<(), AllocError>
     requires can { F.can_fold folder.now }
-    requires of_one_key { AreOfOneKey (map (λ p. p.now) points.now) seqs.now }
+    requires of_one_key { AreOfOneKey points.now seqs.now }
     requires keeps_rise { IsStrictlySortedBy nat_cmp keeping.now.keeps }
     ensures pushed { OnOk result
-        (kept.new.items ≡
-        kept.old.items
-        ++ points_for O.meaning keeping.now key.now (map (λ p. p.now) points.now)
+        (kept.new ≡
+        kept.old
+        ++ points_for O.meaning keeping.now key.now points.now
         seqs.now) }
-    ensures as_it_was { OnErr result (kept.new.items ≡ kept.old.items) }
+    ensures as_it_was { OnErr result (kept.new ≡ kept.old) }
 {
-    let before = kept.len();
+    let (before, size) = (kept.len(), kept.size());
     if let Err(error) = push_each_stripe::<O, F>(folder, alloc, kept, key, points, seqs, keeping) {
         // Points of only some stripes are no answer for the key.
-        kept.truncate(before);
+        kept.truncate(before, size);
         return Err(error);
     }
     Ok(())

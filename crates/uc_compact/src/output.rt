@@ -18,7 +18,8 @@ use std::sync::Arc;
 use std::thread::Threads;
 use uc_oper::Operator;
 use uc_run::Run;
-use uc_run_entry::{Fragments, Point};
+use uc_run_entry::Fragments;
+use uc_run_points::Points;
 
 /// Into how many parts the key space is cut.
 const PARTS: usize = 4;
@@ -40,11 +41,11 @@ fn points_alone<O: Operator>(
     keeps: &[u64],
     oldest: bool,
     pieces: &[Piece<'_>],
-) -> Result<Vec<Point>, AllocError>
+) -> Result<Points, AllocError>
     requires stand { Stand (map arc_value inputs.now) keeps.now }
     requires pieces { pieces.now ≡ fragments_of (ranges_of (map arc_value inputs.now)) }
     ensures { IfOk result (λ points.
-        points.items ≡
+        points ≡
         (output_of O.meaning
         (record { inputs = map arc_value inputs.now; keeps = keeps.now; oldest = oldest })).points) }
 {
@@ -64,12 +65,12 @@ fn points_by_parts<O: Operator + Sync>(
     oldest: bool,
     pieces: &[Piece<'_>],
     parts: usize,
-) -> Result<Vec<Point>, AllocError>
+) -> Result<Points, AllocError>
     requires stand { Stand (map arc_value inputs.now) keeps.now }
     requires pieces { pieces.now ≡ fragments_of (ranges_of (map arc_value inputs.now)) }
     requires parts { 0 < parts }
     ensures { IfOk result (λ points.
-        points.items ≡
+        points ≡
         (output_of O.meaning
         (record { inputs = map arc_value inputs.now; keeps = keeps.now; oldest = oldest })).points) }
 {

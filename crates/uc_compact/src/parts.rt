@@ -20,32 +20,47 @@ use std::marker::Sync;
 use std::sync::Arc;
 use std::thread::{Threads, join};
 use uc_oper::{Effect, Operator};
-use uc_run::Run;
-use uc_run_entry::Point;
+use uc_run::{Run, text_order};
+use uc_run_points::{PointRef, PointSlice, PointTest, Points};
+
+/// Passes the points whose keys are below a key.
+#[derive(Drop)]
+struct IsBelow<'a> {
+    key: &'a [u8],
+}
+
+impl PointTest for IsBelow<'_> {
+    ghost passing = { λ test. is_below test.key.now };
+
+    #[inline]
+    fn passes(&self, point: &PointRef<'_>) -> bool {
+        text_order(point.key(), self.key).is_lt()
+    }
+}
 
 /// How many of the points have keys below a key.
 ///
 /// It is a binary search.
-fn count_below(points: &[Point], key: &[u8]) -> usize
+fn count_below(points: &PointSlice<'_>, key: &[u8]) -> usize
     requires { IsStrictlySortedBy entry_cmp points.now }
     ensures bound { result ≤ length points.now }
     ensures below { take result points.now ≡ filter (is_below key.now) points.now }
     ensures from { drop result points.now ≡ filter (is_from key.now) points.now }
 {
-    points.partition_point(|point| point.key().cmp(&key).is_lt())
+    points.partition_point(&IsBelow { key })
 }
 
 /// The points of each run below a key, and those from it on.
 fn sides_of<'a>(
     alloc: Global,
-    runs: &[&'a [Point]],
+    runs: &[PointSlice<'a>],
     key: &[u8],
-) -> Result<(Vec<&'a [Point]>, Vec<&'a [Point]>), AllocError>
-    requires { AllByRecursion (λ points. IsStrictlySortedBy entry_cmp points.now) runs.now }
+) -> Result<(Vec<PointSlice<'a>>, Vec<PointSlice<'a>>), AllocError>
+    requires { AllByRecursion (IsStrictlySortedBy entry_cmp) runs.now }
     ensures below { IfOk result (λ sides.
-        map (λ points. points.now) sides.0.items ≡ map (λ points. filter (is_below key.now) points.now) runs.now) }
+        sides.0.items ≡ map (filter (is_below key.now)) runs.now) }
     ensures from { IfOk result (λ sides.
-        map (λ points. points.now) sides.1.items ≡ map (λ points. filter (is_from key.now) points.now) runs.now) }
+        sides.1.items ≡ map (filter (is_from key.now)) runs.now) }
 {
     let mut below = Vec::with_capacity(alloc, runs.len())?;
     let mut from = Vec::with_capacity(alloc, runs.len())?;
@@ -61,20 +76,20 @@ fn sides_of<'a>(
 fn points_kept_in_threads<O: Operator + Sync, R: Threads + Sync>(
     rt: &R,
     alloc: Global,
-    runs: &[&[Point]],
+    runs: &[PointSlice<'_>],
     pieces: &[Piece<'_>],
     keeping: &Keeping<'_>,
-) -> Result<Vec<Point>, AllocError>
-    requires sorted { AllByRecursion (λ points. IsStrictlySortedBy entry_cmp points.now) runs.now }
+) -> Result<Points, AllocError>
+    requires sorted { AllByRecursion (IsStrictlySortedBy entry_cmp) runs.now }
     requires order { AreInOrder pieces.now }
     requires keeps_rise { IsStrictlySortedBy nat_cmp keeping.now.keeps }
-    requires each { AreOfOneKeyEach pieces.now (flat_map (λ points. points.now) runs.now) }
+    requires each { AreOfOneKeyEach pieces.now (flat_map (λ points. points) runs.now) }
     ensures { IfOk result (λ kept.
-        kept.items ≡
+        kept ≡
         by_key.points_kept O.meaning keeping.now pieces.now
-        (flat_map (λ points. points.now) runs.now)) }
+        (flat_map (λ points. points) runs.now)) }
 {
-    let folder = By(|alloc: Global, before: Effect, points: &[&Point]| {
+    let folder = By(|alloc: Global, before: Effect, points: &[PointRef<'_>]| {
         fold_in_threads::<O>(rt, alloc, before, points)
     });
     points_kept::<O, _>(&folder, alloc, runs, pieces, keeping)
@@ -89,18 +104,18 @@ fn kept_between<O: Operator + Sync, R: Threads + Sync>(
     rt: &R,
     alloc: Global,
     cuts: &[&[u8]],
-    runs: &[&[Point]],
+    runs: &[PointSlice<'_>],
     pieces: &[Piece<'_>],
     keeping: &Keeping<'_>,
-) -> Result<Vec<Point>, AllocError>
-    requires sorted { AllByRecursion (λ points. IsStrictlySortedBy entry_cmp points.now) runs.now }
+) -> Result<Points, AllocError>
+    requires sorted { AllByRecursion (IsStrictlySortedBy entry_cmp) runs.now }
     requires order { AreInOrder pieces.now }
     requires keeps_rise { IsStrictlySortedBy nat_cmp keeping.now.keeps }
-    requires each { AreOfOneKeyEach pieces.now (flat_map (λ points. points.now) runs.now) }
+    requires each { AreOfOneKeyEach pieces.now (flat_map (λ points. points) runs.now) }
     ensures { IfOk result (λ kept.
-        kept.items ≡
+        kept ≡
         by_key.points_kept O.meaning keeping.now pieces.now
-        (flat_map (λ points. points.now) runs.now)) }
+        (flat_map (λ points. points) runs.now)) }
 {
     let Some((last, fewer)) = cuts.split_last() else {
         return points_kept_in_threads::<O, R>(rt, alloc, runs, pieces, keeping);
@@ -108,40 +123,40 @@ fn kept_between<O: Operator + Sync, R: Threads + Sync>(
     let (below, from) = sides_of(alloc, runs, last)?;
     let below = below.as_slice();
     let from = from.as_slice();
-    let top = move || -> Result<Vec<Point>, AllocError>
+    let top = move || -> Result<Points, AllocError>
         requires { IsSync R.row × IsSync O.row
-            × AllByRecursion (λ points. IsStrictlySortedBy entry_cmp points.now) from.now
+            × AllByRecursion (IsStrictlySortedBy entry_cmp) from.now
             × AreInOrder pieces.now × IsStrictlySortedBy nat_cmp keeping.now.keeps
-            × AreOfOneKeyEach pieces.now (flat_map (λ points. points.now) from.now) }
+            × AreOfOneKeyEach pieces.now (flat_map (λ points. points) from.now) }
         ensures { IfOk result (λ kept.
-            kept.items ≡
+            kept ≡
             by_key.points_kept O.meaning keeping.entry.now pieces.entry.now
-            (flat_map (λ points. points.now) from.entry.now)) }
+            (flat_map (λ points. points) from.entry.now)) }
     { points_kept_in_threads::<O, R>(rt, alloc, from, pieces, keeping) };
-    let others = move || -> Result<Vec<Point>, AllocError>
+    let others = move || -> Result<Points, AllocError>
         requires { IsSync R.row × IsSync O.row
-            × AllByRecursion (λ points. IsStrictlySortedBy entry_cmp points.now) below.now
+            × AllByRecursion (IsStrictlySortedBy entry_cmp) below.now
             × AreInOrder pieces.now × IsStrictlySortedBy nat_cmp keeping.now.keeps
-            × AreOfOneKeyEach pieces.now (flat_map (λ points. points.now) below.now) }
+            × AreOfOneKeyEach pieces.now (flat_map (λ points. points) below.now) }
         ensures { IfOk result (λ kept.
-            kept.items ≡
+            kept ≡
             by_key.points_kept O.meaning keeping.entry.now pieces.entry.now
-            (flat_map (λ points. points.now) below.entry.now)) }
+            (flat_map (λ points. points) below.entry.now)) }
     { kept_between::<O, R>(rt, alloc, fewer, below, pieces, keeping) };
     let (top, others) = join(rt, top, others);
     let mut kept = others?;
-    let mut top = top?;
-    kept.append(&mut top)?;
+    let top = top?;
+    kept.extend(&top)?;
     Ok(kept)
 }
 
 /// The points of each run.
-fn points_in<'a>(alloc: Global, inputs: &'a [Arc<Run>]) -> Result<Vec<&'a [Point]>, AllocError>
-    ensures { IfOk result (λ runs. map (λ points. points.now) runs.items ≡ points_of_each (map arc_value inputs.now)) }
+fn points_in<'a>(alloc: Global, inputs: &'a [Arc<Run>]) -> Result<Vec<PointSlice<'a>>, AllocError>
+    ensures { IfOk result (λ runs. runs.items ≡ points_of_each (map arc_value inputs.now)) }
 {
     let mut runs = Vec::new(alloc);
     for run in inputs {
-        runs.push(run.entries())?;
+        runs.push(run.entries().as_slice())?;
     }
     Ok(runs)
 }
@@ -152,13 +167,13 @@ pub(crate) fn points_kept_alone<O: Operator>(
     inputs: &[Arc<Run>],
     pieces: &[Piece<'_>],
     keeping: &Keeping<'_>,
-) -> Result<Vec<Point>, AllocError>
+) -> Result<Points, AllocError>
     requires runs { AreRuns (map arc_value inputs.now) }
     requires order { AreInOrder pieces.now }
     requires keeps_rise { IsStrictlySortedBy nat_cmp keeping.now.keeps }
     requires each { AreOfOneKeyEach pieces.now (points_of (map arc_value inputs.now)) }
     ensures { IfOk result (λ kept.
-        kept.items ≡ by_key.points_kept O.meaning keeping.now pieces.now (points_of (map arc_value inputs.now))) }
+        kept ≡ by_key.points_kept O.meaning keeping.now pieces.now (points_of (map arc_value inputs.now))) }
 {
     let runs = points_in(alloc, inputs)?;
     points_kept::<O, _>(&Alone, alloc, &runs, pieces, keeping)
@@ -172,13 +187,13 @@ pub(crate) fn points_kept_by_parts<O: Operator + Sync>(
     cuts: &[&[u8]],
     pieces: &[Piece<'_>],
     keeping: &Keeping<'_>,
-) -> Result<Vec<Point>, AllocError>
+) -> Result<Points, AllocError>
     requires runs { AreRuns (map arc_value inputs.now) }
     requires order { AreInOrder pieces.now }
     requires keeps_rise { IsStrictlySortedBy nat_cmp keeping.now.keeps }
     requires each { AreOfOneKeyEach pieces.now (points_of (map arc_value inputs.now)) }
     ensures { IfOk result (λ kept.
-        kept.items ≡ by_key.points_kept O.meaning keeping.now pieces.now (points_of (map arc_value inputs.now))) }
+        kept ≡ by_key.points_kept O.meaning keeping.now pieces.now (points_of (map arc_value inputs.now))) }
 {
     let runs = points_in(alloc, inputs)?;
     kept_between::<O, _>(rt, alloc, cuts, &runs, pieces, keeping)

@@ -15,7 +15,7 @@ use crate::pieces::covering_piece;
 use crate::{Folder, Keeping, Over, push_kept_points};
 use std::alloc::{AllocError, Global};
 use uc_oper::Operator;
-use uc_run_entry::Point;
+use uc_run_points::{PointSlice, Points};
 
 /// The sequences of the range deletions over a key.
 fn seqs_over<'a>(pieces: &'a [Piece<'_>], key: &[u8]) -> Over<'a>
@@ -32,7 +32,7 @@ fn seqs_over<'a>(pieces: &'a [Piece<'_>], key: &[u8]) -> Over<'a>
 fn push_groups<O: Operator, F: Folder<O>>(
     folder: &F,
     alloc: Global,
-    kept: &mut Vec<Point>,
+    kept: &mut Points,
     groups: &mut Groups<'_>,
     pieces: &[Piece<'_>],
     keeping: &Keeping<'_>,
@@ -42,8 +42,8 @@ fn push_groups<O: Operator, F: Folder<O>>(
     requires keeps_rise { IsStrictlySortedBy nat_cmp keeping.now.keeps }
     requires each { AllByRecursion (λ g. AreOfOneKey g.points (choice.seqs_over g.key pieces.now)) groups.old }
     ensures { OnOk result
-        (kept.new.items ≡
-        kept.old.items
+        (kept.new ≡
+        kept.old
         ++ flat_map
         (λ g.
         points_for O.meaning keeping.now g.key g.points
@@ -61,21 +61,21 @@ fn push_groups<O: Operator, F: Folder<O>>(
 pub(crate) fn points_kept<O: Operator, F: Folder<O>>(
     folder: &F,
     alloc: Global,
-    runs: &[&[Point]],
+    runs: &[PointSlice<'_>],
     pieces: &[Piece<'_>],
     keeping: &Keeping<'_>,
-) -> Result<Vec<Point>, AllocError>
+) -> Result<Points, AllocError>
     requires can { F.can_fold folder.now }
-    requires sorted { AllByRecursion (λ points. IsStrictlySortedBy entry_cmp points.now) runs.now }
+    requires sorted { AllByRecursion (IsStrictlySortedBy entry_cmp) runs.now }
     requires order { AreInOrder pieces.now }
     requires keeps_rise { IsStrictlySortedBy nat_cmp keeping.now.keeps }
-    requires each { AreOfOneKeyEach pieces.now (flat_map (λ points. points.now) runs.now) }
+    requires each { AreOfOneKeyEach pieces.now (flat_map (λ points. points) runs.now) }
     ensures { IfOk result (λ kept.
-        kept.items ≡
+        kept ≡
         by_key.points_kept O.meaning keeping.now pieces.now
-        (flat_map (λ points. points.now) runs.now)) }
+        (flat_map (λ points. points) runs.now)) }
 {
-    let mut kept = Vec::new(alloc);
+    let mut kept = Points::new(alloc);
     let mut groups = Groups::over(alloc, runs)?;
     push_groups::<O, F>(folder, alloc, &mut kept, &mut groups, pieces, keeping)?;
     Ok(kept)

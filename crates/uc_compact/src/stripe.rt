@@ -11,7 +11,7 @@ use crate::falling::points_above;
 use crate::over::Over;
 use std::marker::Model;
 use uc_bytes::MAX_SEQUENCE;
-use uc_run_entry::Point;
+use uc_run_points::PointRef;
 
 /// The sequences above `above`, up to and including `upto`.
 #[derive(Debug, Drop)]
@@ -84,13 +84,16 @@ impl Stripe {
     }
 
     /// The points of the stripe, and how many points aren't below it. They come first.
-    pub(crate) fn own_points<'b, 'a>(&self, points: &'b [&'a Point]) -> (&'b [&'a Point], usize)
-        requires { PointsFall (map (λ p. p.now) points.now) }
-        ensures own { map (λ p. p.now) result.0.now ≡
-            filter (λ p. stripes.is_in self.now p.seq) (map (λ p. p.now) points.now) }
+    pub(crate) fn own_points<'b, 'a>(
+        &self,
+        points: &'b [PointRef<'a>],
+    ) -> (&'b [PointRef<'a>], usize)
+        requires { PointsFall points.now }
+        ensures own { result.0.now ≡
+            filter (λ p. stripes.is_in self.now p.seq) points.now }
         ensures bound { result.1 ≤ length points.now }
-        ensures below { map (λ p. p.now) (drop result.1 points.now) ≡
-            filter (λ p. nat_le p.seq self.now.above) (map (λ p. p.now) points.now) }
+        ensures below { drop result.1 points.now ≡
+            filter (λ p. nat_le p.seq self.now.above) points.now }
     {
         let count = points_above(points, self.above);
         let (newer, _) = points.split_at(count);

@@ -35,12 +35,10 @@ admitted_by words new long kept key has =
       second = kept _ _ has.second;
     })
 
--- the words of two pieces of the points, made one
-pub both_admitted : (words more new : List ℕ) (points front back : List Entry) (n : ℕ) → front ≡ take n points → back ≡ drop n points → length new ≡ length words → length new ≡ length more → ((place bits : ℕ) → HasBits words place bits → HasBits new place bits) → ((place bits : ℕ) → HasBits more place bits → HasBits new place bits) → AdmitsAll words front → AdmitsAll more back → AdmitsAll new points
-both_admitted words more new points front back n is_front is_back long as_long kept added all rest =
+-- the words of two pieces of points, made one
+pub both_admitted : (words more new : List ℕ) (front back : List Entry) → length new ≡ length words → length new ≡ length more → ((place bits : ℕ) → HasBits words place bits → HasBits new place bits) → ((place bits : ℕ) → HasBits more place bits → HasBits new place bits) → AdmitsAll words front → AdmitsAll more back → AdmitsAll new (front ++ back)
+both_admitted words more new front back long as_long kept added all rest =
     let P = λ (p : Entry). Admits new p.key in
-    let whole : front ++ back ≡ points = ap (λ (ps : List Entry). ps ++ back) is_front ∙ ap (λ (ps : List Entry). take n points ++ ps) is_back ∙ take-append-drop n points in
-    subst (All P) whole
-    (All-append P front back
+    All-append P front back
     (All-weaker (λ (p : Entry). Admits words p.key) P (λ p has. admitted_by words new long kept p.key has) front all)
-    (All-weaker (λ (p : Entry). Admits more p.key) P (λ p has. admitted_by more new as_long added p.key has) back rest))
+    (All-weaker (λ (p : Entry). Admits more p.key) P (λ p has. admitted_by more new as_long added p.key has) back rest)

@@ -32,3 +32,5 @@ pub mod NumberOrder
 pub mod LeastInBlocks
 pub mod LeastNumber
 pub mod NextHead
+pub mod Walking
+pub mod Alike

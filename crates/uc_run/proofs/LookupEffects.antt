@@ -1,6 +1,6 @@
 -- What points do in turn, the newest first.
 use Rattle.std.proofs.Common.{◌≡◌, ℕ, zero, suc, ◌+◌, ◌-◌, ◌<◌, ◌≤◌, true, List, [], ◌∷◌, ◌++◌, length, get_or, take, Some, None, refl, sym, ap, ◌∙◌, arith}
-use Rattle.std.specs.Prelude.{filter, nat_lt}
+use Rattle.std.specs.Prelude.{Bool, false, not, filter, nat_lt}
 use Rattle.std.specs.List.{slice_get}
 use Rattle.std.proofs.lemmas.List.{take_more}
 use Rattle.std.proofs.lemmas.Bool.{false≢true}
@@ -55,3 +55,7 @@ module _ (m : Operation) where
   above_some points (seq ∷ seqs) newest e =
       let same : newest ≡ seq = cc in
       ap (λ n. points_effect m (Set None) (filter (λ p. nat_lt n p.seq) points)) same
+
+pub not_false : (b : Bool) → not b ≡ false → b ≡ true
+not_false true e = refl
+not_false false e = absurd (false≢true (sym e))

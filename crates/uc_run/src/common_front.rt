@@ -2,7 +2,7 @@
 use crate::cursor::Cursor;
 use crate::ranked_point::begins_with;
 use crate::run::Run;
-use uc_run_entry::Point;
+use uc_run_points::PointSlice;
 
 /// What a front and a key both begin with; if there is only one of them, all of it.
 fn narrowed<'a>(front: Option<&'a [u8]>, key: Option<&'a [u8]>) -> Option<&'a [u8]> {
@@ -14,9 +14,10 @@ fn narrowed<'a>(front: Option<&'a [u8]>, key: Option<&'a [u8]>) -> Option<&'a [u
 }
 
 /// What the keys of points in order begin with, if there are points: what the first and the last do.
-fn front_of_points(points: &[Point]) -> Option<&[u8]> {
-    let first = points.first().map(|point| point.key());
-    narrowed(first, points.last().map(|point| point.key()))
+fn front_of_points<'a>(points: &PointSlice<'a>) -> Option<&'a [u8]> {
+    let first = points.get(0)?;
+    let last = points.get(points.len().saturating_sub(1))?;
+    narrowed(Some(first.key()), Some(last.key()))
 }
 
 /// What most keys of a run begin with, if it has points. The fences tell, and the last point, which may be in no cache,
@@ -25,11 +26,11 @@ fn front_of_run(run: &Run) -> Option<&[u8]> {
     if run.blocks() > 1 {
         return run.fences().front();
     }
-    front_of_points(run.entries())
+    front_of_points(&run.entries().as_slice())
 }
 
 /// What the keys of all runs begin with.
-pub(crate) fn front_of_runs<'a>(runs: &[&'a [Point]]) -> &'a [u8] {
+pub(crate) fn front_of_runs<'a>(runs: &[PointSlice<'a>]) -> &'a [u8] {
     let mut front = None;
     for points in runs {
         front = narrowed(front, front_of_points(points));

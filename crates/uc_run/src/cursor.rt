@@ -111,7 +111,7 @@ impl<'a> Cursor<'a> {
         let end = passed_from(points, self.run.fences(), self.place, key, true);
         let on = points_between(points, self.place, end, key, at);
         let over = fragments_near(fragments, self.fragment, key);
-        effect_found::<O>(alloc, on, over, key, at)
+        effect_found::<O>(alloc, &on, over, key, at)
     }
 
     /// The end of the fragment over the key, if that has a range deletion at or below the sequence. From the key to

@@ -1,15 +1,16 @@
 //! [`EntryRef`]: a point with borrowed texts.
-ghost use Rattle.std.specs.Prelude.{◌≡◌, ◌<◌, ◌^◌, IfOk};
+ghost use Rattle.std.specs.Prelude.{◌≡◌, ◌<◌, ◌^◌, ◌++◌, ◌∷◌, [], OnOk};
 ghost use Rattle.std.specs.Ordering.{nat_cmp};
 ghost use Rattle.uc_run_entry.specs.Order.{entry_cmp};
 ghost use Rattle.uc_run_entry.specs.Packed as packed;
 ghost use Rattle.uc_run.specs.Ranks.{behind_cmp};
 
 use crate::prefixes::PREFIX_BYTES;
-use std::alloc::{AllocError, Global};
+use std::alloc::AllocError;
 use std::cmp::Ordering;
 use std::marker::Model;
-use uc_run_entry::{Point, WhatRef};
+use uc_run_entry::WhatRef;
+use uc_run_points::Points;
 
 /// A point with borrowed texts, so moves are cheap. A contract sees it as the `Entry`.
 #[derive(Debug, Drop)]
@@ -76,12 +77,12 @@ impl<'a> EntryRef<'a> {
         other.seq.cmp(&self.seq)
     }
 
-    /// The point, packed, with a copy of its texts.
+    /// Pushes the point, with a copy of its texts.
     #[inline]
-    pub(crate) fn to_point(&self, alloc: Global) -> Result<Point, AllocError>
+    pub(crate) fn push_to(&self, points: &mut Points) -> Result<(), AllocError>
         requires { self.now.seq < 2 ^ 56 }
-        ensures { IfOk result (λ point. point ≡ self.now) }
+        ensures { OnOk result (points.new ≡ points.old ++ self.now ∷ []) }
     {
-        Point::new(alloc, self.key, self.seq, self.what)
+        points.push(self.key, self.seq, self.what)
     }
 }

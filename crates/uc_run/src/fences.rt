@@ -11,7 +11,7 @@ use crate::prefixes::{prefixes_of, shared_front, undecided};
 use std::alloc::{AllocError, Global};
 use std::marker::Model;
 use uc_bytes::Bytes;
-use uc_run_entry::Point;
+use uc_run_points::{PointRef, PointSlice, PointTest, Points};
 
 /// How many points each block has; the last may have fewer.
 const BLOCK_POINTS: usize = 16;
@@ -59,19 +59,20 @@ impl Fences {
 }
 
 /// The key of the first point of each block.
-fn first_keys(alloc: Global, points: &[Point]) -> Result<Vec<Bytes>, AllocError>
+fn first_keys(alloc: Global, points: &Points) -> Result<Vec<Bytes>, AllocError>
     ensures { IfOk result (λ keys. IsFenced points.now keys.items) }
 {
+    let points = points.as_slice();
     let mut keys = Vec::new(alloc);
     for block in 0..points.len().div_ceil(BLOCK_POINTS) {
-        let key = points[block * BLOCK_POINTS].key();
-        keys.push(Bytes::from_slice(alloc, key)?)?;
+        let first = points.at(block * BLOCK_POINTS);
+        keys.push(Bytes::from_slice(alloc, first.key())?)?;
     }
     Ok(keys)
 }
 
 /// The fences of points.
-pub(crate) fn fences_of(alloc: Global, points: &[Point]) -> Result<Fences, AllocError>
+pub(crate) fn fences_of(alloc: Global, points: &Points) -> Result<Fences, AllocError>
     requires { IsStrictlySortedBy entry_cmp points.now }
     ensures { IfOk result (λ fences. IsFenced points.now fences) }
 {
@@ -95,29 +96,48 @@ fn keys_passed(keys: &[Bytes], low: &[u8], strict: bool) -> usize
     keys.partition_point(|key| is_passed(low, strict, key.as_slice()))
 }
 
-/// How many of the points lie before the search, if those that do come first.
-fn place_in(points: &[Point], low: &[u8], strict: bool) -> usize
+/// Passes the points whose keys lie before a search.
+#[derive(Drop)]
+struct IsPassed<'a> {
+    low: &'a [u8],
+    strict: bool,
+}
+
+impl PointTest for IsPassed<'_> {
+    ghost passing = { λ test p. seek.is_passed test.low.now test.strict p.key };
+
+    #[inline]
+    fn passes(&self, point: &PointRef<'_>) -> bool {
+        is_passed(self.low, self.strict, point.key())
+    }
+}
+
+/// How many of the points lie before the search, if those that do come first. It looks at them one by one.
+fn place_in(points: &PointSlice<'_>, low: &[u8], strict: bool) -> usize
     requires { IsPartitionedBy (λ p. seek.is_passed low.now strict p.key) points.now }
     ensures bound { result ≤ length points.now }
     ensures place { IsPartitionPoint (λ p. seek.is_passed low.now strict p.key ≡ true)
         (λ p. seek.is_passed low.now strict p.key ≡ false) points.now result }
 {
-    points.partition_point(|point| is_passed(low, strict, point.key()))
+    points.ahead().count_passing(&IsPassed { low, strict })
 }
 
 /// The place of the first of the points that the search finds.
-fn first_behind(points: &[Point], low: &[u8], strict: bool) -> Option<usize>
+fn first_behind(points: &PointSlice<'_>, low: &[u8], strict: bool) -> Option<usize>
     ensures { IfSome result (λ n. (n < length points.now)
         × AllWithin (λ p. seek.is_passed low.now strict p.key ≡ true) points.now 0 n
         × HoldsAt (λ p. seek.is_passed low.now strict p.key ≡ false) points.now n) }
 {
-    points
-        .iter()
-        .position(|point| !is_passed(low, strict, point.key()))
+    let count = points.ahead().count_passing(&IsPassed { low, strict });
+    if count < points.len() {
+        Some(count)
+    } else {
+        None
+    }
 }
 
 /// How many fences lie before the search.
-fn fences_passed(points: &[Point], fences: &Fences, low: &[u8], strict: bool) -> usize
+fn fences_passed(points: &Points, fences: &Fences, low: &[u8], strict: bool) -> usize
     requires sorted { IsStrictlySortedBy entry_cmp points.now }
     requires fenced { IsFenced points.now fences.now }
     ensures bound { result ≤ length fences.now }
@@ -131,7 +151,7 @@ fn fences_passed(points: &[Point], fences: &Fences, low: &[u8], strict: bool) ->
 }
 
 /// How many points lie before the search: all before the last block whose fence does, and some of that block.
-pub(crate) fn seek_by_fences(points: &[Point], fences: &Fences, low: &[u8], strict: bool) -> usize
+pub(crate) fn seek_by_fences(points: &Points, fences: &Fences, low: &[u8], strict: bool) -> usize
     requires sorted { IsStrictlySortedBy entry_cmp points.now }
     requires fenced { IsFenced points.now fences.now }
     ensures bound { result ≤ length points.now }
@@ -143,15 +163,16 @@ pub(crate) fn seek_by_fences(points: &[Point], fences: &Fences, low: &[u8], stri
     if passed == 0 {
         return 0;
     }
+    let count = points.len();
     let begin = (passed - 1) * BLOCK_POINTS;
-    let end = points.len().min(passed * BLOCK_POINTS);
-    begin + place_in(&points[begin..end], low, strict)
+    let end = count.min(passed * BLOCK_POINTS);
+    begin + place_in(&points.as_slice().slice(begin, end), low, strict)
 }
 
 /// The place, from `place` on, of the first point that the search finds. A few points are looked at one by one; if none
 /// of them is it, the fences are searched.
 pub(crate) fn passed_from(
-    points: &[Point],
+    points: &Points,
     fences: &Fences,
     place: usize,
     low: &[u8],
@@ -166,7 +187,7 @@ pub(crate) fn passed_from(
         return place;
     }
     let few = FEW_POINTS.min(points.len() - place);
-    match first_behind(&points[place..place + few], low, strict) {
+    match first_behind(&points.as_slice().slice(place, place + few), low, strict) {
         Some(count) => place + count,
         None => place.max(seek_by_fences(points, fences, low, strict)),
     }

@@ -1,5 +1,5 @@
 //! [`Filter`]: which keys a run may have points of.
-ghost use Rattle.std.specs.Prelude.{◌≡◌, ◌≤◌, ◌<◌, ◌↔◌, ℕ, List, IsTrue, IfOk, length};
+ghost use Rattle.std.specs.Prelude.{◌≡◌, ◌≤◌, ◌<◌, ◌↔◌, ◌-◌, ℕ, List, IsTrue, IfOk, length, take, drop};
 ghost use Rattle.std.specs.Thread.{IsSync};
 ghost use Rattle.uc_run.specs.Filters.{HasBits, Admits, AdmitsAll};
 
@@ -7,7 +7,7 @@ use crate::filter_bits::{BLOCK_WORDS, admit, is_admitted};
 use std::alloc::{AllocError, Global};
 use std::marker::{Model, Sync};
 use std::thread::{Threads, join};
-use uc_run_entry::Point;
+use uc_run_points::{PointSlice, Points};
 
 /// How many points share a block: ten bits for each, of which six are set. Of other keys about 1.1 % are admitted.
 const BLOCK_POINTS: usize = 51;
@@ -48,17 +48,18 @@ fn count_words(points: usize) -> usize
 }
 
 /// Makes the words admit the key of each point.
-fn admit_all(words: &mut [u64], points: &[Point])
+fn admit_all(words: &mut [u64], points: &PointSlice<'_>)
     requires { 0 < length points.now → BLOCK_WORDS ≤ length words.old }
     ensures { AdmitsAll words.new points.now }
 {
-    for point in points {
+    let mut ahead = points.ahead();
+    while let Some(point) = ahead.next() {
         admit(words, point.key());
     }
 }
 
 /// So many words that admit the keys of the points.
-fn words_of(alloc: Global, count: usize, points: &[Point]) -> Result<Vec<u64>, AllocError>
+fn words_of(alloc: Global, count: usize, points: &PointSlice<'_>) -> Result<Vec<u64>, AllocError>
     requires { 0 < length points.now → BLOCK_WORDS ≤ count }
     ensures count { IfOk result (λ words. length words.items ≡ count) }
     ensures admitted { IfOk result (λ words. AdmitsAll words.items points.now) }
@@ -69,10 +70,10 @@ fn words_of(alloc: Global, count: usize, points: &[Point]) -> Result<Vec<u64>, A
 }
 
 /// A filter that admits the keys of the points.
-pub(crate) fn filter_of(alloc: Global, points: &[Point]) -> Result<Filter, AllocError>
+pub(crate) fn filter_of(alloc: Global, points: &Points) -> Result<Filter, AllocError>
     ensures { IfOk result (λ filter. AdmitsAll filter points.now) }
 {
-    let words = words_of(alloc, count_words(points.len()), points)?;
+    let words = words_of(alloc, count_words(points.len()), &points.as_slice())?;
     Ok(Filter { words })
 }
 
@@ -88,34 +89,38 @@ fn add_bits(words: &mut [u64], other: &[u64])
     }
 }
 
-/// So many words that admit the keys of the points, which are cut into parts. Those of each part are made by a thread of
-/// its own, or by the one that would wait for it, if none can be had.
+/// So many words that admit the keys of the points between two places, which are cut into parts. Those of each part are
+/// made by a thread of its own, or by the one that would wait for it, if none can be had.
 #[cycle(side_by_side)]
 fn words_by_parts<R: Threads + Sync>(
     rt: &R,
     alloc: Global,
     count: usize,
-    points: &[Point],
+    points: &Points,
+    begin: usize,
+    end: usize,
     parts: usize,
 ) -> Result<Vec<u64>, AllocError>
-    requires { 0 < length points.now → BLOCK_WORDS ≤ count }
+    requires some { begin < end → BLOCK_WORDS ≤ count }
+    requires order { begin ≤ end }
+    requires within { end ≤ length points.now }
     ensures count { IfOk result (λ words. length words.items ≡ count) }
-    ensures admitted { IfOk result (λ words. AdmitsAll words.items points.now) }
+    ensures admitted { IfOk result (λ words. AdmitsAll words.items (take (end - begin) (drop begin points.now))) }
 {
     if parts <= 1 {
-        return words_of(alloc, count, points);
+        return words_of(alloc, count, &points.as_slice().slice(begin, end));
     }
-    let (front, back) = points.split_at(points.len() / 2);
+    let middle = begin + (end - begin) / 2;
     let (front, back) = join(
         rt,
         || -> Result<Vec<u64>, AllocError>
-            requires { IsSync R.row × (0 < length front.now → BLOCK_WORDS ≤ count) }
-            ensures { IfOk result (λ words. (length words.items ≡ count) × AdmitsAll words.items front.entry.now) }
-        { words_by_parts(rt, alloc, count, front, parts / 2) },
+            requires { IsSync R.row × (begin < middle → BLOCK_WORDS ≤ count) × (begin ≤ middle) × (middle ≤ length points.now) }
+            ensures { IfOk result (λ words. (length words.items ≡ count) × AdmitsAll words.items (take (middle - begin) (drop begin points.entry.now))) }
+        { words_by_parts(rt, alloc, count, points, begin, middle, parts / 2) },
         || -> Result<Vec<u64>, AllocError>
-            requires { IsSync R.row × (0 < length back.now → BLOCK_WORDS ≤ count) }
-            ensures { IfOk result (λ words. (length words.items ≡ count) × AdmitsAll words.items back.entry.now) }
-        { words_by_parts(rt, alloc, count, back, parts / 2) },
+            requires { IsSync R.row × (middle < end → BLOCK_WORDS ≤ count) × (middle ≤ end) × (end ≤ length points.now) }
+            ensures { IfOk result (λ words. (length words.items ≡ count) × AdmitsAll words.items (take (end - middle) (drop middle points.entry.now))) }
+        { words_by_parts(rt, alloc, count, points, middle, end, parts / 2) },
     );
     let mut words = front?;
     add_bits(&mut words, &back?);
@@ -126,10 +131,18 @@ fn words_by_parts<R: Threads + Sync>(
 pub(crate) fn filter_in_threads<R: Threads + Sync>(
     rt: &R,
     alloc: Global,
-    points: &[Point],
+    points: &Points,
 ) -> Result<Filter, AllocError>
     ensures { IfOk result (λ filter. AdmitsAll filter points.now) }
 {
-    let words = words_by_parts(rt, alloc, count_words(points.len()), points, PARTS)?;
+    let words = words_by_parts(
+        rt,
+        alloc,
+        count_words(points.len()),
+        points,
+        0,
+        points.len(),
+        PARTS,
+    )?;
     Ok(Filter { words })
 }

@@ -17,7 +17,8 @@ use crate::slot::Slot;
 use crate::slot_totals::last_seq;
 use std::alloc::{AllocError, Global};
 use uc_bytes::{OpKind, OpRef, WriteRef};
-use uc_run_entry::{Point, Range, WhatRef, cut_ranges};
+use uc_run_entry::{Range, WhatRef, cut_ranges};
+use uc_run_points::Points;
 
 /// The texts of a slot in the arena.
 fn texts_at<'a>(text: &'a [u8], slot: &Slot) -> (&'a [u8], &'a [u8])
@@ -108,12 +109,12 @@ fn ranges_in<'a>(
 
 /// The points among the slots' writes, by key, the newest of a key first. The texts are copied in this order. An `Err`
 /// loses them.
-fn points_by_key(alloc: Global, text: &[u8], slots: &[Slot]) -> Result<Vec<Point>, AllocError>
+fn points_by_key(alloc: Global, text: &[u8], slots: &[Slot]) -> Result<Points, AllocError>
     requires within { LieWithin text.now slots.now }
     requires own { HaveOwnSeqs (flush.points_in (slot_writes text.now slots.now)) }
     requires below { AllByRecursion (λ p. p.seq < 2 ^ 56)
         (flush.by_key (flush.points_in (slot_writes text.now slots.now))) }
-    ensures { IfOk result (λ points. points.items ≡ flush.by_key (flush.points_in (slot_writes text.now slots.now))) }
+    ensures { IfOk result (λ points. points ≡ flush.by_key (flush.points_in (slot_writes text.now slots.now))) }
 {
     let mut points = points_in(alloc, text, slots)?;
     sort_by_key(&mut points);

@@ -13,7 +13,7 @@ use crate::prefixes::prefix_of;
 use crate::texts::{same_text, text_order};
 use std::alloc::{AllocError, Global};
 use std::marker::Model;
-use uc_run_entry::Point;
+use uc_run_points::PointSlice;
 
 /// A next key, and the number by which [`Heads::is_at`] finds it.
 #[derive(Clone, Copy, Debug)]
@@ -57,15 +57,26 @@ fn keys_of<'a>(alloc: Global, cursors: &[Cursor<'a>]) -> Result<Vec<Option<&'a [
     Ok(keys)
 }
 
+/// The key of the first point.
+fn first_key<'a>(points: &PointSlice<'a>) -> Option<&'a [u8]>
+    ensures { option_map (λ key. key.now) result ≡ heads.first_key points.now }
+{
+    match points.get(0) {
+        None => None,
+        Some(point) => Some(point.key()),
+    }
+}
+
 /// The key of the first point of each run.
-fn first_keys<'a>(alloc: Global, runs: &[&'a [Point]]) -> Result<Vec<Option<&'a [u8]>>, AllocError>
-    ensures { IfOk result (λ keys.
-        map (option_map (λ key. key.now)) keys.items ≡
-        map (λ points. heads.first_key points.now) runs.now) }
+fn first_keys<'a>(
+    alloc: Global,
+    runs: &[PointSlice<'a>],
+) -> Result<Vec<Option<&'a [u8]>>, AllocError>
+    ensures { IfOk result (λ keys. map (option_map (λ key. key.now)) keys.items ≡ map heads.first_key runs.now) }
 {
     let mut keys = Vec::with_capacity(alloc, runs.len())?;
     for points in runs {
-        keys.push(points.first().map(|point| point.key()))?;
+        keys.push(first_key(points))?;
     }
     Ok(keys)
 }
@@ -197,9 +208,8 @@ impl<'a> Heads<'a> {
     }
 
     /// The keys of the first points of runs. It costs a look at each run's first and last key.
-    pub fn of_runs(alloc: Global, runs: &[&'a [Point]]) -> Result<Heads<'a>, AllocError>
-        ensures { IfOk result (λ made.
-            made.keys ≡ map (λ points. heads.first_key points.now) runs.now) }
+    pub fn of_runs(alloc: Global, runs: &[PointSlice<'a>]) -> Result<Heads<'a>, AllocError>
+        ensures { IfOk result (λ made. made.keys ≡ map heads.first_key runs.now) }
     {
         let front = front_of_runs(runs);
         let keys = first_keys(alloc, runs)?;

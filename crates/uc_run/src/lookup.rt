@@ -1,5 +1,5 @@
 //! What a lookup of a key finds among points and fragments.
-ghost use Rattle.std.specs.Prelude.{◌≡◌, false, filter, Some, IfOk, IfSome, nat_le};
+ghost use Rattle.std.specs.Prelude.{◌≡◌, false, not, filter, Some, IfOk, IfSome, nat_le};
 ghost use Rattle.std.specs.List.{AllByRecursion, flat_map, slice_get};
 ghost use Rattle.std.specs.List.Sorted.{IsStrictlySortedBy};
 ghost use Rattle.uc_oper.specs.Operation.{Operation};
@@ -8,6 +8,7 @@ ghost use Rattle.uc_oper.specs.declared.effect.Effect.TheVariants.{Keep, Set};
 ghost use Rattle.uc_run_entry.specs.Order.{entry_cmp, IsFalling, AreInOrder};
 ghost use Rattle.uc_run_entry.specs.Run.{covers};
 ghost use Rattle.uc_run_entry.specs.Lookup as lookup;
+ghost use Rattle.uc_run_entry.specs.Overwriting as overwriting;
 ghost use Rattle.uc_run_entry.specs.Seek.{seek_place};
 ghost use Rattle.uc_run.specs.Places.{PointsFall};
 
@@ -16,16 +17,32 @@ use crate::places::newer_than;
 use crate::texts::same_text;
 use std::alloc::{AllocError, Global};
 use uc_oper::{Effect, Operator};
-use uc_run_entry::{Fragment, Point, WhatRef, covering_fragment};
+use uc_run_entry::{Fragment, WhatRef, covering_fragment};
+use uc_run_points::{PointRef, PointSlice, PointTest, Points};
+
+/// Passes the points that overwrite nothing.
+#[derive(Drop)]
+struct IsMerge;
+
+impl PointTest for IsMerge {
+    ghost passing = { λ _ p. not (overwriting.overwrites p) };
+
+    #[inline]
+    fn passes(&self, point: &PointRef<'_>) -> bool {
+        !point.overwrites()
+    }
+}
 
 /// The points, the newest first, without those that a newer one overwrites.
-fn lasting(points: &[Point]) -> &[Point]
+fn lasting<'a>(points: &PointSlice<'a>) -> PointSlice<'a>
     ensures { (m : Operation) (before : EffectOf) →
-        lookup.points_effect m before result.now ≡ lookup.points_effect m before points.now }
+        lookup.points_effect m before result ≡ lookup.points_effect m before points.now }
 {
-    match points.iter().position(Point::overwrites) {
-        None => points,
-        Some(place) => &points[..place + 1],
+    let count = points.ahead().count_passing(&IsMerge);
+    if count < points.len() {
+        points.slice(0, count + 1)
+    } else {
+        points.slice(0, count)
     }
 }
 
@@ -33,14 +50,14 @@ fn lasting(points: &[Point]) -> &[Point]
 fn points_effect<O: Operator>(
     alloc: Global,
     before: Effect,
-    points: &[Point],
+    points: &PointSlice<'_>,
 ) -> Result<Effect, AllocError>
     ensures { IfOk result (λ effect. effect ≡ lookup.points_effect O.meaning before points.now) }
 {
     let points = lasting(points);
     let mut effect = before;
     for place in (0..points.len()).rev() {
-        effect = points[place].what().after::<O>(alloc, effect)?;
+        effect = points.at(place).what().after::<O>(alloc, effect)?;
     }
     Ok(effect)
 }
@@ -64,7 +81,7 @@ fn newest_over(fragments: &[Fragment], key: &[u8], at: u64) -> Option<u64>
 /// put at or below the sequence. Then it alone says what the key's points do.
 #[inline]
 pub(crate) fn newest_put<'a>(
-    points: &'a [Point],
+    points: &'a Points,
     place: usize,
     key: &[u8],
     at: u64,
@@ -88,7 +105,7 @@ pub(crate) fn newest_put<'a>(
 /// range deletion over it. That deletion is one of the fragments' sequences.
 pub(crate) fn effect_found<O: Operator>(
     alloc: Global,
-    on: &[Point],
+    on: &PointSlice<'_>,
     fragments: &[Fragment],
     key: &[u8],
     at: u64,
@@ -101,6 +118,6 @@ pub(crate) fn effect_found<O: Operator>(
 {
     match newest_over(fragments, key, at) {
         None => points_effect::<O>(alloc, Effect::Keep, on),
-        Some(newest) => points_effect::<O>(alloc, Effect::Set(None), newer_than(on, newest)),
+        Some(newest) => points_effect::<O>(alloc, Effect::Set(None), &newer_than(on, newest)),
     }
 }

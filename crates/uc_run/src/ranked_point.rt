@@ -1,5 +1,5 @@
 //! [`RankedPoint`]: a point beside a number that orders it by its key.
-ghost use Rattle.std.specs.Prelude.{◌≡◌, ◌<◌, ◌≤◌, ◌^◌, length, map, IfOk};
+ghost use Rattle.std.specs.Prelude.{◌≡◌, ◌<◌, ◌≤◌, ◌^◌, ◌++◌, ◌∷◌, [], length, map, IfOk, OnOk};
 ghost use Rattle.std.specs.List.{AllByRecursion};
 ghost use Rattle.std.specs.List.Sorted.{IsPermutation, IsSortedBy};
 ghost use Rattle.std.specs.Ordering.{is_lt};
@@ -14,7 +14,7 @@ use crate::texts::same_text;
 use std::alloc::{AllocError, Global};
 use std::cmp::Ordering;
 use std::marker::Model;
-use uc_run_entry::Point;
+use uc_run_points::Points;
 
 /// A point beside the prefix of its key, after the bytes that all keys share. Most prefixes differ, and a sort looks at
 /// texts only where two are equal and the keys go on.
@@ -71,13 +71,13 @@ impl<'a> RankedPoint<'a> {
         }
     }
 
-    /// The point, packed, with a copy of its texts.
+    /// Pushes the point, with a copy of its texts.
     #[inline]
-    fn to_point(&self, alloc: Global) -> Result<Point, AllocError>
+    fn push_to(&self, points: &mut Points) -> Result<(), AllocError>
         requires { self.now.1.seq < 2 ^ 56 }
-        ensures { IfOk result (λ point. point ≡ self.now.1) }
+        ensures { OnOk result (points.new ≡ points.old ++ self.now.1 ∷ []) }
     {
-        self.point.to_point(alloc)
+        self.point.push_to(points)
     }
 }
 
@@ -146,16 +146,13 @@ pub(crate) fn sort_by_key(points: &mut [RankedPoint<'_>])
 }
 
 /// Ranked points, packed, with copies of their texts. An `Err` loses them.
-pub(crate) fn pack_ranked(
-    alloc: Global,
-    ranked: &[RankedPoint<'_>],
-) -> Result<Vec<Point>, AllocError>
+pub(crate) fn pack_ranked(alloc: Global, ranked: &[RankedPoint<'_>]) -> Result<Points, AllocError>
     requires { AllByRecursion (λ p. p.seq < 2 ^ 56) (points_of ranked.now) }
-    ensures { IfOk result (λ packed. packed.items ≡ points_of ranked.now) }
+    ensures { IfOk result (λ packed. packed ≡ points_of ranked.now) }
 {
-    let mut packed = Vec::with_capacity(alloc, ranked.len())?;
+    let mut packed = Points::new(alloc);
     for point in ranked {
-        packed.push(point.to_point(alloc)?)?;
+        point.push_to(&mut packed)?;
     }
     Ok(packed)
 }

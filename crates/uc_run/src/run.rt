@@ -26,9 +26,8 @@ use std::alloc::{AllocError, Global};
 use std::marker::{Model, Sync};
 use std::thread::{Threads, join};
 use uc_oper::{Effect, Operator};
-use uc_run_entry::{
-    Entry, Fragment, Fragments, Point, WhatRef, plain_list_does_what_is_found, points_of,
-};
+use uc_run_entry::{Entry, Fragment, Fragments, WhatRef, plain_list_does_what_is_found};
+use uc_run_points::{Points, points_of};
 
 /// An immutable sorted table (LevelDB `table_format.md`, in memory): points in order of key, fragments of range
 /// deletions, and the range of their sequences. A contract sees it as these.
@@ -36,7 +35,7 @@ use uc_run_entry::{
 pub struct Run {
     low: u64,
     high: u64,
-    points: Vec<Point>,
+    points: Points,
     fences: Fences,
     filter: Filter,
     fragments: Fragments,
@@ -74,7 +73,7 @@ impl Drop for Run {
 fn filter_beside_fences<R: Threads + Sync>(
     rt: &R,
     alloc: Global,
-    points: &[Point],
+    points: &Points,
 ) -> Result<(Filter, Fences), AllocError>
     requires { IsStrictlySortedBy entry_cmp points.now }
     ensures filter { IfOk result (λ made. AdmitsAll made.0 points.now) }
@@ -120,12 +119,12 @@ impl Run {
         alloc: Global,
         low: u64,
         high: u64,
-        points: Vec<Point>,
+        points: Points,
         fragments: Fragments,
     ) -> Result<Run, AllocError>
-        requires { IsRun low high points.items fragments }
+        requires { IsRun low high points fragments }
         ensures { IfOk result (λ run.
-            run ≡ record { low = low; high = high; points = points.items; fragments = fragments }) }
+            run ≡ record { low = low; high = high; points = points; fragments = fragments }) }
     {
         let size = size_of(&points, fragments.as_slice());
         let fences = fences_of(alloc, &points)?;
@@ -147,12 +146,12 @@ impl Run {
         alloc: Global,
         low: u64,
         high: u64,
-        points: Vec<Point>,
+        points: Points,
         fragments: Fragments,
     ) -> Result<Run, AllocError>
-        requires { IsRun low high points.items fragments }
+        requires { IsRun low high points fragments }
         ensures { IfOk result (λ run.
-            run ≡ record { low = low; high = high; points = points.items; fragments = fragments }) }
+            run ≡ record { low = low; high = high; points = points; fragments = fragments }) }
     {
         let (filter, fences) = filter_beside_fences(rt, alloc, &points)?;
         let size = size_of(&points, fragments.as_slice());
@@ -196,7 +195,7 @@ impl Run {
     }
 
     /// The points, in order of key, the newest of a key first.
-    pub fn entries(&self) -> &[Point]
+    pub fn entries(&self) -> &Points
         ensures { result.now ≡ self.now.points }
     {
         &self.points
@@ -287,7 +286,7 @@ impl Run {
     {
         plain_list_does_what_is_found::<O>();
         let on = points_on(&self.points, &self.fences, &self.filter, key, at);
-        effect_found::<O>(alloc, on, self.fragments.as_slice(), key, at)
+        effect_found::<O>(alloc, &on, self.fragments.as_slice(), key, at)
     }
 
     /// Whether the runs have equal points, fragments and ranges.

@@ -4,7 +4,8 @@ ghost use Rattle.std.specs.List.{sum_by};
 ghost use Rattle.uc_run_entry.specs.Size as size;
 ghost use Rattle.uc_run_entry.specs.Packed as packed;
 
-use uc_run_entry::{Fragment, Point, WhatRef};
+use uc_run_entry::{Fragment, WhatRef};
+use uc_run_points::{PointRef, Points};
 
 /// The length of a point's value or operand.
 #[inline]
@@ -20,7 +21,7 @@ fn what_size(what: WhatRef<'_>) -> u64
 
 /// The length of a point's key and of its value or operand, and 8; at most 2^64 - 1.
 #[inline]
-fn entry_size(point: &Point) -> u64
+fn entry_size(point: &PointRef<'_>) -> u64
     ensures { result ≡ min (size.entry_size point.now) (2 ^ 64 - 1) }
 {
     (point.key().len() as u64)
@@ -37,12 +38,13 @@ fn fragment_size(fragment: &Fragment) -> u64
 }
 
 /// The size of all points, at most 2^64 - 1.
-fn points_size(points: &[Point]) -> u64
+fn points_size(points: &Points) -> u64
     ensures { result ≡ min (sum_by size.entry_size points.now) (2 ^ 64 - 1) }
 {
     let mut sum = 0_u64;
-    for point in points {
-        sum = sum.saturating_add(entry_size(point));
+    let mut ahead = points.ahead();
+    while let Some(point) = ahead.next() {
+        sum = sum.saturating_add(entry_size(&point));
     }
     sum
 }
@@ -59,7 +61,7 @@ fn fragments_size(fragments: &[Fragment]) -> u64
 }
 
 /// The size of points and fragments, at most 2^64 - 1.
-pub(crate) fn size_of(points: &[Point], fragments: &[Fragment]) -> u64
+pub(crate) fn size_of(points: &Points, fragments: &[Fragment]) -> u64
     ensures { result ≡ min (sum_by size.entry_size points.now + sum_by size.fragment_size fragments.now) (2 ^ 64 - 1) }
 {
     points_size(points).saturating_add(fragments_size(fragments))

@@ -8,7 +8,8 @@ use std::alloc::{AllocError, Global};
 use std::process::Abort;
 use std::test::Fail;
 use uc_run::{Cursor, Head, Heads, Run};
-use uc_run_entry::{Point, WhatRef};
+use uc_run_entry::WhatRef;
+use uc_run_points::{PointSlice, Points};
 
 /// Keys in order.
 type Keys = &'static [&'static [u8]];
@@ -122,34 +123,35 @@ fn sorted_keys<'a>(alloc: Global, runs: &'a [Run]) -> Result<Vec<&'a [u8]>, Allo
 }
 
 /// Pushes the key of each point.
-fn push_keys<'a>(keys: &mut Vec<&'a [u8]>, points: &'a [Point]) -> Result<(), AllocError> {
-    for point in points {
-        keys.push(point.key())?;
+fn push_keys<'a>(keys: &mut Vec<&'a [u8]>, points: &'a Points) -> Result<(), AllocError> {
+    let points = points.as_slice();
+    for place in 0..points.len() {
+        keys.push(points.at(place).key())?;
     }
     Ok(())
 }
 
 /// The points of each run.
-fn points_of<'a>(alloc: Global, runs: &'a [Run]) -> Result<Vec<&'a [Point]>, AllocError> {
+fn points_of<'a>(alloc: Global, runs: &'a [Run]) -> Result<Vec<PointSlice<'a>>, AllocError> {
     let mut points = Vec::new(alloc);
     for run in runs {
-        points.push(run.entries())?;
+        points.push(run.entries().as_slice())?;
     }
     Ok(points)
 }
 
 /// Whether the points begin with the key.
-fn begin_with(points: &[Point], key: &[u8]) -> bool {
-    match points.first() {
+fn begin_with(points: &PointSlice<'_>, key: &[u8]) -> bool {
+    match points.get(0) {
         Some(point) => point.key() == key,
         None => false,
     }
 }
 
 /// The first run from one on that begins with the key, or how many runs there are if none does.
-fn next_beginning(runs: &[&[Point]], from: usize, key: &[u8]) -> usize {
+fn next_beginning(runs: &[PointSlice<'_>], from: usize, key: &[u8]) -> usize {
     for walk in from..runs.len() {
-        if begin_with(runs[walk], key) {
+        if begin_with(&runs[walk], key) {
             return walk;
         }
     }
@@ -157,13 +159,17 @@ fn next_beginning(runs: &[&[Point]], from: usize, key: &[u8]) -> usize {
 }
 
 /// Whether heads find this key, the least of the first ones, at the runs that begin with it.
-fn find_least(alloc: Global, runs: &[&[Point]], least: Option<&[u8]>) -> Result<bool, AllocError> {
+fn find_least(
+    alloc: Global,
+    runs: &[PointSlice<'_>],
+    least: Option<&[u8]>,
+) -> Result<bool, AllocError> {
     let heads = Heads::of_runs(alloc, runs)?;
     let Some(head) = heads.least() else {
         return Ok(least.is_none());
     };
     for walk in 0..runs.len() {
-        if heads.is_at(walk, head) != begin_with(runs[walk], head.key)
+        if heads.is_at(walk, head) != begin_with(&runs[walk], head.key)
             || heads.next_at(walk, head) != next_beginning(runs, walk, head.key)
         {
             return Ok(false);
@@ -336,7 +342,7 @@ fn drawn_heads_are_in_order(rt: HostRuntime) -> Result<(), Fail> {
 }
 
 /// Whether the heads of runs have a least key until they forget all walks.
-fn forget(alloc: Global, runs: &[&[Point]]) -> Result<bool, AllocError> {
+fn forget(alloc: Global, runs: &[PointSlice<'_>]) -> Result<bool, AllocError> {
     let mut heads = Heads::of_runs(alloc, runs)?;
     let there = heads.least().is_some();
     heads.clear();

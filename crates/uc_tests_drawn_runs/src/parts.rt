@@ -126,7 +126,9 @@ fn by_parts(
 
 /// Whether lookups find each point of a run: its filter has all keys.
 fn finds_all(alloc: Global, run: &Run) -> Result<bool, AllocError> {
-    for point in run.entries() {
+    let points = run.entries().as_slice();
+    for place in 0..points.len() {
+        let point = points.at(place);
         if keeps_at::<Counter>(alloc, run, point.key(), u64::MAX)? {
             return Ok(false);
         }

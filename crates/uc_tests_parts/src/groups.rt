@@ -7,7 +7,8 @@ use crate::given::{entry_of, next_random};
 use std::alloc::{AllocError, Global};
 use std::test::Fail;
 use uc_compact::Groups;
-use uc_run_entry::{Entry, Point, WhatRef, is_run};
+use uc_run_entry::{Entry, WhatRef, is_run};
+use uc_run_points::{PointRef, Points};
 
 /// Deletes of keys of one byte.
 fn entries_of(alloc: Global, points: &[(u8, u64)]) -> Result<Vec<Entry>, AllocError> {
@@ -19,12 +20,12 @@ fn entries_of(alloc: Global, points: &[(u8, u64)]) -> Result<Vec<Entry>, AllocEr
 }
 
 /// Points of keys of one byte, with sequences from 1 to 40, in order.
-fn points_of(alloc: Global, points: &[(u8, u64)]) -> Result<Vec<Point>, Fail>
-    ensures { IfOk result (λ made. IsStrictlySortedBy entry_cmp made.items) }
+fn points_of(alloc: Global, points: &[(u8, u64)]) -> Result<Points, Fail>
+    ensures { IfOk result (λ made. IsStrictlySortedBy entry_cmp made) }
 {
     let entries = entries_of(alloc, points)?;
     if is_run(1, 40, &entries, &[]) {
-        Ok(uc_run_entry::points_of(alloc, &entries)?)
+        Ok(uc_run_points::points_of(alloc, &entries)?)
     } else {
         Err(Fail::new("not in order"))
     }
@@ -33,7 +34,7 @@ fn points_of(alloc: Global, points: &[(u8, u64)]) -> Result<Vec<Point>, Fail>
 /// Whether the next key is this one, with points of these sequences.
 fn is_next<'a>(
     groups: &mut Groups<'a>,
-    points: &mut Vec<&'a Point>,
+    points: &mut Vec<PointRef<'a>>,
     key: u8,
     seqs: &[u64],
 ) -> Result<bool, AllocError> {

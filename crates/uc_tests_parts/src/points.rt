@@ -1,4 +1,4 @@
-//! Points of each kind, with texts that fit and texts that don't.
+//! Points of each kind, with texts of many lengths.
 ghost use Rattle.std.specs.Prelude.{◌<◌, ◌^◌};
 
 use crate::given::entry_of;
@@ -7,7 +7,8 @@ use std::process::Abort;
 use std::test::Fail;
 use uc_bytes::Bytes;
 use uc_oper::{Append, Effect};
-use uc_run_entry::{Entry, Point, What, WhatRef, points_of};
+use uc_run_entry::{Entry, What, WhatRef};
+use uc_run_points::{PointRef, Points, points_of};
 
 /// Keys and texts: empty, as long as fit together, and longer.
 static TEXTS: [(&[u8], &[u8]); 6] = [
@@ -26,7 +27,7 @@ static TEXTS: [(&[u8], &[u8]); 6] = [
 const SEQS: [u64; 3] = [1, 255, (1 << 56) - 1];
 
 /// Whether a packed point says what an entry says.
-fn says_the_same(point: &Point, entry: &Entry) -> bool {
+fn says_the_same(point: &PointRef<'_>, entry: &Entry) -> bool {
     point.key() == entry.key.as_slice()
         && point.seq() == entry.seq
         && point.what() == WhatRef::of(&entry.what)
@@ -37,8 +38,12 @@ fn is_packed(alloc: Global, entry: &Entry) -> Result<bool, AllocError> {
     if entry.seq > SEQS[2] {
         return Ok(false);
     }
-    let point = Point::of(alloc, entry)?;
-    Ok(says_the_same(&point, entry) && point.to_entry(alloc)? == *entry)
+    let mut points = Points::new(alloc);
+    points.push(entry.key.as_slice(), entry.seq, WhatRef::of(&entry.what))?;
+    match points.get(0) {
+        Some(point) => Ok(says_the_same(&point, entry) && point.to_entry(alloc)? == *entry),
+        None => Ok(false),
+    }
 }
 
 /// Whether a point of this key that says this is packed and unpacked.
@@ -69,8 +74,13 @@ fn points_say_what_entries_say(rt: HostRuntime) -> Result<(), Fail> {
 fn is_the_put(alloc: Global, key: &[u8], seq: u64, what: WhatRef<'_>) -> Result<bool, AllocError>
     requires { seq < 2 ^ 56 }
 {
-    let put = Point::new(alloc, b"k", 7, WhatRef::Put(b"v"))?;
-    Ok(put.same(&Point::new(alloc, key, seq, what)?))
+    let mut points = Points::new(alloc);
+    points.push(b"k", 7, WhatRef::Put(b"v"))?;
+    points.push(key, seq, what)?;
+    match (points.get(0), points.get(1)) {
+        (Some(put), Some(point)) => Ok(put.same(&point)),
+        _ => Ok(false),
+    }
 }
 
 #[test]
@@ -86,7 +96,9 @@ fn points_are_the_same_by_all_they_say(rt: HostRuntime) -> Result<(), Fail> {
 
 /// Whether a point that says this overwrites what is older.
 fn overwrites(alloc: Global, says: WhatRef<'_>) -> Result<bool, AllocError> {
-    Ok(Point::new(alloc, b"k", 7, says)?.overwrites())
+    let mut points = Points::new(alloc);
+    points.push(b"k", 7, says)?;
+    Ok(points.get(0).is_some_and(|point| point.overwrites()))
 }
 
 #[test]
@@ -124,20 +136,15 @@ fn what_is_said_goes_onto_an_effect(rt: HostRuntime) -> Result<(), Fail> {
     Ok(())
 }
 
-#[test]
-fn points_are_small(rt: HostRuntime) -> Result<(), Fail> {
-    assert_eq!(rt; size_of::<Point>(), 56);
-    Ok(())
-}
-
 /// Keys and sequences of deletes, which don't rise.
 static FALLING: [(&[u8], u64); 2] = [(b"b", 7), (b"a", 9)];
 
 /// Whether packed points have these keys and sequences.
-fn are_falling(points: &[Point]) -> bool {
-    for (point, (key, seq)) in points.iter().zip(&FALLING) {
-        if point.key() != *key || point.seq() != *seq {
-            return false;
+fn are_falling(points: &Points) -> bool {
+    for (place, (key, seq)) in FALLING.iter().enumerate() {
+        match points.get(place) {
+            Some(point) if point.key() == *key && point.seq() == *seq => {}
+            _ => return false,
         }
     }
     points.len() == 2

@@ -10,7 +10,8 @@ use uc_compact::{
     seqs_are_from_one, sequences_have_one_stripe,
 };
 use uc_oper::{Append, Counter, Effect};
-use uc_run_entry::{Point, Seqs, WhatRef};
+use uc_run_entry::{Seqs, WhatRef};
+use uc_run_points::{PointRef, Points};
 
 /// A point of a test: its sequence, and what it says.
 type Given = (u8, WhatRef<'static>);
@@ -138,12 +139,22 @@ static POINTS: [OfKey; 13] = [
 ];
 
 /// The points of the key `k`.
-fn points_of(alloc: Global, given: &[Given]) -> Result<Vec<Point>, AllocError> {
-    let mut points = Vec::new(alloc);
+fn points_of(alloc: Global, given: &[Given]) -> Result<Points, AllocError> {
+    let mut points = Points::new(alloc);
     for &(seq, what) in given {
-        points.push(Point::new(alloc, b"k", u64::from(seq), what)?)?;
+        points.push(b"k", u64::from(seq), what)?;
     }
     Ok(points)
+}
+
+/// Each of the points.
+fn lent(alloc: Global, points: &Points) -> Result<Vec<PointRef<'_>>, AllocError> {
+    let points = points.as_slice();
+    let mut lent = Vec::new(alloc);
+    for place in 0..points.len() {
+        lent.push(points.at(place))?;
+    }
+    Ok(lent)
 }
 
 /// Every other one of some sequences, from the first or the second on.
@@ -162,10 +173,10 @@ fn kept_by(
     rt: &(impl Threads + Sync),
     alloc: Global,
     case: &OfKey,
-    points: &[&Point],
+    points: &[PointRef<'_>],
     first: &Seqs,
     second: &Seqs,
-) -> Result<Vec<Point>, Fail> {
+) -> Result<Points, Fail> {
     if !first.are_falling() || !second.are_falling() || !keeps_rise(case.keeps) {
         return Err(Fail::new("no sequences or keeps"));
     }
@@ -176,7 +187,7 @@ fn kept_by(
     }
     let keeping = Keeping::new(case.keeps, case.bottom);
     let mut kept = points_of(alloc, &[(1, WhatRef::Delete)])?;
-    let folder = By(|alloc: Global, before: Effect, points: &[&Point]| {
+    let folder = By(|alloc: Global, before: Effect, points: &[PointRef<'_>]| {
         fold_in_threads::<Append<0x2C>>(rt, alloc, before, points)
     });
     push_kept_points::<Append<0x2C>, _>(&folder, alloc, &mut kept, b"k", points, &over, &keeping)?;
@@ -184,21 +195,21 @@ fn kept_by(
 }
 
 /// What is kept of the points of a case.
-fn kept_of(rt: &(impl Threads + Sync), alloc: Global, case: &OfKey) -> Result<Vec<Point>, Fail> {
+fn kept_of(rt: &(impl Threads + Sync), alloc: Global, case: &OfKey) -> Result<Points, Fail> {
     let points = points_of(alloc, case.points)?;
-    let points: Vec<&Point> = points.iter().collect(alloc)?;
+    let points = lent(alloc, &points)?;
     let first = every_other(alloc, case.seqs, 0)?;
     let second = every_other(alloc, case.seqs, 1)?;
     kept_by(rt, alloc, case, &points, &first, &second)
 }
 
 /// Whether a point is this one of the key `k`.
-fn is(point: &Point, given: &Given) -> bool {
+fn is(point: &PointRef<'_>, given: &Given) -> bool {
     point.key() == b"k".as_slice() && point.seq() == u64::from(given.0) && point.what() == given.1
 }
 
 /// Whether points are these, after the one that was there.
-fn are_wanted(points: &[Point], wanted: &[Given]) -> bool {
+fn are_wanted(points: &[PointRef<'_>], wanted: &[Given]) -> bool {
     let Some((first, kept)) = points.split_first() else {
         return false;
     };
@@ -212,7 +223,8 @@ fn are_wanted(points: &[Point], wanted: &[Given]) -> bool {
 
 /// Whether the expected points of a case are kept.
 fn points_are_kept(rt: &(impl Threads + Sync), alloc: Global, case: &OfKey) -> Result<bool, Fail> {
-    Ok(are_wanted(&kept_of(rt, alloc, case)?, case.wanted))
+    let kept = kept_of(rt, alloc, case)?;
+    Ok(are_wanted(&lent(alloc, &kept)?, case.wanted))
 }
 
 #[test]

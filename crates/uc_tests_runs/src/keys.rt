@@ -2,10 +2,11 @@
 use std::alloc::{AllocError, Global};
 use uc_bytes::{OpRef, Write, WriteRef};
 use uc_run::Run;
-use uc_run_entry::{Fragment, Point, WhatRef};
+use uc_run_entry::{Fragment, WhatRef};
+use uc_run_points::{PointRef, Points};
 
 /// The write of a point.
-fn write_of(alloc: Global, point: &Point) -> Result<Write, AllocError> {
+fn write_of(alloc: Global, point: &PointRef<'_>) -> Result<Write, AllocError> {
     let op = match point.what() {
         WhatRef::Put(value) => OpRef::put(point.key(), value),
         WhatRef::Delete => OpRef::delete(point.key()),
@@ -28,9 +29,10 @@ fn push_ranges(
 }
 
 /// Appends the writes of points.
-fn push_points(writes: &mut Vec<Write>, alloc: Global, points: &[Point]) -> Result<(), AllocError> {
-    for point in points {
-        writes.push(write_of(alloc, point)?)?;
+fn push_points(writes: &mut Vec<Write>, alloc: Global, points: &Points) -> Result<(), AllocError> {
+    let points = points.as_slice();
+    for place in 0..points.len() {
+        writes.push(write_of(alloc, &points.at(place))?)?;
     }
     Ok(())
 }
@@ -57,9 +59,10 @@ fn push_beside(keys: &mut Vec<Vec<u8>>, alloc: Global, key: &[u8]) -> Result<(),
 }
 
 /// Appends the keys of points, and those beside them.
-fn push_keys(keys: &mut Vec<Vec<u8>>, alloc: Global, points: &[Point]) -> Result<(), AllocError> {
-    for point in points {
-        push_beside(keys, alloc, point.key())?;
+fn push_keys(keys: &mut Vec<Vec<u8>>, alloc: Global, points: &Points) -> Result<(), AllocError> {
+    let points = points.as_slice();
+    for place in 0..points.len() {
+        push_beside(keys, alloc, points.at(place).key())?;
     }
     Ok(())
 }

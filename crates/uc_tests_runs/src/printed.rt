@@ -4,7 +4,8 @@ use std::alloc::{AllocError, Global};
 use std::fmt::Write;
 use uc_oper::Effect;
 use uc_run::Run;
-use uc_run_entry::{Fragment, Point, WhatRef};
+use uc_run_entry::{Fragment, WhatRef};
+use uc_run_points::{PointRef, Points};
 
 /// Appends a word, and bytes behind it.
 fn push_word(text: &mut String, word: &str, bytes: &[u8]) -> Result<(), AllocError> {
@@ -13,7 +14,7 @@ fn push_word(text: &mut String, word: &str, bytes: &[u8]) -> Result<(), AllocErr
 }
 
 /// Appends the line of a point.
-fn push_point(text: &mut String, point: &Point) -> Result<(), AllocError> {
+fn push_point(text: &mut String, point: &PointRef<'_>) -> Result<(), AllocError> {
     let seq = point.seq();
     write!(text, "{seq}")?;
     let (word, second) = match point.what() {
@@ -48,9 +49,10 @@ fn push_fragment(text: &mut String, alloc: Global, fragment: &Fragment) -> Resul
 }
 
 /// Appends the lines of points.
-fn push_points(text: &mut String, points: &[Point]) -> Result<(), AllocError> {
-    for point in points {
-        push_point(text, point)?;
+fn push_points(text: &mut String, points: &Points) -> Result<(), AllocError> {
+    let points = points.as_slice();
+    for place in 0..points.len() {
+        push_point(text, &points.at(place))?;
     }
     Ok(())
 }

@@ -56,8 +56,10 @@ pub fn are_plain<O: Operator>(
 
 /// How many points have a key below one, or below or at it.
 fn count_below(run: &Run, key: &[u8], strict: bool) -> usize {
+    let points = run.entries().as_slice();
     let mut count = 0usize;
-    for point in run.entries() {
+    for place in 0..points.len() {
+        let point = points.at(place);
         if point.key() > key || (point.key() == key && !strict) {
             break;
         }
@@ -196,12 +198,14 @@ fn walk_alike(
 
 /// Whether a run has its points at their places.
 fn has_points(run: &Run) -> bool {
-    for (place, point) in run.entries().iter().enumerate() {
+    let points = run.entries().as_slice();
+    for place in 0..points.len() {
+        let point = points.at(place);
         if run.point(place as u64) != Some((point.key(), point.seq(), point.what())) {
             return false;
         }
     }
-    run.point(run.points()).is_none() && run.points() == run.entries().len() as u64
+    run.point(run.points()).is_none() && run.points() == points.len() as u64
 }
 
 /// Demands that each way of reading a run says what these plain writes do.

@@ -5,5 +5,5 @@ use Rattle.uc_compact.proofs.checking.points_are_from_one.Goals as goal
 
 pub returns : goal.returns
 returns c =
-    all_by (λ p. p.now) (λ p. 0 < p.seq) c.args.points.now c.all.result
-    (cases_from_all _ _ c.all.result (λ p. 0 < p.now.seq) (λ p. 0 < p.now.seq → ⊥) c.all.ensures.ran (YieldsList-from_slice _ c.iter.ensures.rest) (λ x q k. search rules) (λ x q k. search rules))
+    all_by (λ p. 0 < p.seq) c.args.points.now c.all.result
+    (cases_from_all _ _ c.all.result (λ p. 0 < p.seq) (λ p. 0 < p.seq → ⊥) c.all.ensures.ran (YieldsList-from_slice _ c.iter.ensures.rest) (λ x q k. search rules) (λ x q k. search rules))

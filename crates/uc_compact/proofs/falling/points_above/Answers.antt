@@ -7,12 +7,12 @@ pub returns-clause-newer : goal.returns-clause-newer
 returns-clause-newer c =
     let points = c.args.points.now in
     let place = c.partition_point in
-    let point = IsPartitionPoint-from_clause (λ y. ltb c.args.seq y.now.seq) points place.result place.ensures.partitioned (parted (λ y. y.now.seq) c.args.seq points (points_as (λ y. y.now) points c.requires)) (λ a r q k. search rules) in
-    newer_points (λ y. y.now) c.args.seq points place.result place.ensures.bound point
+    let point = IsPartitionPoint-from_clause (λ y. ltb c.args.seq y.seq) points place.result place.ensures.partitioned (parted (λ y. y.seq) c.args.seq points (points_as points c.requires)) (λ a r q k. search rules) in
+    newer_points c.args.seq points place.result place.ensures.bound point
 
 pub returns-clause-older : goal.returns-clause-older
 returns-clause-older c =
     let points = c.args.points.now in
     let place = c.partition_point in
-    let point = IsPartitionPoint-from_clause (λ y. ltb c.args.seq y.now.seq) points place.result place.ensures.partitioned (parted (λ y. y.now.seq) c.args.seq points (points_as (λ y. y.now) points c.requires)) (λ a r q k. search rules) in
-    older_points (λ y. y.now) c.args.seq points place.result place.ensures.bound point
+    let point = IsPartitionPoint-from_clause (λ y. ltb c.args.seq y.seq) points place.result place.ensures.partitioned (parted (λ y. y.seq) c.args.seq points (points_as points c.requires)) (λ a r q k. search rules) in
+    older_points c.args.seq points place.result place.ensures.bound point

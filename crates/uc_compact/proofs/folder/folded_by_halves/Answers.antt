@@ -11,6 +11,6 @@ returns g c =
     let met = g.met.O.Operator g.world.𝓛 g.world.𝓜 g.world.𝓡 ((λ s x. x), (λ x. x), (λ x. x), λ x. x) in
     let points = c.args.points.now in
     let middle = length points / 2 in
-    let old : c.in_ok-older.field-0 ≡ lookup.points_effect m c.args.before (map (λ p. p.now) (drop middle points)) = search rules in
-    let new : c.in_ok-newer.field-0 ≡ lookup.points_effect m Keep (map (λ p. p.now) (take middle points)) = search rules in
-    IfOk-weaker c.then.result _ _ (λ both made. halves_do m (λ p. p.now) met.lawful c.args.before c.in_ok-older.field-0 c.in_ok-newer.field-0 both middle points old new made) c.then.ensures
+    let old : c.in_ok-older.field-0 ≡ lookup.points_effect m c.args.before ((drop middle points)) = search rules in
+    let new : c.in_ok-newer.field-0 ≡ lookup.points_effect m Keep ((take middle points)) = search rules in
+    IfOk-weaker c.then.result _ _ (λ both made. halves_do m met.lawful c.args.before c.in_ok-older.field-0 c.in_ok-newer.field-0 both middle points old new made) c.then.ensures

@@ -4,4 +4,4 @@ use Rattle.uc_compact.proofs.folder.folded_onto.Given as goal
 
 -- the points that are left, onto the effect so far
 abbrev pub invariant-loop-place : goal.invariant-loop-place
-invariant-loop-place g l = lookup.points_effect g.O.Operator.meaning l.effect (map (λ p. p.now) (take l.place l.points)) ≡ lookup.points_effect g.O.Operator.meaning l.fn.before (map (λ p. p.now) l.fn.points)
+invariant-loop-place g l = lookup.points_effect g.O.Operator.meaning l.effect ((take l.place l.points)) ≡ lookup.points_effect g.O.Operator.meaning l.fn.before l.fn.points

@@ -10,7 +10,7 @@ use Rattle.uc_compact.proofs.folding.effect_above_newest.Goals as goal
 pub returns-in-Some : goal.returns-in-Some
 returns-in-Some g c =
     let m = g.O.Operator.meaning in
-    let points = map (λ p. p.now) c.args.points.now in
+    let points = c.args.points.now in
     IfOk-weaker c.points_effect-in-Some.result _ _
     (λ e is.
     is

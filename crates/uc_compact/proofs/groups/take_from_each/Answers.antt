@@ -11,7 +11,7 @@ use Rattle.uc_compact.proofs.groups.take_from_each.Goals as goal
 pub loop-place-init : goal.loop-place-init
 loop-place-init c =
     let old = c.args.cursors.now in
-    let before = map (λ p. p.now) c.args.points.now.items in
+    let before = c.args.points.now.items in
     let within : c.next_at-place.result ≤ length old = subst (λ (n : ℕ). c.next_at-place.result ≤ n) (ap length c.requires.keys ∙ length-map old first_key) c.next_at-place.ensures.bound.1 in
     record {
       within = within;
@@ -30,9 +30,9 @@ loop-place-preserved c =
     let own = c.take_named.new.self in
     let left = λ (ps : List Entry). drop (first_named key ps) ps in
     let taken = λ (ps : List Entry). take (first_named key ps) ps in
-    let before = map (λ p. p.now) c.args.points.now.items in
-    let so_far = map (λ p. p.now) c.loop-place.points.items in
-    let more = map (λ p. p.now) c.take_named.new.points.items in
+    let before = c.args.points.now.items in
+    let so_far = c.loop-place.points.items in
+    let more = c.take_named.new.points.items in
     let lt : place < length old = subst (λ (n : ℕ). place < n) c.loop-place.auto.cursors c.loop-place-test.true in
     let beside : c.set.new.self.keys ≡ map first_key (set now place own) =
     ap (λ (h : NextKeys). h.keys) c.set.ensures

@@ -6,11 +6,11 @@ use Rattle.uc_compact.proofs.kept_points.push_each_stripe.Given as goal
 
 abbrev pub invariant-loop-newest : goal.invariant-loop-newest
 invariant-loop-newest g l = record {
-  fall : PointsFall (map (λ p. p.now) l.rest);
-  from_one : AllByRecursion (λ p. 0 < p.seq) (map (λ p. p.now) l.rest);
+  fall : PointsFall l.rest;
+  from_one : AllByRecursion (λ p. 0 < p.seq) l.rest;
   within : length l.rest ≤ length l.points;
-  begins : IsPrefix l.fn.kept.items l.kept.items;
-  so_far : l.kept.items ++ points_for g.O.Operator.meaning l.fn.keeping l.fn.key (map (λ p. p.now) l.rest) l.fn.seqs ≡ l.fn.kept.items ++ points_for g.O.Operator.meaning l.fn.keeping l.fn.key (map (λ p. p.now) l.fn.points) l.fn.seqs;
+  begins : IsPrefix l.fn.kept l.kept;
+  so_far : l.kept ++ points_for g.O.Operator.meaning l.fn.keeping l.fn.key l.rest l.fn.seqs ≡ l.fn.kept ++ points_for g.O.Operator.meaning l.fn.keeping l.fn.key l.fn.points l.fn.seqs;
 }
 
 abbrev pub decreases-loop-newest : goal.decreases-loop-newest

@@ -23,4 +23,4 @@ returns g c =
     let asked : Compaction = record { inputs = map arc_value c.args.inputs.now; keeps = c.args.keeps.now; oldest = c.args.oldest } in
     let keeping : c.new-keeping.result ≡ keeping_of asked = keeping_by asked c.new-keeping.result c.bottom_of.result c.new-keeping.ensures c.bottom_of.ensures in
     IfOk-weaker c.points_kept_alone.result _ _
-    (λ points made. points_by m asked c.new-keeping.result c.args.pieces.now points.items keeping c.requires.pieces made (c.points_are_chosen_key_by_key.ensures.points asked c.are_runs.ensures c.requires.stand)) c.points_kept_alone.ensures
+    (λ points made. points_by m asked c.new-keeping.result c.args.pieces.now points keeping c.requires.pieces made (c.points_are_chosen_key_by_key.ensures.points asked c.are_runs.ensures c.requires.stand)) c.points_kept_alone.ensures

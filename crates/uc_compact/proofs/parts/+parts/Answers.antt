@@ -1,4 +1,5 @@
-use Rattle.std.proofs.Common.{rules, ◌≡◌, ◌++◌}
+use Rattle.std.proofs.Common.{rules, ◌≡◌, ◌++◌, ◌∙◌}
+use Rattle.std.proofs.lemmas.List.{map-id}
 use Rattle.std.specs.List.{AllByRecursion, flat_map}
 use Rattle.uc_compact.specs.Cuts.{is_below, is_from}
 use Rattle.uc_compact.specs.Kept.{AreOfOneKeyEach, points_kept}
@@ -13,10 +14,10 @@ join-top-requires-after_bounds g t c κs within =
     let below = c.as_slice-below.result.now in
     let from = c.as_slice-from.result.now in
     let pieces = c.args.pieces.now in
-    let below_sorted : AllByRecursion (λ points. Sorted points.now) below = sorted_of (λ points. points.now) cut runs c.in_ok-below.below.items below c.as_slice-below.ensures.value (is_below cut) c.in_ok-below.ensures.below c.requires.sorted in
-    let from_sorted : AllByRecursion (λ points. Sorted points.now) from = sorted_of (λ points. points.now) cut runs c.in_ok-below.from.items from c.as_slice-from.ensures.value (is_from cut) c.in_ok-below.ensures.from c.requires.sorted in
-    let below_each : AreOfOneKeyEach pieces (flat_map (λ points. points.now) below) = one_key_of_below (λ points. points.now) cut runs c.in_ok-below.below.items below c.as_slice-below.ensures.value c.in_ok-below.ensures.below pieces c.requires.each in
-    let from_each : AreOfOneKeyEach pieces (flat_map (λ points. points.now) from) = one_key_of_from (λ points. points.now) cut runs c.in_ok-below.from.items from c.as_slice-from.ensures.value c.in_ok-below.ensures.from pieces c.requires.each in
+    let below_sorted : AllByRecursion Sorted below = sorted_of (λ points. points) cut runs c.in_ok-below.below.items below c.as_slice-below.ensures.value (is_below cut) (map-id _ ∙ c.in_ok-below.ensures.below) c.requires.sorted in
+    let from_sorted : AllByRecursion Sorted from = sorted_of (λ points. points) cut runs c.in_ok-below.from.items from c.as_slice-from.ensures.value (is_from cut) (map-id _ ∙ c.in_ok-below.ensures.from) c.requires.sorted in
+    let below_each : AreOfOneKeyEach pieces (flat_map (λ points. points) below) = one_key_of_below (λ points. points) cut runs c.in_ok-below.below.items below c.as_slice-below.ensures.value (map-id _ ∙ c.in_ok-below.ensures.below) pieces c.requires.each in
+    let from_each : AreOfOneKeyEach pieces (flat_map (λ points. points) from) = one_key_of_from (λ points. points) cut runs c.in_ok-below.from.items from c.as_slice-from.ensures.value (map-id _ ∙ c.in_ok-below.ensures.from) pieces c.requires.each in
     search (rules, below_sorted, from_sorted, below_each, from_each)
 
 pub returns : goal.returns
@@ -27,8 +28,8 @@ returns g t c =
     let from = c.as_slice-from.result.now in
     let pieces = c.args.pieces.now in
     let keeping = c.args.keeping.now in
-    let kept : c.in_ok-kept.kept.items ≡ points_kept m keeping pieces (flat_map (λ points. points.now) below) = search rules in
-    let top : c.in_ok-top.top.items ≡ points_kept m keeping pieces (flat_map (λ points. points.now) from) = search rules in
-    let all : c.append.new.self.items ≡ c.in_ok-kept.kept.items ++ c.in_ok-top.top.items = search rules in
-    both_kept (λ points. points.now) cut c.args.runs.now m keeping pieces c.in_ok-below.below.items below c.in_ok-below.from.items from c.in_ok-kept.kept.items c.in_ok-top.top.items c.append.new.self.items
-    c.as_slice-below.ensures.value c.as_slice-from.ensures.value c.in_ok-below.ensures.below c.in_ok-below.ensures.from kept top all
+    let kept : c.in_ok-kept.kept ≡ points_kept m keeping pieces (flat_map (λ points. points) below) = search rules in
+    let top : c.in_ok-top.top ≡ points_kept m keeping pieces (flat_map (λ points. points) from) = search rules in
+    let all : c.extend.new.self ≡ c.in_ok-kept.kept ++ c.in_ok-top.top = c.in_ok-extend.ensures in
+    both_kept (λ points. points) cut c.args.runs.now m keeping pieces c.in_ok-below.below.items below c.in_ok-below.from.items from c.in_ok-kept.kept c.in_ok-top.top c.extend.new.self
+    c.as_slice-below.ensures.value c.as_slice-from.ensures.value (map-id _ ∙ c.in_ok-below.ensures.below) (map-id _ ∙ c.in_ok-below.ensures.from) kept top all

@@ -20,4 +20,4 @@ pub returns : goal.returns
 returns c =
     let points = c.in_ok-points.points in
     let back = back_by_key _ points.items c.deref_mut.result.now c.sort_by_key.new.points _ c.deref.result.now points.len c.in_ok-points.ensures (sym points.ok.0) c.deref_mut.ensures.value c.sort_by_key.ensures.order c.sort_by_key.ensures.len c.deref.ensures.value in
-    subst (λ (ps : List Entry). IfOk c.pack_ranked-packed.result (λ packed. packed.items ≡ ps)) back c.pack_ranked-packed.ensures
+    subst (λ (ps : List Entry). IfOk c.pack_ranked-packed.result (λ packed. packed ≡ ps)) back c.pack_ranked-packed.ensures

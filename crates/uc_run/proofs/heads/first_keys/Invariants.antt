@@ -4,4 +4,4 @@ use Rattle.uc_run.proofs.heads.first_keys.Given as goal
 
 -- the keys of the runs so far
 abbrev pub invariant-loop-points : goal.invariant-loop-points
-invariant-loop-points l = map (option_map (λ key. key.now)) l.keys.items ≡ map (λ points. first_key points.now) (take l.points-index l.runs)
+invariant-loop-points l = map (option_map (λ key. key.now)) l.keys.items ≡ map first_key (take l.points-index l.runs)

@@ -1,4 +1,5 @@
-use Rattle.std.proofs.Common.{rules, ◌≡◌}
+use Rattle.std.proofs.Common.{rules, ◌≡◌, sym}
+use Rattle.std.proofs.lemmas.Option.{get_or_from_slice_get}
 use Rattle.uc_oper.specs.Composition.{composed}
 use Rattle.uc_run_entry.specs.Lookup as lookup
 use Rattle.uc_run.proofs.LookupEffects.{drop_oldest}
@@ -7,5 +8,7 @@ use Rattle.uc_run.proofs.lookup.points_effect.Goals as goal
 pub loop-place-preserved : goal.loop-place-preserved
 loop-place-preserved g c =
     let m = g.O.Operator.meaning in
-    let made : c.in_ok-effect.effect ≡ composed m c.loop-place.effect (lookup.what_effect c.index-points-place.result.what) = search rules in
-    drop_oldest m c.loop-place.effect c.in_ok-effect.effect c.lasting-points.result.now c.loop-place.place c.index-points-place.result _ (search rules) (search rules) c.index-points-place.is made c.loop-place.invariant
+    let p = c.at.result in
+    let points = c.lasting-points.result in
+    let made : c.in_ok-effect.effect ≡ composed m c.loop-place.effect (lookup.what_effect p.what) = search rules in
+    drop_oldest m c.loop-place.effect c.in_ok-effect.effect points c.loop-place.place p _ (search rules) (search rules) (sym (get_or_from_slice_get points _ p p c.at.ensures)) made c.loop-place.invariant

@@ -9,11 +9,12 @@ use Rattle.uc_run.proofs.Admitting.{none_visible}
 use Rattle.uc_run.proofs.KeyPoints.{in_order}
 use Rattle.uc_run.proofs.Order.{points_fall}
 use Rattle.uc_run.proofs.Passing.{seek_bound, seek_point}
+use Rattle.uc_run.proofs.Walking.{no_slice}
 use Rattle.uc_run.proofs.places.points_on.Goals as goal
 
 pub returns-then-not-admits-clause-points : goal.returns-then-not-admits-clause-points
 returns-then-not-admits-clause-points c =
-    sym (none_visible c.args.key_filter.now c.args.key.now c.args.at (λ has. false≢true (sym c.if-not-admits.true ∙ c.admits.ensures.1 has)) c.args.points.now c.requires.admitted)
+    c.slice.ensures ∙ no_slice c.as_slice.result ∙ sym (none_visible c.args.key_filter.now c.args.key.now c.args.at (λ has. false≢true (sym c.if-not-admits.true ∙ c.admits.ensures.1 has)) c.args.points.now c.requires.admitted)
 
 pub returns-then-not-admits-clause-fall : goal.returns-then-not-admits-clause-fall
 returns-then-not-admits-clause-fall c =

@@ -5,8 +5,8 @@ use Rattle.uc_run_entry.specs.declared.entry.Entry.{Entry}
 use Rattle.uc_run.specs.Ranks.{points_of}
 use Rattle.uc_run.proofs.ranked_point.pack_ranked.Goals as goal
 
-pub to_point-requires : goal.to_point-requires
-to_point-requires c =
+pub push_to-requires : goal.push_to-requires
+push_to-requires c =
     let ranked = c.args.ranked.now in
     let i = c.loop-point.point-index in
     let r = c.point-item.result in

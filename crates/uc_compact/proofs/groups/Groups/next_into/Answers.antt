@@ -20,7 +20,7 @@ returns-in_default-clause-comes c =
     let g = c.self.inside in
     let found = option_map (λ head. head.key.now) c.least.result in
     let none : c.args.self.now ≡ _ = ends c.args.self.now g.cursors.items found c.self.invariant.sorted (sym c.self.view_is) (least_is g.cursors.items g.heads.keys found c.self.invariant.heads c.least.ensures.least) (ap (option_map (λ head. head.key.now)) c.in_default.is) in
-    (none, ap (map (λ p. p.now)) c.clear.ensures.items, none)
+    (none, c.clear.ensures.items, none)
 
 -- the cursors that were lent come back
 came_back : (items seen new : List (List Entry)) (len : ℕ) (key : List ℕ) → length items ≡ len → seen ≡ items → new ≡ map (λ ps. drop (first_named key ps) ps) seen → take len (new ++ drop (length new) items) ≡ new
@@ -33,9 +33,9 @@ returns-clause-comes c =
     let found = option_map (λ head. head.key.now) c.least.result in
     let long : length g.cursors.items ≡ g.cursors.len = search rules in
     let back = came_back g.cursors.items c.deref_mut.result.now c.take_from_each.new.cursors g.cursors.len c.in-Some.head.key.now long c.deref_mut.ensures.value c.in_default-take_from_each.ensures.left in
-    steps c.args.self.now g.cursors.items c.deref_mut.result.now c.take_from_each.new.cursors found c.in-Some.head.key.now (map (λ p. p.now) c.clear.new.self.items) (map (λ p. p.now) c.take_from_each.new.points.items)
-    c.self.invariant.sorted (sym c.self.view_is) c.deref_mut.ensures.value (least_is g.cursors.items g.heads.keys found c.self.invariant.heads c.least.ensures.least) (ap (option_map (λ head. head.key.now)) c.in-Some.is) (ap (map (λ p. p.now)) c.clear.ensures.items) c.in_default-take_from_each.ensures.taken c.in_default-take_from_each.ensures.left
-    ∙ ap (λ (lists : List (List Entry)). (record { key = c.in-Some.head.key.now; points = map (λ p. p.now) c.take_from_each.new.points.items }) ∷ groups_of (joined lists)) (sym back)
+    steps c.args.self.now g.cursors.items c.deref_mut.result.now c.take_from_each.new.cursors found c.in-Some.head.key.now c.clear.new.self.items c.take_from_each.new.points.items
+    c.self.invariant.sorted (sym c.self.view_is) c.deref_mut.ensures.value (least_is g.cursors.items g.heads.keys found c.self.invariant.heads c.least.ensures.least) (ap (option_map (λ head. head.key.now)) c.in-Some.is) (c.clear.ensures.items) c.in_default-take_from_each.ensures.taken c.in_default-take_from_each.ensures.left
+    ∙ ap (λ (lists : List (List Entry)). (record { key = c.in-Some.head.key.now; points = c.take_from_each.new.points.items }) ∷ groups_of (joined lists)) (sym back)
 
 pub invariant_of-self-in_default-take_from_each : goal.invariant_of-self-in_default-take_from_each
 invariant_of-self-in_default-take_from_each c =
@@ -46,7 +46,7 @@ invariant_of-self-in_default-take_from_each c =
     record {
       sorted =
           subst (AllByRecursion Sorted) (sym back)
-          (stays_sorted c.args.self.now g.cursors.items c.deref_mut.result.now c.take_from_each.new.cursors found c.in-Some.head.key.now (map (λ p. p.now) c.clear.new.self.items) (map (λ p. p.now) c.take_from_each.new.points.items)
+          (stays_sorted c.args.self.now g.cursors.items c.deref_mut.result.now c.take_from_each.new.cursors found c.in-Some.head.key.now c.clear.new.self.items c.take_from_each.new.points.items
           c.self.invariant.sorted (sym c.self.view_is) c.deref_mut.ensures.value (least_is g.cursors.items g.heads.keys found c.self.invariant.heads c.least.ensures.least) (ap (option_map (λ head. head.key.now)) c.in-Some.is) c.in_default-take_from_each.ensures.left);
       heads = c.in_default-take_from_each.ensures.heads ∙ ap (map first_key) (sym back);
     }

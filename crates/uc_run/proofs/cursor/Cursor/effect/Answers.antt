@@ -31,6 +31,6 @@ pub returns : goal.returns
 returns g c =
     let run = c.self.inside.run.now in
     let m = g.O.Operator.meaning in
-    let same = does m c.plain_list_does_what_is_found.ensures c.args.key.now c.args.at run c.entries-points.result.now c.points_between-on.result.now c.fragments-fragments.result.now c.fragments_near-over.result.now c.recall.ensures c.entries-points.ensures c.points_between-on.ensures.points c.fragments-fragments.ensures c.fragments_near-over.ensures.covering in
+    let same = does m c.plain_list_does_what_is_found.ensures c.args.key.now c.args.at run c.entries-points.result.now c.points_between-on.result c.fragments-fragments.result.now c.fragments_near-over.result.now c.recall.ensures c.entries-points.ensures c.points_between-on.ensures.points c.fragments-fragments.ensures c.fragments_near-over.ensures.covering in
     let all = same ∙ ap (λ (s : Standing). effect_on m (plain_list s.run) c.args.key.now c.args.at) c.self.view_is in
     subst (λ (e : Effect). IfOk c.effect_found.result (λ effect. effect ≡ e)) all c.effect_found.ensures

@@ -1,8 +1,7 @@
-use Rattle.std.proofs.Common.{List, Some, length, refl, sym, ap, ◌∙◌, subst}
+use Rattle.std.proofs.Common.{◌≡◌, List, Some, None, sym, ap, ◌∙◌, subst}
 use Rattle.std.specs.Prelude.{option_map}
 use Rattle.std.specs.List.{slice_get}
 use Rattle.std.specs.List.Sorted.{IsStrictlySortedBy}
-use Rattle.std.proofs.lemmas.Option.{slice_get_read, slice_get_past}
 use Rattle.uc_run_entry.specs.declared.entry.Entry.{Entry}
 use Rattle.uc_run_entry.specs.Order.{entry_cmp}
 use Rattle.uc_run.specs.Cursors.{Standing}
@@ -12,7 +11,7 @@ use Rattle.uc_run.proofs.cursor.Cursor.key.Goals as goal
 pub returns-in_err-point-clause-next : goal.returns-in_err-point-clause-next
 returns-in_err-point-clause-next c low strict at =
     let place = c.self.inside.place in
-    let none = slice_get_past c.entries.result.now place c.in_err-point.ensures.lookup.3 in
+    let none : slice_get c.entries.result.now place ≡ None = sym c.get.ensures ∙ c.in_err-point.was in
     let sorted = subst (λ (s : Standing). IsStrictlySortedBy entry_cmp s.run.points) c.self.view_is c.recall.ensures.points_sorted in
     let there =
     ap (option_map (λ key. key.now)) c.from_residual.ensures
@@ -23,9 +22,8 @@ returns-in_err-point-clause-next c low strict at =
 
 pub returns-clause-there : goal.returns-clause-there
 returns-clause-there c =
-    let lent = c.entries.result.now in
     let place = c.self.inside.place in
-    let some = slice_get_read lent (length lent) place c.in_ok-point.point.now refl c.in_ok-point.ensures.lookup.3.0 c.in_ok-point.ensures.lookup.1 in
+    let some : slice_get c.entries.result.now place ≡ Some c.in_ok-point.point = sym c.get.ensures ∙ c.in_ok-point.was in
     ap (λ key. Some key) c.key.ensures
     ∙ sym (ap (option_map (λ (p : Entry). p.key)) some)
     ∙ ap (λ (ps : List Entry). option_map (λ p. p.key) (slice_get ps place)) c.entries.ensures

@@ -11,6 +11,6 @@ use Rattle.uc_run.proofs.run.Run.effect.Goals as goal
 pub returns : goal.returns
 returns g c =
     let m = g.O.Operator.meaning in
-    let same = does m c.plain_list_does_what_is_found.ensures c.args.key.now c.args.at (contents c.self.inside) c.deref.result.now c.points_on-on.result.now c.as_slice.result.now c.as_slice.result.now c.self.invariant.is_run c.deref.ensures.value c.points_on-on.ensures.points c.as_slice.ensures refl in
+    let same = does m c.plain_list_does_what_is_found.ensures c.args.key.now c.args.at (contents c.self.inside) c.self.inside.points c.points_on-on.result c.as_slice.result.now c.as_slice.result.now c.self.invariant.is_run refl c.points_on-on.ensures.points c.as_slice.ensures refl in
     let all = same ∙ ap (λ (run : Contents). effect_on m (plain_list run) c.args.key.now c.args.at) c.self.view_is in
     subst (λ (e : Effect). IfOk c.effect_found.result (λ effect. effect ≡ e)) all c.effect_found.ensures

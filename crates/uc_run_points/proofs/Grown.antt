@@ -1,0 +1,198 @@
+-- Points with one more, and with fewer.
+use Rattle.std.proofs.Common.{◌≡◌, ℕ, ◌+◌, ◌-◌, ◌*◌, ◌/◌, ◌%◌, ◌<◌, ◌≤◌, Bool, true, false, cond, eqb, ltb, List, [], ◌∷◌, ◌++◌, length, get_or, take, drop, refl, sym, ap, ◌∙◌, append_assoc, length-append, arith}
+use Rattle.std.specs.List.{AllByRecursion}
+use Rattle.std.proofs.ByRecursion.{All-append, All-take, All-drop}
+use Rattle.std.specs.Int.{w64, to_le_bytes}
+use Rattle.std.proofs.lemmas.Bool.Decides.{nat_tests}
+use Rattle.std.proofs.lemmas.List.{take_at, drop_at, append-nil, take-append-le, take-append-drop, length_push, get_or_push, get_or_append_left, get_or-take, take-take, drop_all, length-drop, length-take-le}
+use Rattle.uc_run_entry.specs.declared.entry.Entry.{Entry}
+use Rattle.uc_run_points.specs.Spelling.{text_of, trailer_of, entry_text, entries_text, entries_from, Fits, AreSpelled}
+use Rattle.uc_run_points.specs.Numbers.{number_text, width_of}
+use Rattle.uc_run_points.specs.Starts.{AreStarts}
+use Rattle.uc_run_points.proofs.EntriesAgain.{length-entries_from, spelled_by, are_spelled}
+
+pub entries_text-append : (es fs : List Entry) → entries_text (es ++ fs) ≡ entries_text es ++ entries_text fs
+entries_text-append [] fs = refl
+entries_text-append (e ∷ es) fs = ap (λ (xs : List ℕ). entry_text e ++ xs) (entries_text-append es fs) ∙ sym (append_assoc (entry_text e) (entries_text es) (entries_text fs))
+
+pub text_pushed : (es : List Entry) (e : Entry) → entries_text (es ++ e ∷ []) ≡ entries_text es ++ entry_text e
+text_pushed es e = entries_text-append es (e ∷ []) ∙ ap (λ (xs : List ℕ). entries_text es ++ xs) (append-nil (entry_text e))
+
+-- the bytes, cut at an entry
+pub text_cut : (n : ℕ) (es : List Entry) → entries_text es ≡ entries_text (take n es) ++ entries_text (drop n es)
+text_cut n es = ap entries_text (sym (take-append-drop n es)) ∙ entries_text-append (take n es) (drop n es)
+
+take_text : (n : ℕ) (es : List Entry) → take (length (entries_text (take n es))) (entries_text es) ≡ entries_text (take n es)
+take_text n es =
+    ap (take (length (entries_text (take n es)))) (text_cut n es) ∙ take_at (entries_text (take n es)) (entries_text (drop n es)) (length (entries_text (take n es))) refl
+
+-- ---- one more
+
+module _ (count : ℕ) (bytes : List ℕ) (spelled : AreSpelled count bytes) (e : Entry) (fits : Fits e) where
+  abbrev es : List Entry
+  es = entries_from count bytes
+
+  many : count + 1 ≡ length (es ++ e ∷ [])
+  many = let l : length (es ++ e ∷ []) ≡ length es + 1 = length_push es e in let c : length es ≡ count = length-entries_from count bytes in omega (arith, l, c)
+
+  text : bytes ++ entry_text e ≡ entries_text (es ++ e ∷ [])
+  text = ap (λ (xs : List ℕ). xs ++ entry_text e) spelled.spelled ∙ sym (text_pushed es e)
+
+  all_fit : AllByRecursion Fits (es ++ e ∷ [])
+  all_fit = All-append Fits es (e ∷ []) spelled.fits (fits, tt)
+
+  pub entries_pushed : entries_from (count + 1) (bytes ++ entry_text e) ≡ es ++ e ∷ []
+  entries_pushed = spelled_by (es ++ e ∷ []) all_fit (count + 1) many (bytes ++ entry_text e) text
+
+  pub spelled_pushed : AreSpelled (count + 1) (bytes ++ entry_text e)
+  spelled_pushed = are_spelled (es ++ e ∷ []) all_fit (count + 1) many (bytes ++ entry_text e) text
+
+-- each entry has bytes
+number_some : (n : ℕ) → 0 < length (number_text n)
+unfolding number_text
+number_some n = by (ltb n 248)
+  where
+    by : (b : Bool) → 0 < length (cond b (n ∷ []) ((247 + width_of n) ∷ take (width_of n) (to_le_bytes w64 n)))
+    by true = omega arith
+    by false = omega arith
+
+entry_some : (e : Entry) → 0 < length (entry_text e)
+unfolding entry_text
+entry_some e =
+    let k = number_text (length e.key) in
+    let t = number_text (length (text_of e.what)) in
+    let s = number_text (trailer_of e) in
+    let a = length-append (k ++ t ++ s ++ e.key) (text_of e.what) in
+    let b = length-append (k ++ t ++ s) e.key in
+    let c = length-append (k ++ t) s in
+    let d = length-append k t in
+    omega (arith, number_some (length e.key), a, b, c, d)
+
+pub text_some : (es : List Entry) → length es ≤ length (entries_text es)
+text_some [] = omega arith
+text_some (e ∷ es) =
+    let more = text_some es in
+    let l = length-append (entry_text e) (entries_text es) in
+    omega (arith, more, entry_some e, l)
+
+pub count_small : (count : ℕ) (bytes : List ℕ) → AreSpelled count bytes → count ≤ length bytes
+count_small count bytes spelled =
+    let some = text_some (entries_from count bytes) in
+    let same : length bytes ≡ length (entries_text (entries_from count bytes)) = ap (λ (xs : List ℕ). length xs) spelled.spelled in
+    omega (arith, some, same, length-entries_from count bytes)
+
+-- ---- the starts of blocks
+
+module _ (es : List Entry) (e : Entry) where
+  abbrev offset : ℕ
+  offset = length (entries_text es)
+
+  same_offset : (block : ℕ) → 16 * block ≤ length es → length (entries_text (take (16 * block) es)) ≡ length (entries_text (take (16 * block) (es ++ e ∷ [])))
+  same_offset block l = ap (λ (xs : List Entry). length (entries_text xs)) (sym (take-append-le (16 * block) es (e ∷ []) l))
+
+  pub starts_pushed : (starts : List ℕ) → AreStarts es starts → (b : Bool) → eqb (length es % 16) 0 ≡ b → AreStarts (es ++ e ∷ []) (cond b (starts ++ offset ∷ []) starts)
+  starts_pushed starts are true t =
+      let whole : length es % 16 ≡ 0 = grind (arith, nat_tests) in
+      let more : length (es ++ e ∷ []) ≡ length es + 1 = length_push es e in
+      let one : length (starts ++ offset ∷ []) ≡ length starts + 1 = length_push starts offset in
+      let each : length starts ≡ (length es + 15) / 16 = are.each in
+      record { each = omega (arith, each, more, one, whole); offsets = λ block l. by_last block l (ltb block (length starts)) refl }
+    where
+      by_last : (block : ℕ) → block < length (starts ++ offset ∷ []) → (c : Bool) → ltb block (length starts) ≡ c → get_or (starts ++ offset ∷ []) block 0 ≡ length (entries_text (take (16 * block) (es ++ e ∷ [])))
+      by_last block l true u =
+          let lt : block < length starts = grind (arith, nat_tests) in
+          let each : length starts ≡ (length es + 15) / 16 = are.each in
+          get_or_append_left starts (offset ∷ []) 0 block lt ∙ are.offsets block lt ∙ same_offset block (omega (arith, lt, each))
+      by_last block l false u =
+          let ge : length starts ≤ block = grind (arith, nat_tests) in
+          let one : length (starts ++ offset ∷ []) ≡ length starts + 1 = length_push starts offset in
+          let here : block ≡ length starts = omega (arith, ge, l, one) in
+          let whole : length es % 16 ≡ 0 = grind (arith, nat_tests) in
+          let each : length starts ≡ (length es + 15) / 16 = are.each in
+          let all : 16 * block ≡ length es = omega (arith, here, whole, each) in
+          get_or_push starts offset 0 block (sym here)
+          ∙ ap (λ (xs : List Entry). length (entries_text xs)) (sym (take_at es (e ∷ []) (16 * block) (sym all)))
+  starts_pushed starts are false t =
+      let part : length es % 16 ≡ 0 → ⊥ = grind (arith, nat_tests) in
+      let more : length (es ++ e ∷ []) ≡ length es + 1 = length_push es e in
+      let each : length starts ≡ (length es + 15) / 16 = are.each in
+      record {
+        each = omega (arith, each, more, part);
+        offsets = λ block l. are.offsets block l ∙ same_offset block (omega (arith, l, each));
+      }
+
+-- ---- from the first entry of a block on
+
+module _ (count : ℕ) (bytes starts : List ℕ) (spelled : AreSpelled count bytes) (are : AreStarts (entries_from count bytes) starts) (block : ℕ) where
+  abbrev entries : List Entry
+  entries = entries_from count bytes
+
+  long : length entries ≡ count
+  long = length-entries_from count bytes
+
+  pub none_there : length starts ≤ block → drop (16 * block) entries ≡ []
+  none_there le = let each : length starts ≡ (length entries + 15) / 16 = are.each in drop_all (16 * block) entries (omega (arith, le, each))
+
+  module _ (lt : block < length starts) where
+    pub block_before : 16 * block < count
+    block_before = let each : length starts ≡ (length entries + 15) / 16 = are.each in omega (arith, lt, each, long)
+
+    at : get_or starts block 0 ≡ length (entries_text (take (16 * block) entries))
+    at = are.offsets block lt
+
+    cut : bytes ≡ entries_text (take (16 * block) entries) ++ entries_text (drop (16 * block) entries)
+    cut = spelled.spelled ∙ text_cut (16 * block) entries
+
+    pub start_within : get_or starts block 0 ≤ length bytes
+    start_within =
+        let l : length bytes ≡ length (entries_text (take (16 * block) entries)) + length (entries_text (drop (16 * block) entries)) = ap (λ (xs : List ℕ). length xs) cut ∙ length-append (entries_text (take (16 * block) entries)) (entries_text (drop (16 * block) entries)) in
+        omega (arith, l, at)
+
+    behind : drop (get_or starts block 0) bytes ≡ entries_text (drop (16 * block) entries)
+    behind =
+        ap (λ n. drop n bytes) at ∙ ap (drop (length (entries_text (take (16 * block) entries)))) cut
+        ∙ drop_at (entries_text (take (16 * block) entries)) (entries_text (drop (16 * block) entries)) (length (entries_text (take (16 * block) entries))) refl
+
+    pub block_there : entries_from (count - 16 * block) (drop (get_or starts block 0) bytes) ≡ drop (16 * block) entries
+    block_there =
+        let few : count - 16 * block ≡ length (drop (16 * block) entries) = let l = length-drop (16 * block) entries in omega (arith, l, long) in
+        spelled_by (drop (16 * block) entries) (All-drop Fits (16 * block) entries spelled.fits) (count - 16 * block) few (drop (get_or starts block 0) bytes) behind
+
+-- ---- fewer
+
+module _ (count : ℕ) (bytes : List ℕ) (spelled : AreSpelled count bytes) (n : ℕ) (le : n ≤ count) where
+  abbrev whole : List Entry
+  whole = entries_from count bytes
+
+  fewer : n ≡ length (take n whole)
+  fewer = let l : length (take n whole) ≡ n = length-take-le n whole (let c = length-entries_from count bytes in omega (arith, le, c)) in sym l
+
+  front : take (length (entries_text (take n whole))) bytes ≡ entries_text (take n whole)
+  front = ap (take (length (entries_text (take n whole)))) spelled.spelled ∙ take_text n whole
+
+  pub entries_cut : entries_from n (take (length (entries_text (take n whole))) bytes) ≡ take n whole
+  entries_cut = spelled_by (take n whole) (All-take Fits n whole spelled.fits) n fewer (take (length (entries_text (take n whole))) bytes) front
+
+  pub spelled_cut : AreSpelled n (take (length (entries_text (take n whole))) bytes)
+  spelled_cut = are_spelled (take n whole) (All-take Fits n whole spelled.fits) n fewer (take (length (entries_text (take n whole))) bytes) front
+
+pub starts_cut : (es : List Entry) (starts : List ℕ) → AreStarts es starts → (n : ℕ) → n ≤ length es → AreStarts (take n es) (take ((n + 15) / 16) starts)
+starts_cut es starts are n le =
+    let each : length starts ≡ (length es + 15) / 16 = are.each in
+    let few : length (take n es) ≡ n = length-take-le n es le in
+    let kept : length (take ((n + 15) / 16) starts) ≡ (n + 15) / 16 = length-take-le ((n + 15) / 16) starts (omega (arith, each, le)) in
+    record {
+      each = omega (arith, few, kept);
+      offsets = λ block l.
+          let lt : block < (n + 15) / 16 = omega (arith, l, kept) in
+          get_or-take ((n + 15) / 16) starts block 0 lt ∙ are.offsets block (omega (arith, lt, each, le))
+          ∙ ap (λ (xs : List Entry). length (entries_text xs)) (sym (take-take (16 * block) n es (omega (arith, lt))));
+    }
+
+pub starts_none : AreStarts [] []
+starts_none = record { each = let e : 0 ≡ (0 + 15) / 16 = omega arith in e; offsets = λ block l. absurd (omega (arith, l)) }
+
+pub count_grows : (count : ℕ) (bytes : List ℕ) → AreSpelled count bytes → (e : Entry) (grown : List ℕ) → grown ≡ bytes ++ entry_text e → count + 1 ≤ length grown
+count_grows count bytes spelled e grown is =
+    let l : length grown ≡ length bytes + length (entry_text e) = ap (λ (xs : List ℕ). length xs) is ∙ length-append bytes (entry_text e) in
+    omega (arith, l, count_small count bytes spelled, entry_some e)

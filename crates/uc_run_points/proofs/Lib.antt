@@ -1,0 +1,6 @@
+pub mod NumbersAgain
+pub mod EntriesAgain
+pub mod Walked
+pub mod Grown
+pub mod Sliced
+pub mod Searched

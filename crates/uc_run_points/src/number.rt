@@ -1,0 +1,99 @@
+//! Numbers in one to nine bytes.
+ghost use Rattle.std.specs.Prelude.{◌≡◌, ◌<◌, ◌≤◌, ◌++◌, length, slice_index, OnOk};
+ghost use Rattle.std.specs.Int.{w64, from_le_bytes};
+ghost use mathlib.Core.List.{IsPrefix};
+ghost use Rattle.uc_run_points.specs.Numbers as numbers;
+
+use std::alloc::AllocError;
+
+/// The least number that has more than its own byte.
+const LEAST_LONG: u64 = 248;
+
+/// What the first byte of a long number is, less how many bytes follow.
+const LONG: u8 = 247;
+
+/// How many bytes hold a number.
+#[tactic(auto, unfolding(crate::specs::Numbers::width_of))]
+fn width_of(number: u64) -> usize
+    ensures width { result ≡ numbers.width_of number }
+    ensures bound { result ≤ 8 }
+{
+    if number < 1 << 8 {
+        1
+    } else if number < 1 << 16 {
+        2
+    } else if number < 1 << 24 {
+        3
+    } else if number < 1 << 32 {
+        4
+    } else if number < 1 << 40 {
+        5
+    } else if number < 1 << 48 {
+        6
+    } else if number < 1 << 56 {
+        7
+    } else {
+        8
+    }
+}
+
+/// Pushes a number. An `Err` may leave some of its bytes pushed.
+#[tactic(auto, unfolding(crate::specs::Numbers::number_text))]
+pub(crate) fn push_number(bytes: &mut Vec<u8>, number: u64) -> Result<(), AllocError>
+    ensures pushed { OnOk result (bytes.new.items ≡ bytes.old.items ++ numbers.number_text number) }
+    ensures begins { IsPrefix bytes.old.items bytes.new.items }
+{
+    if number < LEAST_LONG {
+        bytes.push(number as u8)?;
+        return Ok(());
+    }
+    let width = width_of(number);
+    bytes.push(LONG + width as u8)?;
+    bytes.extend_from_slice(&number.to_le_bytes()[..width])?;
+    Ok(())
+}
+
+/// The byte at a place, or 0 if there is none.
+#[inline]
+fn byte_or_zero(bytes: &[u8], place: usize) -> u8
+    ensures { result ≡ slice_index bytes.now place }
+{
+    match bytes.get(place) {
+        Some(byte) => *byte,
+        None => 0,
+    }
+}
+
+/// The first eight bytes as a number, the lowest first, with zeros for those that aren't there.
+fn low_number(bytes: &[u8]) -> u64
+    ensures { result ≡ from_le_bytes w64 bytes.now }
+{
+    u64::from_le_bytes([
+        byte_or_zero(bytes, 0),
+        byte_or_zero(bytes, 1),
+        byte_or_zero(bytes, 2),
+        byte_or_zero(bytes, 3),
+        byte_or_zero(bytes, 4),
+        byte_or_zero(bytes, 5),
+        byte_or_zero(bytes, 6),
+        byte_or_zero(bytes, 7),
+    ])
+}
+
+/// The number at the front, and the bytes behind it.
+#[inline]
+#[tactic(auto, unfolding(crate::specs::Numbers::number_from))]
+pub(crate) fn read_number(bytes: &[u8]) -> (u64, &[u8])
+    ensures number { result.0 ≡ (numbers.number_from bytes.now).0 }
+    ensures rest { result.1.now ≡ (numbers.number_from bytes.now).1 }
+{
+    let [first, rest @ ..] = bytes else {
+        return (0, bytes);
+    };
+    if *first <= LONG {
+        return (u64::from(*first), rest);
+    }
+    let width = usize::from(*first - LONG);
+    let (low, rest) = rest.split_at(width.min(rest.len()));
+    (low_number(low), rest)
+}

@@ -1,0 +1,211 @@
+//! [`Points`]: the points of a run, as bytes.
+ghost use Rattle.std.specs.Prelude.{◌≡◌, ◌<◌, ◌≤◌, ◌^◌, ◌*◌, ◌%◌, ◌==◌, ◌++◌, [], ◌∷◌, length, take, drop, if◌then◌else◌, IfOk, OnOk, OnErr};
+ghost use Rattle.std.specs.List.{AllByRecursion, slice_get};
+ghost use Rattle.uc_run_entry.specs.Packed as packed;
+ghost use Rattle.uc_run_points.specs.Spelling as spelling;
+ghost use Rattle.uc_run_points.specs.Spelling.{AreSpelled, Fits};
+ghost use Rattle.uc_run_points.specs.Starts.{AreStarts, block_points};
+
+use crate::point_ref::PointRef;
+use crate::point_slice::PointSlice;
+use crate::points_ahead::PointsAhead;
+use crate::spelling::push_entry;
+use std::alloc::{AllocError, Global};
+use std::marker::Model;
+use uc_run_entry::{Entry, WhatRef};
+
+/// How many points each block has; the last may have fewer.
+const BLOCK_POINTS: usize = 16;
+
+/// Points in one arena, with the places at which blocks of them begin. A contract sees the list of the entries.
+#[derive(Debug, Drop)]
+pub struct Points {
+    /// The arena: the entries' bytes, one behind the other.
+    bytes: Vec<u8>,
+    /// The offset of the first entry of each block.
+    starts: Vec<usize>,
+    count: usize,
+}
+
+impl Model for Points {
+    ghost use Rattle.std.specs.Prelude.{List};
+    ghost use Rattle.uc_run_entry.specs.declared.entry.Entry.{Entry};
+    ghost use Rattle.uc_run_points.specs.Held.{entries_of, AreHeld};
+
+    ghost Value = { List Entry };
+
+    ghost view = { entries_of };
+
+    ghost invariant = { AreHeld };
+}
+
+/// Pushes the bytes of an entry. An `Err` pushes nothing.
+fn append_entry(
+    bytes: &mut Vec<u8>,
+    key: &[u8],
+    seq: u64,
+    what: WhatRef<'_>,
+) -> Result<(), AllocError>
+    requires { seq < 2 ^ 62 }
+    ensures pushed { OnOk result
+        (bytes.new.items ≡
+        bytes.old.items
+        ++ spelling.entry_text (record { key = key.now; seq = seq; what = packed.what_of what.entry })) }
+    ensures fits { OnOk result (Fits (record { key = key.now; seq = seq; what = packed.what_of what.entry })) }
+    ensures as_it_was { OnErr result (bytes.new.items ≡ bytes.old.items) }
+{
+    let before = bytes.len();
+    if let Err(error) = push_entry(bytes, key, seq, what) {
+        bytes.truncate(before);
+        return Err(error);
+    }
+    Ok(())
+}
+
+/// Pushes the offset of an entry if it is the first of a block. An `Err` pushes nothing.
+fn push_start(starts: &mut Vec<usize>, place: usize, offset: usize) -> Result<(), AllocError>
+    ensures pushed { OnOk result
+        (starts.new.items ≡ (if place % block_points == 0 then starts.old.items ++ offset ∷ [] else starts.old.items)) }
+    ensures as_it_was { OnErr result (starts.new.items ≡ starts.old.items) }
+{
+    if place % BLOCK_POINTS == 0 {
+        starts.push(offset)?;
+    }
+    Ok(())
+}
+
+/// The points from the first of a block on.
+#[inline]
+fn block_ahead<'a>(bytes: &'a [u8], starts: &[usize], count: usize, block: usize) -> PointsAhead<'a>
+    requires spelled { AreSpelled count bytes.now }
+    requires starts { AreStarts (spelling.entries_from count bytes.now) starts.now }
+    ensures { result ≡ drop (block_points * block) (spelling.entries_from count bytes.now) }
+{
+    match starts.get(block) {
+        None => PointsAhead::new(&[], 0),
+        Some(start) => PointsAhead::new(&bytes[*start..], count - block * BLOCK_POINTS),
+    }
+}
+
+impl Points {
+    /// No points. It doesn't allocate.
+    pub fn new(alloc: Global) -> Points
+        ensures { result ≡ [] }
+    {
+        Points {
+            bytes: Vec::new(alloc),
+            starts: Vec::new(alloc),
+            count: 0,
+        }
+    }
+
+    /// How many points there are.
+    #[inline]
+    pub fn len(&self) -> usize
+        ensures count { result ≡ length self.now }
+        ensures bound { result < 2 ^ 63 }
+    {
+        self.count
+    }
+
+    /// How many bytes they have, as `specs/Spelling.antt` spells them.
+    #[inline]
+    pub fn size(&self) -> usize
+        ensures { result ≡ length (spelling.entries_text self.now) }
+    {
+        self.bytes.len()
+    }
+
+    /// Pushes a point that says this of a key. An `Err` pushes nothing.
+    pub fn push(&mut self, key: &[u8], seq: u64, what: WhatRef<'_>) -> Result<(), AllocError>
+        requires { seq < 2 ^ 62 }
+        ensures pushed { OnOk result
+            (self.new ≡ self.old ++ record { key = key.now; seq = seq; what = packed.what_of what.entry } ∷ []) }
+        ensures as_it_was { OnErr result (self.new ≡ self.old) }
+    {
+        let offset = self.bytes.len();
+        append_entry(&mut self.bytes, key, seq, what)?;
+        if let Err(error) = push_start(&mut self.starts, self.count, offset) {
+            self.bytes.truncate(offset);
+            return Err(error);
+        }
+        self.count += 1;
+        Ok(())
+    }
+
+    /// Pushes a point. An `Err` pushes nothing.
+    pub fn push_point(&mut self, point: &PointRef<'_>) -> Result<(), AllocError>
+        ensures pushed { OnOk result (self.new ≡ self.old ++ point.now ∷ []) }
+        ensures as_it_was { OnErr result (self.new ≡ self.old) }
+    {
+        self.push(point.key(), point.seq(), point.what())
+    }
+
+    /// Pushes copies of points. An `Err` may leave some of them pushed.
+    pub fn extend(&mut self, points: &Points) -> Result<(), AllocError>
+        ensures { OnOk result (self.new ≡ self.old ++ points.now) }
+    {
+        let mut ahead = points.ahead();
+        while let Some(point) = ahead.next() {
+            self.push_point(&point)?;
+        }
+        Ok(())
+    }
+
+    /// Keeps the first points, which have so many bytes, and forgets those behind them.
+    pub fn truncate(&mut self, count: usize, size: usize)
+        requires count { count ≤ length self.old }
+        requires size { size ≡ length (spelling.entries_text (take count self.old)) }
+        ensures { self.new ≡ take count self.old }
+    {
+        self.bytes.truncate(size);
+        self.starts.truncate(count.div_ceil(BLOCK_POINTS));
+        self.count = count;
+    }
+
+    /// The points from a place on. It costs a step for each point before it in its block.
+    #[inline]
+    pub fn from(&self, place: usize) -> PointsAhead<'_>
+        ensures { result ≡ drop place self.now }
+    {
+        let mut ahead = block_ahead(&self.bytes, &self.starts, self.count, place / BLOCK_POINTS);
+        ahead.pass(place % BLOCK_POINTS);
+        ahead
+    }
+
+    /// All points.
+    #[inline]
+    pub fn ahead(&self) -> PointsAhead<'_>
+        ensures { result ≡ self.now }
+    {
+        self.from(0)
+    }
+
+    /// The point at a place, if there is one. It costs a step for each point before it in its block.
+    #[inline]
+    pub fn get(&self, place: usize) -> Option<PointRef<'_>>
+        ensures { result ≡ slice_get self.now place }
+    {
+        self.from(place).next()
+    }
+
+    /// All points, as a slice of them.
+    #[inline]
+    pub fn as_slice(&self) -> PointSlice<'_>
+        ensures { result ≡ self.now }
+    {
+        PointSlice::new(self)
+    }
+}
+
+/// Entries, as points.
+pub fn points_of(alloc: Global, entries: &[Entry]) -> Result<Points, AllocError>
+    requires { AllByRecursion (λ e. e.seq < 2 ^ 56) entries.now }
+    ensures { IfOk result (λ points. points ≡ entries.now) }
+{
+    let mut points = Points::new(alloc);
+    for entry in entries {
+        points.push(entry.key.as_slice(), entry.seq, WhatRef::of(&entry.what))?;
+    }
+    Ok(points)
+}

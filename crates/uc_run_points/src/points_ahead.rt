@@ -1,0 +1,113 @@
+//! [`PointsAhead`]: the points that are still ahead of a walk.
+ghost use Rattle.std.specs.Prelude.{◌≡◌, ◌≤◌, ◌<◌, ◌↔◌, true, false, [], length, take, drop, IsTrue};
+ghost use Rattle.std.specs.List.{slice_get, AllWithin, HoldsAt};
+ghost use Rattle.uc_run_points.specs.Spelling.{entries_from};
+
+use crate::point_ref::PointRef;
+use crate::point_test::PointTest;
+use crate::spelling::read_entry;
+use std::marker::Model;
+
+/// The points that are still ahead of a walk, in their order. A contract sees their list.
+#[derive(Debug, Drop)]
+pub struct PointsAhead<'a> {
+    /// The bytes from the next point on.
+    bytes: &'a [u8],
+    count: usize,
+}
+
+impl<'a> Model for PointsAhead<'a> {
+    ghost use Rattle.std.specs.Prelude.{List};
+    ghost use Rattle.uc_run_entry.specs.declared.entry.Entry.{Entry};
+    ghost use Rattle.uc_run_points.specs.Spelling.{entries_from};
+
+    ghost Value = { List Entry };
+
+    ghost view = { λ a. entries_from a.count a.bytes.now };
+}
+
+impl<'a> PointsAhead<'a> {
+    /// So many points, whose bytes begin here.
+    pub(crate) fn new(bytes: &'a [u8], count: usize) -> PointsAhead<'a>
+        ensures { result ≡ entries_from count bytes.now }
+    {
+        PointsAhead { bytes, count }
+    }
+
+    /// How many points are ahead.
+    #[inline]
+    pub fn len(&self) -> usize
+        ensures { result ≡ length self.now }
+    {
+        self.count
+    }
+
+    /// The bytes from the next point on.
+    #[inline]
+    pub(crate) fn bytes(&self) -> &'a [u8]
+        ensures { self.now ≡ entries_from (length self.now) result.now }
+    {
+        self.bytes
+    }
+
+    /// The next point, if there is one, which stays ahead.
+    #[inline]
+    pub fn first(&self) -> Option<PointRef<'a>>
+        ensures { result ≡ slice_get self.now 0 }
+    {
+        if self.count == 0 {
+            return None;
+        }
+        let (point, _) = read_entry(self.bytes);
+        Some(point)
+    }
+
+    /// The next point, if there is one.
+    #[inline]
+    pub fn next(&mut self) -> Option<PointRef<'a>>
+        ensures next { result ≡ slice_get self.old 0 }
+        ensures rest { self.new ≡ drop 1 self.old }
+    {
+        if self.count == 0 {
+            return None;
+        }
+        let (point, rest) = read_entry(self.bytes);
+        self.bytes = rest;
+        self.count -= 1;
+        Some(point)
+    }
+
+    /// Passes over so many points, or all if there are fewer.
+    pub fn pass(&mut self, count: usize)
+        ensures { self.new ≡ drop count self.old }
+    {
+        for _ in 0..count {
+            self.next();
+        }
+    }
+
+    /// Keeps the next points, so many if there are as many, and forgets those behind them.
+    #[inline]
+    pub(crate) fn truncate(&mut self, count: usize)
+        ensures { self.new ≡ take count self.old }
+    {
+        self.count = self.count.min(count);
+    }
+
+    /// How many of the next points pass a test, before one that doesn't.
+    pub fn count_passing<T: PointTest>(self, test: &T) -> usize
+        ensures bound { result ≤ length self.entry }
+        ensures before { AllWithin (λ p. T.passing test.now p ≡ true) self.entry 0 result }
+        ensures there { result < length self.entry → HoldsAt (λ p. T.passing test.now p ≡ false) self.entry result }
+    {
+        let many = self.len();
+        let mut ahead = self;
+        for count in 0..many {
+            match ahead.next() {
+                Some(point) if test.passes(&point) => {}
+                _ => return count,
+            }
+        }
+        many
+    }
+}
