@@ -61,9 +61,9 @@ static struct ucstore_batch gathered;
 /* What the store should hold, and what each view should. */
 static struct moment live, views[MOST_VIEWS];
 
-/* Compactions that are done away from the store, and whether they were run. */
+/* Compactions that are done away from the store, and whether they were run, and ended. */
 static struct ucstore_job jobs[MOST_JOBS];
-static bool ran[MOST_JOBS];
+static bool ran[MOST_JOBS], finished[MOST_JOBS];
 
 /* All writes, in order, and a log with a batch for each call. */
 static struct write *writes;
@@ -490,20 +490,31 @@ static void check_report(struct moment *of) {
 
 /* Jobs. */
 
-/* Ends a job: its run is installed if there is one. */
+/* Ends a job, which is kept: its run is installed if there is one. */
 static void end_job(size_t one) {
-    bool installed = !ran[one];
-    CHECK(ucstore_job_end(&store, &jobs[one], &installed) == UCSTORE_OK && installed == ran[one] && jobs[one].at == NULL);
-    CHECK(ucstore_job_end(&store, &jobs[one], &installed) == UCSTORE_NO_JOB && installed == ran[one]);
+    bool installed = !ran[one], taken = ran[one];
+    CHECK(ucstore_job_end(&store, &jobs[one], &installed) == UCSTORE_OK && installed == ran[one] && jobs[one].at != NULL);
+    CHECK(ucstore_job_end(&store, &jobs[one], &installed) == UCSTORE_JOB_ENDED && installed == ran[one]);
+    CHECK(ucstore_job_run(&jobs[one]) == UCSTORE_JOB_ENDED);
+    CHECK(ucstore_job(&store, &jobs[one], &taken) == UCSTORE_HAS_JOB && taken == ran[one]);
+    finished[one] = true;
 }
 
-/* Takes a job, runs one, or ends one. */
+/* Frees a job. */
+static void close_job(size_t one) {
+    CHECK(ucstore_job_close(&jobs[one]) == UCSTORE_OK && jobs[one].at == NULL);
+    CHECK(ucstore_job_close(&jobs[one]) == UCSTORE_NO_JOB);
+}
+
+/* Takes a job, runs one, ends one, or frees one that has ended. */
 static void job(void) {
     size_t one = (size_t)draw(MOST_JOBS);
     bool before = draw(2) == 0, taken = before;
     if (jobs[one].at == NULL) {
         CHECK(ucstore_job(&store, &jobs[one], &taken) == UCSTORE_OK && taken == (jobs[one].at != NULL));
-        ran[one] = false;
+        ran[one] = finished[one] = false;
+    } else if (finished[one]) {
+        close_job(one);
     } else if (draw(2) == 0) {
         CHECK(ucstore_job(&store, &jobs[one], &taken) == UCSTORE_HAS_JOB && taken == before);
         CHECK(ucstore_job_run(&jobs[one]) == UCSTORE_OK);
@@ -516,12 +527,14 @@ static void job(void) {
 /* Ends some jobs on the store, or frees those that are left without it. */
 static void close_jobs(bool with_store) {
     for (size_t one = 0; one < MOST_JOBS; one++) {
-        if (jobs[one].at != NULL && with_store && draw(2) == 0) {
+        if (jobs[one].at == NULL) {
+            continue;
+        }
+        if (with_store && !finished[one] && draw(2) == 0) {
             end_job(one);
-        } else if (jobs[one].at != NULL && !with_store) {
-            CHECK(draw(2) == 0 || ucstore_job_run(&jobs[one]) == UCSTORE_OK);
-            CHECK(ucstore_job_close(&jobs[one]) == UCSTORE_OK && jobs[one].at == NULL);
-            CHECK(ucstore_job_close(&jobs[one]) == UCSTORE_NO_JOB);
+        } else if (!with_store) {
+            CHECK(draw(2) == 0 || ucstore_job_run(&jobs[one]) == (finished[one] ? UCSTORE_JOB_ENDED : UCSTORE_OK));
+            close_job(one);
         }
     }
 }
@@ -992,7 +1005,8 @@ static void refused_jobs(void) {
     CHECK(ucstore_put(&store, text, 1, text, 1) == UCSTORE_RUNS_CLAIMED);
     CHECK(ucstore_flush(&store) == UCSTORE_RUNS_CLAIMED && ucstore_snapshot(&store, &seq) == UCSTORE_RUNS_CLAIMED && seq == 7);
     CHECK(ucstore_job_run(&out) == UCSTORE_OK && ucstore_job_run(&out) == UCSTORE_OK);
-    CHECK(ucstore_job_end(&store, &out, &told) == UCSTORE_OK && told && out.at == NULL);
+    CHECK(ucstore_job_end(&store, &out, &told) == UCSTORE_OK && told && out.at != NULL);
+    CHECK(ucstore_job_close(&out) == UCSTORE_OK && out.at == NULL);
     CHECK(ucstore_snapshot(&store, &seq) == UCSTORE_OK && seq == 257);
     CHECK(ucstore_close(&other) == UCSTORE_OK);
     CHECK(ucstore_close(&store) == UCSTORE_OK);

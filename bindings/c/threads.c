@@ -160,6 +160,7 @@ static void *compact_all(void *unused) {
             lock(&store_lock);
             CHECK(ucstore_job_end(&store, &job, &installed) == UCSTORE_OK && installed);
             unlock(&store_lock);
+            CHECK(ucstore_job_close(&job) == UCSTORE_OK);
         } else {
             sched_yield();
         }

@@ -31,7 +31,7 @@
  * `ucstore_job` takes what is compacted next out of the store, `ucstore_job_run` compacts it, and `ucstore_job_end` puts
  * the new run back. The first and the last are short calls on the store. Between them any thread runs the job, while the
  * store is written to and read. The store doesn't compact the runs of a job that is out. Several jobs may be out, and end
- * in any order.
+ * in any order. A job that has ended keeps the runs that it had until `ucstore_job_close` frees them, in any thread.
  *
  * A store is in memory. To keep it, write each batch in this order, and open the store from the file's bytes the next time:
  * 1. `ucstore_prepare` judges the batch, takes all memory that it needs, and gives its record. If it is refused, the log stays as it is.
@@ -114,7 +114,8 @@ enum ucstore_status {
     UCSTORE_NO_JOB = 21,           /* The handle has no job. */
     UCSTORE_HAS_JOB = 22,          /* The handle has a job already. */
     UCSTORE_NOT_OF_STORE = 23,     /* The job isn't out of the store. */
-    UCSTORE_RUNS_CLAIMED = 24      /* No run more may be, and jobs have those that would be compacted: end one. */
+    UCSTORE_RUNS_CLAIMED = 24,     /* No run more may be, and jobs have those that would be compacted: end one. */
+    UCSTORE_JOB_ENDED = 25         /* The job has ended. */
 };
 
 /* Which operator merges a key's operands into its value. */
@@ -153,6 +154,7 @@ static inline const char *ucstore_status_text(int32_t status) {
         "the handle has a job already",
         "the job isn't out of the store",
         "jobs have the runs that would be compacted",
+        "the job has ended",
     };
     return status >= 0 && (size_t)status < sizeof texts / sizeof texts[0] ? texts[status] : "unknown status";
 }
@@ -432,18 +434,17 @@ int32_t ucstore_compact(struct ucstore *store, bool *compacted);
 int32_t ucstore_job(struct ucstore *store, struct ucstore_job *job, bool *taken);
 
 /* Compacts the runs of the job, unless that is done. The calling thread does all of it, and touches no store.
- * UCSTORE_NO_JOB, UCSTORE_OUT_OF_MEMORY. */
+ * UCSTORE_NO_JOB, UCSTORE_JOB_ENDED, UCSTORE_OUT_OF_MEMORY. */
 int32_t ucstore_job_run(struct ucstore_job *job);
 
 /* Ends a job on the store that it was taken from: the run that was made stands for the job's runs. `installed` is false
- * if the job wasn't run, or if no number is left for the run: the store has the job's runs for others then. It takes no
- * memory. It frees the runs that are replaced, 15 ms for a million writes, unless a view shows them: one that is taken
- * before, and closed once others may call the store, does that for it.
- * UCSTORE_NO_JOB, UCSTORE_NO_STORE, UCSTORE_NOT_OF_STORE: the job stays. */
+ * if the job wasn't run, or if no number is left for the run: the store has the job's runs for others then. It takes and
+ * frees no memory: the job stays behind its handle, and keeps the runs that it had until it is closed.
+ * UCSTORE_NO_JOB, UCSTORE_JOB_ENDED, UCSTORE_NO_STORE, UCSTORE_NOT_OF_STORE: nothing changes. */
 int32_t ucstore_job_end(struct ucstore *store, struct ucstore_job *job, bool *installed);
 
-/* Frees a job without its store, for one whose store is closed. A store that is open never
- * compacts the runs of such a job again.
+/* Frees a job, with the runs that nothing else shows: 15 ms for a million writes. It touches no store. One that hasn't
+ * ended is forgotten: a store that is open never compacts its runs again.
  * UCSTORE_NO_JOB. */
 int32_t ucstore_job_close(struct ucstore_job *job);
 

@@ -1035,9 +1035,11 @@ class Job(_Held):
         It doesn't if the store is closed, or has no number left for a run. A second call does nothing.
         """
         installed = ctypes.c_bool()
-        with self._lock, self._store._lock:
-            if _library.job_end(self._store._handle, self._handle, ctypes.byref(installed)) == NoStore.status:
-                _library.job_close(self._handle)
+        with self._lock:
+            with self._store._lock:
+                _library.job_end(self._store._handle, self._handle, ctypes.byref(installed))
+            # The runs that it had are freed while the store goes on.
+            _library.job_close(self._handle)
         return installed.value
 
     def close(self) -> None:

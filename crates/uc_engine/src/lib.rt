@@ -35,7 +35,8 @@ pub use report::EngineReport;
 pub use uc_batch::{BatchError, Ended};
 pub use uc_bytes::{Bytes, OpRef};
 pub use uc_live::{
-    GREATEST_STOP, InstallError, JobEnd, LiveOpenError, LiveOptions, Options, ReleaseError,
-    RoomError, WriteError, batches_are_walked, jobs_go_in, recorded_batch_is_recovered,
+    GREATEST_STOP, InstallError, JobEnd, JobStage, LiveOpenError, LiveOptions, Options,
+    ReleaseError, RoomError, WriteError, batches_are_walked, jobs_go_in,
+    recorded_batch_is_recovered,
 };
 pub use uc_query_read::{Answer, Query, Rows};

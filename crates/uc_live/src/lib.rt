@@ -61,6 +61,6 @@ pub use room_error::RoomError;
 pub use uc_batch::{BatchError, Ended};
 pub use uc_bytes::{Bytes, OpRef};
 pub use uc_query_read::{Answer, Rows};
-pub use uc_version::{InstallError, Job, JobEnd, Options, ReleaseError, Version};
+pub use uc_version::{InstallError, Job, JobEnd, JobStage, Options, ReleaseError, Version};
 pub use view::View;
 pub use write_error::WriteError;

@@ -17,6 +17,7 @@ mod compact_error;
 mod held_stretch;
 mod job;
 mod job_end;
+mod job_stage;
 mod laws;
 mod live;
 mod memtable_feed;
@@ -30,6 +31,7 @@ pub use compact_error::CompactError;
 pub use held_stretch::{HeldStretch, MOST_CLAIMS};
 pub use job::Job;
 pub use job_end::JobEnd;
+pub use job_stage::JobStage;
 pub use laws::{
     claimable_stretches_can_be_compacted, claims_are_held, claims_can_be_compacted,
     claims_keep_their_runs, installs_are_events, jobs_are_own,

@@ -41,16 +41,14 @@ impl Shared {
     fn run(&self, mut job: Job) -> Result<bool, Error> {
         let outcome = job.run();
         let store = lock(&self.store);
-        // The last view of the runs that are replaced frees them, behind the store's lock.
-        let replaced = store.view();
-        let is_done = store.end_job(job).expect("a job of this store");
+        let ended = store.end_job(job).expect("a job of this store");
         self.runs.store(store.report().runs, Ordering::Relaxed);
         self.work.notify_all();
         drop(store);
-        drop(replaced);
-        self.counts.compactions.add(is_done.into());
+        self.counts.compactions.add(ended.is_installed().into());
         outcome?;
-        Ok(is_done)
+        // The runs that it had are freed here, behind the store's lock.
+        Ok(ended.is_installed())
     }
 }
 

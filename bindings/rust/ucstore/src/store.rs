@@ -3,7 +3,7 @@
 use crate::batch::Batch;
 use crate::ended::Ended;
 use crate::error::{check, Error};
-use crate::job::Job;
+use crate::job::{EndedJob, Job};
 use crate::options::{Operator, Options};
 use crate::reads::{Functions, Reads};
 use crate::report::Report;
@@ -362,19 +362,19 @@ impl Store {
         Ok(taken.then_some(job))
     }
 
-    /// Ends a job: if it was run, its run takes the place of those that it had. Tells whether it did: it doesn't if no
-    /// number is left for a run. The runs of one that wasn't run may be compacted again.
+    /// Ends a job: if it was run, its run takes the place of those that it had. The runs of one that wasn't run may be
+    /// compacted again. It frees no run: the ended job does, where it is dropped.
     ///
     /// # Errors
     ///
     /// A job of another store comes back.
-    pub fn end_job(&self, mut job: Job) -> Result<bool, Job> {
+    pub fn end_job(&self, mut job: Job) -> Result<EndedJob, Job> {
         if job.store != self.number {
             return Err(job);
         }
         let mut installed = false;
         self.certain(unsafe { sys::ucstore_job_end(self.handle(), job.handle(), &mut installed) });
-        Ok(installed)
+        Ok(EndedJob::new(job, installed))
     }
 
     /// What the store holds, in numbers.
