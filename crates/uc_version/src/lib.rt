@@ -2,7 +2,7 @@
 //!
 //! An [`Owned`] has a version, and the claims of those who compact stretches of its runs. Read `specs/Owners.antt`
 //! first, then `specs/Claiming.antt`, `specs/Installing.antt` and `owned.rt`; and `specs/AtOnce.antt` with
-//! `at_once.rt`, `specs/Feeding.antt` with `live.rt` and `memtable_feed.rt`; and `specs/Jobs.antt` with `job.rt`. Compactions of any version's runs, and their installs, are in
+//! `at_once.rt`, `specs/Feeding.antt` with `live.rt`, `memtable_feed.rt` and `run_feed.rt`; and `specs/Jobs.antt` with `job.rt`. Compactions of any version's runs, and their installs, are in
 //! `uc_version_work`, whoever claims them; versions are in `uc_version_state`. This crate re-exports the public items
 //! of both.
 //!
@@ -24,6 +24,7 @@ mod memtable_feed;
 mod opened_writes;
 mod owned;
 mod owned_claim;
+mod run_feed;
 mod runs;
 mod slots;
 
