@@ -98,7 +98,7 @@ module _ (m : Operation) where
   abbrev pub StaysHeld : Task → Live → Live → Type 0
   StaysHeld job old new = (is_held (owner_in new) job.claim ≡ true) × (claimed_runs (owner_in new) job.claim ≡ claimed_runs (owner_in old) job.claim)
 
-  out_then : (job : Task) (old new : Live) (fs : List Event) → IsOut m job old → MayFollow m old.version fs → new.version ≡ fold after old.version fs → StaysHeld job old new → IsOut m job new
+  pub out_then : (job : Task) (old new : Live) (fs : List Event) → IsOut m job old → MayFollow m old.version fs → new.version ≡ fold after old.version fs → StaysHeld job old new → IsOut m job new
   out_then job old new fs out follow version stays =
       let start = out.start.version in
       record {
