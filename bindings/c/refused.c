@@ -400,6 +400,7 @@ static void create(void) {
     int32_t status = UCSTORE_OUT_OF_MEMORY;
     CHECK(ucstore_options_init(&options) == UCSTORE_OK);
     options.write_buffer_size = 1000;
+    options.max_write_buffer_number = lasts ? 3 : 1;
     for (size_t before = 0; status == UCSTORE_OUT_OF_MEMORY; before++) {
         CHECK(store.at == NULL && live == 0);
         granted = before;

@@ -1,4 +1,4 @@
-//! Compactions, which threads run beside reads and writes.
+//! Flushes and compactions, which threads run beside reads and writes.
 
 use crate::error::Error;
 use crate::lock;

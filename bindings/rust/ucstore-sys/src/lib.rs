@@ -94,6 +94,8 @@ pub struct ucstore_options {
     pub min_merge_width: u32,
     pub max_merge_width: u32,
     pub compacts_itself: u32,
+    /// How many memtables are gathered at most, at least 1.
+    pub max_write_buffer_number: u32,
 }
 
 /// What a store holds, in numbers.

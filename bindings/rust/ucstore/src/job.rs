@@ -1,15 +1,16 @@
-//! [`Job`]: a compaction that is taken out of its store; [`EndedJob`]: one that was put back.
+//! [`Job`]: a flush or a compaction that is taken out of its store; [`EndedJob`]: one that was put back.
 
 use crate::error::{check, Error};
 use crate::sys;
 use std::fmt;
 use std::ptr;
 
-/// A compaction that [`Store::take_job`](crate::Store::take_job) takes out of a store. Any thread runs it, while the
-/// store goes on: it is written to, flushed, and compacts other runs. [`Store::end_job`](crate::Store::end_job) puts
+/// A flush or a compaction that [`Store::take_job`](crate::Store::take_job) takes out of a store. Any thread runs it, while
+/// the store goes on: it is written to, flushed, and compacts other runs. [`Store::end_job`](crate::Store::end_job) puts
 /// the result in, and gives an [`EndedJob`].
 ///
-/// A job that is dropped without that is forgotten: its runs are read as before, and never compacted.
+/// A job that is dropped without that is forgotten: its runs are read as before, and never compacted, and its writes are
+/// flushed by a later write.
 ///
 /// ```
 /// # use ucstore::{Operator, Options, Store};
@@ -46,7 +47,7 @@ impl Job {
         Job { handle, store }
     }
 
-    /// Merges the runs. It touches no store. One that was run isn't run again.
+    /// Sorts the writes, or merges the runs. It touches no store. One that was run isn't run again.
     ///
     /// # Errors
     ///
@@ -73,8 +74,9 @@ impl fmt::Debug for Job {
     }
 }
 
-/// A job that has ended. It keeps the runs that it had: drop it where that time may be spent, any thread may.
-#[must_use = "the runs that it had are freed where it is dropped"]
+/// A job that has ended. It keeps the runs or the memtables that it had: drop it where that time may be spent, in any
+/// thread.
+#[must_use = "what it had is freed where it is dropped"]
 pub struct EndedJob {
     _job: Job,
     is_installed: bool,
@@ -89,8 +91,9 @@ impl EndedJob {
         }
     }
 
-    /// Whether its run took the place of those that it had. It doesn't if the job wasn't run, or if no number was left
-    /// for a run. Then the store has its runs for other jobs.
+    /// Whether its run took the place of what it had. It doesn't if the job wasn't run, or if no number was left for a
+    /// run. Then the store has it for other jobs. Nor does the run of a flush if the store has flushed its writes since,
+    /// if no run more may be, or if memory was refused.
     pub fn is_installed(&self) -> bool {
         self.is_installed
     }

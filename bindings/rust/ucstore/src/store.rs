@@ -351,7 +351,9 @@ impl Store {
         Ok(compacted)
     }
 
-    /// Takes out the compaction that is picked next, if there is one among the runs that no other job has.
+    /// Takes out a job, if there is one: the flush of what is gathered, if a memtable is full, no flush is out, and
+    /// [`max_write_buffer_number`](crate::Options::max_write_buffer_number) is above 1. Else the compaction that is picked
+    /// next among the runs that no other job has.
     ///
     /// # Errors
     ///
@@ -362,8 +364,8 @@ impl Store {
         Ok(taken.then_some(job))
     }
 
-    /// Ends a job: if it was run, its run takes the place of those that it had. The runs of one that wasn't run may be
-    /// compacted again. It frees no run: the ended job does, where it is dropped.
+    /// Ends a job: if it was run, its run takes the place of what it had. What one had that wasn't run may be flushed or
+    /// compacted again. It frees nothing of that: the ended job does, where it is dropped.
     ///
     /// # Errors
     ///
