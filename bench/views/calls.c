@@ -167,6 +167,7 @@ static void time_job(struct job_times *times, struct ucstore_view *view, bool ke
     expect_ok(ucstore_job_end(&store, &job, &installed), "a job isn't ended");
     ended = now();
     expect(installed, "a job's run is refused");
+    expect_ok(ucstore_job_close(&job), "a job isn't freed");
     add_time(&times->taking, got - start);
     add_time(&times->running, ran - got);
     add_time(&times->ending, ended - ran);

@@ -45,10 +45,9 @@ void open_shared(void) {
     expect_ok(ucstore_create(&store, UCSTORE_COUNTER, &opening), "the store isn't created");
 }
 
-/* Takes, runs and ends jobs. A view keeps the runs that a job ends for, so that they are freed behind the lock. */
+/* Takes, runs, ends and frees jobs: the runs that one had behind the lock. */
 static void *compact_all(void *unused) {
     struct ucstore_job job = {0};
-    struct ucstore_view old = {0};
     bool taken = false, installed = false;
     lock(&store_lock);
     while (!is_over) {
@@ -60,12 +59,11 @@ static void *compact_all(void *unused) {
         unlock(&store_lock);
         expect_ok(ucstore_job_run(&job), "a job isn't run");
         lock(&store_lock);
-        expect_ok(ucstore_view(&store, &old), "there is no view");
         expect_ok(ucstore_job_end(&store, &job, &installed), "a job isn't ended");
         expect(installed, "a job's run is refused");
         pthread_cond_signal(&is_compacted);
         unlock(&store_lock);
-        expect_ok(ucstore_view_close(&old), "a view isn't closed");
+        expect_ok(ucstore_job_close(&job), "a job isn't freed");
         lock(&store_lock);
     }
     unlock(&store_lock);

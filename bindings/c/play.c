@@ -278,7 +278,8 @@ static void set_option(const char *word) {
                sscanf(word, "max_size_amplification_percent=%u", &o->max_size_amplification_percent) != 1 &&
                sscanf(word, "min_merge_width=%u", &o->min_merge_width) != 1 &&
                sscanf(word, "max_merge_width=%u", &o->max_merge_width) != 1 &&
-               sscanf(word, "compacts_itself=%u", &o->compacts_itself) != 1) {
+               sscanf(word, "compacts_itself=%u", &o->compacts_itself) != 1 &&
+               sscanf(word, "max_write_buffer_number=%u", &o->max_write_buffer_number) != 1) {
         fault("an option has an unknown name");
     }
 }

@@ -248,6 +248,14 @@ static int32_t open_log(void) {
     return status;
 }
 
+/* Ends the job, and frees it. */
+static int32_t end_job(void) {
+    bool installed = false;
+    int32_t status = ucstore_job_end(&store, &out, &installed);
+    CHECK(status != UCSTORE_OK || ucstore_job_close(&out) == UCSTORE_OK);
+    return status;
+}
+
 static int32_t try_call(const struct call *call) {
     static uint8_t room[ROOM];
     struct ucstore_log_place place = {0, 0, 0};
@@ -323,7 +331,7 @@ static int32_t try_call(const struct call *call) {
     case JOB_RUN:
         return ucstore_job_run(&out);
     case JOB_END:
-        return ucstore_job_end(&store, &out, &told);
+        return end_job();
     case COMPACT:
         return ucstore_compact(&store, &told);
     case OPEN:
@@ -392,6 +400,7 @@ static void create(void) {
     int32_t status = UCSTORE_OUT_OF_MEMORY;
     CHECK(ucstore_options_init(&options) == UCSTORE_OK);
     options.write_buffer_size = 1000;
+    options.max_write_buffer_number = lasts ? 3 : 1;
     for (size_t before = 0; status == UCSTORE_OUT_OF_MEMORY; before++) {
         CHECK(store.at == NULL && live == 0);
         granted = before;
@@ -413,7 +422,7 @@ static uint64_t runs(void) {
 static void compact_all(void) {
     static const uint8_t value[1 << 14] = {0};
     bool is_out = out.at != NULL, told = false;
-    CHECK(ucstore_job_end(&store, &out, &told) == (is_out ? UCSTORE_OK : UCSTORE_NO_JOB));
+    CHECK(end_job() == (is_out ? UCSTORE_OK : UCSTORE_NO_JOB));
     for (uint8_t key = 0; key < 100 && runs() != 1; key++) {
         CHECK(ucstore_put(&store, &key, 1, value, sizeof value) == UCSTORE_OK && ucstore_flush(&store) == UCSTORE_OK);
         for (told = true; told;) {

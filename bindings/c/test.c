@@ -61,9 +61,12 @@ static struct ucstore_batch gathered;
 /* What the store should hold, and what each view should. */
 static struct moment live, views[MOST_VIEWS];
 
-/* Compactions that are done away from the store, and whether they were run. */
+/* Flushes and compactions that are done away from the store, and whether they were run, and ended. */
 static struct ucstore_job jobs[MOST_JOBS];
-static bool ran[MOST_JOBS];
+static bool ran[MOST_JOBS], finished[MOST_JOBS];
+
+/* Whether full memtables are left to jobs. Then the store may have flushed what a job has before that ends. */
+static bool leaves_flushes;
 
 /* All writes, in order, and a log with a batch for each call. */
 static struct write *writes;
@@ -490,20 +493,33 @@ static void check_report(struct moment *of) {
 
 /* Jobs. */
 
-/* Ends a job: its run is installed if there is one. */
+/* Ends a job, which is kept: its run is installed if there is one, and it wasn't flushed before. */
 static void end_job(size_t one) {
-    bool installed = !ran[one];
-    CHECK(ucstore_job_end(&store, &jobs[one], &installed) == UCSTORE_OK && installed == ran[one] && jobs[one].at == NULL);
-    CHECK(ucstore_job_end(&store, &jobs[one], &installed) == UCSTORE_NO_JOB && installed == ran[one]);
+    bool installed = !ran[one], before, taken;
+    CHECK(ucstore_job_end(&store, &jobs[one], &installed) == UCSTORE_OK && jobs[one].at != NULL);
+    CHECK(installed ? ran[one] : leaves_flushes || !ran[one]);
+    before = taken = installed;
+    CHECK(ucstore_job_end(&store, &jobs[one], &installed) == UCSTORE_JOB_ENDED && installed == before);
+    CHECK(ucstore_job_run(&jobs[one]) == UCSTORE_JOB_ENDED);
+    CHECK(ucstore_job(&store, &jobs[one], &taken) == UCSTORE_HAS_JOB && taken == before);
+    finished[one] = true;
 }
 
-/* Takes a job, runs one, or ends one. */
+/* Frees a job. */
+static void close_job(size_t one) {
+    CHECK(ucstore_job_close(&jobs[one]) == UCSTORE_OK && jobs[one].at == NULL);
+    CHECK(ucstore_job_close(&jobs[one]) == UCSTORE_NO_JOB);
+}
+
+/* Takes a job, runs one, ends one, or frees one that has ended. */
 static void job(void) {
     size_t one = (size_t)draw(MOST_JOBS);
     bool before = draw(2) == 0, taken = before;
     if (jobs[one].at == NULL) {
         CHECK(ucstore_job(&store, &jobs[one], &taken) == UCSTORE_OK && taken == (jobs[one].at != NULL));
-        ran[one] = false;
+        ran[one] = finished[one] = false;
+    } else if (finished[one]) {
+        close_job(one);
     } else if (draw(2) == 0) {
         CHECK(ucstore_job(&store, &jobs[one], &taken) == UCSTORE_HAS_JOB && taken == before);
         CHECK(ucstore_job_run(&jobs[one]) == UCSTORE_OK);
@@ -516,12 +532,14 @@ static void job(void) {
 /* Ends some jobs on the store, or frees those that are left without it. */
 static void close_jobs(bool with_store) {
     for (size_t one = 0; one < MOST_JOBS; one++) {
-        if (jobs[one].at != NULL && with_store && draw(2) == 0) {
+        if (jobs[one].at == NULL) {
+            continue;
+        }
+        if (with_store && !finished[one] && draw(2) == 0) {
             end_job(one);
-        } else if (jobs[one].at != NULL && !with_store) {
-            CHECK(draw(2) == 0 || ucstore_job_run(&jobs[one]) == UCSTORE_OK);
-            CHECK(ucstore_job_close(&jobs[one]) == UCSTORE_OK && jobs[one].at == NULL);
-            CHECK(ucstore_job_close(&jobs[one]) == UCSTORE_NO_JOB);
+        } else if (!with_store) {
+            CHECK(draw(2) == 0 || ucstore_job_run(&jobs[one]) == (finished[one] ? UCSTORE_JOB_ENDED : UCSTORE_OK));
+            close_job(one);
         }
     }
 }
@@ -802,6 +820,8 @@ static void soak(uint32_t drawn_operator, size_t operations) {
     CHECK(ucstore_options_init(&options) == UCSTORE_OK);
     options.write_buffer_size = 64;
     options.compacts_itself = (uint32_t)draw(2);
+    options.max_write_buffer_number = 1 + (uint32_t)draw(4);
+    leaves_flushes = options.max_write_buffer_number > 1;
     CHECK(ucstore_create(&store, merge_operator, &options) == UCSTORE_OK && store.at != NULL);
     for (size_t done = 0; done < operations; done++) {
         step();
@@ -972,6 +992,57 @@ static void open_full(struct ucstore *full) {
     }
 }
 
+/* Ends a flush job, and frees it. Tells whether its run was installed. */
+static bool end_flush(struct ucstore_job *job) {
+    bool installed = false;
+    CHECK(ucstore_job_end(&store, job, &installed) == UCSTORE_OK && ucstore_job_close(job) == UCSTORE_OK);
+    return installed;
+}
+
+/* How many runs the store has. */
+static uint64_t runs(void) {
+    struct ucstore_report report;
+    report.size = sizeof report;
+    CHECK(ucstore_report(&store, &report) == UCSTORE_OK);
+    return report.runs;
+}
+
+/* Full memtables that are left to jobs: one is flushed by its job, one by a write, and one by a snapshot. */
+static void flush_jobs(void) {
+    struct ucstore_options options;
+    struct ucstore_job out = {0}, other = {0};
+    const uint8_t text[] = {'a'};
+    uint64_t seq = 0;
+    bool told = false;
+    CHECK(ucstore_options_init(&options) == UCSTORE_OK && options.max_write_buffer_number == 1);
+    options.write_buffer_size = 100;
+    options.max_write_buffer_number = 2;
+    CHECK(ucstore_create(&store, UCSTORE_APPEND, &options) == UCSTORE_OK);
+    for (int write = 0; write < 30 && !told; write++) {
+        CHECK(ucstore_job(&store, &out, &told) == UCSTORE_OK && runs() == 0);
+        CHECK(ucstore_put(&store, text, 1, text, 1) == UCSTORE_OK);
+    }
+    /* One flush is out at a time, and what is written since is behind it. */
+    CHECK(told && ucstore_job(&store, &other, &told) == UCSTORE_OK && !told);
+    CHECK(ucstore_job_run(&out) == UCSTORE_OK && end_flush(&out) && runs() == 1);
+    CHECK(ucstore_flush(&store) == UCSTORE_OK && runs() == 2);
+    /* A write flushes all once two memtables are full: the job comes too late. */
+    for (told = false; !told;) {
+        CHECK(ucstore_put(&store, text, 1, text, 1) == UCSTORE_OK && ucstore_job(&store, &out, &told) == UCSTORE_OK);
+    }
+    while (runs() == 2) {
+        CHECK(ucstore_put(&store, text, 1, text, 1) == UCSTORE_OK);
+    }
+    CHECK(ucstore_job_run(&out) == UCSTORE_OK && !end_flush(&out) && runs() == 3);
+    /* So it does behind a snapshot. A job that isn't run leaves its writes for another one. */
+    for (told = false; !told;) {
+        CHECK(ucstore_put(&store, text, 1, text, 1) == UCSTORE_OK && ucstore_job(&store, &out, &told) == UCSTORE_OK);
+    }
+    CHECK(!end_flush(&out) && ucstore_job(&store, &out, &told) == UCSTORE_OK && told);
+    CHECK(ucstore_snapshot(&store, &seq) == UCSTORE_OK && ucstore_job_run(&out) == UCSTORE_OK && !end_flush(&out));
+    CHECK(ucstore_close(&store) == UCSTORE_OK);
+}
+
 /* What jobs are refused, and what is refused because of one. */
 static void refused_jobs(void) {
     struct ucstore other = {0};
@@ -992,7 +1063,8 @@ static void refused_jobs(void) {
     CHECK(ucstore_put(&store, text, 1, text, 1) == UCSTORE_RUNS_CLAIMED);
     CHECK(ucstore_flush(&store) == UCSTORE_RUNS_CLAIMED && ucstore_snapshot(&store, &seq) == UCSTORE_RUNS_CLAIMED && seq == 7);
     CHECK(ucstore_job_run(&out) == UCSTORE_OK && ucstore_job_run(&out) == UCSTORE_OK);
-    CHECK(ucstore_job_end(&store, &out, &told) == UCSTORE_OK && told && out.at == NULL);
+    CHECK(ucstore_job_end(&store, &out, &told) == UCSTORE_OK && told && out.at != NULL);
+    CHECK(ucstore_job_close(&out) == UCSTORE_OK && out.at == NULL);
     CHECK(ucstore_snapshot(&store, &seq) == UCSTORE_OK && seq == 257);
     CHECK(ucstore_close(&other) == UCSTORE_OK);
     CHECK(ucstore_close(&store) == UCSTORE_OK);
@@ -1056,6 +1128,7 @@ int main(int argc, char **argv) {
     without_view();
     refusals();
     refused_jobs();
+    flush_jobs();
     nothing_is_read();
     durable();
     for (uint32_t one = UCSTORE_APPEND; one <= UCSTORE_TAIL; one++) {

@@ -158,8 +158,10 @@ static void *compact_all(void *unused) {
         if (taken) {
             CHECK(ucstore_job_run(&job) == UCSTORE_OK);
             lock(&store_lock);
-            CHECK(ucstore_job_end(&store, &job, &installed) == UCSTORE_OK && installed);
+            /* A write may have flushed what the job has. */
+            CHECK(ucstore_job_end(&store, &job, &installed) == UCSTORE_OK);
             unlock(&store_lock);
+            CHECK(ucstore_job_close(&job) == UCSTORE_OK);
         } else {
             sched_yield();
         }
@@ -174,6 +176,7 @@ int main(void) {
     CHECK(ucstore_options_init(&options) == UCSTORE_OK);
     options.write_buffer_size = 4096;
     options.compacts_itself = 0;
+    options.max_write_buffer_number = 2;
     CHECK(ucstore_create(&store, UCSTORE_COUNTER, &options) == UCSTORE_OK);
     for (int one = 0; one < 1 + READERS + COMPACTORS; one++) {
         CHECK(pthread_create(&threads[one], NULL, work[one == 0 ? 0 : one <= READERS ? 1 : 2], NULL) == 0);

@@ -9,7 +9,7 @@
  * `ucstore_prepare_bytes` and `ucstore_log_next` tell.
  *
  * Writes are gathered in a memtable, which becomes a run when it is full. Runs are compacted then, by the calling thread. Nothing else
- * has to be called for it.
+ * has to be called for it. Jobs do both in other threads.
  *
  * Operations that go together are gathered in a batch, made of zeros too, which may be written more than once:
  *
@@ -24,14 +24,14 @@
  * is read through its store alone, and costs no such memory: each compaction keeps what is read at it, until it is
  * released.
  *
- * A job is a compaction that is done away from its store, made of zeros too:
+ * A job is a flush or a compaction that is done away from its store, made of zeros too:
  *
  *     struct ucstore_job job = {0};
  *
- * `ucstore_job` takes what is compacted next out of the store, `ucstore_job_run` compacts it, and `ucstore_job_end` puts
- * the new run back. The first and the last are short calls on the store. Between them any thread runs the job, while the
- * store is written to and read. The store doesn't compact the runs of a job that is out. Several jobs may be out, and end
- * in any order.
+ * `ucstore_job` takes it out of the store, `ucstore_job_run` makes the new run, and `ucstore_job_end` puts that into the
+ * store. The first and the last are short calls on the store. Between them any thread runs the job, while the store is
+ * written to and read. The store doesn't compact the runs of a job that is out. Several jobs may be out, one of them a
+ * flush, and end in any order. A job that has ended keeps what it had until `ucstore_job_close` frees that, in any thread.
  *
  * A store is in memory. To keep it, write each batch in this order, and open the store from the file's bytes the next time:
  * 1. `ucstore_prepare` judges the batch, takes all memory that it needs, and gives its record. If it is refused, the log stays as it is.
@@ -114,7 +114,8 @@ enum ucstore_status {
     UCSTORE_NO_JOB = 21,           /* The handle has no job. */
     UCSTORE_HAS_JOB = 22,          /* The handle has a job already. */
     UCSTORE_NOT_OF_STORE = 23,     /* The job isn't out of the store. */
-    UCSTORE_RUNS_CLAIMED = 24      /* No run more may be, and jobs have those that would be compacted: end one. */
+    UCSTORE_RUNS_CLAIMED = 24,     /* No run more may be, and jobs have those that would be compacted: end one. */
+    UCSTORE_JOB_ENDED = 25         /* The job has ended. */
 };
 
 /* Which operator merges a key's operands into its value. */
@@ -153,6 +154,7 @@ static inline const char *ucstore_status_text(int32_t status) {
         "the handle has a job already",
         "the job isn't out of the store",
         "jobs have the runs that would be compacted",
+        "the job has ended",
     };
     return status >= 0 && (size_t)status < sizeof texts / sizeof texts[0] ? texts[status] : "unknown status";
 }
@@ -169,6 +171,8 @@ struct ucstore_options {
     uint32_t min_merge_width;                 /* The least number of runs for a compaction by size ratio, at least 2. */
     uint32_t max_merge_width;                 /* The greatest number of runs for a compaction, at least `min_merge_width`. */
     uint32_t compacts_itself;                 /* Not 0 if the store compacts behind a flush. Else only from `stop_trigger` runs on. */
+    uint32_t max_write_buffer_number;         /* How many memtables are gathered at most, at least 1. With 1 a write that finds the memtable
+                                               * full flushes it. With more a job does, and a write only once as many are full. */
 };
 
 /* How far a log was read. */
@@ -426,24 +430,26 @@ int32_t ucstore_view_close(struct ucstore_view *view);
  * UCSTORE_NO_STORE, UCSTORE_IDS_SPENT, UCSTORE_OUT_OF_MEMORY. */
 int32_t ucstore_compact(struct ucstore *store, bool *compacted);
 
-/* Takes what is compacted next out of the store as a job behind a handle, and tells whether there was anything. Until the
- * job ends the store doesn't compact its runs, and does all else.
+/* Takes a job out of the store behind a handle, and tells whether there was one. It is the flush of what is gathered, if
+ * `max_write_buffer_number` is above 1, a memtable is full and no flush is out. Else it is the compaction of what is
+ * picked next. Until the job ends the store doesn't compact its runs, and does all else.
  * UCSTORE_HAS_JOB, UCSTORE_NO_STORE, UCSTORE_OUT_OF_MEMORY. */
 int32_t ucstore_job(struct ucstore *store, struct ucstore_job *job, bool *taken);
 
-/* Compacts the runs of the job, unless that is done. The calling thread does all of it, and touches no store.
- * UCSTORE_NO_JOB, UCSTORE_OUT_OF_MEMORY. */
+/* Does the job, unless that is done. The calling thread does all of it, and touches no store.
+ * UCSTORE_NO_JOB, UCSTORE_JOB_ENDED, UCSTORE_OUT_OF_MEMORY. */
 int32_t ucstore_job_run(struct ucstore_job *job);
 
-/* Ends a job on the store that it was taken from: the run that was made stands for the job's runs. `installed` is false
- * if the job wasn't run, or if no number is left for the run: the store has the job's runs for others then. It takes no
- * memory. It frees the runs that are replaced, 15 ms for a million writes, unless a view shows them: one that is taken
- * before, and closed once others may call the store, does that for it.
- * UCSTORE_NO_JOB, UCSTORE_NO_STORE, UCSTORE_NOT_OF_STORE: the job stays. */
+/* Ends a job on the store that it was taken from: the run that was made stands for the job's runs or memtables.
+ * `installed` is false if the job wasn't run, or if no number is left for the run: the store has its runs for others
+ * then. That of a flush is false too if no run more may be, if memory is refused, and if a write, a flush or a snapshot
+ * has flushed its writes since. No write is lost, and no read changes. It frees no memory: the job stays behind its
+ * handle, and keeps what it had until it is closed. The end of a compaction takes none either.
+ * UCSTORE_NO_JOB, UCSTORE_JOB_ENDED, UCSTORE_NO_STORE, UCSTORE_NOT_OF_STORE: nothing changes. */
 int32_t ucstore_job_end(struct ucstore *store, struct ucstore_job *job, bool *installed);
 
-/* Frees a job without its store, for one whose store is closed. A store that is open never
- * compacts the runs of such a job again.
+/* Frees a job, with the runs and memtables that nothing else shows: 15 ms for a million writes. It touches no store. One
+ * that hasn't ended is forgotten: a store that is open never compacts its runs again, and flushes its writes itself.
  * UCSTORE_NO_JOB. */
 int32_t ucstore_job_close(struct ucstore_job *job);
 

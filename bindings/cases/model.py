@@ -61,12 +61,14 @@ class Options(NamedTuple):
     min_merge_width: int = 2
     max_merge_width: int = 4294967295
     compacts_itself: bool = True
+    max_write_buffer_number: int = 1
 
     def are_in_range(self) -> bool:
         return (
             self.write_buffer_size >= 1
             and 1 <= self.compaction_trigger <= self.stop_trigger <= 255
             and 2 <= self.min_merge_width <= self.max_merge_width
+            and self.max_write_buffer_number >= 1
         )
 
 

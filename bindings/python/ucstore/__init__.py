@@ -181,6 +181,8 @@ class Options(NamedTuple):
     """The greatest number of runs for a compaction, at least `min_merge_width`."""
     compacts_itself: bool = True
     """Whether the store compacts behind a flush. Else it does only from `stop_trigger` runs on."""
+    max_write_buffer_number: int = 1
+    """How many memtables are gathered at most, at least 1. With more than 1 a job flushes a full one, and a write only once as many are."""
 
 
 class Put(NamedTuple):
@@ -308,6 +310,7 @@ class _Options(ctypes.Structure):
         ("stop_trigger", ctypes.c_uint32), ("size_ratio", ctypes.c_uint32),
         ("max_size_amplification_percent", ctypes.c_uint32), ("min_merge_width", ctypes.c_uint32),
         ("max_merge_width", ctypes.c_uint32), ("compacts_itself", ctypes.c_uint32),
+        ("max_write_buffer_number", ctypes.c_uint32),
     ]
 
     @classmethod
@@ -871,7 +874,8 @@ class Store(_HeldReader):
         return View(_library.view, self)
 
     def take_job(self) -> Optional["Job"]:
-        """Takes out the compaction that is picked next, if there is one among the runs that no other job has.
+        """Takes out a job, if there is one: the flush of a full memtable, with `max_write_buffer_number` above 1, or else
+        the compaction that is picked next among the runs that no other job has.
 
         Raises `OutOfMemory`.
         """
@@ -1007,7 +1011,7 @@ class View(_HeldReader):
 
 
 class Job(_Held):
-    """A compaction that `Store.take_job` takes out of a store. Any thread runs it, while the store goes on.
+    """A flush or a compaction that `Store.take_job` takes out of a store. Any thread runs it, while the store goes on.
 
         >>> with Store(Operator.APPEND, Options(compacts_itself=False)) as store:
         ...     for number in range(4):
@@ -1027,21 +1031,24 @@ class Job(_Held):
         self._is_out = taken.value
 
     def run(self) -> None:
-        """Merges the runs. It touches no store. One that was run isn't run again.
+        """Sorts the writes, or merges the runs. It touches no store. One that was run isn't run again.
 
         Raises `NoJob` and `OutOfMemory`. Then the job is as it was.
         """
         self._call(_library.job_run)
 
     def end(self) -> bool:
-        """Ends the job: if it was run, its run takes the place of those that it had. Tells whether it did.
+        """Ends the job: if it was run, its run takes the place of what it had. Tells whether it did.
 
-        It doesn't if the store is closed, or has no number left for a run. A second call does nothing.
+        It doesn't if the store is closed, or has no number left for a run, nor if it has flushed the writes of the job
+        itself. A second call does nothing.
         """
         installed = ctypes.c_bool()
-        with self._lock, self._store._lock:
-            if _library.job_end(self._store._handle, self._handle, ctypes.byref(installed)) == NoStore.status:
-                _library.job_close(self._handle)
+        with self._lock:
+            with self._store._lock:
+                _library.job_end(self._store._handle, self._handle, ctypes.byref(installed))
+            # The runs that it had are freed while the store goes on.
+            _library.job_close(self._handle)
         return installed.value
 
     def close(self) -> None:

@@ -1,9 +1,10 @@
 -- Jobs that a store has just taken out.
 use Rattle.std.proofs.Common.{◌≡◌, ℕ, zero, suc, List, [], ◌∷◌, get_or, set, refl, sym, ap, subst}
-use Rattle.std.specs.Prelude.{true, false, Option, Some, None}
+use Rattle.std.specs.Prelude.{true, Option, Some, None}
 use Rattle.uc_version_state.specs.declared.stretch.Stretch.{Stretch}
 use Rattle.uc_version_state.specs.Versions.{contents_of}
 use Rattle.uc_version.specs.declared.held_stretch.HeldStretch.{HeldStretch}
+use Rattle.uc_version.specs.declared.job_stage.JobStage.TheVariants.{Taken}
 use Rattle.uc_version.specs.Owners.{Owner, IsOwner, runs_held}
 use Rattle.uc_version.specs.Claiming.{Claim, claim_of, claim_refusal, has_ids, is_held, with_claim, without_claim}
 use Rattle.uc_version.specs.Installing.{stretch_in}
@@ -50,5 +51,5 @@ can_end are_held next task o o' is_owner is = started (λ o o' t. is_held o' t.c
 pub goes_back : ClaimsGoBack → (next : Option Stretch) (task : Task) (o o' : Owner) → IsStarted next (Some task) o o' → without_claim o' task.claim ≡ o
 goes_back go_back next task o o' is = started (λ o o' t. without_claim o' t.claim ≡ o) o (λ s fine. go_back o s) next task o' is
 
-pub is_not_done : (next : Option Stretch) (task : Task) (o o' : Owner) → IsStarted next (Some task) o o' → task.is_done ≡ false
-is_not_done next task o o' is = started (λ o o' t. t.is_done ≡ false) o (λ s fine. refl) next task o' is
+pub is_not_run : (next : Option Stretch) (task : Task) (o o' : Owner) → IsStarted next (Some task) o o' → task.stage ≡ Taken
+is_not_run next task o o' is = started (λ o o' t. t.stage ≡ Taken) o (λ s fine. refl) next task o' is

@@ -25,6 +25,7 @@ options_in c = record {
     first_id = 1;
   };
   stop_trigger = c.stop_trigger;
+  max_write_buffer_number = c.max_write_buffer_number;
   compacts_itself = not (c.compacts_itself == 0);
 }
 

@@ -31,6 +31,8 @@ pub struct COptions {
     pub max_merge_width: u32,
     /// Not 0 if the store compacts behind a flush.
     pub compacts_itself: u32,
+    /// How many memtables it gathers at most.
+    pub max_write_buffer_number: u32,
 }
 
 const _: () = prove!(size_of::<COptions>() == OPTIONS_SIZE);
@@ -53,13 +55,14 @@ impl COptions {
                 first_id: 1,
             },
             stop_trigger: self.stop_trigger,
+            max_write_buffer_number: self.max_write_buffer_number,
             compacts_itself: self.compacts_itself != 0,
         }
     }
 }
 
 /// Fills in the default options and their size: memtables of 4 MiB, 4 runs, stops from 36 runs on, 1 percent, 200
-/// percent, at least 2 runs and no limit to them, and a store that compacts by itself.
+/// percent, at least 2 runs and no limit to them, a store that compacts by itself, and one memtable.
 #[unsafe(no_mangle)]
 pub extern "C" fn ucstore_options_init(options: &mut COptions) -> i32
     ensures status { result ≡ OK }
@@ -75,6 +78,7 @@ pub extern "C" fn ucstore_options_init(options: &mut COptions) -> i32
           max_merge_width =
               4294967295;
           compacts_itself = 1;
+          max_write_buffer_number = 1;
         } }
 {
     *options = COptions {
@@ -87,6 +91,7 @@ pub extern "C" fn ucstore_options_init(options: &mut COptions) -> i32
         min_merge_width: 2,
         max_merge_width: u32::MAX,
         compacts_itself: 1,
+        max_write_buffer_number: 1,
     };
     OK
 }

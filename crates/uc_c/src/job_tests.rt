@@ -8,7 +8,7 @@ use crate::compacting::ucstore_flush;
 use crate::job_laws::taken_jobs_are_own;
 use crate::jobs::{ucstore_job, ucstore_job_close, ucstore_job_end, ucstore_job_run};
 use crate::opening::{ucstore_close, ucstore_create};
-use crate::status::{HAS_JOB, NO_JOB, NO_STORE, OK};
+use crate::status::{HAS_JOB, JOB_ENDED, NO_JOB, NO_STORE, OK};
 use crate::tests::{APPEND, usual};
 use crate::writing::ucstore_put;
 use std::alloc::Global;
@@ -61,10 +61,11 @@ fn give_back(rt: &impl Abort, alloc: Global, store: &mut Handle) {
     assert_eq!(rt; ucstore_job(alloc, store, &mut job, &mut taken), OK);
     assert!(rt; taken && end(alloc, store, &mut job) == (OK, false));
     assert_eq!(rt; runs(alloc, store), 4);
+    assert_eq!(rt; ucstore_job_close(alloc, &mut job), OK);
     drop(job.into_box());
 }
 
-/// Takes a job, runs it, and ends it.
+/// Takes a job, runs it, and ends it. It is behind its handle until it is closed.
 fn compact(rt: &impl Abort, alloc: Global, store: &mut Handle) {
     let mut job = JobHandle::empty(alloc);
     let mut taken = false;
@@ -73,7 +74,11 @@ fn compact(rt: &impl Abort, alloc: Global, store: &mut Handle) {
     assert!(rt; taken);
     assert_eq!(rt; ucstore_job_run(alloc, &mut job), OK);
     assert_eq!(rt; end(alloc, store, &mut job), (OK, true));
+    assert_eq!(rt; end(alloc, store, &mut job), (JOB_ENDED, false));
+    assert_eq!(rt; ucstore_job_run(alloc, &mut job), JOB_ENDED);
+    assert_eq!(rt; ucstore_job(alloc, store, &mut job, &mut taken), HAS_JOB);
     assert_eq!(rt; runs(alloc, store), 1);
+    assert_eq!(rt; ucstore_job_close(alloc, &mut job), OK);
     drop(job.into_box());
 }
 

@@ -1,20 +1,21 @@
-//! Jobs that C holds: compactions that are done away from their store.
-ghost use Rattle.std.specs.Prelude.{◌≡◌, ◌⊎◌, IfOk, OnErr, option_map};
+//! Jobs that C holds: flushes and compactions that are done away from their store.
+ghost use Rattle.std.specs.Prelude.{◌≡◌, ◌⊎◌, ◌↔◌, Some, IsTrue, IfOk, OnErr, option_map};
+ghost use Rattle.uc_engine.specs.declared.taken_job.TakenJob.TheVariants as kinds;
 ghost use Rattle.uc_c.specs.declared.status.TheConstants.{OK, NO_JOB};
 ghost use Rattle.uc_c.specs.Jobs as jobs;
-ghost use Rattle.uc_c.specs.Jobs.{EndsTaken, IsOwnJob, RunsJob, Starts, TakesJob};
+ghost use Rattle.uc_c.specs.Jobs.{EndsTaken, IsOwnJob, RunsJob, Takes, TakesJob, TakesNone};
 ghost use Rattle.uc_c.specs.Replies.{Closes};
 
-use crate::status::{HAS_JOB, NO_JOB, NO_STORE, NOT_OF_STORE, OK, OUT_OF_MEMORY};
+use crate::status::{HAS_JOB, JOB_ENDED, NO_JOB, NO_STORE, NOT_OF_STORE, OK, OUT_OF_MEMORY};
 use std::alloc::{AllocError, Global};
-use uc_engine::{Engine, EngineJob, JobEnd};
+use uc_engine::{Engine, EngineJob, FlushEnd, FlushJob, JobEnd, JobStage, TakenJob, flushes_go_in};
 use uc_handle::{Handle, JobHandle};
 use uc_oper::Counter;
 use uc_version::{claimable_stretches_can_be_compacted, claims_are_held};
 
-/// Takes the compaction of what is picked next, if anything is, out of the store, puts it behind its handle as a job,
-/// and says whether there was one. Until the job ends, the store doesn't compact its runs. It is refused if the handle
-/// has a job, and for want of memory.
+/// Takes a job out of the store, puts it behind its handle, and says whether there was one: the flush of what is gathered,
+/// if that is left to jobs and a memtable is full, or else the compaction of what is picked next. Until the job ends, the
+/// store doesn't compact its runs. It is refused if the handle has a job, and for want of memory.
 #[unsafe(no_mangle)]
 pub extern "C" fn ucstore_job(
     alloc: Global,
@@ -48,29 +49,52 @@ pub extern "C" fn ucstore_job(
     }
 }
 
-/// A job of what is picked next, if anything is, in a box. An `Err` changes nothing.
-fn start(alloc: Global, engine: &mut Engine) -> Result<Option<Box<EngineJob>>, AllocError>
-    ensures ok { IfOk result (λ job. Starts (option_map (λ b. b.value) job) engine.old engine.new) }
-    ensures err { OnErr result (engine.new ≡ engine.old) }
+/// Ends a job that was just taken, and isn't run. Nobody else could give back what it has.
+fn give_back(alloc: Global, engine: &mut Engine, job: &mut TakenJob)
+    requires { jobs.CanGoBack engine.old job.old }
+    ensures { jobs.GoesBack engine.old engine.new job.old }
+{
+    match job {
+        TakenJob::Flush(flush) => {
+            engine.end_flush(alloc, flush);
+        }
+        TakenJob::Compaction(compaction) => {
+            engine.end_job(compaction);
+        }
+    }
+}
+
+/// A job that is taken, in a box, if there is one. An `Err` changes nothing but how many flush jobs were taken.
+fn start(alloc: Global, engine: &mut Engine) -> Result<Option<Box<TakenJob>>, AllocError>
+    ensures ok { IfOk result (λ job. Takes (option_map (λ b. b.value) job) engine.old engine.new) }
+    ensures err { OnErr result (TakesNone engine.old engine.new) }
 {
     engine.recall();
     claims_are_held();
     claimable_stretches_can_be_compacted::<Counter>();
-    let Some(job) = engine.start_job(alloc)? else {
+    flushes_go_in::<Counter>();
+    let Some(job) = engine.take_job(alloc)? else {
         return Ok(None);
     };
     match Box::new(alloc, job) {
         Ok(started) => Ok(Some(started)),
         Err(refused) => {
-            // Nobody else could give its claim back.
-            engine.end_job(refused.value);
+            let mut started = refused.value;
+            give_back(alloc, engine, &mut started);
             Err(AllocError)
         }
     }
 }
 
-/// Compacts the runs of the job, unless that is done. The calling thread does all of it, and touches no store. It is
-/// refused for want of memory.
+/// Whether the job has ended.
+fn is_ended(job: &TakenJob) -> bool
+    ensures { IsTrue result ↔ jobs.HasEnded job.now }
+{
+    matches!(job.stage(), JobStage::Ended)
+}
+
+/// Does the job, unless that is done. The calling thread does all of it, and touches no store. It is refused if the job has
+/// ended, and for want of memory.
 #[unsafe(no_mangle)]
 pub extern "C" fn ucstore_job_run(alloc: Global, job: &mut JobHandle) -> i32
     ensures { RunsJob result job.old.held job.new.held }
@@ -78,6 +102,10 @@ pub extern "C" fn ucstore_job_run(alloc: Global, job: &mut JobHandle) -> i32
     let Some(mut held) = job.take(alloc) else {
         return NO_JOB;
     };
+    if is_ended(&held) {
+        job.put(held);
+        return JOB_ENDED;
+    }
     let done = held.run(alloc);
     job.put(held);
     match done {
@@ -87,11 +115,11 @@ pub extern "C" fn ucstore_job_run(alloc: Global, job: &mut JobHandle) -> i32
 }
 
 /// Ends a job that was taken from the store: puts its run there, if it was run and isn't refused, which `installed`
-/// says, and lets the store compact its runs again. It takes no memory. It is refused if the store doesn't hold the
-/// job's claim.
+/// says, and lets the store flush its writes or compact its runs again. It frees no memory: the job keeps what it had until
+/// it is closed. It is refused if the job has ended, and if the store doesn't hold the claim of a compaction.
 ///
-/// C owes that the job is the store's own, if the store holds its claim: a job is ended on no other store than the one
-/// that it was taken from. No other function has such a demand.
+/// C owes that the job is the store's own, if the store holds its claim, or its number: a job is ended on no other store
+/// than the one that it was taken from. No other function has such a demand.
 #[unsafe(no_mangle)]
 pub extern "C" fn ucstore_job_end(
     alloc: Global,
@@ -103,33 +131,88 @@ pub extern "C" fn ucstore_job_end(
     ensures ends { EndsTaken result handle.old.held handle.new.held job.old.held job.new.held installed.new }
     ensures untold { (result ≡ OK) ⊎ (installed.new ≡ installed.old) }
 {
-    let Some(held) = job.take(alloc) else {
+    let Some(mut held) = job.take(alloc) else {
         return NO_JOB;
     };
-    let Some(mut engine) = handle.take(alloc) else {
-        job.put(held);
-        return NO_STORE;
-    };
-    if !engine.has_out(&held) {
-        handle.put(engine);
-        job.put(held);
-        return NOT_OF_STORE;
-    }
-    let end = engine.end_job(Box::into_inner(held));
-    handle.put(engine);
-    *installed = is_installed(&end);
-    OK
+    let status = end_held(alloc, handle, &mut held, installed);
+    job.put(held);
+    status
 }
 
-/// Whether the run of a job was installed.
+/// Ends a job, as [`ucstore_job_end`] does.
+fn end_held(alloc: Global, handle: &mut Handle, job: &mut TakenJob, installed: &mut bool) -> i32
+    requires own { IsOwnJob handle.old.held (Some job.old) }
+    ensures ends { EndsTaken result handle.old.held handle.new.held (Some job.old) (Some job.new) installed.new }
+    ensures untold { (result ≡ OK) ⊎ (installed.new ≡ installed.old) }
+{
+    if is_ended(job) {
+        return JOB_ENDED;
+    }
+    let Some(mut engine) = handle.take(alloc) else {
+        return NO_STORE;
+    };
+    let ended = end(alloc, &mut engine, job);
+    handle.put(engine);
+    match ended {
+        Some(is_installed) => {
+            *installed = is_installed;
+            OK
+        }
+        None => NOT_OF_STORE,
+    }
+}
+
+/// Ends a job that hasn't ended. Tells whether its run was installed, or nothing if the engine doesn't hold its claim.
+fn end(alloc: Global, engine: &mut Engine, job: &mut TakenJob) -> Option<bool>
+    requires lasts { ¬ jobs.HasEnded job.old }
+    requires own { jobs.IsOwn engine.old job.old }
+    ensures { jobs.IsTakenBack engine.old engine.new job.old job.new result }
+{
+    match job {
+        TakenJob::Flush(flush) => Some(end_flush(alloc, engine, flush)),
+        TakenJob::Compaction(compaction) => end_compaction(engine, compaction),
+    }
+}
+
+/// Ends a flush job. Tells whether its run was installed.
+fn end_flush(alloc: Global, engine: &mut Engine, job: &mut FlushJob) -> bool
+    requires lasts { ¬ jobs.HasEnded (kinds.Flush job.old) }
+    requires own { jobs.IsOwn engine.old (kinds.Flush job.old) }
+    ensures { jobs.IsTakenBack engine.old engine.new (kinds.Flush job.old) (kinds.Flush job.new) (Some result) }
+{
+    let end = engine.end_flush(alloc, job);
+    is_flushed(&end)
+}
+
+/// Whether the run of a flush job was installed.
+fn is_flushed(end: &FlushEnd) -> bool
+    ensures { result ≡ jobs.is_flushed end.now }
+{
+    matches!(end, FlushEnd::Installed(_))
+}
+
+/// Ends a compaction job, if the engine holds its claim. Tells whether its run was installed.
+fn end_compaction(engine: &mut Engine, job: &mut EngineJob) -> Option<bool>
+    requires lasts { ¬ jobs.HasEnded (kinds.Compaction job.old) }
+    requires own { jobs.IsOwn engine.old (kinds.Compaction job.old) }
+    ensures { jobs.IsTakenBack engine.old engine.new (kinds.Compaction job.old) (kinds.Compaction job.new) result }
+{
+    if !engine.has_out(job) {
+        return None;
+    }
+    let end = engine.end_job(job);
+    Some(is_installed(&end))
+}
+
+/// Whether the run of a compaction job was installed.
 fn is_installed(end: &JobEnd) -> bool
     ensures { result ≡ jobs.is_installed end.now }
 {
     matches!(end, JobEnd::Installed(_))
 }
 
-/// Frees the job behind the handle, if there is one, without its store. A store that is still there never compacts the
-/// job's runs again.
+/// Frees the job behind the handle, if there is one, with what it had. It touches no store. One that hasn't ended is
+/// forgotten: a store that is still there never compacts its runs again, and flushes its writes itself.
 #[unsafe(no_mangle)]
 pub extern "C" fn ucstore_job_close(alloc: Global, job: &mut JobHandle) -> i32
     ensures { Closes NO_JOB result job.old.held job.new.held }

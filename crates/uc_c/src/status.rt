@@ -81,6 +81,9 @@ pub const NOT_OF_STORE: i32 = 23;
 /// There are as many runs as there may be, and jobs have those that would be compacted.
 pub const RUNS_CLAIMED: i32 = 24;
 
+/// The job has ended.
+pub const JOB_ENDED: i32 = 25;
+
 /// The statuses have the numbers that `enum ucstore_status` gives them, in its order.
 pub fn statuses_are_numbered()
     ensures first { statuses.OK ∷ statuses.OUT_OF_MEMORY ∷ statuses.NO_STORE ∷ statuses.HAS_STORE ∷ statuses.NOT_FOUND
@@ -91,8 +94,9 @@ pub fn statuses_are_numbered()
         ∷ statuses.BATCH_FULL ∷ []
         ≡ pos 9 ∷ pos 10 ∷ pos 11 ∷ pos 12 ∷ pos 13 ∷ pos 14 ∷ pos 15 ∷ pos 16 ∷ pos 17 ∷ pos 18 ∷ [] }
     ensures views { statuses.NO_VIEW ∷ statuses.HAS_VIEW ∷ [] ≡ pos 19 ∷ pos 20 ∷ [] }
-    ensures jobs { statuses.NO_JOB ∷ statuses.HAS_JOB ∷ statuses.NOT_OF_STORE ∷ statuses.RUNS_CLAIMED ∷ []
-        ≡ pos 21 ∷ pos 22 ∷ pos 23 ∷ pos 24 ∷ [] }
+    ensures jobs { statuses.NO_JOB ∷ statuses.HAS_JOB ∷ statuses.NOT_OF_STORE ∷ statuses.RUNS_CLAIMED
+        ∷ statuses.JOB_ENDED ∷ []
+        ≡ pos 21 ∷ pos 22 ∷ pos 23 ∷ pos 24 ∷ pos 25 ∷ [] }
 {}
 
 /// The status where there is no room for a run.

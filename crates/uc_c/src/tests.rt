@@ -56,6 +56,7 @@ pub(crate) fn usual() -> COptions {
         min_merge_width: 0,
         max_merge_width: 0,
         compacts_itself: 0,
+        max_write_buffer_number: 0,
     };
     ucstore_options_init(&mut options);
     options
@@ -357,6 +358,11 @@ fn refuse_options(rt: &impl Abort, alloc: Global, store: &mut Handle) {
         BAD_OPTION
     );
     assert!(rt; ended.kind == 7);
+    let none = COptions {
+        max_write_buffer_number: 0,
+        ..usual()
+    };
+    assert_eq!(rt; ucstore_create(alloc, store, APPEND, &none), BAD_OPTION);
     let old = COptions {
         size: OPTIONS_SIZE - 8,
         ..usual()

@@ -9,6 +9,7 @@ pub use Rattle.uc_live.specs.Writing
 pub use Rattle.uc_live.specs.Snapshots
 pub use Rattle.uc_live.specs.Recording
 pub use Rattle.uc_live.specs.LiveJobs
+pub use Rattle.uc_live.specs.LiveFlushes
 pub mod Engines
 pub mod HeldEngines
 pub mod EngineViews
@@ -16,3 +17,4 @@ pub mod HeldEngineViews
 pub mod EngineJobs
 pub mod HeldEngineJobs
 pub mod EngineReports
+pub mod TakenJobs

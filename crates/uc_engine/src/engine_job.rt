@@ -1,10 +1,11 @@
 //! [`EngineJob`]: a compaction that is done away from its engine.
-ghost use Rattle.std.specs.Prelude.{◌≡◌, true, false, IfOk, IfSome, OnErr, OnOk};
+ghost use Rattle.std.specs.Prelude.{◌≡◌, ◌≢◌, true, false, IfOk, IfSome, OnErr, OnOk};
 ghost use Rattle.uc_version.specs.Claiming.{is_held};
 ghost use Rattle.uc_version.specs.Jobs.{IsOwn};
+ghost use Rattle.uc_version.specs.declared.job_stage.JobStage.TheVariants.{Ended};
 ghost use Rattle.uc_live.specs.Lives.{owner_in};
 ghost use Rattle.uc_live.specs.LiveJobs.{EndsJob, StartsJob};
-ghost use Rattle.uc_engine.specs.EngineJobs.{done, task_in};
+ghost use Rattle.uc_engine.specs.EngineJobs.{ended, run, task_in};
 ghost use Rattle.uc_engine.specs.Engines.{meaning_of};
 ghost use Rattle.uc_engine.specs.HeldEngineJobs.{kind_of, task_of};
 
@@ -12,7 +13,7 @@ use crate::engine::{AnyStore, Engine};
 use crate::operator_kind::{LastBytes, OperatorKind, Texts};
 use std::alloc::{AllocError, Global};
 use std::marker::Model;
-use uc_live::{Job, JobEnd};
+use uc_live::{Job, JobEnd, JobStage};
 use uc_oper::{Counter, Maximum};
 use uc_version::Alone;
 
@@ -30,8 +31,8 @@ pub(crate) enum AnyJob {
 }
 
 /// A compaction that is done away from its engine, by any thread. The engine takes it out by [`Engine::start_job`] and
-/// puts it back by [`Engine::end_job`]. If it is dropped, its runs stay claimed for good. A contract sees which
-/// operator merges, and what the job has.
+/// puts it back by [`Engine::end_job`]. If it is dropped before, its runs stay claimed for good. It keeps its runs until
+/// it is dropped, also when it has ended. A contract sees which operator merges, and what the job has.
 pub struct EngineJob {
     pub(crate) job: AnyJob,
 }
@@ -65,22 +66,22 @@ impl EngineJob {
         }
     }
 
-    /// Whether it was run.
-    pub fn is_done(&self) -> bool
-        ensures { result ≡ self.now.task.is_done }
+    /// How far it is.
+    pub fn stage(&self) -> JobStage
+        ensures { result ≡ self.now.task.stage }
     {
         match &self.job {
-            AnyJob::Append(job) => job.is_done(),
-            AnyJob::Counter(job) => job.is_done(),
-            AnyJob::Maximum(job) => job.is_done(),
-            AnyJob::Tail(job) => job.is_done(),
+            AnyJob::Append(job) => job.stage(),
+            AnyJob::Counter(job) => job.stage(),
+            AnyJob::Maximum(job) => job.stage(),
+            AnyJob::Tail(job) => job.stage(),
         }
     }
 
-    /// Compacts its runs, unless that is done. The calling thread does all of it. It touches no engine. An `Err`
-    /// changes nothing.
+    /// Compacts its runs, unless that is done or it has ended. The calling thread does all of it. It touches no engine.
+    /// An `Err` changes nothing.
     pub fn run(&mut self, alloc: Global) -> Result<(), AllocError>
-        ensures ok { OnOk result (self.new ≡ done self.old) }
+        ensures ok { OnOk result (self.new ≡ run self.old) }
         ensures err { OnErr result (self.new ≡ self.old) }
     {
         match &mut self.job {
@@ -89,15 +90,6 @@ impl EngineJob {
             AnyJob::Maximum(job) => job.run_by(&Alone, alloc),
             AnyJob::Tail(job) => job.run_by(&Alone, alloc),
         }
-    }
-
-    /// The job of its store.
-    fn into_any(self) -> AnyJob
-        ensures kind { kind_of result ≡ self.kind }
-        ensures task { task_of result ≡ self.task }
-    {
-        let EngineJob { job } = self;
-        job
     }
 }
 
@@ -147,15 +139,17 @@ impl Engine {
     }
 
     /// Ends a job that was taken out of this engine, as `LiveStore::end_job` does: installs its run, if it was run, and
-    /// gives its claim back in any case. It doesn't allocate.
-    pub fn end_job(&mut self, job: EngineJob) -> JobEnd
-        requires kind { job.kind ≡ self.old.kind }
-        requires held { is_held (owner_in self.old.live) job.task.claim ≡ true }
-        requires own { IsOwn (owner_in self.old.live) job.task }
+    /// gives its claim back in any case. It frees no run, and doesn't allocate.
+    pub fn end_job(&mut self, job: &mut EngineJob) -> JobEnd
+        requires out { job.old.task.stage ≢ Ended }
+        requires kind { job.old.kind ≡ self.old.kind }
+        requires held { is_held (owner_in self.old.live) job.old.task.claim ≡ true }
+        requires own { IsOwn (owner_in self.old.live) job.old.task }
         ensures kind { self.new.kind ≡ self.old.kind }
-        ensures ended { EndsJob (meaning_of self.old.kind) job.task self.old.live self.new.live result }
+        ensures ended { EndsJob (meaning_of self.old.kind) job.old.task self.old.live self.new.live result }
+        ensures kept { job.new ≡ ended job.old }
     {
-        match (&mut self.store, job.into_any()) {
+        match (&mut self.store, &mut job.job) {
             (AnyStore::Append(store), AnyJob::Append(job)) => store.end_job(job),
             (AnyStore::Counter(store), AnyJob::Counter(job)) => store.end_job(job),
             (AnyStore::Maximum(store), AnyJob::Maximum(job)) => store.end_job(job),

@@ -3,10 +3,11 @@
 //!
 //! An [`Engine`] is a [`LiveStore`](uc_live::LiveStore) of one of the operators, and which that is. Each method is a
 //! match over the operators, and does what the store's method of the same name does. It starts no thread. An
-//! [`EngineView`] is a [`View`](uc_live::View) in the same way, and an [`EngineJob`] a [`Job`](uc_live::Job).
+//! [`EngineView`] is a [`View`](uc_live::View) in the same way, and an [`EngineJob`] a [`Job`](uc_live::Job). A [`TakenJob`] is
+//! one of these or a [`FlushJob`].
 //!
 //! Read `specs/Engines.antt` first, then `operator_kind.rt`, `engine.rt`, `opening.rt`, `writing.rt`, `reading.rt`,
-//! `snapshots.rt`, `compacting.rt`, `engine_job.rt` and `engine_view.rt`.
+//! `snapshots.rt`, `compacting.rt`, `engine_job.rt`, `engine_flush.rt`, `taken_job.rt` and `engine_view.rt`.
 //!
 //! Tests: `uc_tests_engine`.
 //!
@@ -17,6 +18,7 @@
 
 mod compacting;
 mod engine;
+mod engine_flush;
 mod engine_job;
 mod engine_view;
 mod opening;
@@ -24,6 +26,7 @@ mod operator_kind;
 mod reading;
 mod report;
 mod snapshots;
+mod taken_job;
 mod writing;
 
 pub use engine::Engine;
@@ -32,10 +35,12 @@ pub use engine_view::EngineView;
 pub use opening::OpenedEngine;
 pub use operator_kind::OperatorKind;
 pub use report::EngineReport;
+pub use taken_job::TakenJob;
 pub use uc_batch::{BatchError, Ended};
 pub use uc_bytes::{Bytes, OpRef};
 pub use uc_live::{
-    GREATEST_STOP, InstallError, JobEnd, LiveOpenError, LiveOptions, Options, ReleaseError,
-    RoomError, WriteError, batches_are_walked, jobs_go_in, recorded_batch_is_recovered,
+    FeedError, FlushEnd, FlushJob, GREATEST_STOP, InstallError, JobEnd, JobStage, LiveOpenError,
+    LiveOptions, Options, ReleaseError, RoomError, WriteError, batches_are_walked, flushes_go_in,
+    jobs_go_in, recorded_batch_is_recovered,
 };
 pub use uc_query_read::{Answer, Query, Rows};

@@ -1,5 +1,6 @@
 -- A compaction of what is picked.
 use Rattle.std.proofs.Common.{◌≡◌, true, false, [], Option, Some, None, refl, sym, ap, ◌∙◌, subst}
+use Rattle.std.proofs.lemmas.List.{append-nil}
 use Rattle.uc_oper.specs.Operation.{Operation}
 use Rattle.uc_version_state.specs.declared.stretch.Stretch.{Stretch}
 use Rattle.uc_version_state.specs.declared.event.Event.TheVariants.{Installed}
@@ -14,7 +15,7 @@ use Rattle.uc_live.specs.Compacting.{next_stretch, IsCompacted}
 use Rattle.uc_live.specs.declared.live_store.LiveStore.TheInside.{Inside}
 use Rattle.uc_live.specs.HeldLives.{IsLive, live}
 use Rattle.uc_live.proofs.Holding.{claims_up}
-use Rattle.uc_live.proofs.Going.{follows_event}
+use Rattle.uc_live.proofs.Going.{follows_event, lets_stay}
 use Rattle.uc_live.proofs.Held.{next_is}
 
 module _ {O : Type 0} (m : Operation) (i : Inside O) (is : IsLive i) (now : Live) (view : live i ≡ now)
@@ -41,6 +42,6 @@ module _ {O : Type 0} (m : Operation) (i : Inside O) (is : IsLive i) (now : Live
         let on : Follows m v (after_compaction m i.owned s).version i.active.shown i.active.shown [] =
         follows_event m v (Installed (install_at m v s)) i.active.shown may tt refl in
         let there : GoesOn m (live i) (live (record i { owned = after_compaction m i.owned s })) [] =
-        (on, refl, refl, holds, claims_up s.first s.count i.owned.claims) in
+        (on, refl, refl, holds, claims_up s.first s.count i.owned.claims, lets_stay (live i) i.active.shown (sym (append-nil i.active.shown))) in
         subst (λ (l : Live). GoesOn m l (live (record i { owned = owned })) []) view
         (subst (λ (o : Owner). GoesOn m (live i) (live (record i { owned = o })) []) (sym after) there)

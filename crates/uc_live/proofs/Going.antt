@@ -1,5 +1,5 @@
 -- A live store that goes on, and on.
-use Rattle.std.proofs.Common.{◌≡◌, List, [], ◌∷◌, ◌++◌, fold, append_assoc, refl, sym, ap, ◌∙◌, subst}
+use Rattle.std.proofs.Common.{◌≡◌, ◌⊎◌, inl, inr, None, List, [], ◌∷◌, ◌++◌, fold, append_assoc, refl, sym, ap, ◌∙◌, subst}
 use Rattle.std.specs.List.{flat_map}
 use Rattle.std.proofs.lemmas.List.{append-nil}
 use Rattle.uc_bytes.specs.declared.write.Write.{Write}
@@ -8,8 +8,8 @@ use Rattle.uc_version_state.specs.Versions.{Stored}
 use Rattle.uc_version_state.specs.declared.event.Event.{Event}
 use Rattle.uc_version_state.specs.declared.event.Event.TheVariants.{Installed, Flushed, Kept, Released}
 use Rattle.uc_version_state.specs.Histories.{MayHappen, MayFollow, KeepsStay, after, writes_brought}
-use Rattle.uc_live.specs.Lives.{Live, owner_in}
-use Rattle.uc_live.specs.Going.{Follows, GoesOn}
+use Rattle.uc_live.specs.Lives.{Live, owner_in, committed}
+use Rattle.uc_live.specs.Going.{Follows, GoesOn, LetsLeave}
 use Rattle.uc_live.proofs.Holding.{same_held, holds_on}
 
 pub follow-append : (m : Operation) (v : Stored) (es fs : List Event) → MayFollow m v es → MayFollow m (fold after v es) fs → MayFollow m v (es ++ fs)
@@ -30,6 +30,32 @@ stay-append (Released seq ∷ es) fs h more = h
 pub brought-append : (es fs : List Event) → flat_map writes_brought (es ++ fs) ≡ flat_map writes_brought es ++ flat_map writes_brought fs
 brought-append [] fs = refl
 brought-append (e ∷ es) fs = ap (λ (ws : List Write). writes_brought e ++ ws) (brought-append es fs) ∙ sym (append_assoc (writes_brought e) (flat_map writes_brought es) (flat_map writes_brought fs))
+
+-- ---- flush jobs that are out
+
+abbrev Stays : Live → Live → Type 0
+Stays old new = ((new.leaving ≡ old.leaving) × ((more : List Write) × (new.gathered ≡ old.gathered ++ more))) ⊎ (new.leaving ≡ None)
+
+-- where what is gathered stays
+pub lets_stay : (l : Live) (gathered : List Write) → gathered ≡ l.gathered ++ [] → LetsLeave l (record l { gathered = gathered })
+lets_stay l gathered same = (refl, inl (refl, ([], same)))
+
+-- and where more comes
+pub lets_more : (l : Live) → LetsLeave l (committed l)
+lets_more l = (refl, inl (refl, (l.prepared, refl)))
+
+pub lets_on : (a b c : Live) → LetsLeave a b → LetsLeave b c → LetsLeave a c
+lets_on a b c first second = (second.0 ∙ first.0, leave first.1 second.1)
+  where
+    leave : Stays a b → Stays b c → Stays a c
+    leave (inl stays) (inl more) =
+        inl (
+          more.0 ∙ stays.0,
+          (stays.1.0 ++ more.1.0, more.1.1 ∙ ap (λ (ws : List Write). ws ++ more.1.0) stays.1.1 ∙ append_assoc a.gathered stays.1.0 more.1.0),
+        )
+    leave (inl stays) (inr none) = inr none
+    leave (inr none) (inl more) = inr (more.0 ∙ none)
+    leave (inr none) (inr still) = inr still
 
 module _ (m : Operation) where
   -- without an event
@@ -79,7 +105,7 @@ module _ (m : Operation) where
   }
 
   pub goes_nowhere : (l : Live) → GoesOn m l l []
-  goes_nowhere l = (follows_none l.version l.gathered, refl, refl, same_held (owner_in l), refl)
+  goes_nowhere l = (follows_none l.version l.gathered, refl, refl, same_held (owner_in l), refl, lets_stay l l.gathered (sym (append-nil l.gathered)))
 
   pub goes_on : (a b c : Live) (us vs : List Write) → GoesOn m a b us → GoesOn m b c vs → GoesOn m a c (us ++ vs)
   goes_on a b c us vs first second = (
@@ -88,4 +114,5 @@ module _ (m : Operation) where
     second.2 ∙ first.2,
     holds_on (owner_in a) (owner_in b) (owner_in c) first.3 second.3,
     second.4 ∙ first.4,
+    lets_on a b c first.5 second.5,
   )

@@ -48,6 +48,7 @@ module _ {O : Type 0} (i : Inside O) (is : IsLive i) where
     whole = same.1 ∙ is.whole;
     small = is.small;
     rising = subst (λ n. IsRising n (i.active.shown ++ i.active.waiting)) (sym same.2) is.rising;
+    leaves = is.leaves;
     taken = λ seq. subst (λ keeps. Contains i.snapshots.items seq ↔ Contains keeps seq) (sym same.3) (is.taken seq);
   }
 

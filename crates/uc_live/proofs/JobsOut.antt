@@ -15,10 +15,12 @@ use Rattle.uc_version_state.specs.Histories.{MayFollow, after}
 use Rattle.uc_version.specs.declared.held_stretch.HeldStretch.{HeldStretch}
 use Rattle.uc_version.specs.declared.job_end.JobEnd.{JobEnd}
 use Rattle.uc_version.specs.declared.job_end.JobEnd.TheVariants as ends
+use Rattle.uc_version.specs.declared.job_stage.JobStage.{JobStage}
+use Rattle.uc_version.specs.declared.job_stage.JobStage.TheVariants.{Taken, Run, Ended}
 use Rattle.uc_version.specs.Owners.{Owner, IsOwner}
 use Rattle.uc_version.specs.Claiming.{Claim, is_held, claim_refusal, claim_of, with_claim, without_claim}
 use Rattle.uc_version.specs.Installing.{MayReplace, stretch_of, claimed_runs, compaction_of, after_install, install_of}
-use Rattle.uc_version.specs.Jobs.{Task, IsOwn, IsStarted, HasEnded, task_of}
+use Rattle.uc_version.specs.Jobs.{Task, IsOwn, IsStarted, HasEnded, task_of, run, run_stage}
 use Rattle.uc_version.proofs.CompactedNow.{claimed_stretch}
 use Rattle.uc_live.specs.Lives.{Live, owner_in}
 use Rattle.uc_live.specs.Going.{GoesOn}
@@ -28,6 +30,14 @@ use Rattle.uc_live.specs.Compacting.{next_stretch}
 use Rattle.uc_live.specs.Coming.{HasTaken}
 use Rattle.uc_live.proofs.Going.{follow-append, after-append}
 use Rattle.uc_live.proofs.Taken.{taken_then, same_writes}
+
+taken_lasts : Taken ≢ Ended
+taken_lasts = λ wrong. absurd cc
+
+run_lasts : (stage : JobStage) → stage ≢ Ended → run_stage stage ≢ Ended
+run_lasts Taken lasts = λ wrong. absurd cc
+run_lasts Run lasts = lasts
+run_lasts Ended lasts = lasts
 
 from_some : Task → Option Task → Task
 from_some other None = other
@@ -49,6 +59,7 @@ module _ (m : Operation) where
       let made : (task_of o s).compaction ≡ compaction_of (with_claim o c s).version (stretch_of (with_claim o c s) c) =
       sym (ap (λ (h : HeldStretch). compaction_of o.version h) (claimed_stretch o owner s is.0)) in
       let out : IsOut m (task_of o s) new = record {
+        lasts = taken_lasts;
         start = owner_in new;
         start_is = subst IsOwner there (stays s is.0);
         held_first = subst (λ (p : Owner). is_held p c ≡ true) there (held s is.0);
@@ -67,8 +78,9 @@ module _ (m : Operation) where
   out_first job old new owner starts stays held = first_out (next_stretch old) job old new owner starts.0 stays held
 
   -- it is run
-  pub out_run : (job : Task) (l : Live) → IsOut m job l → IsOut m (record job { is_done = true }) l
+  pub out_run : (job : Task) (l : Live) → IsOut m job l → IsOut m (run job) l
   out_run job l out = record {
+    lasts = run_lasts job.stage out.lasts;
     start = out.start;
     start_is = out.start_is;
     held_first = out.held_first;
@@ -86,10 +98,11 @@ module _ (m : Operation) where
   abbrev pub StaysHeld : Task → Live → Live → Type 0
   StaysHeld job old new = (is_held (owner_in new) job.claim ≡ true) × (claimed_runs (owner_in new) job.claim ≡ claimed_runs (owner_in old) job.claim)
 
-  out_then : (job : Task) (old new : Live) (fs : List Event) → IsOut m job old → MayFollow m old.version fs → new.version ≡ fold after old.version fs → StaysHeld job old new → IsOut m job new
+  pub out_then : (job : Task) (old new : Live) (fs : List Event) → IsOut m job old → MayFollow m old.version fs → new.version ≡ fold after old.version fs → StaysHeld job old new → IsOut m job new
   out_then job old new fs out follow version stays =
       let start = out.start.version in
       record {
+        lasts = out.lasts;
         start = out.start;
         start_is = out.start_is;
         held_first = out.held_first;

@@ -190,6 +190,7 @@ module _ {O : Type 0} (i : Inside O) (is : IsLive i) where
     whole = limit ∙ is.whole;
     small = is.small;
     rising = subst (λ (n : ℕ). IsRising n (i.active.shown ++ i.active.waiting)) (sym last) is.rising;
+    leaves = is.leaves;
     taken = alike;
   }
 

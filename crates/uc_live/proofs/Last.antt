@@ -7,7 +7,7 @@ use Rattle.uc_oper.specs.Operation.{Operation}
 use Rattle.uc_batch.specs.Rising.{IsRising, last_of}
 use Rattle.uc_batch.proofs.Rises.{last_of-append, rising-append}
 use Rattle.uc_run.specs.Size.{memtable_size}
-use Rattle.uc_memtable.specs.Gathering.{Gathering}
+use Rattle.uc_memtable.specs.Gathering.{Gathered}
 use Rattle.uc_memtable.proofs.RisingParts.{rising_front, rising_lower, last_low}
 use Rattle.uc_version_state.specs.Versions.{Stored}
 use Rattle.uc_version_state.specs.Feeds.{fed}
@@ -64,20 +64,20 @@ module _ {O : Type 0} (m : Operation) (i : Inside O) (old now : Live) (view : li
       (subst (λ (us : List Write). last_of 0 us ≤ last (live i)) (sym shown) low) in
       rising_lower (last_of 0 (i.active.shown ++ i.active.waiting)) (last old) ws le rising
 
-  pub waits_behind : IsLive i → (ws : List Write) → IsRising (last old) ws → (active : Gathering) → active ≡ record i.active { waiting = i.active.waiting ++ ws }
+  pub waits_behind : IsLive i → (ws : List Write) → IsRising (last old) ws → (active : Gathered) → active ≡ record i.active { waiting = i.active.waiting ++ ws }
       → memtable_size (active.shown ++ active.waiting) < 2 ^ 64 - 1 → IsLive (record i { active = active })
   waits_behind is ws rising active e small =
       let v = i.owned.version in
       let same : last old ≡ last_of v.last (i.active.shown ++ i.active.waiting) = sym stays ∙ sym (ap (last_of v.last) shown) in
       let whole : IsRising v.last ((i.active.shown ++ i.active.waiting) ++ ws) =
       rising-append v.last (i.active.shown ++ i.active.waiting) ws is.rising (subst (λ n. IsRising n ws) same rising) in
-      let there : i.active.shown ++ (i.active.waiting ++ ws) ≡ active.shown ++ active.waiting = sym (ap (λ (g : Gathering). g.shown ++ g.waiting) e) in
-      prepared_is i is active small
+      let there : i.active.shown ++ (i.active.waiting ++ ws) ≡ active.shown ++ active.waiting = sym (ap (λ (g : Gathered). g.shown ++ g.waiting) e) in
+      prepared_is i is active (ap (λ (g : Gathered). g.apart) e) small
       (subst (λ (us : List Write). IsRising v.last us) (append_assoc i.active.shown i.active.waiting ws ∙ there) whole)
 
 -- a sequence is left in 64 bits
-pub last_limited : {O : Type 0} (i : Inside O) → IsLive i → IsOwner i.owned → (active : Gathering) → active ≡ record i.active { waiting = [] } → last (live (record i { active = active })) < 2 ^ 56
+pub last_limited : {O : Type 0} (i : Inside O) → IsLive i → IsOwner i.owned → (active : Gathered) → active ≡ record i.active { waiting = [] } → last (live (record i { active = active })) < 2 ^ 56
 last_limited i is owner active e =
     let v = i.owned.version in
     let here = last_limit v.last i.active.shown owner.version.last_below (rising_front v.last i.active.shown i.active.waiting is.rising) in
-    subst (λ (g : Gathering). last_of v.last g.shown < 2 ^ 56) (sym e) here
+    subst (λ (g : Gathered). last_of v.last g.shown < 2 ^ 56) (sym e) here

@@ -14,3 +14,6 @@ pub mod Last
 pub mod LogTaken
 pub mod JobsHeld
 pub mod JobsOut
+pub mod FlushesOut
+pub mod FlushEnds
+pub mod FlushesTaken

@@ -12,7 +12,7 @@ use Rattle.uc_live.specs.Lives.{Live, last, owner_in, committed}
 use Rattle.uc_live.specs.Going.{GoesOn}
 use Rattle.uc_live.specs.Writing.{Prepares}
 use Rattle.uc_live.proofs.Holding.{same_held}
-use Rattle.uc_live.proofs.Going.{goes_nowhere, goes_on, follows_more}
+use Rattle.uc_live.proofs.Going.{goes_nowhere, goes_on, follows_more, lets_more}
 use Rattle.uc_live.proofs.Last.{last_follows}
 
 -- The store has taken what came first of a log, and the rest is ahead of the reader.
@@ -30,7 +30,7 @@ none_read m start at none last_is = record { done = []; goes_on = goes_nowhere m
 -- what is prepared is committed
 pub commits : (m : Operation) (old mid : Live) (ws : List Write) → Prepares m old mid ws → GoesOn m old (committed mid) ws
 commits m old mid ws prepares =
-    let on : GoesOn m mid (committed mid) mid.prepared = (follows_more m mid.version mid.gathered mid.prepared, refl, refl, same_held (owner_in mid), refl) in
+    let on : GoesOn m mid (committed mid) mid.prepared = (follows_more m mid.version mid.gathered mid.prepared, refl, refl, same_held (owner_in mid), refl, lets_more mid) in
     subst (λ (us : List Write). GoesOn m old (committed mid) us) prepares.1 (goes_on m old mid (committed mid) [] mid.prepared prepares.0 on)
 
 module _ (m : Operation) (start now : Live) (whole : WriteLog) (old new : BatchPosition) (has : HasRead m start now whole old) where

@@ -60,9 +60,10 @@ module _ (picks : (o : Options) (runs : List Candidate) (k : ℕ) → store.are_
   within : l.options.store.trigger ≤ 255
   within =
       let o = l.options in
-      let stops = and_back (store.are_good o.store) (nat_le o.store.trigger o.stop_trigger && nat_le o.stop_trigger GREATEST_STOP) good in
-      let low = leb-true o.store.trigger o.stop_trigger (and_front (nat_le o.store.trigger o.stop_trigger) (nat_le o.stop_trigger GREATEST_STOP) stops) in
-      let high = leb-true o.stop_trigger GREATEST_STOP (and_back (nat_le o.store.trigger o.stop_trigger) (nat_le o.stop_trigger GREATEST_STOP) stops) in
+      let stops = and_back (store.are_good o.store) (nat_le o.store.trigger o.stop_trigger && (nat_le o.stop_trigger GREATEST_STOP && nat_le 1 o.max_write_buffer_number)) good in
+      let low = leb-true o.store.trigger o.stop_trigger (and_front (nat_le o.store.trigger o.stop_trigger) (nat_le o.stop_trigger GREATEST_STOP && nat_le 1 o.max_write_buffer_number) stops) in
+      let both = and_back (nat_le o.store.trigger o.stop_trigger) (nat_le o.stop_trigger GREATEST_STOP && nat_le 1 o.max_write_buffer_number) stops in
+      let high = leb-true o.stop_trigger GREATEST_STOP (and_front (nat_le o.stop_trigger GREATEST_STOP) (nat_le 1 o.max_write_buffer_number) both) in
       omega (arith, low, high)
 
   module _ (free : (slot : ℕ) → is_busy (owner_in l) slot ≡ false) where
@@ -73,7 +74,7 @@ module _ (picks : (o : Options) (runs : List Candidate) (k : ℕ) → store.are_
         let runs = candidates_of l.version busy in
         let many = length-map l.version.runs (candidate_of busy) in
         let all = unclaimed_all busy free l.version.runs in
-        let sound = and_front (store.are_good o) (nat_le o.trigger l.options.stop_trigger && nat_le l.options.stop_trigger GREATEST_STOP) good in
+        let sound = and_front (store.are_good o) (nat_le o.trigger l.options.stop_trigger && (nat_le l.options.stop_trigger GREATEST_STOP && nat_le 1 l.options.max_write_buffer_number)) good in
         let some : is_some (picked o runs) ≡ true = picks o runs 0 sound (omega (arith, above, many)) (omega (arith, all, two)) in
         absurd (false≢true (sym (ap (λ (f : Option Stretch). is_some f) none) ∙ some))
 

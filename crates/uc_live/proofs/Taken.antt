@@ -1,8 +1,9 @@
 -- What a live store has taken, and what it answers.
-use Rattle.std.proofs.Common.{◌≡◌, ℕ, ◌≤◌, Bool, true, false, ◌&&◌, List, [], ◌∷◌, ◌++◌, fold, Option, ◌⊎◌, append_assoc, refl, sym, ap, ◌∙◌, subst, arith}
+use Rattle.std.proofs.Common.{◌≡◌, ℕ, ◌*◌, ◌<◌, ◌≤◌, Bool, true, false, ◌&&◌, List, [], ◌∷◌, ◌++◌, fold, Option, ◌⊎◌, append_assoc, refl, sym, ap, ◌∙◌, subst, arith}
 use Rattle.std.specs.Prelude.{Contains, if◌then◌else◌, nat_le}
 use Rattle.std.specs.List.{flat_map}
-use Rattle.std.proofs.lemmas.Bool.{eq-eqb}
+use Rattle.std.proofs.lemmas.Bool.{eq-eqb, leb-true}
+use Rattle.std.proofs.Math.Nat.{mul-pos}
 use Rattle.std.proofs.lemmas.List.{append-nil}
 use Rattle.uc_bytes.specs.declared.write.Write.{Write}
 use Rattle.uc_oper.specs.Operation.{Operation}
@@ -10,6 +11,7 @@ use Rattle.uc_oper.specs.Composition.{applied}
 use Rattle.uc_batch.specs.Rising.{last_of}
 use Rattle.uc_batch.proofs.Rises.{last_of-append}
 use Rattle.uc_model.specs.Meaning.{effect_on, value_of}
+use Rattle.uc_run.specs.Size.{memtable_size}
 use Rattle.uc_query_read.specs.Answers.{answer_of, first_rows, named_keys, Reads, is_protected}
 use Rattle.uc_query_read.specs.declared.query.Query.{Query}
 use Rattle.uc_query_read.specs.declared.query.Query.TheVariants.{Scan}
@@ -44,11 +46,32 @@ others_good : (a b c d e f x : Bool) → ((a && b && c && d && e && f) && x) ≡
 others_good true b c d e f x h = and_front (true && b && c && d && e && f) x h
 others_good false b c d e f x h = absurd cc
 
+and_last : (a b : Bool) → (a && b) ≡ true → b ≡ true
+and_last true b h = h
+and_last false b h = absurd cc
+
+first_of_six : (a b c d e f : Bool) → (a && b && c && d && e && f) ≡ true → a ≡ true
+first_of_six true b c d e f h = refl
+first_of_six false b c d e f h = absurd cc
+
 pub version_options_good : (o : LiveOptions) → are_good o ≡ true → store.are_good (version_options o) ≡ true
 version_options_good o good =
     let s = o.store in
     others_good (nat_le 1 s.memtable) (nat_le 1 s.trigger) (nat_le 2 s.least) (nat_le s.least s.greatest) (nat_le 1 s.first_id) (nat_le s.first_id GREATEST_FIRST_ID)
-    (nat_le s.trigger o.stop_trigger && nat_le o.stop_trigger GREATEST_STOP) good
+    (nat_le s.trigger o.stop_trigger && (nat_le o.stop_trigger GREATEST_STOP && nat_le 1 o.max_write_buffer_number)) good
+
+-- a store gathers at least a byte
+pub some_room : (o : LiveOptions) → are_good o ≡ true → memtable_size [] < o.store.memtable * o.max_write_buffer_number
+some_room o good =
+    let s = o.store in
+    let limits = nat_le s.trigger o.stop_trigger && (nat_le o.stop_trigger GREATEST_STOP && nat_le 1 o.max_write_buffer_number) in
+    let stores = and_front (store.are_good s) limits good in
+    let size = first_of_six (nat_le 1 s.memtable) (nat_le 1 s.trigger) (nat_le 2 s.least) (nat_le s.least s.greatest) (nat_le 1 s.first_id) (nat_le s.first_id GREATEST_FIRST_ID) stores in
+    let stops = and_last (nat_le o.stop_trigger GREATEST_STOP) (nat_le 1 o.max_write_buffer_number) (and_last (nat_le s.trigger o.stop_trigger) (nat_le o.stop_trigger GREATEST_STOP && nat_le 1 o.max_write_buffer_number) (and_last (store.are_good s) limits good)) in
+    let some = leb-true 1 s.memtable size in
+    let one = leb-true 1 o.max_write_buffer_number stops in
+    let above : 0 < s.memtable * o.max_write_buffer_number = mul-pos (omega (arith, some)) (omega (arith, one)) in
+    omega (arith, above)
 
 pub created_taken : (m : Operation) (o : LiveOptions) → are_good o ≡ true → HasTaken m (created o) []
 created_taken m o good = record {

@@ -1,5 +1,5 @@
 -- How a live store goes on.
-use Rattle.std.specs.Prelude.{◌≡◌, true, List, ◌++◌, fold}
+use Rattle.std.specs.Prelude.{◌≡◌, ◌⊎◌, true, List, ◌++◌, None, fold}
 use Rattle.std.specs.List.{flat_map}
 use Rattle.uc_bytes.specs.declared.write.Write.{Write}
 use Rattle.uc_oper.specs.Operation.{Operation}
@@ -24,9 +24,16 @@ pub record Follows (m : Operation) (v v' : Stored) (gathered gathered' ws : List
 abbrev pub HoldsOn : Owner → Owner → Type 0
 HoldsOn o p = (c : Claim) → is_held o c ≡ true → (is_held p c ≡ true) × (claimed_runs p c ≡ claimed_runs o c)
 
+-- A flush job that was out still is, and what was gathered stays so, before what came; or its writes became a run, and it
+-- is out no more. None comes.
+abbrev pub LetsLeave : Live → Live → Type 0
+LetsLeave old new =
+    (new.flushes ≡ old.flushes)
+    × (((new.leaving ≡ old.leaving) × ((more : List Write) × (new.gathered ≡ old.gathered ++ more))) ⊎ (new.leaving ≡ None))
+
 -- The store took these writes. Meanwhile what was gathered may have become runs, and runs of no claim may have been
 -- compacted. Its snapshots and options stay, and so do its claims. None comes.
 abbrev pub GoesOn : Operation → Live → Live → List Write → Type 0
 GoesOn m old new ws =
     Follows m old.version new.version old.gathered new.gathered ws × (new.snapshots ≡ old.snapshots) × (new.options ≡ old.options)
-    × HoldsOn (owner_in old) (owner_in new) × (has_claims new ≡ has_claims old)
+    × HoldsOn (owner_in old) (owner_in new) × (has_claims new ≡ has_claims old) × LetsLeave old new

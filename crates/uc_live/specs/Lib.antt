@@ -8,5 +8,7 @@ pub mod Writing
 pub mod Compacting
 pub mod Snapshots
 pub mod LiveJobs
+pub mod LiveFlushes
+pub mod HeldFlushJobs
 pub mod Coming
 pub mod Recording

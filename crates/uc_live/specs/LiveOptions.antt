@@ -5,9 +5,12 @@ use Rattle.uc_version_state.specs.Options as store
 use Rattle.uc_live.specs.declared.live_options.LiveOptions.{LiveOptions}
 use Rattle.uc_live.specs.declared.live_options.TheConstants.{GREATEST_STOP}
 
--- those of its runs are good, and writes stop at a number of runs that lies between the trigger and one below the slots
+-- those of its runs are good, writes stop at a number of runs that lies between the trigger and one below the slots, and
+-- it gathers a memtable
 abbrev pub are_good : LiveOptions → Bool
-are_good o = store.are_good o.store && (nat_le o.store.trigger o.stop_trigger && nat_le o.stop_trigger GREATEST_STOP)
+are_good o =
+    store.are_good o.store
+    && (nat_le o.store.trigger o.stop_trigger && (nat_le o.stop_trigger GREATEST_STOP && nat_le 1 o.max_write_buffer_number))
 
 -- its version never cuts what it is fed: the live store says when a memtable is full
 abbrev pub version_options : LiveOptions → Options

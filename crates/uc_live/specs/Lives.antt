@@ -1,5 +1,5 @@
 -- A store that is written to: a version, and the writes that are gathered before it.
-use Rattle.std.specs.Prelude.{ℕ, Bool, List, [], ◌++◌, Option, is_some}
+use Rattle.std.specs.Prelude.{ℕ, Bool, List, [], ◌++◌, Option, None, is_some}
 use Rattle.std.specs.List.{list_any}
 use Rattle.uc_bytes.specs.declared.write.Write.{Write}
 use Rattle.uc_batch.specs.Rising.{last_of}
@@ -13,13 +13,16 @@ use Rattle.uc_live.specs.LiveOptions.{version_options}
 
 -- a version; the writes that no run has yet, oldest first; those of a batch that is prepared, which no read sees; the
 -- sequence of each snapshot that was taken and not released, oldest first; for each number the claim that has it, if one
--- is held: a job is out for each; and how it is kept
+-- is held: a job is out for each; how many flush jobs were taken out, and how many of the gathered writes the last one
+-- has, the oldest, while it is out; and how it is kept
 pub record Live : Type 0 where
   pub version : Stored
   pub gathered : List Write
   pub prepared : List Write
   pub snapshots : List ℕ
   pub claims : List (Option HeldStretch)
+  pub flushes : ℕ
+  pub leaving : Option ℕ
   pub options : LiveOptions
 
 -- the owner of its runs
@@ -42,11 +45,20 @@ last l = last_of l.version.last l.gathered
 abbrev pub empty_opening : LiveOptions → Opening
 empty_opening o = record { writes = []; keeps = []; options = version_options o }
 
--- a store without writes, without snapshots and without claims
+-- a store without writes, without snapshots and of which no job is out
 abbrev pub created : LiveOptions → Live
 created o =
     let version = released 0 (opened (empty_opening o)) in
-    record { version = version; gathered = []; prepared = []; snapshots = []; claims = (unclaimed version o.store).claims; options = o }
+    record {
+      version = version;
+      gathered = [];
+      prepared = [];
+      snapshots = [];
+      claims = (unclaimed version o.store).claims;
+      flushes = 0;
+      leaving = None;
+      options = o;
+    }
 
 -- without the batch that is prepared
 abbrev pub unprepared : Live → Live

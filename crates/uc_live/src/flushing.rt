@@ -1,5 +1,5 @@
 //! What is gathered becomes a run.
-ghost use Rattle.std.specs.Prelude.{◌≡◌, ◌≢◌, ◌<◌, ◌⊎◌, [], Some, None, OnOk, IfErr, length};
+ghost use Rattle.std.specs.Prelude.{◌≡◌, ◌≢◌, ◌<◌, ◌⊎◌, [], Some, None, false, OnOk, IfErr, length};
 ghost use Rattle.uc_batch.specs.Rising.{IsRising};
 ghost use Rattle.uc_claims.specs.declared.table.TheConstants.{MOST_SLOTS};
 ghost use Rattle.uc_run.specs.Size.{memtable_size};
@@ -8,25 +8,24 @@ ghost use Rattle.uc_version_state.specs.declared.feed_error.FeedError.TheVariant
 ghost use Rattle.uc_version.specs.Feeding.{after_feed};
 ghost use Rattle.uc_live.specs.Compacting.{HasNoRoom};
 ghost use Rattle.uc_live.specs.Going.{GoesOn};
+ghost use Rattle.uc_live.specs.LiveFlushes.{HasRoom};
 ghost use Rattle.uc_live.specs.Writing.{Prepares};
 
+use crate::live_options::MOST_RANGES;
 use crate::live_store::LiveStore;
 use crate::room_error::RoomError;
 use std::alloc::Global;
-use uc_memtable::GatheredMemtables;
+use uc_memtable::FlushableMemtables;
 use uc_oper::Operator;
 use uc_version::{FeedError, Owned, claims_keep_their_runs};
 use uc_version_state::{no_refusal_is_leave_to_feed, small_writes_fill_one_memtable};
-
-/// How many range deletions an active memtable takes: a lookup asks each of them.
-const MOST_RANGES: usize = 64;
 
 /// Feeds an owner what is gathered, as one run. If some of it is frozen, it costs a copy of all. An `Err` changes
 /// nothing.
 fn feed_gathered<O: Operator>(
     owned: &mut Owned<O>,
     alloc: Global,
-    active: &GatheredMemtables,
+    active: &FlushableMemtables,
 ) -> Result<(), FeedError>
     requires some { active.now.shown ≢ [] }
     requires small { memtable_size active.now.shown < owned.old.version.limit }
@@ -62,7 +61,8 @@ impl<O: Operator> LiveStore<O> {
         claims_keep_their_runs::<O>();
         match feed_gathered(&mut self.owned, alloc, &self.active) {
             Ok(()) => {
-                self.active = GatheredMemtables::new(alloc);
+                self.active = FlushableMemtables::new(alloc);
+                self.leaving = None;
                 Ok(())
             }
             Err(FeedError::IdsSpent) => Err(RoomError::IdsSpent),
@@ -72,9 +72,13 @@ impl<O: Operator> LiveStore<O> {
         }
     }
 
-    /// Whether the active memtable takes no write more.
-    pub(crate) fn is_full(&self) -> bool {
-        self.active.size() >= self.options.store.memtable || self.active.ranges() >= MOST_RANGES
+    /// Whether as many memtables are full as it gathers, so that no write more is taken.
+    pub(crate) fn is_crowded(&self) -> bool
+        ensures { result ≡ false → HasRoom self.now }
+    {
+        let most = u64::from(self.options.max_write_buffer_number);
+        self.active.size() >= self.options.store.memtable.saturating_mul(most)
+            || self.active.ranges() as u64 >= MOST_RANGES as u64 * most
     }
 
     /// Makes a run of what is gathered. From `stop_trigger` runs on it compacts first, and if the options say so, it

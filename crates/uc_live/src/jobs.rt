@@ -1,7 +1,8 @@
 //! Compactions that are done away from their store.
-ghost use Rattle.std.specs.Prelude.{◌≡◌, true, IfOk, OnErr};
+ghost use Rattle.std.specs.Prelude.{◌≡◌, ◌≢◌, true, IfOk, OnErr};
 ghost use Rattle.uc_version.specs.Claiming.{is_held};
-ghost use Rattle.uc_version.specs.Jobs.{IsOwn};
+ghost use Rattle.uc_version.specs.Jobs.{IsOwn, ended};
+ghost use Rattle.uc_version.specs.declared.job_stage.JobStage.TheVariants.{Ended};
 ghost use Rattle.uc_live.specs.LiveJobs.{EndsJob, StartsJob};
 ghost use Rattle.uc_live.specs.Lives.{owner_in};
 
@@ -29,14 +30,17 @@ impl<O: Operator> LiveStore<O> {
     }
 
     /// Ends a job that was taken out of this store: installs its run, if it was run, and gives its claim back in any
-    /// case. It compares no points, copies no run and doesn't allocate.
+    /// case. It compares no points, copies and frees no run, and doesn't allocate. The job keeps its shares of the runs
+    /// that were replaced until it is dropped, which any thread does.
     ///
     /// A job that was run is refused only if no id is left, whatever was written, flushed, compacted, taken as a
     /// snapshot or released since.
-    pub fn end_job(&mut self, job: Job<O>) -> JobEnd
-        requires held { is_held (owner_in self.old) job.claim ≡ true }
-        requires own { IsOwn (owner_in self.old) job }
-        ensures { EndsJob O.meaning job self.old self.new result }
+    pub fn end_job(&mut self, job: &mut Job<O>) -> JobEnd
+        requires out { job.old.stage ≢ Ended }
+        requires held { is_held (owner_in self.old) job.old.claim ≡ true }
+        requires own { IsOwn (owner_in self.old) job.old }
+        ensures ended { EndsJob O.meaning job.old self.old self.new result }
+        ensures kept { job.new ≡ ended job.old }
     {
         self.owned.end_job(job)
     }

@@ -10,7 +10,7 @@ ghost use Rattle.uc_version_state.specs.Versions.{writes_in};
 use std::alloc::{AllocError, Global};
 use std::sync::Arc;
 use uc_bytes::Bytes;
-use uc_memtable::GatheredMemtables;
+use uc_memtable::FlushableMemtables;
 use uc_model::effect_continues_value;
 use uc_oper::Operator;
 use uc_query_read::{Rows, equal_values_give_equal_answers, rows_at, rows_behind, value_behind};
@@ -18,7 +18,7 @@ use uc_run::{Run, flush_keeps_every_effect};
 use uc_version::Version;
 
 /// The last sequence; 0 if nothing was written.
-pub(crate) fn last_sequence(version: &Version, gathered: &GatheredMemtables) -> u64
+pub(crate) fn last_sequence(version: &Version, gathered: &FlushableMemtables) -> u64
     ensures { result ≡ last_of version.now.last gathered.now.shown }
 {
     if gathered.is_empty() {
@@ -32,7 +32,7 @@ pub(crate) fn last_sequence(version: &Version, gathered: &GatheredMemtables) -> 
 pub(crate) fn last_value<O: Operator>(
     alloc: Global,
     version: &Version,
-    gathered: &GatheredMemtables,
+    gathered: &FlushableMemtables,
     key: &[u8],
 ) -> Result<Option<Bytes>, AllocError>
     ensures { IfOk result (λ value. value ≡ value_of O.meaning
@@ -45,7 +45,7 @@ pub(crate) fn last_value<O: Operator>(
 }
 
 /// The run of what is gathered. It costs a sort.
-pub(crate) fn sorted(alloc: Global, gathered: &GatheredMemtables) -> Result<Arc<Run>, AllocError>
+pub(crate) fn sorted(alloc: Global, gathered: &FlushableMemtables) -> Result<Arc<Run>, AllocError>
     requires { gathered.now.shown ≢ [] }
     ensures { IfOk result (λ run. arc_value run ≡ flushed gathered.now.shown) }
 {
@@ -56,7 +56,7 @@ pub(crate) fn sorted(alloc: Global, gathered: &GatheredMemtables) -> Result<Arc<
 pub(crate) fn sorted_rows<O: Operator>(
     alloc: Global,
     version: &Version,
-    gathered: &GatheredMemtables,
+    gathered: &FlushableMemtables,
     newer: Arc<Run>,
     low: &[u8],
     high: &Option<Bytes>,
@@ -81,7 +81,7 @@ pub(crate) fn sorted_rows<O: Operator>(
 pub(crate) fn last_rows<O: Operator>(
     alloc: Global,
     version: &Version,
-    gathered: &GatheredMemtables,
+    gathered: &FlushableMemtables,
     low: &[u8],
     high: &Option<Bytes>,
     limit: u64,

@@ -11,7 +11,7 @@ ghost use Rattle.uc_version_work.specs.declared.install_error.InstallError.TheVa
 ghost use Rattle.uc_version.specs.declared.job_end.JobEnd.{JobEnd};
 ghost use Rattle.uc_version.specs.Owners.{IsOwner};
 ghost use Rattle.uc_version.specs.Installing.{IsRefused, stretch_of};
-ghost use Rattle.uc_version.specs.Jobs.{IsOwn, Task};
+ghost use Rattle.uc_version.specs.Jobs.{IsOwn, Task, run};
 ghost use Rattle.uc_live.specs.declared.live_options.LiveOptions.{LiveOptions as OptionsOf};
 ghost use Rattle.uc_live.specs.LiveOptions.{are_good};
 ghost use Rattle.uc_live.specs.Lives as lives;
@@ -61,7 +61,7 @@ pub fn taken_writes_add_up<O: Operator>()
 pub fn jobs_go_in<O: Operator>()
     ensures started { (old new : Live) (job : Task) → IsOwner (owner_in old) → StartsJob (Some job) old new →
         IsOut O.meaning job new }
-    ensures run { (l : Live) (job : Task) → IsOut O.meaning job l → IsOut O.meaning (record job { is_done = true }) l }
+    ensures run { (l : Live) (job : Task) → IsOut O.meaning job l → IsOut O.meaning (run job) l }
     ensures goes_on { (old new : Live) (ws : List Write) (job : Task) → IsOut O.meaning job old → GoesOn O.meaning old new ws →
         IsOut O.meaning job new }
     ensures snapshot { (old new : Live) (seq : ℕ) (job : Task) → IsOut O.meaning job old → TakesSnapshot O.meaning old new seq →

@@ -17,7 +17,8 @@
 //! commits (`recording.rt`, `recorded_laws.rt`).
 //!
 //! A [`Job`] is a compaction that any thread does while the store goes on: the store starts it, and takes it back
-//! (`jobs.rt`, `specs/LiveJobs.antt`).
+//! (`jobs.rt`, `specs/LiveJobs.antt`). A [`FlushJob`] is a flush of what is gathered that is done so, if the options say that
+//! a full memtable waits for one (`flushes.rt`, `specs/LiveFlushes.antt`).
 //!
 //! By the laws of `laws.rt` a store answers as one thread that folds all writes it has taken, whatever it flushed and
 //! compacted, and so does a view of it.
@@ -30,6 +31,10 @@
 #![tactic(auto)]
 
 mod compacting;
+mod flush_end;
+mod flush_job;
+mod flush_laws;
+mod flushes;
 mod flushing;
 mod jobs;
 mod last_reads;
@@ -48,11 +53,14 @@ mod view;
 mod waiting;
 mod write_error;
 
+pub use flush_end::FlushEnd;
+pub use flush_job::FlushJob;
+pub use flush_laws::{flushes_bring_no_write, flushes_go_in, jobs_stay_out_beside_flushes};
 pub use laws::{
     created_stores_have_taken_nothing, jobs_go_in, stores_answer_as_their_writes,
     taken_writes_add_up, views_answer_as_their_writes,
 };
-pub use live_options::{GREATEST_STOP, LiveOptions};
+pub use live_options::{GREATEST_STOP, LiveOptions, MOST_RANGES};
 pub use live_store::LiveStore;
 pub use open_error::LiveOpenError;
 pub use opening::OpenedStore;
@@ -61,6 +69,8 @@ pub use room_error::RoomError;
 pub use uc_batch::{BatchError, Ended};
 pub use uc_bytes::{Bytes, OpRef};
 pub use uc_query_read::{Answer, Rows};
-pub use uc_version::{InstallError, Job, JobEnd, Options, ReleaseError, Version};
+pub use uc_version::{
+    FeedError, InstallError, Job, JobEnd, JobStage, Options, ReleaseError, Version,
+};
 pub use view::View;
 pub use write_error::WriteError;

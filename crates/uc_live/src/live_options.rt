@@ -8,6 +8,9 @@ use uc_version::Options;
 /// The greatest number of runs from which on writes stop: one slot stays free for a run.
 pub const GREATEST_STOP: u32 = MOST_SLOTS as u32 - 1;
 
+/// How many range deletions fill a memtable: a lookup asks each of them.
+pub const MOST_RANGES: usize = 64;
+
 /// How a live store is kept.
 #[derive(Clone, Copy, Debug, PartialEq, Eq)]
 pub struct LiveOptions {
@@ -16,22 +19,29 @@ pub struct LiveOptions {
     /// From how many runs on it compacts before it flushes (`level0_stop_writes_trigger`): no fewer than the store's
     /// `trigger`, and at most [`GREATEST_STOP`].
     pub stop_trigger: u32,
+    /// How many memtables it gathers at most (`max_write_buffer_number`), at least 1. With 1, a write that finds the
+    /// memtable full flushes it. With more, it leaves a full one to a flush job, until as many as these are full: then it
+    /// flushes all that is gathered.
+    pub max_write_buffer_number: u32,
     /// Whether it compacts behind each flush while runs are picked. Else its owner does, and the store only from
     /// `stop_trigger` runs on.
     pub compacts_itself: bool,
 }
 
 impl LiveOptions {
-    /// The default options: those of [`Options::usual`], stops from 36 runs on, and a store that compacts by itself.
+    /// The default options: those of [`Options::usual`], stops from 36 runs on, one memtable, and a store that compacts
+    /// by itself.
     pub fn usual() -> LiveOptions
         ensures store { result.store ≡
             record { memtable = 4194304; trigger = 4; ratio = 1; percent = 200; least = 2; greatest = 4294967295; first_id = 1 } }
         ensures stop { result.stop_trigger ≡ 36 }
+        ensures one { result.max_write_buffer_number ≡ 1 }
         ensures itself { result.compacts_itself ≡ true }
     {
         LiveOptions {
             store: Options::usual(),
             stop_trigger: 36,
+            max_write_buffer_number: 1,
             compacts_itself: true,
         }
     }
@@ -43,5 +53,6 @@ impl LiveOptions {
         self.store.are_good()
             && self.store.trigger <= self.stop_trigger
             && self.stop_trigger <= GREATEST_STOP
+            && self.max_write_buffer_number >= 1
     }
 }

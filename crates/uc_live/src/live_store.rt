@@ -13,7 +13,7 @@ use crate::live_options::LiveOptions;
 use crate::open_error::LiveOpenError;
 use std::alloc::Global;
 use std::marker::Model;
-use uc_memtable::GatheredMemtables;
+use uc_memtable::FlushableMemtables;
 use uc_oper::Operator;
 use uc_version::{Owned, Version};
 use uc_version_state::{feeds_and_keeps_give_versions, opening_gives_a_version};
@@ -22,9 +22,13 @@ use uc_version_state::{feeds_and_keeps_give_versions, opening_gives_a_version};
 pub struct LiveStore<O: Operator> {
     pub(crate) owned: Owned<O>,
     /// What is gathered, and what is prepared.
-    pub(crate) active: GatheredMemtables,
+    pub(crate) active: FlushableMemtables,
     /// The sequence of each snapshot, the oldest first, as often as it was taken.
     pub(crate) snapshots: Vec<u64>,
+    /// How many flush jobs were taken out. Each has the number that this became with it.
+    pub(crate) flushes: u64,
+    /// How many of the writes that are gathered the last one has, while it is out. They are set apart.
+    pub(crate) leaving: Option<usize>,
     pub(crate) options: LiveOptions,
 }
 
@@ -46,6 +50,8 @@ impl<O: Operator> Drop for LiveStore<O> {
             owned: _,
             active: _,
             snapshots: _,
+            flushes: _,
+            leaving: _,
             options: _,
         } = self;
     }
@@ -78,17 +84,20 @@ impl<O: Operator> LiveStore<O> {
         let owned = Owned::new(alloc, version, options.store)?;
         Ok(LiveStore {
             owned,
-            active: GatheredMemtables::new(alloc),
+            active: FlushableMemtables::new(alloc),
             snapshots: Vec::new(alloc),
+            flushes: 0,
+            leaving: None,
             options,
         })
     }
 
-    /// What holds of every live store: its runs and its claims are an owner's, and what is gathered lies behind the
-    /// runs. Proof step: does nothing when it runs.
+    /// What holds of every live store: its runs and its claims are an owner's, what is gathered lies behind the runs, and its
+    /// options are good. Proof step: does nothing when it runs.
     pub fn recall(&self)
         ensures owner { IsOwner (owner_in self.now) }
         ensures rising { IsRising self.now.version.last self.now.gathered }
+        ensures good { live_options.are_good self.now.options ≡ true }
     {
         self.owned.recall();
     }

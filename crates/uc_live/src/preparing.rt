@@ -6,6 +6,7 @@ ghost use Rattle.uc_batch.specs.Batch.{batch_of};
 ghost use Rattle.uc_batch.specs.Rising.{IsRising};
 ghost use Rattle.uc_batch.specs.Spelling.{FitsOp};
 ghost use Rattle.uc_live.specs.Compacting.{HasNoRoom};
+ghost use Rattle.uc_live.specs.LiveFlushes.{HasRoom};
 ghost use Rattle.uc_live.specs.Lives as lives;
 ghost use Rattle.uc_live.specs.Lives.{Live};
 ghost use Rattle.uc_live.specs.Writing as writing;
@@ -72,13 +73,15 @@ fn unread(fault: BatchError) -> WriteError
 }
 
 impl<O: Operator> LiveStore<O> {
-    /// Flushes if the active memtable is full. Nothing is prepared then.
+    /// Flushes if as many memtables are full as it gathers. Nothing is prepared then.
     fn make_room(&mut self, alloc: Global) -> Result<(), RoomError>
         requires { self.old.prepared ≡ [] }
         ensures prepares { Prepares O.meaning self.old self.new [] }
+        ensures room { OnOk result (HasRoom self.new) }
         ensures err { IfErr result (λ error. HasNoRoom error self.new) }
     {
-        if self.is_full() {
+        self.recall();
+        if self.is_crowded() {
             self.flush(alloc)?;
         }
         Ok(())
@@ -86,12 +89,13 @@ impl<O: Operator> LiveStore<O> {
 
     /// Prepares an operation as a batch of its own: it gets the sequence behind the last one, and all memory that it
     /// needs. No read sees it before [`commit`](LiveStore::commit). A batch that was prepared before is given up. If
-    /// the active memtable is full, it is flushed first.
+    /// as many memtables are full as it gathers, they are flushed first.
     ///
     /// It is refused if no sequence is left, if a text has 2^32 bytes or more, so that no batch holds it, and if there
     /// is no room for it, as [`RoomError`] says. Nothing is prepared then, and no read changes.
     pub fn prepare(&mut self, alloc: Global, op: OpRef<'_>) -> Result<(), WriteError>
         ensures ok { OnOk result (IsPrepared O.meaning op.entry self.old self.new) }
+        ensures room { OnOk result (HasRoom self.new) }
         ensures err { IfErr result (λ error. Refuses op.entry self.old self.new error × Prepares O.meaning self.old self.new []) }
     {
         self.active.give_up();

@@ -13,7 +13,7 @@ use std::alloc::{AllocError, Global};
 use std::marker::{Model, PhantomData};
 use std::sync::Arc;
 use uc_bytes::Bytes;
-use uc_memtable::GatheredMemtables;
+use uc_memtable::FlushableMemtables;
 use uc_model::later_writes_change_nothing;
 use uc_oper::Operator;
 use uc_query_read::{Answer, Query, Rows, answer_one, equal_values_give_equal_answers, get};
@@ -24,7 +24,7 @@ use uc_version::Version;
 #[derive(Drop)]
 struct ViewParts {
     version: Version,
-    gathered: GatheredMemtables,
+    gathered: FlushableMemtables,
 }
 
 /// What a live store holds at a moment. It stays so, whatever is written to the store, flushed and compacted, and also
@@ -60,7 +60,7 @@ impl<O: Operator> Drop for View<O> {
 
 impl<O: Operator> LiveStore<O> {
     /// What it holds now. A batch that is prepared isn't in it, and stays prepared. Nothing is flushed. No run is
-    /// copied, and of what is gathered only what [`GatheredMemtables::share`] says.
+    /// copied, and of what is gathered only what [`FlushableMemtables::share`] says.
     ///
     /// It is refused for want of memory. It changes nothing.
     pub fn view(&mut self, alloc: Global) -> Result<View<O>, AllocError>

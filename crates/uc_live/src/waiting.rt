@@ -6,13 +6,13 @@ ghost use Rattle.uc_run.specs.Size.{memtable_size};
 use std::alloc::{AllocError, Global};
 use uc_batch::BatchWrites;
 use uc_bytes::WriteRef;
-use uc_memtable::GatheredMemtables;
+use uc_memtable::FlushableMemtables;
 use uc_run::op_size;
 
 /// Prepares a write more. It is refused for want of memory, also where all together would have 2^64 bytes, which no
 /// memory holds. An `Err` changes nothing.
 pub(crate) fn prepare_one(
-    active: &mut GatheredMemtables,
+    active: &mut FlushableMemtables,
     write: &WriteRef<'_>,
 ) -> Result<(), AllocError>
     requires above { last_of 0 (active.old.shown ++ active.old.waiting) < write.now.seq }
@@ -29,7 +29,7 @@ pub(crate) fn prepare_one(
 
 /// Prepares the writes of a batch. An `Err` gives all up that waits.
 pub(crate) fn prepare_all(
-    active: &mut GatheredMemtables,
+    active: &mut FlushableMemtables,
     writes: BatchWrites<'_>,
 ) -> Result<(), AllocError>
     requires rising { IsRising (last_of 0 (active.old.shown ++ active.old.waiting)) writes }

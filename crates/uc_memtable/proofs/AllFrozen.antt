@@ -1,5 +1,5 @@
 -- The writes of memtables, one after the other.
-use Rattle.std.proofs.Common.{◌≡◌, ◌≢◌, ℕ, ◌+◌, ◌-◌, ◌^◌, ◌<◌, List, [], ◌∷◌, ◌++◌, length, get_or, take, drop, min, length-append, refl, ap, sym, ◌∙◌, subst, arith}
+use Rattle.std.proofs.Common.{◌≡◌, ◌≢◌, ℕ, ◌+◌, ◌-◌, ◌^◌, ◌<◌, List, [], ◌∷◌, ◌++◌, length, get_or, take, drop, max, min, length-append, refl, ap, sym, ◌∙◌, subst, arith}
 use Rattle.std.specs.Prelude.{count_by}
 use Rattle.std.proofs.lemmas.Grind.{flat_map-append}
 use Rattle.std.proofs.lemmas.List.{append-nil, drop_more, take-append-drop, take_all, length-drop}
@@ -10,7 +10,7 @@ use Rattle.uc_batch.proofs.Rises.{last_of-append}
 use Rattle.uc_run.specs.Size.{memtable_size, write_size}
 use Rattle.uc_memtable.specs.Frozen.{all_of}
 use Rattle.uc_memtable.specs.Labels.{deletes_range}
-use Rattle.uc_memtable.proofs.RisingParts.{rising_front, rising_back, rising_alone}
+use Rattle.uc_memtable.proofs.RisingParts.{rising_front, rising_back, rising_alone, last_greater}
 
 pub all_of-append : (ms ns : List (List Write)) → all_of (ms ++ ns) ≡ all_of ms ++ all_of ns
 all_of-append ms ns = flat_map-append (λ (ws : List Write). ws) ms ns
@@ -63,4 +63,15 @@ told_more ws vs len size last ranges told some rising = record {
   size_counted = ap (λ n. min (n + memtable_size vs) (2 ^ 64 - 1)) told.size_counted ∙ sym (size-append ws vs);
   last_counted = last_some 0 (last_of 0 ws) vs some ∙ sym (last_of-append 0 ws vs);
   ranges_counted = ap (λ n. n + count_by deletes_range vs) told.ranges_counted ∙ sym (sum_by-append _ ws vs);
+}
+
+-- what is told of both parts
+pub told_both : (ws vs : List Write) (len size last ranges len' size' last' ranges' : ℕ) → Told ws len size last ranges → Told vs len' size' last' ranges' → IsRising 0 (ws ++ vs)
+    → Told (ws ++ vs) (len + len') (min (size + size') (2 ^ 64 - 1)) (max last last') (ranges + ranges')
+told_both ws vs len size last ranges len' size' last' ranges' told told' rising = record {
+  rising = rising;
+  len_counted = ap (λ n. n + len') told.len_counted ∙ ap (λ n. length ws + n) told'.len_counted ∙ sym (length-append ws vs);
+  size_counted = ap (λ n. min (n + size') (2 ^ 64 - 1)) told.size_counted ∙ ap (λ n. min (memtable_size ws + n) (2 ^ 64 - 1)) told'.size_counted ∙ sym (size-append ws vs);
+  last_counted = ap (λ n. max n last') told.last_counted ∙ ap (λ n. max (last_of 0 ws) n) told'.last_counted ∙ last_greater ws vs rising;
+  ranges_counted = ap (λ n. n + ranges') told.ranges_counted ∙ ap (λ n. count_by deletes_range ws + n) told'.ranges_counted ∙ sym (sum_by-append _ ws vs);
 }

@@ -9,3 +9,4 @@ pub mod Frozen
 pub mod HeldFrozen
 pub mod HeldFrozens
 pub mod HeldMemtables
+pub mod HeldFlushables

@@ -3,16 +3,18 @@ ghost use Rattle.std.specs.Prelude.{◌≡◌, ◌≢◌, ◌↔◌, ◌++◌, [
 ghost use Rattle.uc_batch.specs.Rising.{IsRising, last_of};
 ghost use Rattle.uc_model.specs.Meaning.{effect_on};
 ghost use Rattle.uc_oper.specs.Composition.{composed};
+ghost use Rattle.uc_run.specs.Flush.{flushed};
 ghost use Rattle.uc_run.specs.Size.{memtable_size};
 ghost use Rattle.uc_memtable.specs.Labels.{deletes_range};
 
 use crate::active_memtable::ActiveMemtable;
 use crate::frozen_memtable::FrozenMemtable;
-use crate::joining::{copy_of, effect_before, join_small, push_frozen, push_shared};
+use crate::joining::{copy_of, effect_before, join_small, push_frozen, push_shared, run_of_all};
 use std::alloc::{AllocError, Global};
 use std::marker::Model;
 use std::mem;
 use uc_oper::{Effect, Operator};
+use uc_run::Run;
 
 /// Memtables that take no more writes, the oldest first. A contract sees it as all writes that they show, in order.
 ///
@@ -116,6 +118,27 @@ impl FrozenMemtables {
         })
     }
 
+    /// The memtables again, and newer ones behind them. They are shared.
+    pub(crate) fn with(
+        &self,
+        alloc: Global,
+        newer: &FrozenMemtables,
+    ) -> Result<FrozenMemtables, AllocError>
+        requires { IsRising 0 (self.now ++ newer.now) }
+        ensures { IfOk result (λ all. all ≡ self.now ++ newer.now) }
+    {
+        let mut memtables = Vec::new(alloc);
+        push_shared(&mut memtables, &self.memtables)?;
+        push_shared(&mut memtables, &newer.memtables)?;
+        Ok(FrozenMemtables {
+            memtables,
+            len: self.len + newer.len,
+            size: self.size.saturating_add(newer.size),
+            last: self.last.max(newer.last),
+            ranges: self.ranges + newer.ranges,
+        })
+    }
+
     /// Freezes a memtable that shows a write, behind the others. An `Err` hands it back, and changes nothing.
     fn push(&mut self, alloc: Global, memtable: ActiveMemtable) -> Result<(), ActiveMemtable>
         requires some { memtable.shown ≢ [] }
@@ -167,11 +190,26 @@ impl FrozenMemtables {
         join_small(alloc, &mut self.memtables)
     }
 
+    /// What holds of all such memtables: the sequences of their writes rise. Proof step: does nothing when it runs.
+    pub(crate) fn recall(&self)
+        ensures { IsRising 0 self.now }
+    {
+        let _ = &self.memtables;
+    }
+
     /// One memtable of copies of all writes that they show.
     pub(crate) fn to_memtable(&self, alloc: Global) -> Result<ActiveMemtable, AllocError>
         ensures { IfOk result (λ one. one ≡ record { shown = self.now; waiting = [] }) }
     {
         copy_of(alloc, &self.memtables)
+    }
+
+    /// The run of the writes that they show. If these are in several memtables, it costs a copy of all.
+    pub(crate) fn to_run(&self, alloc: Global) -> Result<Run, AllocError>
+        requires { self.now ≢ [] }
+        ensures { IfOk result (λ run. run ≡ flushed self.now) }
+    {
+        run_of_all(alloc, &self.memtables)
     }
 
     /// What their writes at or below a sequence do to a key, and then a newer effect. It asks the memtables from the

@@ -134,6 +134,20 @@ impl GatheredMemtables {
         Ok(one)
     }
 
+    /// One memtable of copies of what frozen ones show, and of all shown writes behind that.
+    pub(crate) fn to_memtable_behind(
+        &self,
+        alloc: Global,
+        older: &FrozenMemtables,
+    ) -> Result<ActiveMemtable, AllocError>
+        requires { IsRising 0 (older.now ++ self.now.shown) }
+        ensures { IfOk result (λ one. one ≡ record { shown = older.now ++ self.now.shown; waiting = [] }) }
+    {
+        let mut one = older.with(alloc, &self.frozen)?.to_memtable(alloc)?;
+        one.take_shown(&self.active)?;
+        Ok(one)
+    }
+
     /// What holds of all such memtables: the sequences of their writes rise. Proof step: does nothing when it runs.
     pub fn recall(&self)
         ensures { IsRising 0 (self.now.shown ++ self.now.waiting) }
@@ -184,6 +198,35 @@ impl GatheredMemtables {
         })
     }
 
+    /// Takes what is shown out, frozen behind older memtables, with shares of all of those. An `Err` changes nothing.
+    pub(crate) fn take_frozen(
+        &mut self,
+        alloc: Global,
+        older: &FrozenMemtables,
+    ) -> Result<(FrozenMemtables, FrozenMemtables), AllocError>
+        requires { IsRising 0 (older.now ++ self.old.shown) }
+        ensures all { IfOk result (λ taken. (taken.0 ≡ older.now ++ self.old.shown) × (taken.1 ≡ older.now ++ self.old.shown)) }
+        ensures ok { OnOk result (self.new ≡ record { shown = []; waiting = self.old.waiting }) }
+        ensures err { OnErr result (self.new ≡ self.old) }
+    {
+        self.frozen.freeze(alloc, &mut self.active)?;
+        let all = older.with(alloc, &self.frozen)?;
+        let again = all.shared(alloc)?;
+        self.frozen = FrozenMemtables::new(alloc);
+        Ok((all, again))
+    }
+
+    /// Memtables that show what frozen ones do.
+    pub(crate) fn of_frozen(alloc: Global, frozen: FrozenMemtables) -> GatheredMemtables
+        ensures { result ≡ record { shown = frozen; waiting = [] } }
+    {
+        frozen.recall();
+        GatheredMemtables {
+            frozen,
+            active: ActiveMemtable::new(alloc),
+        }
+    }
+
     /// What the shown writes at or below a sequence together do to a key. It asks the active memtable as
     /// [`ActiveMemtable::effect`] does, and then the frozen ones, from the newest on, up to the first that puts or
     /// deletes the key.
@@ -200,13 +243,17 @@ impl GatheredMemtables {
         self.frozen.effect_before::<O>(alloc, key, at, newer)
     }
 
-    /// The run of the shown writes, as [`Memtable::to_run`] makes it. If some are frozen, it costs a copy of all.
+    /// The run of the shown writes, as [`Memtable::to_run`] makes it. If they are in several memtables, it costs a copy
+    /// of all.
     pub fn to_run(&self, alloc: Global) -> Result<Run, AllocError>
         requires { self.now.shown ≢ [] }
         ensures { IfOk result (λ run. run ≡ flushed self.now.shown) }
     {
         if self.frozen.is_empty() {
             return self.active.to_run(alloc);
+        }
+        if self.active.is_empty() {
+            return self.frozen.to_run(alloc);
         }
         self.to_memtable(alloc)?.to_run(alloc)
     }

@@ -1,8 +1,9 @@
 //! Frozen memtables one by one: how they are shared, put together, and looked into.
-ghost use Rattle.std.specs.Prelude.{◌≡◌, ◌<◌, ◌≤◌, ◌++◌, ◌∷◌, [], IfOk, IfErr, OnOk, length};
+ghost use Rattle.std.specs.Prelude.{◌≡◌, ◌≢◌, ◌<◌, ◌≤◌, ◌++◌, ◌∷◌, [], IfOk, IfErr, OnOk, length};
 ghost use Rattle.uc_batch.specs.Rising.{IsRising};
 ghost use Rattle.uc_model.specs.Meaning.{effect_on};
 ghost use Rattle.uc_oper.specs.Composition.{composed};
+ghost use Rattle.uc_run.specs.Flush.{flushed};
 ghost use Rattle.uc_memtable.specs.Frozen.{all_of};
 
 use crate::active_memtable::ActiveMemtable;
@@ -10,6 +11,7 @@ use crate::frozen_memtable::FrozenMemtable;
 use std::alloc::{AllocError, Global};
 use uc_model::effects_of_parts_compose;
 use uc_oper::{Effect, Operator, then_is_associative};
+use uc_run::Run;
 
 /// Freezes a memtable, behind the others. An `Err` hands it back, and changes nothing.
 pub(crate) fn push_frozen(
@@ -56,6 +58,18 @@ pub(crate) fn copy_of(
         one.take_shown(memtable.memtable())?;
     }
     Ok(one)
+}
+
+/// The run of all writes that memtables show. If there are several, it costs a copy of all.
+pub(crate) fn run_of_all(alloc: Global, memtables: &[FrozenMemtable]) -> Result<Run, AllocError>
+    requires some { all_of memtables.now ≢ [] }
+    requires rising { IsRising 0 (all_of memtables.now) }
+    ensures { IfOk result (λ run. run ≡ flushed (all_of memtables.now)) }
+{
+    match memtables {
+        [one] => one.memtable().to_run(alloc),
+        _ => copy_of(alloc, memtables)?.to_run(alloc),
+    }
 }
 
 /// From which place on memtables are put together: the one before it has more than twice the bytes of all from there

@@ -6,7 +6,8 @@
 //!
 //! [`GatheredMemtables`] does the same, and [`GatheredMemtables::share`] gives other threads what is shown at a moment:
 //! it freezes the active memtable behind those that are frozen already, and begins another. `gathered_memtables.rt`,
-//! `frozen_memtables.rt` and `joining.rt` have it.
+//! `frozen_memtables.rt` and `joining.rt` have it. [`FlushableMemtables::set_apart`] gives them to a thread that flushes them,
+//! and keeps them apart until [`FlushableMemtables::drop_apart`] (`flushable_memtables.rt`).
 //!
 //! The writes of a key are found by [`Chains`](chains::Chains): each write has a label, which is the hash of its key, and
 //! writes whose labels share a bucket are in one chain, from the newest on. `specs/Labels.antt` and `specs/Linked.antt`
@@ -20,6 +21,7 @@
 mod active_memtable;
 mod chains;
 mod copying;
+mod flushable_memtables;
 mod frozen_memtable;
 mod frozen_memtables;
 mod gathered_memtables;
@@ -30,4 +32,5 @@ mod lookup;
 mod sight;
 
 pub use active_memtable::ActiveMemtable;
+pub use flushable_memtables::FlushableMemtables;
 pub use gathered_memtables::GatheredMemtables;

@@ -1,10 +1,10 @@
 //! [`Busy`]: an engine, and up to two jobs that are out of it.
 ghost use Rattle.std.specs.Prelude.{◌≡◌, OnErr, OnOk, option_map};
-ghost use Rattle.uc_engine.specs.EngineJobs.{done};
+ghost use Rattle.uc_engine.specs.EngineJobs as jobs;
 
 use std::alloc::{AllocError, Global};
 use std::marker::Model;
-use uc_engine::{Engine, EngineJob, JobEnd, OpRef, ReleaseError, RoomError, WriteError};
+use uc_engine::{Engine, EngineJob, JobEnd, JobStage, OpRef, ReleaseError, RoomError, WriteError};
 use uc_oper::{Append, Counter, Maximum, Tail};
 use uc_version::{claims_keep_their_runs, jobs_are_own};
 
@@ -39,13 +39,13 @@ impl Drop for Busy {
 
 /// Runs a job, if there is one. Returns whether it is done.
 fn run(alloc: Global, job: &mut Option<EngineJob>) -> Result<bool, AllocError>
-    ensures ok { OnOk result (job.new ≡ option_map done job.old) }
+    ensures ok { OnOk result (job.new ≡ option_map jobs.run job.old) }
     ensures err { OnErr result (job.new ≡ job.old) }
 {
     match job {
         Some(job) => {
             job.run(alloc)?;
-            Ok(job.is_done())
+            Ok(job.stage() == JobStage::Run)
         }
         None => Ok(false),
     }
@@ -126,7 +126,7 @@ impl Busy {
         claims_keep_their_runs::<Maximum>();
         claims_keep_their_runs::<Tail<4>>();
         match self.first.take() {
-            Some(job) => Some(self.engine.end_job(job)),
+            Some(mut job) => Some(self.engine.end_job(&mut job)),
             None => None,
         }
     }

@@ -6,8 +6,8 @@ use std::process::Abort;
 use std::test::Fail;
 use std::thread::{Threads, join};
 use uc_engine::{
-    Engine, EngineJob, InstallError, JobEnd, LiveOptions, OpRef, OperatorKind, Options, RoomError,
-    WriteError,
+    Engine, EngineJob, InstallError, JobEnd, JobStage, LiveOptions, OpRef, OperatorKind, Options,
+    RoomError, WriteError,
 };
 
 /// Merges a text into the key `k` so often, and returns whether it may.
@@ -247,7 +247,7 @@ fn is_foreign(alloc: Global) -> Result<bool, Fail> {
     let (engine, job) = with_job(alloc, OperatorKind::Counter)?;
     let (other, others) = with_job(alloc, OperatorKind::Maximum)?;
     let are_own = engine.has_out(&job) && other.has_out(&others);
-    let is_told = job.kind() == OperatorKind::Counter && !job.is_done();
+    let is_told = job.kind() == OperatorKind::Counter && job.stage() == JobStage::Taken;
     Ok(are_own && is_told && !engine.has_out(&others) && !other.has_out(&job))
 }
 
@@ -270,7 +270,7 @@ fn write_much(alloc: Global, mut engine: Engine) -> bool {
 
 /// Runs a job. Returns whether it is done.
 fn finish(alloc: Global, mut job: EngineJob) -> bool {
-    job.run(alloc) == Ok(()) && job.is_done()
+    job.run(alloc) == Ok(()) && job.stage() == JobStage::Run
 }
 
 /// Whether a thread runs a job while another one writes.

@@ -13,3 +13,4 @@ pub mod Feeding
 pub mod OwnCompactions
 pub mod HeldOn
 pub mod HeldOver
+pub mod RunFed

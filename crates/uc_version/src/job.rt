@@ -1,27 +1,40 @@
 //! [`Job`]: a compaction that is done away from its store.
-ghost use Rattle.std.specs.Prelude.{◌≡◌, true, IfOk, OnOk, OnErr};
+ghost use Rattle.std.specs.Prelude.{◌≡◌, ◌≢◌, true, IfOk, OnOk, OnErr};
 ghost use Rattle.uc_version.specs.Claiming.{is_held};
 ghost use Rattle.uc_version.specs.Jobs as jobs;
 ghost use Rattle.uc_version.specs.Jobs.{HasEnded, IsOwn, IsStarted};
+ghost use Rattle.uc_version.specs.declared.job_stage.JobStage.TheVariants.{Ended};
 
 use crate::job_end::JobEnd;
+use crate::job_stage::JobStage;
 use crate::laws::picks_can_be_claimed;
 use crate::owned::Owned;
 use crate::owned_claim::OwnedClaim;
 use std::alloc::{AllocError, Global};
 use std::marker::Model;
+use std::mem;
 use uc_compact::{Compacted, Merger};
 use uc_oper::Operator;
 use uc_version_work::Asked;
 
+/// How far a job is, with what was made of its runs.
+#[derive(Drop)]
+enum Progress<O: Operator> {
+    Taken,
+    Run(Compacted<O>),
+    Ended,
+}
+
 /// A compaction that is done away from its store, by any thread: the claim of a stretch, and shares of its runs. The owner
-/// takes it out by [`Owned::start_job`] and puts it back by [`Owned::end_job`]. If it is dropped, its runs stay claimed
-/// for good.
+/// takes it out by [`Owned::start_job`] and puts it back by [`Owned::end_job`]. If it is dropped before, its runs stay
+/// claimed for good.
+///
+/// It keeps its shares of the runs until it is dropped, also when it has ended. So the runs that its own replaced are
+/// freed where it is dropped, and not by their owner.
 pub struct Job<O: Operator> {
     claim: OwnedClaim,
     asked: Asked,
-    /// What was made of the runs, if it was run.
-    made: Option<Compacted<O>>,
+    progress: Progress<O>,
 }
 
 impl<O: Operator> Model for Job<O> {
@@ -41,42 +54,47 @@ impl<O: Operator> Drop for Job<O> {
         let Job {
             claim: _,
             asked: _,
-            made: _,
+            progress: _,
         } = self;
     }
 }
 
 impl<O: Operator> Job<O> {
-    /// Whether it was run.
-    pub fn is_done(&self) -> bool
-        ensures { result ≡ self.now.is_done }
+    /// How far it is.
+    pub fn stage(&self) -> JobStage
+        ensures { result ≡ self.now.stage }
     {
-        self.made.is_some()
+        match &self.progress {
+            Progress::Taken => JobStage::Taken,
+            Progress::Run(_) => JobStage::Run,
+            Progress::Ended => JobStage::Ended,
+        }
     }
 
-    /// Compacts its runs by this merger, unless that is done. It touches no store. An `Err` changes nothing.
+    /// Compacts its runs by this merger, unless that is done or it has ended. It touches no store. An `Err` changes
+    /// nothing.
     pub fn run_by<M: Merger<O>>(&mut self, merger: &M, alloc: Global) -> Result<(), AllocError>
         requires { M.can_merge merger.now }
-        ensures ok { OnOk result (self.new ≡ record self.old { is_done = true }) }
+        ensures ok { OnOk result (self.new ≡ jobs.run self.old) }
         ensures err { OnErr result (self.new ≡ self.old) }
     {
-        if self.made.is_none() {
-            self.made = Some(self.asked.compact_by::<O, M>(merger, alloc)?);
+        if let Progress::Taken = self.progress {
+            self.progress = Progress::Run(self.asked.compact_by::<O, M>(merger, alloc)?);
         }
         Ok(())
     }
 
-    /// Its claim, and what was made of its runs, if it was run.
-    fn into_parts(self) -> (OwnedClaim, Option<Compacted<O>>)
-        ensures claim { result.0 ≡ self.claim }
-        ensures made { jobs.IsMadeOf self result.1 }
+    /// Ends it: its claim, and what was made of its runs, if it was run.
+    fn end(&mut self) -> (OwnedClaim, Option<Compacted<O>>)
+        ensures claim { result.0 ≡ self.old.claim }
+        ensures made { jobs.IsMadeOf self.old result.1 }
+        ensures ended { self.new ≡ jobs.ended self.old }
     {
-        let Job {
-            claim,
-            asked: _,
-            made,
-        } = self;
-        (claim, made)
+        let made = match mem::replace(&mut self.progress, Progress::Ended) {
+            Progress::Run(made) => Some(made),
+            Progress::Taken | Progress::Ended => None,
+        };
+        (self.claim.again(), made)
     }
 }
 
@@ -97,7 +115,7 @@ impl<O: Operator> Owned<O> {
             Ok(claim) => Ok(Some(Job {
                 claim,
                 asked,
-                made: None,
+                progress: Progress::Taken,
             })),
             Err(_) => unreachable!(),
         }
@@ -111,15 +129,18 @@ impl<O: Operator> Owned<O> {
     }
 
     /// Ends a job that was taken out of this store: installs its run, if it was run, and gives its claim back in any case.
-    /// It compares no points, copies no run and doesn't allocate.
+    /// It compares no points, copies and frees no run, and doesn't allocate. The job keeps its shares of the runs that
+    /// were replaced.
     ///
     /// A job that was run is refused only if no id is left, whatever was fed, kept, released or installed since.
-    pub fn end_job(&mut self, job: Job<O>) -> JobEnd
-        requires held { is_held self.old job.claim ≡ true }
-        requires own { IsOwn self.old job }
-        ensures { HasEnded O.meaning job self.old self.new result }
+    pub fn end_job(&mut self, job: &mut Job<O>) -> JobEnd
+        requires out { job.old.stage ≢ Ended }
+        requires held { is_held self.old job.old.claim ≡ true }
+        requires own { IsOwn self.old job.old }
+        ensures ended { HasEnded O.meaning job.old self.old self.new result }
+        ensures kept { job.new ≡ jobs.ended job.old }
     {
-        let (claim, made) = job.into_parts();
+        let (claim, made) = job.end();
         let Some(made) = made else {
             self.abandon(claim);
             return JobEnd::NotRun;

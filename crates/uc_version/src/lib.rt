@@ -2,7 +2,7 @@
 //!
 //! An [`Owned`] has a version, and the claims of those who compact stretches of its runs. Read `specs/Owners.antt`
 //! first, then `specs/Claiming.antt`, `specs/Installing.antt` and `owned.rt`; and `specs/AtOnce.antt` with
-//! `at_once.rt`, `specs/Feeding.antt` with `live.rt` and `memtable_feed.rt`; and `specs/Jobs.antt` with `job.rt`. Compactions of any version's runs, and their installs, are in
+//! `at_once.rt`, `specs/Feeding.antt` with `live.rt`, `memtable_feed.rt` and `run_feed.rt`; and `specs/Jobs.antt` with `job.rt`. Compactions of any version's runs, and their installs, are in
 //! `uc_version_work`, whoever claims them; versions are in `uc_version_state`. This crate re-exports the public items
 //! of both.
 //!
@@ -17,12 +17,14 @@ mod compact_error;
 mod held_stretch;
 mod job;
 mod job_end;
+mod job_stage;
 mod laws;
 mod live;
 mod memtable_feed;
 mod opened_writes;
 mod owned;
 mod owned_claim;
+mod run_feed;
 mod runs;
 mod slots;
 
@@ -30,6 +32,7 @@ pub use compact_error::CompactError;
 pub use held_stretch::{HeldStretch, MOST_CLAIMS};
 pub use job::Job;
 pub use job_end::JobEnd;
+pub use job_stage::JobStage;
 pub use laws::{
     claimable_stretches_can_be_compacted, claims_are_held, claims_can_be_compacted,
     claims_keep_their_runs, installs_are_events, jobs_are_own,

@@ -20,7 +20,7 @@ use uc_version_state::{
 use uc_version_work::version_with_memtable;
 
 /// Why a version doesn't take one run more, if it doesn't.
-fn run_refusal(version: &Version) -> Option<FeedError>
+pub(crate) fn run_refusal(version: &Version) -> Option<FeedError>
     ensures { result ≡ first_feed_refusal version.now.last true (nat_le (length version.now.runs + 1) MOST_SLOTS)
         (nat_lt (version.now.next_id + 1) (2 ^ 64)) }
 {

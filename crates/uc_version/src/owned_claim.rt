@@ -28,4 +28,15 @@ impl OwnedClaim {
     {
         self.number
     }
+
+    /// The claim again, for a job that gives it back and is kept.
+    pub(crate) fn again(&self) -> OwnedClaim
+        ensures { result ≡ self.now }
+    {
+        OwnedClaim {
+            number: self.number,
+            newest: self.newest,
+            oldest: self.oldest,
+        }
+    }
 }

@@ -1,4 +1,4 @@
-//! Compactions, which threads run beside reads and writes.
+//! Flushes and compactions, which threads run beside reads and writes.
 
 use crate::error::Error;
 use crate::lock;
@@ -43,15 +43,15 @@ impl Shared {
         let begun = Instant::now();
         let outcome = job.run();
         let store = lock(&self.store);
-        // The last view of the runs that are replaced frees them, behind the store's lock.
-        let replaced = store.view();
-        let is_done = store.end_job(job).expect("a job of this store");
+        let ended = store.end_job(job).expect("a job of this store");
         // Readers let go of the runs that are replaced.
         self.newest.raise();
         self.runs.store(store.report().runs, Ordering::Relaxed);
         self.work.notify_all();
         drop(store);
-        drop(replaced);
+        let is_done = ended.is_installed();
+        // The runs that it had are freed behind the store's lock.
+        drop(ended);
         self.counts.compactions.add(is_done.into());
         self.tell_compaction(is_done, begun);
         outcome?;

@@ -54,6 +54,8 @@ pub const UCSTORE_HAS_JOB: i32 = 22;
 pub const UCSTORE_NOT_OF_STORE: i32 = 23;
 /// No slot is free, and jobs have the runs that would be compacted.
 pub const UCSTORE_RUNS_CLAIMED: i32 = 24;
+/// The job has ended.
+pub const UCSTORE_JOB_ENDED: i32 = 25;
 
 /// A handle: no store if it is all zeros.
 #[repr(C)]
@@ -92,6 +94,8 @@ pub struct ucstore_options {
     pub min_merge_width: u32,
     pub max_merge_width: u32,
     pub compacts_itself: u32,
+    /// How many memtables are gathered at most, at least 1.
+    pub max_write_buffer_number: u32,
 }
 
 /// What a store holds, in numbers.

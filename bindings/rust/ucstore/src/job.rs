@@ -1,15 +1,16 @@
-//! [`Job`]: a compaction that is taken out of its store.
+//! [`Job`]: a flush or a compaction that is taken out of its store; [`EndedJob`]: one that was put back.
 
 use crate::error::{check, Error};
 use crate::sys;
 use std::fmt;
 use std::ptr;
 
-/// A compaction that [`Store::take_job`](crate::Store::take_job) takes out of a store. Any thread runs it, while the
-/// store goes on: it is written to, flushed, and compacts other runs. [`Store::end_job`](crate::Store::end_job) puts
-/// the result in.
+/// A flush or a compaction that [`Store::take_job`](crate::Store::take_job) takes out of a store. Any thread runs it, while
+/// the store goes on: it is written to, flushed, and compacts other runs. [`Store::end_job`](crate::Store::end_job) puts
+/// the result in, and gives an [`EndedJob`].
 ///
-/// A job that is dropped without that is forgotten: its runs are read as before, and never compacted.
+/// A job that is dropped without that is forgotten: its runs are read as before, and never compacted, and its writes are
+/// flushed by a later write.
 ///
 /// ```
 /// # use ucstore::{Operator, Options, Store};
@@ -23,7 +24,7 @@ use std::ptr;
 /// let mut job = store.take_job()?.expect("four runs are compacted");
 /// let worker = std::thread::spawn(move || job.run().map(|()| job));
 /// store.put("k5", "v")?;
-/// assert_eq!(store.end_job(worker.join().unwrap()?).unwrap(), true);
+/// assert!(store.end_job(worker.join().unwrap()?).unwrap().is_installed());
 /// # Ok(())
 /// # }
 /// ```
@@ -46,7 +47,7 @@ impl Job {
         Job { handle, store }
     }
 
-    /// Merges the runs. It touches no store. One that was run isn't run again.
+    /// Sorts the writes, or merges the runs. It touches no store. One that was run isn't run again.
     ///
     /// # Errors
     ///
@@ -63,7 +64,6 @@ impl Job {
 
 impl Drop for Job {
     fn drop(&mut self) {
-        // One that has ended answers that it isn't there.
         unsafe { sys::ucstore_job_close(self.handle()) };
     }
 }
@@ -71,5 +71,39 @@ impl Drop for Job {
 impl fmt::Debug for Job {
     fn fmt(&self, formatter: &mut fmt::Formatter<'_>) -> fmt::Result {
         formatter.debug_struct("Job").finish_non_exhaustive()
+    }
+}
+
+/// A job that has ended. It keeps the runs or the memtables that it had: drop it where that time may be spent, in any
+/// thread.
+#[must_use = "what it had is freed where it is dropped"]
+pub struct EndedJob {
+    _job: Job,
+    is_installed: bool,
+}
+
+impl EndedJob {
+    /// A job that has ended, and whether its run was installed.
+    pub(crate) fn new(job: Job, is_installed: bool) -> EndedJob {
+        EndedJob {
+            _job: job,
+            is_installed,
+        }
+    }
+
+    /// Whether its run took the place of what it had. It doesn't if the job wasn't run, or if no number was left for a
+    /// run. Then the store has it for other jobs. Nor does the run of a flush if the store has flushed its writes since,
+    /// if no run more may be, or if memory was refused.
+    pub fn is_installed(&self) -> bool {
+        self.is_installed
+    }
+}
+
+impl fmt::Debug for EndedJob {
+    fn fmt(&self, formatter: &mut fmt::Formatter<'_>) -> fmt::Result {
+        formatter
+            .debug_struct("EndedJob")
+            .field("is_installed", &self.is_installed)
+            .finish_non_exhaustive()
     }
 }

@@ -73,7 +73,7 @@ use ucstore_sys as sys;
 pub use batch::Batch;
 pub use ended::{BatchFault, Ended, LogFault};
 pub use error::Error;
-pub use job::Job;
+pub use job::{EndedJob, Job};
 pub use log::{log_writes, LogWrites, Operation, Write};
 pub use options::{Operator, Options};
 pub use report::Report;

@@ -5,7 +5,7 @@ use crate::sys;
 /// How a store is kept, with the names of RocksDB's options (its wiki, "Universal Compaction").
 ///
 /// The default options are a memtable of 4 MiB, 4 runs, 36 runs, 1 percent, 200 percent, at least 2 runs and no limit
-/// to them, and a store that compacts by itself.
+/// to them, a store that compacts by itself, and one memtable.
 ///
 /// ```
 /// let options = ucstore::Options { write_buffer_size: 1 << 20, ..Default::default() };
@@ -29,6 +29,9 @@ pub struct Options {
     pub max_merge_width: u32,
     /// Whether the store compacts behind a flush. Else it does from `stop_trigger` runs on alone.
     pub compacts_itself: bool,
+    /// How many memtables are gathered at most, at least 1. With 1 a write that finds the memtable full flushes it. With
+    /// more a [job](crate::Store::take_job) does, and a write only once as many are full.
+    pub max_write_buffer_number: u32,
 }
 
 impl Options {
@@ -44,6 +47,7 @@ impl Options {
             min_merge_width: self.min_merge_width,
             max_merge_width: self.max_merge_width,
             compacts_itself: self.compacts_itself.into(),
+            max_write_buffer_number: self.max_write_buffer_number,
         }
     }
 }
@@ -62,6 +66,7 @@ impl Default for Options {
             min_merge_width: options.min_merge_width,
             max_merge_width: options.max_merge_width,
             compacts_itself: options.compacts_itself != 0,
+            max_write_buffer_number: options.max_write_buffer_number,
         }
     }
 }

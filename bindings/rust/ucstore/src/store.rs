@@ -3,7 +3,7 @@
 use crate::batch::Batch;
 use crate::ended::Ended;
 use crate::error::{check, Error};
-use crate::job::Job;
+use crate::job::{EndedJob, Job};
 use crate::options::{Operator, Options};
 use crate::reads::{Functions, Reads};
 use crate::report::Report;
@@ -351,7 +351,9 @@ impl Store {
         Ok(compacted)
     }
 
-    /// Takes out the compaction that is picked next, if there is one among the runs that no other job has.
+    /// Takes out a job, if there is one: the flush of what is gathered, if a memtable is full, no flush is out, and
+    /// [`max_write_buffer_number`](crate::Options::max_write_buffer_number) is above 1. Else the compaction that is picked
+    /// next among the runs that no other job has.
     ///
     /// # Errors
     ///
@@ -362,19 +364,19 @@ impl Store {
         Ok(taken.then_some(job))
     }
 
-    /// Ends a job: if it was run, its run takes the place of those that it had. Tells whether it did: it doesn't if no
-    /// number is left for a run. The runs of one that wasn't run may be compacted again.
+    /// Ends a job: if it was run, its run takes the place of what it had. What one had that wasn't run may be flushed or
+    /// compacted again. It frees nothing of that: the ended job does, where it is dropped.
     ///
     /// # Errors
     ///
     /// A job of another store comes back.
-    pub fn end_job(&self, mut job: Job) -> Result<bool, Job> {
+    pub fn end_job(&self, mut job: Job) -> Result<EndedJob, Job> {
         if job.store != self.number {
             return Err(job);
         }
         let mut installed = false;
         self.certain(unsafe { sys::ucstore_job_end(self.handle(), job.handle(), &mut installed) });
-        Ok(installed)
+        Ok(EndedJob::new(job, installed))
     }
 
     /// What the store holds, in numbers.

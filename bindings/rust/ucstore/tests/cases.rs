@@ -229,6 +229,7 @@ fn set_option(options: &mut Options, word: &str) {
         "min_merge_width" => options.min_merge_width = short,
         "max_merge_width" => options.max_merge_width = short,
         "compacts_itself" => options.compacts_itself = value != 0,
+        "max_write_buffer_number" => options.max_write_buffer_number = value as u32,
         other => panic!("an unknown option {other}"),
     }
 }

@@ -105,7 +105,10 @@ fn a_job_is_run_beside_writes() {
         job
     });
     store.put("k", "v").unwrap();
-    assert!(store.end_job(worker.join().unwrap()).unwrap());
+    assert!(store
+        .end_job(worker.join().unwrap())
+        .unwrap()
+        .is_installed());
     assert!(store.report().runs < 8);
     assert_eq!(store.scan("", None).count(), 9);
     assert_eq!(store.get("k").unwrap(), Some(b"v".to_vec()));
@@ -117,11 +120,11 @@ fn a_job_that_was_not_run_gives_its_runs_back() {
     assert!(store.take_job().unwrap().is_none());
     write_runs(&store, 8);
     let job = store.take_job().unwrap().unwrap();
-    assert!(!store.end_job(job).unwrap());
+    assert!(!store.end_job(job).unwrap().is_installed());
     assert_eq!(store.report().runs, 8);
     let mut again = store.take_job().unwrap().unwrap();
     again.run().unwrap();
-    assert!(store.end_job(again).unwrap());
+    assert!(store.end_job(again).unwrap().is_installed());
 }
 
 #[test]
@@ -133,7 +136,7 @@ fn a_job_ends_on_its_own_store_alone() {
     job.run().unwrap();
     let back = other.end_job(job).unwrap_err();
     assert_eq!(other.report().runs, 8);
-    assert!(store.end_job(back).unwrap());
+    assert!(store.end_job(back).unwrap().is_installed());
 }
 
 #[test]
@@ -154,7 +157,7 @@ fn a_full_store_says_that_jobs_have_its_runs() {
     assert_eq!(store.put("k", "w"), Err(Error::RunsClaimed));
     assert_eq!(store.flush(), Err(Error::RunsClaimed));
     job.run().unwrap();
-    assert!(store.end_job(job).unwrap());
+    assert!(store.end_job(job).unwrap().is_installed());
     store.put("k", "w").unwrap();
     assert_eq!(store.get("k").unwrap(), Some(b"w".to_vec()));
 }

@@ -1,7 +1,7 @@
 use Rattle.std.proofs.Common.{◌≡◌, ◌<◌, ◌-◌, ◌^◌, List, [], ◌++◌, sym, ap, ◌∙◌, subst}
 use Rattle.uc_bytes.specs.declared.write.Write.{Write}
 use Rattle.uc_run.specs.Size.{memtable_size}
-use Rattle.uc_memtable.specs.Gathering.{Gathering}
+use Rattle.uc_memtable.specs.Gathering.{Gathered}
 use Rattle.uc_live.proofs.Held.{size-first}
 use Rattle.uc_live.proofs.Prepared.{HasPrepared, none_prepared, comes_next, one_more, all_prepared}
 use Rattle.uc_live.proofs.waiting.prepare_all.Goals as goal
@@ -22,15 +22,15 @@ prepare_one-requires-clause-below c =
     (comes_next c.args.active.now c.loop-write.active c.args.writes c.loop-write.yielded c.loop-write.write-iterator c.loop-write.invariant c.in-Some.write c.next.new.self c.in-Some.ensures.steps).1
 
 given_up : (c : goal.After-give_up) → c.give_up.new.self ≡ record c.loop-write.active { waiting = [] }
-given_up c = c.give_up.ensures ∙ ap (λ (g : Gathering). record g { waiting = [] }) c.in-Err.ensures.err
+given_up c = c.give_up.ensures ∙ ap (λ (g : Gathered). record g { waiting = [] }) c.in-Err.ensures.err
 
 pub returns-in-Err-clause-small : goal.returns-in-Err-clause-small
 returns-in-Err-clause-small c =
     let held = c.loop-write.active in
-    subst (λ (g : Gathering). memtable_size (g.shown ++ g.waiting) < 2 ^ 64 - 1) (sym (given_up c)) (size-first (2 ^ 64 - 1) held.shown held.waiting c.loop-write.invariant.3)
+    subst (λ (g : Gathered). memtable_size (g.shown ++ g.waiting) < 2 ^ 64 - 1) (sym (given_up c)) (size-first (2 ^ 64 - 1) held.shown held.waiting c.loop-write.invariant.3)
 
 pub returns-in-Err-clause-err : goal.returns-in-Err-clause-err
-returns-in-Err-clause-err c = given_up c ∙ ap (λ (g : Gathering). record g { waiting = [] }) c.loop-write.invariant.0
+returns-in-Err-clause-err c = given_up c ∙ ap (λ (g : Gathered). record g { waiting = [] }) c.loop-write.invariant.0
 
 pub loop-write-preserved : goal.loop-write-preserved
 loop-write-preserved c =

@@ -1,6 +1,6 @@
-use Rattle.std.proofs.Common.{◌≡◌, List, [], ap, sym, ◌∙◌, subst}
+use Rattle.std.proofs.Common.{◌≡◌, List, [], refl, inr, ap, sym, ◌∙◌, subst}
 use Rattle.uc_bytes.specs.declared.write.Write.{Write}
-use Rattle.uc_memtable.specs.Gathering.{Gathering}
+use Rattle.uc_memtable.specs.Gathering.{Gathered}
 use Rattle.uc_version.specs.Owners.{Owner}
 use Rattle.uc_live.specs.Lives.{Live}
 use Rattle.uc_live.specs.Going.{Follows}
@@ -39,12 +39,13 @@ returns-in-Ok-clause-goes_on g c =
     let on = flushes c.self.inside c.self.invariant c.recall.ensures c.args.self.now c.self.view_is c.small_writes_fill_one_memtable.ensures c.no_refusal_is_leave_to_feed.ensures c.requires.some c.requires.free m c.feed_gathered.new.owned c.in-Ok.ensures.ok.0 c.in-Ok.ensures.ok.1 in
     let holds = holds_over c.self.inside c.self.invariant c.recall.ensures c.args.self.now c.self.view_is c.small_writes_fill_one_memtable.ensures c.no_refusal_is_leave_to_feed.ensures c.requires.some c.requires.free c.claims_keep_their_runs.ensures.over_a_feed c.feed_gathered.new.owned c.in-Ok.ensures.ok.0 c.in-Ok.ensures.ok.1 in
     let same = claims_stay c.self.inside c.self.invariant c.recall.ensures c.args.self.now c.self.view_is c.small_writes_fill_one_memtable.ensures c.no_refusal_is_leave_to_feed.ensures c.requires.some c.requires.free c.feed_gathered.new.owned c.in-Ok.ensures.ok.1 in
-    let none : [] ≡ c.new.result.shown = sym (ap (λ (a : Gathering). a.shown) c.new.ensures) in (
+    let none : [] ≡ c.new.result.shown = sym (ap (λ (a : Gathered). a.shown) c.new.ensures) in (
       subst (λ (ws : List Write). Follows m now.version c.feed_gathered.new.owned.version now.gathered ws []) none on,
       ap (λ (l : Live). l.snapshots) c.self.view_is,
       ap (λ (l : Live). l.options) c.self.view_is,
       holds,
       same,
+      (ap (λ (l : Live). l.flushes) c.self.view_is, inr refl),
     )
 
 pub returns-in-Err-IdsSpent-clause-err : goal.returns-in-Err-IdsSpent-clause-err

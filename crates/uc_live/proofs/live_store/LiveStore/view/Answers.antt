@@ -1,6 +1,5 @@
 use Rattle.std.proofs.Common.{◌≡◌, ◌∙◌, subst, sym}
 use Rattle.uc_batch.specs.Rising.{IsRising}
-use Rattle.uc_memtable.specs.Gathering.{Gathering}
 use Rattle.uc_memtable.proofs.RisingParts.{rising_front}
 use Rattle.uc_version_state.specs.Versions.{Stored}
 use Rattle.uc_live.specs.declared.view.ViewParts.{ViewParts}
@@ -14,5 +13,5 @@ invariant_of-result g c =
     let front = rising_front v.last active.shown active.waiting c.self.invariant.rising in
     let rising = subst (λ (p : ViewParts). IsRising p.version.last p.gathered.shown) (sym c.in_ok-parts.ensures.ok)
     (subst (λ (u : Stored). IsRising u.last c.in_ok-gathered.gathered.shown) (sym version)
-    (subst (λ (a : Gathering). IsRising v.last a.shown) (sym c.in_ok-gathered.ensures.shared) front)) in
+    (subst (IsRising v.last) (sym c.in_ok-gathered.ensures.shared.0) front)) in
     record { rising = rising; sorted_is = tt }

@@ -5,13 +5,13 @@ use Rattle.uc_version.specs.Installing.{stretch_of, IsRefused}
 use Rattle.uc_version.specs.Jobs.{IsMadeOf}
 use Rattle.uc_version.proofs.owned.Owned.end_job.Goals as goal
 
-pub returns-in-Some-own_refusal_of : goal.returns-in-Some-own_refusal_of
-returns-in-Some-own_refusal_of g c =
+pub returns-in-Some-own_refusal_of-clause-ended : goal.returns-in-Some-own_refusal_of-clause-ended
+returns-in-Some-own_refusal_of-clause-ended g c =
     let o = c.args.self.now in
-    let job = c.args.job in
+    let job = c.args.job.now in
     let error = c.in-Some-own_refusal_of.error in
-    let claim = c.into_parts-claim.ensures.claim in
-    let made = subst (IsMadeOf job) c.in-Some.is c.into_parts-claim.ensures.made in
+    let claim = c.end-claim.ensures.claim in
+    let made = subst (IsMadeOf job) c.in-Some.is c.end-claim.ensures.made in
     let refused = subst (λ (held : Claim). IsRefused o.version (stretch_of o held) c.in-Some.made error) claim c.in-Some-own_refusal_of.ensures.some in (
       made.0,
       subst (λ (asked : Compaction). IsRefused o.version (stretch_of o job.claim) asked error) made.1 refused,

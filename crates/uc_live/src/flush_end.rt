@@ -1,0 +1,16 @@
+//! [`FlushEnd`]: what came of a flush job.
+
+use uc_version::FeedError;
+
+/// What came of a flush job that was ended.
+#[derive(Clone, Copy, Debug, PartialEq, Eq)]
+pub enum FlushEnd {
+    /// Its run was installed, with this id.
+    Installed(u64),
+    /// It wasn't run. What it has is still gathered.
+    NotRun,
+    /// Its writes were flushed before it came back.
+    FlushedBefore,
+    /// Its run was refused: no slot or no id is free, or memory ran out. What it has is still gathered.
+    Refused(FeedError),
+}

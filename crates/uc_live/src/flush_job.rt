@@ -1,0 +1,140 @@
+//! [`FlushJob`]: a flush that is done away from its store.
+ghost use Rattle.std.specs.Prelude.{◌≡◌, ◌≢◌, [], OnOk, OnErr};
+ghost use Rattle.uc_batch.specs.Rising.{last_of};
+ghost use Rattle.uc_version.specs.declared.job_stage.JobStage.TheVariants as stages;
+ghost use Rattle.uc_live.specs.LiveFlushes as flushes;
+ghost use Rattle.uc_live.specs.LiveFlushes.{IsMadeOf};
+
+use std::alloc::{AllocError, Global};
+use std::marker::Model;
+use std::mem;
+use uc_memtable::FlushableMemtables;
+use uc_run::Run;
+use uc_version::JobStage;
+
+/// How far a flush job is, with the run that was made.
+#[derive(Drop)]
+enum Progress {
+    Taken,
+    Run(Run),
+    Ended,
+    /// It has ended, and its run wasn't wanted.
+    Unused(Run),
+}
+
+/// A flush that is done away from its store, by any thread: shares of memtables, which it makes a run of. The owner takes
+/// it out by [`LiveStore::start_flush`](crate::LiveStore::start_flush) and puts it back by
+/// [`LiveStore::end_flush`](crate::LiveStore::end_flush). If it is dropped before, its store flushes the writes itself
+/// once too much is gathered, and takes no flush job out before that.
+///
+/// It keeps its shares of the memtables until it is dropped, also when it has ended. So they are freed where it is
+/// dropped, and not by their owner.
+pub struct FlushJob {
+    number: u64,
+    memtables: FlushableMemtables,
+    progress: Progress,
+}
+
+impl Model for FlushJob {
+    ghost use Rattle.uc_live.specs.LiveFlushes.{FlushTask};
+    ghost use Rattle.uc_live.specs.HeldFlushJobs.{flush_task, IsFlushJob};
+
+    ghost Value = { FlushTask };
+
+    ghost view = { flush_task };
+
+    ghost invariant = { IsFlushJob };
+}
+
+// A destructor of its own: where a value is dropped, the proof of a caller has one call, and not one for each field.
+impl Drop for FlushJob {
+    fn drop(self) {
+        let FlushJob {
+            number: _,
+            memtables: _,
+            progress: _,
+        } = self;
+    }
+}
+
+impl FlushJob {
+    /// The flush of what memtables show, with a number.
+    pub(crate) fn new(number: u64, memtables: FlushableMemtables) -> FlushJob
+        requires { memtables.shown ≢ [] }
+        ensures { result ≡ record { number = number; writes = memtables.shown; stage = stages.Taken } }
+    {
+        FlushJob {
+            number,
+            memtables,
+            progress: Progress::Taken,
+        }
+    }
+
+    /// Its number, from 1: how many flush jobs were taken out with it.
+    pub fn number(&self) -> u64
+        ensures { result ≡ self.now.number }
+    {
+        self.number
+    }
+
+    /// How far it is.
+    pub fn stage(&self) -> JobStage
+        ensures { result ≡ self.now.stage }
+    {
+        match &self.progress {
+            Progress::Taken => JobStage::Taken,
+            Progress::Run(_) => JobStage::Run,
+            Progress::Ended | Progress::Unused(_) => JobStage::Ended,
+        }
+    }
+
+    /// The last sequence of its writes.
+    pub(crate) fn last(&self) -> u64
+        ensures { result ≡ last_of 0 self.now.writes }
+    {
+        self.memtables.last()
+    }
+
+    /// What holds of every flush job: it has writes. Proof step: does nothing when it runs.
+    pub(crate) fn recall(&self)
+        ensures { self.now.writes ≢ [] }
+    {
+        let _ = &self.progress;
+    }
+
+    /// Makes a run of its writes, unless that is done or it has ended. It touches no store. An `Err` changes nothing.
+    pub fn run(&mut self, alloc: Global) -> Result<(), AllocError>
+        ensures ok { OnOk result (self.new ≡ flushes.run self.old) }
+        ensures err { OnErr result (self.new ≡ self.old) }
+    {
+        if let Progress::Taken = self.progress {
+            self.progress = Progress::Run(self.memtables.to_run(alloc)?);
+        }
+        Ok(())
+    }
+
+    /// Ends it: the run that was made, if one was.
+    pub(crate) fn end(&mut self) -> Option<Run>
+        ensures made { IsMadeOf self.old result }
+        ensures ended { self.new ≡ flushes.ended self.old }
+    {
+        match mem::replace(&mut self.progress, Progress::Ended) {
+            Progress::Run(run) => Some(run),
+            Progress::Taken => None,
+            Progress::Ended => None,
+            Progress::Unused(_) => None,
+        }
+    }
+
+    /// Ends it, and keeps the run that was made.
+    pub(crate) fn end_unused(&mut self)
+        ensures { self.new ≡ flushes.ended self.old }
+    {
+        match mem::replace(&mut self.progress, Progress::Ended) {
+            Progress::Run(run) => self.progress = Progress::Unused(run),
+            Progress::Taken => {}
+            Progress::Ended => {}
+            Progress::Unused(run) => self.progress = Progress::Unused(run),
+        }
+    }
+}

@@ -1,0 +1,89 @@
+//! Flushes that are done away from their store.
+ghost use Rattle.std.specs.Prelude.{◌≡◌, ◌≢◌, IfOk, OnErr};
+ghost use Rattle.uc_version.specs.declared.job_stage.JobStage.TheVariants.{Ended};
+ghost use Rattle.uc_live.specs.LiveFlushes as flushes;
+ghost use Rattle.uc_live.specs.LiveFlushes.{EndsFlush, IsOwnFlush, StartsFlush};
+
+use crate::flush_end::FlushEnd;
+use crate::flush_job::FlushJob;
+use crate::live_options::MOST_RANGES;
+use crate::live_store::LiveStore;
+use std::alloc::{AllocError, Global};
+use uc_oper::Operator;
+use uc_version_state::small_writes_fill_one_memtable;
+
+impl<O: Operator> LiveStore<O> {
+    /// Whether a memtable is full of what is gathered.
+    fn is_full(&self) -> bool
+        ensures { result ≡ flushes.is_full self.now }
+    {
+        self.active.size() >= self.options.store.memtable || self.active.ranges() >= MOST_RANGES
+    }
+
+    /// Whether [`start_flush`](LiveStore::start_flush) takes a job out.
+    pub fn wants_flush(&self) -> bool
+        ensures { result ≡ flushes.wants_flush self.now }
+    {
+        self.leaving.is_none()
+            && self.options.max_write_buffer_number > 1
+            && self.flushes < u64::MAX
+            && self.is_full()
+    }
+
+    /// Takes the flush of all that is gathered out of the store as a job, which any thread runs: if a memtable is full, if
+    /// the store gathers more than one, and if no flush job is out. It copies no text but those of a batch that is
+    /// prepared. Until the job is ended, what it has is read in the memtables, and the store goes on in all else. An
+    /// `Err` changes nothing.
+    pub fn start_flush(&mut self, alloc: Global) -> Result<Option<FlushJob>, AllocError>
+        ensures ok { IfOk result (λ job. StartsFlush (flushes.wants_flush self.old) job self.old self.new) }
+        ensures err { OnErr result (self.new ≡ self.old) }
+    {
+        if !self.wants_flush() {
+            return Ok(None);
+        }
+        let memtables = self.active.set_apart(alloc)?;
+        self.flushes += 1;
+        self.leaving = Some(memtables.len());
+        Ok(Some(FlushJob::new(self.flushes, memtables)))
+    }
+
+    /// Whether a flush job is out of this store: whether it has the number of the last one, and that is out.
+    pub fn has_flush_out(&self, job: &FlushJob) -> bool
+        ensures { result ≡ flushes.has_flush_out self.now job.now }
+    {
+        self.leaving.is_some() && self.flushes == job.number()
+    }
+
+    /// Ends a flush job that was taken out of this store: installs its run, if it was run, and forgets its memtables. It
+    /// sorts and copies no text. The job keeps its shares of the memtables until it is dropped, which any thread does.
+    ///
+    /// If its writes were flushed since, they are in already, and nothing changes. Else a job that was run is refused
+    /// only if no slot or no id is left, and for want of memory. Then its writes are still gathered, for another job.
+    pub fn end_flush(&mut self, alloc: Global, job: &mut FlushJob) -> FlushEnd
+        requires out { job.old.stage ≢ Ended }
+        requires own { IsOwnFlush self.old job.old }
+        ensures ended { EndsFlush job.old self.old self.new result }
+        ensures kept { job.new ≡ flushes.ended job.old }
+    {
+        if !self.has_flush_out(job) {
+            job.end_unused();
+            return FlushEnd::FlushedBefore;
+        }
+        small_writes_fill_one_memtable();
+        self.owned.recall();
+        job.recall();
+        self.leaving = None;
+        let last = job.last();
+        let Some(run) = job.end() else {
+            return FlushEnd::NotRun;
+        };
+        let id = self.owned.version().next_id();
+        match self.owned.feed_run(alloc, run, last) {
+            Ok(()) => {
+                self.active.drop_apart(alloc);
+                FlushEnd::Installed(id)
+            }
+            Err(error) => FlushEnd::Refused(error),
+        }
+    }
+}
