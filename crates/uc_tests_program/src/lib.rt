@@ -1,12 +1,12 @@
-//! Worked examples of the program's runs but for the scripts in `uc_tests_tool`.
+//! Worked examples of the program's runs but for its cases (`crates/ucstore/cases`).
 //!
 //! Everything here runs the calls of other crates as their users do, over logs and answers that were worked
 //! out by hand. Read `runs.rt` first: it has one run of each program.
 //!
-//! `reports.rt` has reports on logs, `devices.rt` readers and writers that fail, for scripts and for logs, `endings.rt` the
-//! same for the calls that all programs share, `queries.rt` answers to queries by the plain programs, `reply_lines.rt` the
-//! line of each reply, and `reasons.rt` why runs are refused, as a reader is told. What reports print stands in
-//! `uc_tests_reports`. It goes through all crates.
+//! `devices.rt` has readers and writers that fail, for scripts and for logs, `endings.rt` the same for the calls that all
+//! programs share, `queries.rt` answers to queries by the plain programs, `reply_lines.rt` the line of each reply, and
+//! `reasons.rt` why runs are refused, as a reader is told. What reports print stands in `uc_tests_reports`. It goes through all
+//! crates.
 #![tactic(auto)]
 
 #[cfg(test)]
@@ -19,7 +19,5 @@ mod queries;
 mod reasons;
 #[cfg(test)]
 mod reply_lines;
-#[cfg(test)]
-mod reports;
 #[cfg(test)]
 mod runs;

@@ -147,69 +147,8 @@ pub fn all() -> &'static [Worked] {
 /// The text of a store that holds nothing.
 pub const NOTHING: &str = "total runs 0 points 0 fragments 0 size 0\nkeeps 0\nlast 0\n";
 
-/// `report` of a log that holds nothing.
-pub const NOTHING_HELD: &str = "total runs 0 points 0 fragments 0 size 0\nkeeps 0\nlast 0\n\
-    total runs 0 points 0 fragments 0 size 0\nkeeps 0\nlast 0\n";
-
-/// `report` of three batches of ten bytes where all is compacted into one run.
-pub const MADE_ONE: &str = "run 3 slot 2 points 1 fragments 0 size 10 seqs 3 3\n\
-    run 2 slot 1 points 1 fragments 0 size 10 seqs 2 2\n\
-    run 1 slot 0 points 1 fragments 0 size 10 seqs 1 1\n\
-    total runs 3 points 3 fragments 0 size 30\nkeeps 3\nlast 3\n\
-    compacted 0 3 4\n\
-    run 4 slot 2 points 1 fragments 0 size 14 seqs 1 3\n\
-    total runs 1 points 1 fragments 0 size 14\nkeeps 3\nlast 3\n";
-
-/// `report` of the three batches where nothing is due.
-pub const LEFT: &str = "run 3 slot 2 points 1 fragments 0 size 10 seqs 3 3\n\
-    run 2 slot 1 points 1 fragments 0 size 10 seqs 2 2\n\
-    run 1 slot 0 points 1 fragments 0 size 10 seqs 1 1\n\
-    total runs 3 points 3 fragments 0 size 30\nkeeps 3\nlast 3\n\
-    run 3 slot 2 points 1 fragments 0 size 10 seqs 3 3\n\
-    run 2 slot 1 points 1 fragments 0 size 10 seqs 2 2\n\
-    run 1 slot 0 points 1 fragments 0 size 10 seqs 1 1\n\
-    total runs 3 points 3 fragments 0 size 30\nkeeps 3\nlast 3\n";
-
 /// `report` of a log that is torn behind its first batch, of ten bytes.
 pub const READ_SO_FAR: &str = "run 1 slot 0 points 1 fragments 0 size 10 seqs 1 1\n\
     total runs 1 points 1 fragments 0 size 10\nkeeps 1\nlast 1\n\
     run 1 slot 0 points 1 fragments 0 size 10 seqs 1 1\n\
     total runs 1 points 1 fragments 0 size 10\nkeeps 1\nlast 1\n";
-
-/// A put below a run of two operands.
-pub const NEWEST_TWO_JOINED: &str = "run 4 slot 2 points 1 fragments 0 size 12 seqs 2 3\n\
-    run 1 slot 0 points 1 fragments 0 size 10 seqs 1 1\n\
-    total runs 2 points 2 fragments 0 size 22\nkeeps 3\nlast 3\n";
-
-/// An operand above a run of a put and an operand.
-pub const OLDEST_TWO_JOINED: &str = "run 3 slot 2 points 1 fragments 0 size 10 seqs 3 3\n\
-    run 4 slot 1 points 1 fragments 0 size 12 seqs 1 2\n\
-    total runs 2 points 2 fragments 0 size 22\nkeeps 3\nlast 3\n";
-
-/// The run of a put and its deletion.
-pub const NOTHING_LEFT: &str = "run 3 slot 1 points 0 fragments 0 size 0 seqs 1 2\n\
-    total runs 1 points 0 fragments 0 size 0\nkeeps 2\nlast 2\n";
-
-/// Three keys in one run.
-pub const THREE_KEYS: &str = "run 5 slot 2 points 3 fragments 0 size 37 seqs 1 3\n\
-    total runs 1 points 3 fragments 0 size 37\nkeeps 3\nlast 3\n";
-
-/// A put below a run of two numbers, with a keep between them.
-pub const NUMBERS_APART: &str = "run 4 slot 2 points 2 fragments 0 size 34 seqs 2 3\n\
-    run 1 slot 0 points 1 fragments 0 size 10 seqs 1 1\n\
-    total runs 2 points 3 fragments 0 size 44\nkeeps 2 3\nlast 3\n";
-
-/// The same without the keep.
-pub const NUMBERS_ADDED: &str = "run 4 slot 2 points 1 fragments 0 size 17 seqs 2 3\n\
-    run 1 slot 0 points 1 fragments 0 size 10 seqs 1 1\n\
-    total runs 2 points 2 fragments 0 size 27\nkeeps 3\nlast 3\n";
-
-/// A run of a number and a range deletion, with a keep between them, above a number and below another.
-pub const RANGE_ABOVE_A_KEEP: &str = "run 4 slot 3 points 1 fragments 0 size 17 seqs 4 4\n\
-    run 5 slot 2 points 1 fragments 1 size 27 seqs 2 3\n\
-    run 1 slot 0 points 1 fragments 0 size 17 seqs 1 1\n\
-    total runs 3 points 3 fragments 1 size 61\nkeeps 2 4\nlast 4\n";
-
-/// All of it in one run.
-pub const RANGE_IN_ONE_RUN: &str = "run 6 slot 3 points 2 fragments 1 size 44 seqs 1 4\n\
-    total runs 1 points 2 fragments 1 size 44\nkeeps 2 4\nlast 4\n";
