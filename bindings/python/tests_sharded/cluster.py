@@ -2,12 +2,14 @@
 
 import json
 import random
+import signal
 import subprocess
 import sys
 import threading
 import time
+from contextlib import contextmanager
 from pathlib import Path
-from typing import Dict, Optional, Set
+from typing import Dict, Iterator, Optional, Set
 
 from distributed import Client
 
@@ -76,6 +78,18 @@ class Cluster:
         """Kills all workers."""
         while self.workers:
             self._kill(self.workers.popitem()[1])
+
+    @contextmanager
+    def stopped_workers(self) -> Iterator[None]:
+        """Stops all workers for a while: their processes are there, and do nothing."""
+        processes = list(self.workers.values())
+        for process in processes:
+            process.send_signal(signal.SIGSTOP)
+        try:
+            yield
+        finally:
+            for process in processes:
+                process.send_signal(signal.SIGCONT)
 
     def kill_scheduler(self) -> None:
         """Kills the scheduler."""

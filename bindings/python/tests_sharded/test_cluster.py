@@ -13,6 +13,7 @@ import subprocess
 import sys
 import tempfile
 import threading
+import time
 import unittest
 from contextlib import contextmanager
 from itertools import takewhile
@@ -24,7 +25,7 @@ import writer
 from cluster import Cluster
 from ucstore import Merge, NoStore, NotProtected, Operator, Put
 from ucstore._shard import sealed
-from ucstore.sharded import AnotherWriter, BadManifest, LogDamaged, NoWorkers, Scan, ShardedError, ShardedStore
+from ucstore.sharded import AnotherWriter, BadManifest, LogDamaged, NoWorkers, Scan, ShardedError, ShardedStore, ShardTimeout
 
 SEED = int(os.environ.get("SEED", "1"))
 WRITES = int(os.environ.get("WRITES", "50000"))
@@ -190,6 +191,30 @@ class Calls(OnCluster):
         store.write([Put(b"7", b"w")])
         self.assertEqual(store._futures, futures)
 
+    def test_the_last_sequence_is_read_without_a_snapshot(self):
+        store = self.create()
+        store.write([Put(b"%d" % number, b"v") for number in range(20)])
+        before = store.snapshot()
+        store.write([Merge(b"7", b"w")])
+        self.assertEqual((store.get(b"7"), store.get(b"none"), before.get(b"7")), (b"v,w", None, b"v"))
+        self.assertEqual(store.answers([b"7", Scan(b"1", b"12")]), [b"v,w", [(b"1", b"v"), (b"10", b"v"), (b"11", b"v")]])
+        self.assertEqual([report.snapshots for report in store.report()], [1] * 4)
+        with self.assertRaises(TypeError):
+            store.get("7")
+
+    def test_a_stopped_worker_ends_no_call_late(self):
+        store = ShardedStore.create(self.client, self.folder, 4, Operator.APPEND, timeout=1.0)
+        self.addCleanup(store.close)
+        store.write([Put(b"%d" % number, b"v") for number in range(20)])
+        with cluster.stopped_workers():
+            begun = time.monotonic()
+            with self.assertRaisesRegex(ShardTimeout, "hasn't answered"):
+                store.write([Put(b"%d" % number, b"w") for number in range(20)])
+            self.assertLess(time.monotonic() - begun, 10.0)
+        self.assertEqual([store.get(b"%d" % number) for number in range(20)], [b"v"] * 20)
+        store.write([Put(b"7", b"w")])
+        self.assertEqual(store.get(b"7"), b"w")
+
     def test_a_scan_has_many_pages(self):
         store = self.create()
         rows = {b"%06d" % number: b"v" * (number % 50) for number in range(9000)}
@@ -274,7 +299,7 @@ class Refused(OnCluster):
         for changes, wrong in (
             ({"shards": 5}, "shard-4.log isn't there"),
             ({"shards": 3}, None),
-            ({"format": 3}, "its format is 3"),
+            ({"format": 4}, "its format is 4"),
             ({"placement": "sha1"}, "neither by crc32 nor by split points"),
         ):
             path.write_bytes(sealed({**shape, **changes}))

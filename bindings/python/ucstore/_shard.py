@@ -522,6 +522,16 @@ class Shard(Store):
                 found.append((place, list(islice(self.scan_at(*query[:2], at), query[2]))))
         return dumps(found)
 
+    def latest(self, queries: bytes) -> bytes:
+        """The answers at the last sequence, as `answers` gives them."""
+        found: list[tuple[int, Any]] = []
+        for place, query in marshal.loads(queries):
+            if isinstance(query, bytes):
+                found.append((place, self.get(query)))
+            else:
+                found.append((place, list(islice(self.scan(*query[:2]), query[2]))))
+        return dumps(found)
+
     def page(self, low: bytes, high: bytes | None, at: int) -> bytes:
         """The first rows of a scan at a snapshot, and whether there may be more, packed."""
         rows, size = [], 0

@@ -14,12 +14,13 @@ import marshal
 import os
 import sys
 import threading
+import time
 from collections import defaultdict
 from contextlib import AbstractContextManager, suppress
 from itertools import islice
 from operator import index
 from pathlib import Path
-from typing import Any, Iterable, Iterator, Mapping, NamedTuple, Sequence
+from typing import Any, Callable, Iterable, Iterator, Mapping, NamedTuple, Sequence
 
 from distributed import CancelledError, Client, Future, KilledWorker
 from distributed import TimeoutError as TimedOut
@@ -34,7 +35,7 @@ except ImportError:
     tqdm = None
 
 __all__ = ["AnotherWriter", "BadManifest", "LogDamaged", "NoWorkers", "Scan"]
-__all__ += ["ShardedError", "ShardedSnapshot", "ShardedStore"]
+__all__ += ["ShardTimeout", "ShardedError", "ShardedSnapshot", "ShardedStore"]
 
 # Seconds between two looks at a shard that doesn't answer, and how often it is opened for a call.
 _POLL, _TRIES = 0.2, 10
@@ -45,6 +46,10 @@ _LOST = "Worker holding Actor was lost"
 
 class NoWorkers(ShardedError):
     """No worker is left on which a shard could be opened."""
+
+
+class ShardTimeout(ShardedError):
+    """A shard hasn't answered in time. What was written isn't there."""
 
 
 class Scan(NamedTuple):
@@ -66,6 +71,28 @@ class Scan(NamedTuple):
 def _checked(query: bytes | Scan) -> bytes | Scan:
     """A query. Raises `TypeError` and `ValueError` for another thing: no shard is asked that."""
     return query._checked() if isinstance(query, Scan) else _bytes_of(query)
+
+
+def _answers(
+    manifest: Manifest,
+    asked: Sequence[bytes | Scan],
+    ask: Callable[[Mapping[int, tuple]], Mapping[int, bytes]],
+) -> list[Any]:
+    """The answers to queries, in their order, of shards that are asked once each."""
+    parts: dict[int, list] = defaultdict(list)
+    for place, query in enumerate(asked):
+        is_scan = isinstance(query, Scan)
+        numbers = manifest.touched(*query[:2]) if is_scan else (manifest.owner(query),)
+        for number in numbers:
+            parts[number].append((place, tuple(query) if is_scan else query))
+    found: list[list] = [[] for _ in asked]
+    for part in ask({number: (dumps(part),) for number, part in parts.items()}).values():
+        for place, answer in marshal.loads(part):
+            found[place].append(answer)
+    return [
+        list(islice(heapq.merge(*some), query.limit)) if isinstance(query, Scan) else some[0]
+        for query, some in zip(asked, found)
+    ]
 
 
 def _is_lost(future: Any, error: Exception) -> bool:
@@ -93,6 +120,7 @@ class ShardedStore(AbstractContextManager):
         *,
         sync: bool = True,
         patience: float = 30.0,
+        timeout: float | None = None,
     ) -> ShardedStore:
         """Makes an empty store in a folder that is empty or isn't there.
 
@@ -103,17 +131,24 @@ class ShardedStore(AbstractContextManager):
         points, folder = None if splits is None else tuple(splits), Path(path).absolute()
         manifest = Manifest(shards, points, operator, options)
         with manifest.created(folder) as claim:
-            return cls(client, folder, manifest, claim, sync, patience)
+            return cls(client, folder, manifest, claim, sync, patience, timeout)
 
     @classmethod
     def open(
-        cls, client: Client, path: str | Path, *, sync: bool = True, patience: float = 30.0
+        cls,
+        client: Client,
+        path: str | Path,
+        *,
+        sync: bool = True,
+        patience: float = 30.0,
+        timeout: float | None = None,
     ) -> ShardedStore:
         """Opens a store with all batches that were acknowledged.
 
         `sync` says whether each batch is on the logs' devices before it is acknowledged. Without
         it, a machine that crashes may leave logs that are refused. `patience` is for how many
-        seconds a call waits for a worker or a lock.
+        seconds a call waits for a worker or a lock, and `timeout` for how many it waits for a
+        shard's answer: for ever, if it is None. Openings have no such limit.
 
         Raises what `Store.open` does, `BadManifest`, `AnotherWriter`, `LogDamaged`, `NoWorkers`,
         and `ShardedError` and `OSError` for a file's error.
@@ -121,7 +156,7 @@ class ShardedStore(AbstractContextManager):
         folder = Path(path).absolute()
         manifest, claim = Manifest.read(folder), Claim(folder, patience)
         with undoing(claim.release):
-            return cls(client, folder, manifest, claim, sync, patience)
+            return cls(client, folder, manifest, claim, sync, patience, timeout)
 
     def __init__(
         self,
@@ -131,9 +166,11 @@ class ShardedStore(AbstractContextManager):
         claim: Claim,
         sync: bool,
         patience: float,
+        timeout: float | None,
     ) -> None:
         """`create` and `open` call it. The claim is theirs until all is open."""
         self._client, self._patience, self._folder = client, patience, folder
+        self._timeout = timeout
         self._manifest, self._claim = manifest, claim
         self._writer = Writer(folder, manifest, claim.epoch, sync, patience)
         self._guard = threading.RLock()
@@ -187,8 +224,8 @@ class ShardedStore(AbstractContextManager):
     def write(self, operations: Iterable[Operation]) -> int:
         """Writes a batch, and returns its last sequence once all shards have it in their logs.
 
-        Raises what `Store.write` does, `NoWorkers`, `AnotherWriter`, and `ShardedError` for a file's
-        error: then the batch isn't there. An `OSError` is one of the sequencer's log: then that
+        Raises what `Store.write` does, `NoWorkers`, `AnotherWriter`, `ShardTimeout`, and `ShardedError` for a
+        file's error: then the batch isn't there. An `OSError` is one of the sequencer's log: then that
         isn't known. The store is closed, and opening it tells.
         """
         batch = list(operations)
@@ -203,6 +240,23 @@ class ShardedStore(AbstractContextManager):
                 with undoing(self.close):
                     log.append(last, lengths)
         return last
+
+    def get(self, key: bytes) -> bytes | None:
+        """The value under a key now, or None. Raises what `answers` does."""
+        return self.answers([_bytes_of(key)])[0]
+
+    def answers(self, queries: Iterable[bytes | Scan]) -> list[Any]:
+        """The answers to queries now, all at one moment, as those of a snapshot.
+
+        Raises `OutOfMemory`, `NoWorkers`, `ShardTimeout`, `TypeError` and `ValueError`.
+        """
+
+        def ask(calls: Mapping[int, tuple]) -> dict[int, Any]:
+            with self._guard, undoing(self._forget, calls):
+                self._acknowledged()
+                return self._ask("latest", calls)
+
+        return _answers(self._manifest, list(map(_checked, queries)), ask)
 
     def snapshot(self) -> ShardedSnapshot:
         """A snapshot at the last sequence, which `with` releases at its end.
@@ -279,6 +333,7 @@ class ShardedStore(AbstractContextManager):
 
     def _wait(self, number: int, future: Any, workers: Iterable[str]) -> Any:
         """What a call, or an opening on workers, comes to. Raises what it raises."""
+        is_call, begun = not isinstance(future, Future), time.monotonic()
         while True:
             try:
                 # An actor belongs to the client that is the current one.
@@ -292,6 +347,9 @@ class ShardedStore(AbstractContextManager):
                     is_lost = set(workers).isdisjoint(there)
                 if is_lost:
                     raise CancelledError() from None
+                waited = time.monotonic() - begun
+                if is_call and self._timeout is not None and waited >= self._timeout:
+                    raise ShardTimeout(f"shard {number} hasn't answered for {waited:.1f} s") from None
 
     def _forget(self, numbers: Iterable[int]) -> None:
         """Lets go of shards. Their workers close them, once no call is under way."""
@@ -397,19 +455,5 @@ class ShardedSnapshot(AbstractContextManager):
         Each shard is asked once, for all that it has to answer. Raises what `get` does, and
         `ValueError` for a wrong limit.
         """
-        asked, manifest = list(map(_checked, queries)), self._manifest
-        parts: dict[int, list] = defaultdict(list)
-        for place, query in enumerate(asked):
-            is_scan = isinstance(query, Scan)
-            numbers = manifest.touched(*query[:2]) if is_scan else (manifest.owner(query),)
-            for number in numbers:
-                parts[number].append((place, tuple(query) if is_scan else query))
-        calls = {number: (dumps(part),) for number, part in parts.items()}
-        found: list[list] = [[] for _ in asked]
-        for part in self._ask("answers", calls).values():
-            for place, answer in marshal.loads(part):
-                found[place].append(answer)
-        return [
-            list(islice(heapq.merge(*some), query.limit)) if isinstance(query, Scan) else some[0]
-            for query, some in zip(asked, found)
-        ]
+        asked = list(map(_checked, queries))
+        return _answers(self._manifest, asked, lambda calls: self._ask("answers", calls))
