@@ -1,0 +1,150 @@
+//! [`Checkpoint`]: the rows of a view as a write-ahead log, piece by piece.
+ghost use Rattle.std.specs.Prelude.{◌≡◌, ℕ, IfOk, IfErr, option_map};
+ghost use Rattle.uc_batch.specs.Gathering.{numbered_text};
+ghost use Rattle.uc_checkpoint.specs.Checkpoints as checkpoints;
+ghost use Rattle.uc_checkpoint.specs.Checkpoints.{LaysOut, RefusesPiece, puts_of};
+
+use crate::checkpoint_error::CheckpointError;
+use std::alloc::{AllocError, Global};
+use std::marker::Model;
+use uc_batch::{PushError, WriteBatch};
+use uc_bytes::{Bytes, MAX_SEQUENCE, OpRef};
+use uc_live::View;
+use uc_logrec::payload_bytes;
+use uc_oper::Operator;
+use uc_query_read::{Rows, scan_rows_are_determined, scan_rows_are_first};
+
+/// The most rows of a piece.
+const MOST_ROWS: u64 = 1 << 16;
+
+/// A view whose rows are laid out as a write-ahead log that puts them, piece by piece.
+pub struct Checkpoint<O: Operator> {
+    view: View<O>,
+    /// Each row below it is laid out, and no other. None once all are.
+    next: Option<Bytes>,
+    /// How many rows are laid out: the sequence of the last one.
+    rows: u64,
+}
+
+impl<O: Operator> Model for Checkpoint<O> {
+    ghost use Rattle.uc_checkpoint.specs.Checkpoints.{Progress};
+    ghost use Rattle.uc_checkpoint.specs.HeldCheckpoints.{progress, IsProgress};
+
+    ghost Value = { Progress };
+
+    ghost view = { progress };
+
+    ghost invariant = { IsProgress O.meaning };
+}
+
+// A destructor of its own: where a value is dropped, the proof of a caller has one call, and not one for each field.
+impl<O: Operator> Drop for Checkpoint<O> {
+    fn drop(self) {
+        let Checkpoint {
+            view: _,
+            next: _,
+            rows: _,
+        } = self;
+    }
+}
+
+/// Rows of a piece, and the key of the row behind them, if there is one.
+#[derive(Drop)]
+struct Page {
+    rows: Vec<(Bytes, Bytes)>,
+    next: Option<Bytes>,
+}
+
+/// The batch that puts rows.
+fn batch_of(alloc: Global, rows: &[(Bytes, Bytes)]) -> Result<WriteBatch, CheckpointError> {
+    let mut batch = WriteBatch::new(alloc)?;
+    for (key, value) in rows {
+        match batch.push(&OpRef::put(key.as_slice(), value.as_slice())) {
+            Ok(()) => {}
+            Err(PushError::TooLong) => return Err(CheckpointError::TooLong),
+            Err(PushError::Full) => unreachable!(),
+            Err(PushError::Memory) => return Err(CheckpointError::Memory),
+        }
+    }
+    Ok(batch)
+}
+
+/// The bytes of a batch, with a sequence.
+fn numbered(alloc: Global, batch: &WriteBatch, seq: u64) -> Result<Vec<u8>, AllocError>
+    ensures { IfOk result (λ bytes. bytes.items ≡ numbered_text seq batch.now) }
+{
+    let bytes = batch.as_bytes();
+    let mut numbered = Vec::with_capacity(alloc, bytes.len())?;
+    numbered.extend_from_slice(&seq.to_le_bytes())?;
+    numbered.extend_from_slice(&bytes[8..])?;
+    Ok(numbered)
+}
+
+impl<O: Operator> Checkpoint<O> {
+    /// That of a view, of which nothing is laid out yet. What no run of the view has is sorted, once. An `Err` loses the
+    /// view.
+    pub fn of(alloc: Global, view: View<O>) -> Result<Checkpoint<O>, AllocError>
+        ensures { IfOk result (λ checkpoint. checkpoint ≡ record { seen = view; rows = 0 }) }
+    {
+        let mut view = view;
+        view.sort(alloc)?;
+        Ok(Checkpoint {
+            view,
+            next: Some(Bytes::from(Vec::new(alloc))),
+            rows: 0,
+        })
+    }
+
+    /// How many rows are laid out.
+    pub fn rows(&self) -> u64
+        ensures { result ≡ self.now.rows }
+    {
+        self.rows
+    }
+
+    /// The next rows, at most `most` and 65,536, but one if `most` is 0.
+    fn page(&self, alloc: Global, next: &Bytes, most: u64) -> Result<Page, AllocError> {
+        let most = most.clamp(1, MOST_ROWS);
+        let rows = self.view.scan(alloc, next.as_slice(), &None, most + 1)?;
+        let mut rows = rows.into_vec();
+        let next = if rows.len() as u64 > most {
+            rows.pop().map(|(key, _)| key)
+        } else {
+            None
+        };
+        Ok(Page { rows, next })
+    }
+
+    /// Lays the next rows out: the bytes that a log of `log_length` bytes gets for them. They are a batch, whose sequences
+    /// go on behind the rows before. There are at most `most` and 65,536 rows, but one if `most` is 0. It is `None` if no row
+    /// is left. An `Err` changes nothing.
+    pub fn next(
+        &mut self,
+        alloc: Global,
+        log_length: u64,
+        most: u64,
+    ) -> Result<Option<Vec<u8>>, CheckpointError>
+        ensures ok { IfOk result (λ piece.
+            LaysOut O.meaning log_length (option_map (λ bytes. bytes.items) piece) self.old self.new) }
+        ensures err { IfErr result (λ error. RefusesPiece O.meaning self.old error × (self.new ≡ self.old)) }
+    {
+        let Some(next) = &self.next else {
+            return Ok(None);
+        };
+        let page = self.page(alloc, next, most)?;
+        if page.rows.is_empty() {
+            return Ok(None);
+        }
+        let batch = batch_of(alloc, &page.rows)?;
+        let count = page.rows.len() as u64;
+        if count > MAX_SEQUENCE - self.rows {
+            return Err(CheckpointError::SequencesSpent);
+        }
+        let bytes = numbered(alloc, &batch, self.rows + 1)?;
+        let text = payload_bytes(alloc, log_length, &bytes)?;
+        let Page { rows: _, next } = page;
+        self.next = next;
+        self.rows += count;
+        Ok(Some(text))
+    }
+}
