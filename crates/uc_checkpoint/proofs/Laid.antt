@@ -29,23 +29,29 @@ last_numbered last (op ∷ ops) = last_numbered (last + 1) ops ∙ omega arith
 
 -- of the puts of rows
 pub last_put : (rows : List (List ℕ × List ℕ)) → last_of 0 (writes_that_put rows) ≡ length rows
-last_put rows = last_numbered 0 (puts_of rows) ∙ length-map put_of rows
+last_put rows =
+    let last = last_numbered 0 (puts_of rows) in
+    let count : length (puts_of rows) ≡ length rows = length-map rows put_of in
+    omega (arith, last, count)
 
 -- the puts of rows behind others
 pub put_behind : (rows more : List (List ℕ × List ℕ)) → writes_that_put (rows ++ more) ≡ writes_that_put rows ++ numbered (length rows + 1) (puts_of more)
 put_behind rows more =
     ap (numbered 1) (map-append put_of rows more)
     ∙ (numbered_behind 1 (puts_of rows) (puts_of more)
-    ∙ ap (λ (n : ℕ). writes_that_put rows ++ numbered n (puts_of more)) (let e : length (puts_of rows) ≡ length rows = length-map put_of rows in omega (arith, e)))
+    ∙ ap (λ (n : ℕ). writes_that_put rows ++ numbered n (puts_of more)) (let e : length (puts_of rows) ≡ length rows = length-map rows put_of in omega (arith, e)))
 
 -- a log with bytes behind its end
 pub added : (log bytes : List ℕ) → cut_and_added log (length log) bytes ≡ log ++ bytes
 added log bytes = ap (λ (bs : List ℕ). bs ++ bytes) (take-length log)
 
 -- The record of a batch without a sequence is that of its operations, numbered behind the last one.
-pub recorded_behind : (last len : ℕ) (ops : List Op) (bytes : List ℕ) → batch_of last (numbered_text (last + 1) ops) ≡ Ok (numbered (last + 1) ops)
-    → bytes ≡ payload_text len (numbered_text (last + 1) ops) → IsRecorded last len (batch_text 0 ops) bytes
-recorded_behind last len ops bytes read text = record {
-  read = record { writes = numbered (last + 1) ops; is = read };
-  text = text;
+abbrev pub recorded_behind : (last n len : ℕ) (ops : List Op) (bytes : List ℕ) → last ≡ n → batch_of n (numbered_text (n + 1) ops) ≡ Ok (numbered (n + 1) ops)
+    → bytes ≡ payload_text len (numbered_text (n + 1) ops) → IsRecorded last len (batch_text 0 ops) bytes
+recorded_behind last n len ops bytes e read text = record {
+  read = record {
+    writes = numbered (n + 1) ops;
+    is = subst (λ (k : ℕ). batch_of k (numbered_text (k + 1) ops) ≡ Ok (numbered (n + 1) ops)) (sym e) read;
+  };
+  text = subst (λ (k : ℕ). bytes ≡ payload_text len (numbered_text (k + 1) ops)) (sym e) text;
 }

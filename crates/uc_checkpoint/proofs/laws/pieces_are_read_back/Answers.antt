@@ -34,18 +34,20 @@ returns-clause-goes_on g c s log bytes old new laid piece =
     let ops = puts_of more in
     let n = length rows in
     let last : last_of 0 (writes_that_put rows) ≡ n = last_put rows in
-    let count : length ops ≡ length more = length-map put_of more in
+    let count : length ops ≡ length more = length-map more put_of in
     let below : n + length ops < 2 ^ 56 = omega (arith, laid.counted, count, piece.below) in
     let text : bytes ≡ payload_text (length log) (numbered_text (n + 1) ops) =
         piece.text ∙ ap (λ (k : ℕ). payload_text (length log) (numbered_text (k + 1) ops)) laid.counted in
-    let recorded = recorded_behind n (length log) ops bytes (c.gathered_batch_is_read.ensures.read n ops piece.fit below) text in
-    let behind = subst (λ (k : ℕ). _) (sym last) recorded in
-    let recovered = c.recorded_batch_is_recovered.ensures log (length log) (writes_that_put rows) (batch_text 0 ops) bytes laid.batches behind in
+    let recorded = recorded_behind (last_of 0 (writes_that_put rows)) n (length log) ops bytes last (c.gathered_batch_is_read.ensures.read n ops piece.fit below) text in
+    let recovered = c.recorded_batch_is_recovered.ensures log (length log) (writes_that_put rows) (batch_text 0 ops) bytes laid.batches recorded in
+    let whole = sym (put_behind rows more) in
+    let longer = subst (λ (bs : List ℕ). HasBatches bs (length log + length bytes) (writes_that_put rows ++ numbered (n + 1) ops)) (added log bytes) recovered.goes_on in
+    let ends = subst (λ (k : ℕ). HasBatches (log ++ bytes) k (writes_that_put rows ++ numbered (n + 1) ops)) (sym (length-append log bytes)) longer in
     record {
       rows = rows ++ more;
       of_view = ap (λ (p : Progress). p.seen) piece.goes_on ∙ laid.of_view;
       all = laid.all ∙ (ap (λ (rs : List (List ℕ × List ℕ)). rows ++ rs) piece.next ∙ sym (append_assoc rows more _));
       counted = ap (λ (p : Progress). p.rows) piece.goes_on ∙ (ap (λ (k : ℕ). k + length more) laid.counted ∙ sym (length-append rows more));
-      batches = ?;
-      read = ?;
+      batches = subst (λ (ws : List Write). HasBatches (log ++ bytes) (length (log ++ bytes)) ws) whole ends;
+      read = ap log_writes (sym (added log bytes)) ∙ (recovered.all ∙ ap (λ (ws : List Write). record { list = ws; ended = Clean }) whole);
     }
