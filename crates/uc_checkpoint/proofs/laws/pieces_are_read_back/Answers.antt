@@ -37,7 +37,7 @@ returns-clause-goes_on g c s log bytes old new laid piece =
     let count : length ops ≡ length more = length-map more put_of in
     let below : n + length ops < 2 ^ 56 = omega (arith, laid.counted, count, piece.below) in
     let text : bytes ≡ payload_text (length log) (numbered_text (n + 1) ops) =
-        piece.text ∙ ap (λ (k : ℕ). payload_text (length log) (numbered_text (k + 1) ops)) laid.counted in
+    piece.text ∙ ap (λ (k : ℕ). payload_text (length log) (numbered_text (k + 1) ops)) laid.counted in
     let recorded = recorded_behind (last_of 0 (writes_that_put rows)) n (length log) ops bytes last (c.gathered_batch_is_read.ensures.read n ops piece.fit below) text in
     let recovered = c.recorded_batch_is_recovered.ensures log (length log) (writes_that_put rows) (batch_text 0 ops) bytes laid.batches recorded in
     let whole = sym (put_behind rows more) in
