@@ -1,10 +1,14 @@
 -- How a checkpoint is held.
-use Rattle.std.specs.Prelude.{◌≡◌, ◌≤◌, ℕ, IsTrue, List, Option, Some, None, length, take, drop}
+use Rattle.std.specs.Prelude.{◌≡◌, ◌≤◌, ◌<◌, ◌^◌, ◌+◌, ℕ, IsTrue, List, [], ◌∷◌, ◌++◌, Option, Some, None, length, take, drop, Any}
 use Rattle.std.specs.List.{AllByRecursion}
 use Rattle.std.specs.Ordering.{is_lt, is_le}
 use Rattle.uc_bytes.specs.Bytes.{bytes_cmp}
 use Rattle.uc_oper.specs.Operation.{Operation}
-use Rattle.uc_checkpoint.specs.Checkpoints.{Progress, all_rows}
+use Rattle.uc_batch.specs.Spelling.{FitsOp}
+use Rattle.uc_checkpoint.specs.Checkpoints.{Progress, all_rows, put_of}
+use Rattle.uc_checkpoint.specs.declared.checkpoint.TheConstants.{MOST_ROWS}
+use Rattle.uc_checkpoint.specs.declared.checkpoint_error.CheckpointError.{CheckpointError}
+use Rattle.uc_checkpoint.specs.declared.checkpoint_error.CheckpointError.TheVariants.{TooLong, SequencesSpent, Memory}
 use Rattle.uc_checkpoint.specs.declared.checkpoint.Checkpoint.TheInside.{Inside}
 
 abbrev pub progress : {O : Type 0} → Inside O → Progress
@@ -20,3 +24,24 @@ Parts None count rows = count ≡ length rows
 pub record IsProgress (m : Operation) {O : Type 0} (i : Inside O) : Type 0 where
   pub parts : Parts i.next i.rows (all_rows m i.view)
   pub within : i.rows ≤ length (all_rows m i.view)
+  pub below : i.rows < 2 ^ 56
+
+-- The row behind the first `most` was taken off, if there was one: this is its key.
+abbrev pub Splits : ℕ → List (List ℕ × List ℕ) → List (List ℕ × List ℕ) → Option (List ℕ) → Type 0
+Splits most all rows (Some key) = (value : List ℕ) × (all ≡ rows ++ (key, value) ∷ []) × (length rows ≡ most)
+Splits most all rows None = (all ≡ rows) × (length rows ≤ most)
+
+-- The first rows of those that are left behind `count`, and the key that parts them from the others. There is none only
+-- if none is left.
+pub record IsPage (all : List (List ℕ × List ℕ)) (count : ℕ) (rows : List (List ℕ × List ℕ)) (next : Option (List ℕ)) : Type 0 where
+  pub few : length rows ≤ MOST_ROWS
+  pub left : drop count all ≡ rows ++ drop (count + length rows) all
+  pub parts : Parts next (count + length rows) all
+  pub within : count + length rows ≤ length all
+  pub some : rows ≡ [] → drop count all ≡ []
+
+-- Why rows aren't put by one batch.
+abbrev pub RefusesRows : List (List ℕ × List ℕ) → CheckpointError → Type 0
+RefusesRows rows TooLong = Any (λ row. FitsOp (put_of row) → ⊥) rows
+RefusesRows rows SequencesSpent = ⊥
+RefusesRows rows Memory = Unit {0}

@@ -1,8 +1,9 @@
 //! [`Checkpoint`]: the rows of a view as a write-ahead log, piece by piece.
-ghost use Rattle.std.specs.Prelude.{◌≡◌, ℕ, IfOk, IfErr, option_map};
-ghost use Rattle.uc_batch.specs.Gathering.{numbered_text};
-ghost use Rattle.uc_checkpoint.specs.Checkpoints as checkpoints;
-ghost use Rattle.uc_checkpoint.specs.Checkpoints.{LaysOut, RefusesPiece, puts_of};
+ghost use Rattle.std.specs.Prelude.{◌≡◌, ◌≤◌, ◌<◌, ◌+◌, ◌++◌, ◌∷◌, [], IfOk, IfErr, OnOk, length, option_map};
+ghost use Rattle.uc_batch.specs.Gathering.{FitTogether, numbered_text};
+ghost use Rattle.uc_checkpoint.specs.Checkpoints.{LaysOut, RefusesPiece, all_rows, put_of, puts_of};
+ghost use Rattle.uc_checkpoint.specs.HeldCheckpoints.{IsPage, RefusesRows, Splits};
+ghost use Rattle.uc_checkpoint.specs.declared.checkpoint.TheConstants.{MOST_ROWS};
 
 use crate::checkpoint_error::CheckpointError;
 use std::alloc::{AllocError, Global};
@@ -12,7 +13,7 @@ use uc_bytes::{Bytes, MAX_SEQUENCE, OpRef};
 use uc_live::View;
 use uc_logrec::payload_bytes;
 use uc_oper::Operator;
-use uc_query_read::{Rows, scan_rows_are_determined, scan_rows_are_first};
+use uc_query_read::{scan_rows_are_determined, scan_rows_are_first};
 
 /// The most rows of a piece.
 const MOST_ROWS: u64 = 1 << 16;
@@ -55,23 +56,51 @@ struct Page {
     next: Option<Bytes>,
 }
 
+/// Adds the put of a row to a batch.
+fn push_row(batch: &mut WriteBatch, row: &(Bytes, Bytes)) -> Result<(), CheckpointError>
+    requires { length batch.old < MOST_ROWS }
+    ensures ok { OnOk result (batch.new ≡ batch.old ++ put_of row.now ∷ []) }
+    ensures err { IfErr result (λ error. RefusesRows (row.now ∷ []) error) }
+{
+    let (key, value) = row;
+    match batch.push(&OpRef::put(key.as_slice(), value.as_slice())) {
+        Ok(()) => Ok(()),
+        Err(PushError::TooLong) => Err(CheckpointError::TooLong),
+        Err(PushError::Full) => unreachable!(),
+        Err(PushError::Memory) => Err(CheckpointError::Memory),
+    }
+}
+
 /// The batch that puts rows.
-fn batch_of(alloc: Global, rows: &[(Bytes, Bytes)]) -> Result<WriteBatch, CheckpointError> {
+fn batch_of(alloc: Global, rows: &[(Bytes, Bytes)]) -> Result<WriteBatch, CheckpointError>
+    requires { length rows.now ≤ MOST_ROWS }
+    ensures ok { IfOk result (λ batch. batch ≡ puts_of rows.now) }
+    ensures err { IfErr result (λ error. RefusesRows rows.now error) }
+{
     let mut batch = WriteBatch::new(alloc)?;
-    for (key, value) in rows {
-        match batch.push(&OpRef::put(key.as_slice(), value.as_slice())) {
-            Ok(()) => {}
-            Err(PushError::TooLong) => return Err(CheckpointError::TooLong),
-            Err(PushError::Full) => unreachable!(),
-            Err(PushError::Memory) => return Err(CheckpointError::Memory),
-        }
+    for row in rows {
+        push_row(&mut batch, row)?;
     }
     Ok(batch)
 }
 
+/// The first `most` rows, and the key of the row behind them.
+fn split(rows: Vec<(Bytes, Bytes)>, most: u64) -> Page
+    requires { length rows.items ≤ most + 1 }
+    ensures { Splits most rows.items result.rows.items result.next }
+{
+    let mut rows = rows;
+    if rows.len() as u64 <= most {
+        return Page { rows, next: None };
+    }
+    let next = rows.pop().map(|(key, _)| key);
+    Page { rows, next }
+}
+
 /// The bytes of a batch, with a sequence.
 fn numbered(alloc: Global, batch: &WriteBatch, seq: u64) -> Result<Vec<u8>, AllocError>
-    ensures { IfOk result (λ bytes. bytes.items ≡ numbered_text seq batch.now) }
+    ensures text { IfOk result (λ bytes. bytes.items ≡ numbered_text seq batch.now) }
+    ensures fit { FitTogether batch.now }
 {
     let bytes = batch.as_bytes();
     let mut numbered = Vec::with_capacity(alloc, bytes.len())?;
@@ -103,16 +132,21 @@ impl<O: Operator> Checkpoint<O> {
     }
 
     /// The next rows, at most `most` and 65,536, but one if `most` is 0.
-    fn page(&self, alloc: Global, next: &Bytes, most: u64) -> Result<Page, AllocError> {
+    fn page(&self, alloc: Global, most: u64) -> Result<Page, AllocError>
+        ensures { IfOk result (λ page.
+            IsPage (all_rows O.meaning self.now.seen) self.now.rows page.rows.items page.next) }
+    {
+        scan_rows_are_first::<O>();
+        scan_rows_are_determined::<O>();
+        let Some(next) = &self.next else {
+            return Ok(Page {
+                rows: Vec::new(alloc),
+                next: None,
+            });
+        };
         let most = most.clamp(1, MOST_ROWS);
         let rows = self.view.scan(alloc, next.as_slice(), &None, most + 1)?;
-        let mut rows = rows.into_vec();
-        let next = if rows.len() as u64 > most {
-            rows.pop().map(|(key, _)| key)
-        } else {
-            None
-        };
-        Ok(Page { rows, next })
+        Ok(split(rows.into_vec(), most))
     }
 
     /// Lays the next rows out: the bytes that a log of `log_length` bytes gets for them. They are a batch, whose sequences
@@ -128,10 +162,7 @@ impl<O: Operator> Checkpoint<O> {
             LaysOut O.meaning log_length (option_map (λ bytes. bytes.items) piece) self.old self.new) }
         ensures err { IfErr result (λ error. RefusesPiece O.meaning self.old error × (self.new ≡ self.old)) }
     {
-        let Some(next) = &self.next else {
-            return Ok(None);
-        };
-        let page = self.page(alloc, next, most)?;
+        let page = self.page(alloc, most)?;
         if page.rows.is_empty() {
             return Ok(None);
         }
