@@ -23,7 +23,7 @@ left_again all count rows first =
     ∙ ap (λ (rs : List Row). rows ++ rs) (drop-drop (length rows) count all))
 
 -- where no row stands behind those of a page, they are all that are left
-page_of_all : (all : List Row) (count most : ℕ) (rows : List Row) → count ≤ length all → most ≤ MOST_ROWS → rows ≡ take (most + 1) (drop count all) → length rows ≤ most → IsPage all count rows None
+page_of_all : (all : List Row) (count most : ℕ) (rows : List Row) → count ≤ length all → most ≤ MOST_ROWS → rows ≡ take (most + 1) (drop count all) → length rows ≤ most → IsPage all count most rows None
 page_of_all all count most rows within few is short =
     let rest = drop count all in
     let left = length-drop count all in
@@ -34,13 +34,14 @@ page_of_all all count most rows within few is short =
     let same : length rows ≡ length rest = ap (λ (rs : List Row). length rs) whole in
     record {
       few = omega (arith, short, few);
+      many = omega (arith, same, below);
       left = left_again all count rows (whole ∙ sym (take_all (length rows) rest (omega (arith, same))));
       parts = omega (arith, left, same, within);
       within = omega (arith, left, same, within);
       some = λ e. sym whole ∙ e;
     }
 
-page_before : (all : List Row) (count most : ℕ) (rows : List Row) (row : Row) → KeysRise all → count ≤ length all → 1 ≤ most → most ≤ MOST_ROWS → rows ++ row ∷ [] ≡ take (most + 1) (drop count all) → length rows ≡ most → IsPage all count rows (Some row.0)
+page_before : (all : List Row) (count most : ℕ) (rows : List Row) (row : Row) → KeysRise all → count ≤ length all → 1 ≤ most → most ≤ MOST_ROWS → rows ++ row ∷ [] ≡ take (most + 1) (drop count all) → length rows ≡ most → IsPage all count most rows (Some row.0)
 page_before all count most rows row rise within one few is full =
     let rest = drop count all in
     let left = length-drop count all in
@@ -56,6 +57,7 @@ page_before all count most rows row rise within one few is full =
     let at_all : row ≡ get_or all (count + length rows) row = at_rest ∙ get_or-drop count all (length rows) row in
     record {
       few = omega (arith, full, few);
+      many = omega (arith, full, place);
       left = left_again all count rows first;
       parts = subst (λ (r : Row). Parts (Some r.0) (count + length rows) all) (sym at_all) (parted all (count + length rows) row rise there);
       within = omega (arith, there);
@@ -63,13 +65,14 @@ page_before all count most rows row rise within one few is full =
     }
 
 -- the rows of a scan of one more than a page takes, split
-pub page_split : (all : List Row) (count most : ℕ) (shown rows : List Row) (next : Option (List ℕ)) → KeysRise all → count ≤ length all → 1 ≤ most → most ≤ MOST_ROWS → shown ≡ take (most + 1) (drop count all) → Splits most shown rows next → IsPage all count rows next
+pub page_split : (all : List Row) (count most : ℕ) (shown rows : List Row) (next : Option (List ℕ)) → KeysRise all → count ≤ length all → 1 ≤ most → most ≤ MOST_ROWS → shown ≡ take (most + 1) (drop count all) → Splits most shown rows next → IsPage all count most rows next
 page_split all count most shown rows None rise within one few is split = page_of_all all count most rows within few (sym split.0 ∙ is) (let same : length shown ≡ length rows = ap (λ (rs : List Row). length rs) split.0 in omega (arith, same, split.1))
 page_split all count most shown rows (Some key) rise within one few is split = page_before all count most rows (key, split.0) rise within one few (sym split.1 ∙ is) split.2
 
 -- where no row is left, a page has none
-pub page_of_none : (all : List Row) (count : ℕ) → count ≡ length all → IsPage all count [] None
-page_of_none all count done = record {
+pub page_of_none : (all : List Row) (count most : ℕ) → count ≡ length all → IsPage all count most [] None
+page_of_none all count most done = record {
+  many = let left = length-drop count all in omega (arith, done, left);
   few = omega arith;
   left = ap (λ (n : ℕ). drop n all) (omega arith);
   parts = omega (arith, done);

@@ -1,5 +1,5 @@
 -- The rows of a view as a write-ahead log that puts them, piece by piece.
-use Rattle.std.specs.Prelude.{◌≡◌, ◌≢◌, ◌<◌, ◌≤◌, ◌^◌, ◌+◌, ℕ, List, [], ◌++◌, Option, Some, None, length, map, drop, Any}
+use Rattle.std.specs.Prelude.{◌≡◌, ◌≢◌, ◌<◌, ◌≤◌, ◌^◌, ◌+◌, ℕ, List, [], ◌++◌, Option, Some, None, length, map, drop, max, min, Any}
 use Rattle.uc_bytes.specs.declared.op.Op.{Op}
 use Rattle.uc_bytes.specs.declared.op.Op.TheVariants.{Put}
 use Rattle.uc_bytes.specs.declared.write.Write.{Write}
@@ -13,6 +13,7 @@ use Rattle.uc_batch.specs.Spelling.{FitsOp}
 use Rattle.uc_query_read.specs.Answers.{rows_of, named_keys}
 use Rattle.uc_live.specs.Recording.{HasBatches}
 use Rattle.uc_live.specs.Views.{Seen, writes_of, last}
+use Rattle.uc_checkpoint.specs.declared.checkpoint.TheConstants.{MOST_ROWS}
 use Rattle.uc_checkpoint.specs.declared.checkpoint_error.CheckpointError.{CheckpointError}
 use Rattle.uc_checkpoint.specs.declared.checkpoint_error.CheckpointError.TheVariants.{TooLong, SequencesSpent, Memory}
 
@@ -28,6 +29,14 @@ all_rows m s = rows_of m (writes_of s) (last s) (named_keys (writes_of s) [] Non
 -- those that are left
 abbrev pub rows_left : Operation → Progress → List (List ℕ × List ℕ)
 rows_left m p = drop p.rows (all_rows m p.seen)
+
+-- how many rows a piece has, if so many are left
+abbrev pub piece_size : ℕ → ℕ
+piece_size most = max 1 (min most MOST_ROWS)
+
+-- how many rows are laid out behind a piece
+abbrev pub rows_behind : Operation → ℕ → Progress → ℕ
+rows_behind m most p = p.rows + min (piece_size most) (length (rows_left m p))
 
 -- a row as the operation that puts it
 abbrev pub put_of : List ℕ × List ℕ → Op

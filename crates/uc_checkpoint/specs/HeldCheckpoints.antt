@@ -1,5 +1,5 @@
 -- How a checkpoint is held.
-use Rattle.std.specs.Prelude.{◌≡◌, ◌≤◌, ◌<◌, ◌^◌, ◌+◌, ℕ, IsTrue, List, [], ◌∷◌, ◌++◌, Option, Some, None, length, take, drop, Any}
+use Rattle.std.specs.Prelude.{◌≡◌, ◌≤◌, ◌<◌, ◌^◌, ◌+◌, ℕ, IsTrue, List, [], ◌∷◌, ◌++◌, Option, Some, None, length, take, drop, min, Any}
 use Rattle.std.specs.List.{AllByRecursion}
 use Rattle.std.specs.Ordering.{is_lt, is_le}
 use Rattle.uc_bytes.specs.Bytes.{bytes_cmp}
@@ -31,10 +31,11 @@ abbrev pub Splits : ℕ → List (List ℕ × List ℕ) → List (List ℕ × Li
 Splits most all rows (Some key) = (value : List ℕ) × (all ≡ rows ++ (key, value) ∷ []) × (length rows ≡ most)
 Splits most all rows None = (all ≡ rows) × (length rows ≤ most)
 
--- The first rows of those that are left behind `count`, and the key that parts them from the others. There is none only
+-- The first `most` rows of those that are left behind `count`, and the key that parts them from the others. There is none only
 -- if none is left.
-pub record IsPage (all : List (List ℕ × List ℕ)) (count : ℕ) (rows : List (List ℕ × List ℕ)) (next : Option (List ℕ)) : Type 0 where
+pub record IsPage (all : List (List ℕ × List ℕ)) (count most : ℕ) (rows : List (List ℕ × List ℕ)) (next : Option (List ℕ)) : Type 0 where
   pub few : length rows ≤ MOST_ROWS
+  pub many : length rows ≡ min most (length (drop count all))
   pub left : drop count all ≡ rows ++ drop (count + length rows) all
   pub parts : Parts next (count + length rows) all
   pub within : count + length rows ≤ length all

@@ -1,7 +1,7 @@
 //! [`Checkpoint`]: the rows of a view as a write-ahead log, piece by piece.
 ghost use Rattle.std.specs.Prelude.{◌≡◌, ◌≤◌, ◌<◌, ◌+◌, ◌++◌, ◌∷◌, [], IfOk, IfErr, OnOk, length, option_map};
 ghost use Rattle.uc_batch.specs.Gathering.{FitTogether, numbered_text};
-ghost use Rattle.uc_checkpoint.specs.Checkpoints.{LaysOut, RefusesPiece, all_rows, put_of, puts_of};
+ghost use Rattle.uc_checkpoint.specs.Checkpoints.{LaysOut, RefusesPiece, all_rows, piece_size, put_of, puts_of, rows_behind};
 ghost use Rattle.uc_checkpoint.specs.HeldCheckpoints.{IsPage, RefusesRows, Splits};
 ghost use Rattle.uc_checkpoint.specs.declared.checkpoint.TheConstants.{MOST_ROWS};
 
@@ -131,10 +131,10 @@ impl<O: Operator> Checkpoint<O> {
         self.rows
     }
 
-    /// The next rows, at most `most` and 65,536, but one if `most` is 0.
+    /// The next rows, as many as a piece has.
     fn page(&self, alloc: Global, most: u64) -> Result<Page, AllocError>
         ensures { IfOk result (λ page.
-            IsPage (all_rows O.meaning self.now.seen) self.now.rows page.rows.items page.next) }
+            IsPage (all_rows O.meaning self.now.seen) self.now.rows (piece_size most) page.rows.items page.next) }
     {
         scan_rows_are_first::<O>();
         scan_rows_are_determined::<O>();
@@ -150,8 +150,8 @@ impl<O: Operator> Checkpoint<O> {
     }
 
     /// Lays the next rows out: the bytes that a log of `log_length` bytes gets for them. They are a batch, whose sequences
-    /// go on behind the rows before. There are at most `most` and 65,536 rows, but one if `most` is 0. It is `None` if no row
-    /// is left. An `Err` changes nothing.
+    /// go on behind the rows before. There are `most` rows and at most 65,536, but one if `most` is 0; fewer only if no more
+    /// are left. It is `None` if no row is left. An `Err` changes nothing.
     pub fn next(
         &mut self,
         alloc: Global,
@@ -160,6 +160,7 @@ impl<O: Operator> Checkpoint<O> {
     ) -> Result<Option<Vec<u8>>, CheckpointError>
         ensures ok { IfOk result (λ piece.
             LaysOut O.meaning log_length (option_map (λ bytes. bytes.items) piece) self.old self.new) }
+        ensures many { OnOk result (self.new.rows ≡ rows_behind O.meaning most self.old) }
         ensures err { IfErr result (λ error. RefusesPiece O.meaning self.old error × (self.new ≡ self.old)) }
     {
         let page = self.page(alloc, most)?;

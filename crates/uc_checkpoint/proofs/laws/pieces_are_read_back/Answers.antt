@@ -1,7 +1,7 @@
-use Rattle.std.proofs.Common.{◌≡◌, ℕ, ◌+◌, ◌<◌, ◌^◌, List, [], ◌∷◌, ◌++◌, length, refl, sym, ap, subst, ◌∙◌, append_assoc, arith}
+use Rattle.std.proofs.Common.{◌≡◌, ℕ, ◌+◌, ◌<◌, ◌^◌, List, [], ◌++◌, length, refl, sym, ap, subst, ◌∙◌, append_assoc, arith}
 use Rattle.std.proofs.lemmas.List.{length-append, length-map}
 use Rattle.uc_bytes.specs.declared.write.Write.{Write}
-use Rattle.uc_logrec.specs.Log.{payload_text, text_from, payloads_of, ending_of}
+use Rattle.uc_logrec.specs.Log.{payload_text, text_from, ending_of}
 use Rattle.uc_batch.specs.declared.ended.Ended.TheVariants.{Clean}
 use Rattle.uc_batch.specs.Batch.{numbered}
 use Rattle.uc_batch.specs.Gathering.{numbered_text}
@@ -9,7 +9,7 @@ use Rattle.uc_batch.specs.Log.{batches_of, kept, log_writes}
 use Rattle.uc_batch.specs.Rising.{last_of}
 use Rattle.uc_batch.specs.Spelling.{batch_text}
 use Rattle.uc_live.specs.Recording.{HasBatches}
-use Rattle.uc_checkpoint.specs.Checkpoints.{Progress, all_rows, rows_left, put_of, puts_of, writes_that_put}
+use Rattle.uc_checkpoint.specs.Checkpoints.{Progress, put_of, puts_of, writes_that_put}
 use Rattle.uc_checkpoint.proofs.Laid.{last_put, put_behind, added, recorded_behind}
 use Rattle.uc_checkpoint.proofs.laws.pieces_are_read_back.Goals as goal
 

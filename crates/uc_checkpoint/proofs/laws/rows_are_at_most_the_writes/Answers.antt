@@ -1,14 +1,12 @@
-use Rattle.std.proofs.Common.{◌≡◌, ℕ, ◌≤◌, List, [], ◌++◌, length, None, sym, ap, subst, ◌∙◌, arith}
+use Rattle.std.proofs.Common.{◌≡◌, ℕ, List, [], length, None, sym, ap, subst, ◌∙◌, arith}
 use Rattle.std.specs.Prelude.{take, option_map}
 use Rattle.uc_model.specs.Meaning.{value_of}
 use Rattle.std.proofs.Math.Seq.{take-length}
 use Rattle.std.proofs.lemmas.List.{length-take}
-use Rattle.uc_bytes.specs.declared.write.Write.{Write}
 use Rattle.uc_batch.specs.Rising.{IsRising, last_of}
 use Rattle.uc_batch.proofs.Rises.{rising-append}
 use Rattle.uc_version_state.specs.Histories.{writes_given}
 use Rattle.uc_query_read.specs.Answers.{rows_of, named_keys}
-use Rattle.uc_live.specs.Lives as lives
 use Rattle.uc_live.specs.Views.{seen_in}
 use Rattle.uc_checkpoint.specs.Checkpoints.{all_rows}
 use Rattle.uc_checkpoint.proofs.Counted.{filtered_shorter, keys_at_most, rising_at_most}
