@@ -1,17 +1,16 @@
 -- The puts of rows, numbered one piece behind the other.
-use Rattle.std.proofs.Common.{◌≡◌, ℕ, ◌+◌, ◌<◌, ◌^◌, zero, suc, List, [], ◌∷◌, ◌++◌, length, Ok, refl, sym, ap, subst, ◌∙◌, arith}
+use Rattle.std.proofs.Common.{◌≡◌, ℕ, ◌+◌, List, [], ◌∷◌, ◌++◌, length, Ok, sym, ap, subst, ◌∙◌, arith}
 use Rattle.std.proofs.lemmas.List.{map-append, length-map}
 use Rattle.std.proofs.Math.Seq.{take-length}
-use Rattle.std.specs.Prelude.{map}
 use Rattle.uc_bytes.specs.declared.op.Op.{Op}
 use Rattle.uc_bytes.specs.declared.write.Write.{Write}
 use Rattle.uc_logrec.specs.Log.{payload_text}
 use Rattle.uc_logrec.specs.Walk.{cut_and_added}
 use Rattle.uc_batch.specs.Batch.{batch_of, numbered}
-use Rattle.uc_batch.specs.Gathering.{FitTogether, numbered_text}
+use Rattle.uc_batch.specs.Gathering.{numbered_text}
 use Rattle.uc_batch.specs.Rising.{last_of}
 use Rattle.uc_batch.specs.Spelling.{batch_text}
-use Rattle.uc_live.specs.Recording.{IsRead, IsRecorded}
+use Rattle.uc_live.specs.Recording.{IsRecorded}
 use Rattle.uc_checkpoint.specs.Checkpoints.{put_of, puts_of, writes_that_put}
 
 -- operations numbered behind others

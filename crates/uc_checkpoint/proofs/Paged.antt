@@ -1,7 +1,7 @@
 -- A page: the first rows of those that are left, and the key behind them.
-use Rattle.std.proofs.Common.{◌≡◌, ℕ, ◌+◌, ◌≤◌, ◌<◌, suc, List, [], ◌∷◌, ◌++◌, length, get_or, take, drop, Option, Some, None, refl, sym, ap, subst, ◌∙◌, arith}
+use Rattle.std.proofs.Common.{◌≡◌, ℕ, ◌+◌, ◌≤◌, ◌<◌, List, [], ◌∷◌, ◌++◌, length, get_or, take, drop, Option, Some, None, refl, sym, ap, subst, ◌∙◌, arith}
 use Rattle.std.proofs.Math.Seq.{take-append_seam}
-use Rattle.std.proofs.lemmas.List.{take-append-drop, take-take, length-take, length-drop, length-append, take_all, drop_all, drop-drop, get_or-take, get_or-drop, take_more}
+use Rattle.std.proofs.lemmas.List.{take-append-drop, take-take, length-take, length-drop, length-append, take_all, drop_all, drop-drop, get_or-take, get_or-drop}
 use Rattle.uc_query_read.specs.Rising.{KeysRise}
 use Rattle.uc_checkpoint.specs.HeldCheckpoints.{Parts, Splits, IsPage}
 use Rattle.uc_checkpoint.specs.declared.checkpoint.TheConstants.{MOST_ROWS}

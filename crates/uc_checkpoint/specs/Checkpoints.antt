@@ -1,5 +1,5 @@
 -- The rows of a view as a write-ahead log that puts them, piece by piece.
-use Rattle.std.specs.Prelude.{◌≡◌, ◌≢◌, ◌<◌, ◌≤◌, ◌^◌, ◌+◌, ℕ, List, [], ◌++◌, Option, Some, None, length, map, drop, max, min, Any}
+use Rattle.std.specs.Prelude.{◌⊎◌, ◌≡◌, ◌≢◌, ◌<◌, ◌≤◌, ◌^◌, ◌+◌, ℕ, List, [], ◌++◌, Option, Some, None, length, map, drop, max, min, Any}
 use Rattle.uc_bytes.specs.declared.op.Op.{Op}
 use Rattle.uc_bytes.specs.declared.op.Op.TheVariants.{Put}
 use Rattle.uc_bytes.specs.declared.write.Write.{Write}
@@ -63,6 +63,22 @@ pub record IsPiece (m : Operation) (len : ℕ) (bytes : List ℕ) (old new : Pro
 abbrev pub LaysOut : Operation → ℕ → Option (List ℕ) → Progress → Progress → Type 0
 LaysOut m len (Some bytes) old new = IsPiece m len bytes old new
 LaysOut m len None old new = (rows_left m old ≡ []) × (new ≡ old)
+
+-- A piece of so many bytes was laid out in the room, or it doesn't fit, and nothing changed.
+pub record IsInRoom (m : Operation) (len most size : ℕ) (room room' : List ℕ) (old new : Progress) : Type 0 where
+  pub bytes : List ℕ
+  pub behind : Progress
+  pub piece : IsPiece m len bytes old behind
+  pub many : behind.rows ≡ rows_behind m most old
+  pub size_is : size ≡ length bytes
+  pub laid :
+      ((size ≤ length room) × (room' ≡ bytes ++ drop size room) × (new ≡ behind))
+      ⊎ ((length room < size) × (room' ≡ room) × (new ≡ old))
+
+-- So it is; or no row is left, and nothing changed.
+abbrev pub LaysInto : Operation → ℕ → ℕ → Option ℕ → List ℕ → List ℕ → Progress → Progress → Type 0
+LaysInto m len most (Some size) room room' old new = IsInRoom m len most size room room' old new
+LaysInto m len most None room room' old new = (rows_left m old ≡ []) × (room' ≡ room) × (new ≡ old)
 
 -- Why no piece was laid out.
 abbrev pub RefusesPiece : Operation → Progress → CheckpointError → Type 0

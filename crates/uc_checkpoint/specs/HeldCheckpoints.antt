@@ -5,7 +5,7 @@ use Rattle.std.specs.Ordering.{is_lt, is_le}
 use Rattle.uc_bytes.specs.Bytes.{bytes_cmp}
 use Rattle.uc_oper.specs.Operation.{Operation}
 use Rattle.uc_batch.specs.Spelling.{FitsOp}
-use Rattle.uc_checkpoint.specs.Checkpoints.{Progress, all_rows, put_of}
+use Rattle.uc_checkpoint.specs.Checkpoints.{IsPiece, Progress, all_rows, put_of, rows_behind}
 use Rattle.uc_checkpoint.specs.declared.checkpoint.TheConstants.{MOST_ROWS}
 use Rattle.uc_checkpoint.specs.declared.checkpoint_error.CheckpointError.{CheckpointError}
 use Rattle.uc_checkpoint.specs.declared.checkpoint_error.CheckpointError.TheVariants.{TooLong, SequencesSpent, Memory}
@@ -46,3 +46,10 @@ abbrev pub RefusesRows : List (List ℕ × List ℕ) → CheckpointError → Typ
 RefusesRows rows TooLong = Any (λ row. FitsOp (put_of row) → ⊥) rows
 RefusesRows rows SequencesSpent = ⊥
 RefusesRows rows Memory = Unit {0}
+
+-- A piece that is laid out next, and where the checkpoint goes on behind it.
+pub record IsNext (m : Operation) (len most : ℕ) (p : Progress) (text : List ℕ) (next : Option (List ℕ)) (rows : ℕ) : Type 0 where
+  pub piece : IsPiece m len text p (record p { rows = rows })
+  pub many : rows ≡ rows_behind m most p
+  pub parts : Parts next rows (all_rows m p.seen)
+  pub within : rows ≤ length (all_rows m p.seen)

@@ -1,8 +1,8 @@
 //! [`Checkpoint`]: the rows of a view as a write-ahead log, piece by piece.
-ghost use Rattle.std.specs.Prelude.{◌≡◌, ◌≤◌, ◌<◌, ◌+◌, ◌++◌, ◌∷◌, [], IfOk, IfErr, OnOk, length, option_map};
+ghost use Rattle.std.specs.Prelude.{◌≡◌, ◌≤◌, ◌<◌, ◌+◌, ◌^◌, ◌++◌, ◌∷◌, [], IfOk, IfErr, MatchOption, OnOk, length, option_map};
 ghost use Rattle.uc_batch.specs.Gathering.{FitTogether, numbered_text};
-ghost use Rattle.uc_checkpoint.specs.Checkpoints.{LaysOut, RefusesPiece, all_rows, piece_size, put_of, puts_of, rows_behind};
-ghost use Rattle.uc_checkpoint.specs.HeldCheckpoints.{IsPage, RefusesRows, Splits};
+ghost use Rattle.uc_checkpoint.specs.Checkpoints.{LaysInto, LaysOut, RefusesPiece, all_rows, piece_size, put_of, puts_of, rows_behind, rows_left};
+ghost use Rattle.uc_checkpoint.specs.HeldCheckpoints.{IsNext, IsPage, Parts, RefusesRows, Splits};
 ghost use Rattle.uc_checkpoint.specs.declared.checkpoint.TheConstants.{MOST_ROWS};
 
 use crate::checkpoint_error::CheckpointError;
@@ -54,6 +54,14 @@ impl<O: Operator> Drop for Checkpoint<O> {
 struct Page {
     rows: Vec<(Bytes, Bytes)>,
     next: Option<Bytes>,
+}
+
+/// What a log gets for the next rows, and where the checkpoint goes on behind them.
+#[derive(Drop)]
+struct Piece {
+    text: Vec<u8>,
+    next: Option<Bytes>,
+    rows: u64,
 }
 
 /// Adds the put of a row to a batch.
@@ -149,6 +157,44 @@ impl<O: Operator> Checkpoint<O> {
         Ok(split(rows.into_vec(), most))
     }
 
+    /// The piece that comes next, if a row is left.
+    fn piece(
+        &self,
+        alloc: Global,
+        log_length: u64,
+        most: u64,
+    ) -> Result<Option<Piece>, CheckpointError>
+        ensures ok { IfOk result (λ piece. MatchOption piece (rows_left O.meaning self.now ≡ [])
+            (λ p. IsNext O.meaning log_length most self.now p.text.items p.next p.rows)) }
+        ensures err { IfErr result (RefusesPiece O.meaning self.now) }
+    {
+        let page = self.page(alloc, most)?;
+        if page.rows.is_empty() {
+            return Ok(None);
+        }
+        let batch = batch_of(alloc, &page.rows)?;
+        let count = page.rows.len() as u64;
+        if count > MAX_SEQUENCE - self.rows {
+            return Err(CheckpointError::SequencesSpent);
+        }
+        let bytes = numbered(alloc, &batch, self.rows + 1)?;
+        let text = payload_bytes(alloc, log_length, &bytes)?;
+        let Page { rows: _, next } = page;
+        let rows = self.rows + count;
+        Ok(Some(Piece { text, next, rows }))
+    }
+
+    /// Goes on behind a piece.
+    fn go_on(&mut self, next: Option<Bytes>, rows: u64)
+        requires parts { Parts next rows (all_rows O.meaning self.old.seen) }
+        requires within { rows ≤ length (all_rows O.meaning self.old.seen) }
+        requires below { rows < 2 ^ 56 }
+        ensures { self.new ≡ record self.old { rows = rows } }
+    {
+        self.next = next;
+        self.rows = rows;
+    }
+
     /// Lays the next rows out: the bytes that a log of `log_length` bytes gets for them. They are a batch, whose sequences
     /// go on behind the rows before. There are `most` rows and at most 65,536, but one if `most` is 0; fewer only if no more
     /// are left. It is `None` if no row is left. An `Err` changes nothing.
@@ -163,20 +209,37 @@ impl<O: Operator> Checkpoint<O> {
         ensures many { OnOk result (self.new.rows ≡ rows_behind O.meaning most self.old) }
         ensures err { IfErr result (λ error. RefusesPiece O.meaning self.old error × (self.new ≡ self.old)) }
     {
-        let page = self.page(alloc, most)?;
-        if page.rows.is_empty() {
+        let Some(piece) = self.piece(alloc, log_length, most)? else {
             return Ok(None);
-        }
-        let batch = batch_of(alloc, &page.rows)?;
-        let count = page.rows.len() as u64;
-        if count > MAX_SEQUENCE - self.rows {
-            return Err(CheckpointError::SequencesSpent);
-        }
-        let bytes = numbered(alloc, &batch, self.rows + 1)?;
-        let text = payload_bytes(alloc, log_length, &bytes)?;
-        let Page { rows: _, next } = page;
-        self.next = next;
-        self.rows += count;
+        };
+        let Piece { text, next, rows } = piece;
+        self.go_on(next, rows);
         Ok(Some(text))
+    }
+
+    /// Lays the next rows out in the room, as [`next`](Checkpoint::next) does, and tells how many bytes the piece has. If
+    /// they don't fit, nothing changes, and no row is laid out. An `Err` changes nothing.
+    pub fn next_into(
+        &mut self,
+        alloc: Global,
+        log_length: u64,
+        most: u64,
+        room: &mut [u8],
+    ) -> Result<Option<usize>, CheckpointError>
+        ensures ok { IfOk result (λ size.
+            LaysInto O.meaning log_length most size room.old room.new self.old self.new) }
+        ensures err { IfErr result (λ error.
+            RefusesPiece O.meaning self.old error × (room.new ≡ room.old) × (self.new ≡ self.old)) }
+    {
+        let Some(piece) = self.piece(alloc, log_length, most)? else {
+            return Ok(None);
+        };
+        let Piece { text, next, rows } = piece;
+        let size = text.len();
+        if size <= room.len() {
+            room[..size].copy_from_slice(&text);
+            self.go_on(next, rows);
+        }
+        Ok(Some(size))
     }
 }
