@@ -16,3 +16,6 @@ pub mod HeldEngineViews
 pub mod EngineJobs
 pub mod HeldEngineJobs
 pub mod EngineReports
+pub use Rattle.uc_checkpoint.specs.Checkpoints
+pub mod EngineCheckpoints
+pub mod HeldEngineCheckpoints

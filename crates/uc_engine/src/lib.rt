@@ -3,10 +3,11 @@
 //!
 //! An [`Engine`] is a [`LiveStore`](uc_live::LiveStore) of one of the operators, and which that is. Each method is a
 //! match over the operators, and does what the store's method of the same name does. It starts no thread. An
-//! [`EngineView`] is a [`View`](uc_live::View) in the same way, and an [`EngineJob`] a [`Job`](uc_live::Job).
+//! [`EngineView`] is a [`View`](uc_live::View) in the same way, an [`EngineJob`] a [`Job`](uc_live::Job), and an
+//! [`EngineCheckpoint`] a [`Checkpoint`](uc_checkpoint::Checkpoint).
 //!
 //! Read `specs/Engines.antt` first, then `operator_kind.rt`, `engine.rt`, `opening.rt`, `writing.rt`, `reading.rt`,
-//! `snapshots.rt`, `compacting.rt`, `engine_job.rt` and `engine_view.rt`.
+//! `snapshots.rt`, `compacting.rt`, `engine_job.rt`, `engine_view.rt` and `engine_checkpoint.rt`.
 //!
 //! Tests: `uc_tests_engine`.
 //!
@@ -17,6 +18,7 @@
 
 mod compacting;
 mod engine;
+mod engine_checkpoint;
 mod engine_job;
 mod engine_view;
 mod opening;
@@ -27,6 +29,7 @@ mod snapshots;
 mod writing;
 
 pub use engine::Engine;
+pub use engine_checkpoint::EngineCheckpoint;
 pub use engine_job::EngineJob;
 pub use engine_view::EngineView;
 pub use opening::OpenedEngine;
@@ -34,6 +37,7 @@ pub use operator_kind::OperatorKind;
 pub use report::EngineReport;
 pub use uc_batch::{BatchError, Ended};
 pub use uc_bytes::{Bytes, OpRef};
+pub use uc_checkpoint::{CheckpointError, pieces_are_read_back, rows_are_at_most_the_writes};
 pub use uc_live::{
     GREATEST_STOP, InstallError, JobEnd, LiveOpenError, LiveOptions, Options, ReleaseError,
     RoomError, WriteError, batches_are_walked, jobs_go_in, recorded_batch_is_recovered,
