@@ -81,6 +81,12 @@ pub const NOT_OF_STORE: i32 = 23;
 /// There are as many runs as there may be, and jobs have those that would be compacted.
 pub const RUNS_CLAIMED: i32 = 24;
 
+/// The handle has no checkpoint.
+pub const NO_CHECKPOINT: i32 = 32;
+
+/// The handle has a checkpoint already.
+pub const HAS_CHECKPOINT: i32 = 33;
+
 /// The statuses have the numbers that `enum ucstore_status` gives them, in its order.
 pub fn statuses_are_numbered()
     ensures first { statuses.OK ∷ statuses.OUT_OF_MEMORY ∷ statuses.NO_STORE ∷ statuses.HAS_STORE ∷ statuses.NOT_FOUND
@@ -93,6 +99,7 @@ pub fn statuses_are_numbered()
     ensures views { statuses.NO_VIEW ∷ statuses.HAS_VIEW ∷ [] ≡ pos 19 ∷ pos 20 ∷ [] }
     ensures jobs { statuses.NO_JOB ∷ statuses.HAS_JOB ∷ statuses.NOT_OF_STORE ∷ statuses.RUNS_CLAIMED ∷ []
         ≡ pos 21 ∷ pos 22 ∷ pos 23 ∷ pos 24 ∷ [] }
+    ensures checkpoints { statuses.NO_CHECKPOINT ∷ statuses.HAS_CHECKPOINT ∷ [] ≡ pos 32 ∷ pos 33 ∷ [] }
 {}
 
 /// The status where there is no room for a run.
