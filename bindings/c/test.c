@@ -1,5 +1,5 @@
 /* 50,000 drawn operations for each operator, beside a plain dictionary whose copies are the snapshots and the views:
- * writes, batches by handle and as bytes, snapshots, views, jobs, reads, scans and compactions. Then the log of all batches
+ * writes, batches by handle and as bytes, snapshots, views, checkpoints, jobs, reads, scans and compactions. Then the log of all batches
  * is opened and walked, whole and torn. The words are how many operations there are, and the seed. */
 #include <stdio.h>
 #include <stdlib.h>
@@ -753,6 +753,56 @@ static struct ucstore_ended reopen(size_t length) {
     return ended;
 }
 
+/* Checkpoints. */
+
+/* Lays a view out as a log, piece by piece, in rooms of which some are too small. Returns how long the log is. */
+static size_t lay_out(struct ucstore_view *view, uint8_t *log, size_t log_room) {
+    struct ucstore_checkpoint checkpoint = {0};
+    uint64_t most = draw(40);
+    size_t length = 0, size = 99;
+    bool done = false;
+    CHECK(ucstore_checkpoint(view, &checkpoint) == UCSTORE_OK && checkpoint.at != NULL);
+    CHECK(ucstore_checkpoint(view, &checkpoint) == UCSTORE_HAS_CHECKPOINT);
+    while (!done) {
+        size_t room = draw(3) == 0 ? (size_t)draw(100) : log_room - length;
+        int32_t status = ucstore_checkpoint_next(&checkpoint, length, most, log + length, room, &size, &done);
+        if (status == UCSTORE_ROOM) {
+            CHECK(size > room && !done);
+        } else {
+            CHECK(status == UCSTORE_OK && size <= room && done == (size == 0));
+            length += size;
+        }
+    }
+    CHECK(ucstore_checkpoint_next(&checkpoint, length, most, log, 0, &size, &done) == UCSTORE_OK && done && size == 0);
+    CHECK(ucstore_checkpoint_close(&checkpoint) == UCSTORE_OK && checkpoint.at == NULL);
+    CHECK(ucstore_checkpoint_close(&checkpoint) == UCSTORE_NO_CHECKPOINT);
+    return length;
+}
+
+/* Whether a store that is opened from a moment's checkpoint has its rows, numbered from 1, and no others. */
+static void check_checkpoint(struct moment *of) {
+    static struct rows wanted;
+    static uint8_t log[2 * KEYS * VALUE], room[KEYS * VALUE];
+    struct ucstore opened = {0};
+    struct ucstore_view shown = {0};
+    struct ucstore_options options;
+    struct ucstore_ended ended = {7, 7, 7};
+    struct write all;
+    size_t length, size = 99;
+    uint64_t last = 99, found = 99;
+    memset(&all, 0, sizeof all);
+    CHECK((of == &live ? ucstore_view(&store, &shown) : ucstore_view_again(&of->view, &shown)) == UCSTORE_OK);
+    length = lay_out(&shown, log, sizeof log);
+    CHECK(ucstore_view_close(&shown) == UCSTORE_OK);
+    CHECK(ucstore_options_init(&options) == UCSTORE_OK);
+    CHECK(ucstore_open(&opened, merge_operator, &options, log, length, &ended) == UCSTORE_OK && ended.kind == UCSTORE_CLEAN);
+    push_rows(&of->now, &all, false, UINT64_MAX, sizeof room, &wanted);
+    CHECK(ucstore_last(&opened, &last) == UCSTORE_OK && last == wanted.count && last <= of->last);
+    CHECK(ucstore_scan(&opened, all.key, 0, all.key, 0, false, UINT64_MAX, room, sizeof room, &size, &found) == UCSTORE_OK);
+    CHECK(size == wanted.size && found == wanted.count && memcmp(room, wanted.bytes, size) == 0);
+    CHECK(ucstore_close(&opened) == UCSTORE_OK);
+}
+
 /* Opens the log whole, torn, before zeros as a crash may leave them, and with a bit of its last byte changed. */
 static void check_log(void) {
     uint8_t bit = (uint8_t)(1 << draw(8));
@@ -792,6 +842,7 @@ static void step(void) {
         scan(draw_moment());
     } else if (choice < 104) {
         view();
+        check_checkpoint(draw_moment());
     } else {
         job();
     }
@@ -977,6 +1028,20 @@ static void without_view(void) {
     CHECK(ucstore_view_close(&none) == UCSTORE_NO_VIEW && seq == 7 && size == 0);
 }
 
+/* What a handle without a checkpoint answers. */
+static void without_checkpoint(void) {
+    struct ucstore_view shown = {0};
+    struct ucstore_checkpoint none = {0};
+    uint8_t room[] = {0xAA};
+    size_t size = 99;
+    bool done = true;
+    CHECK(ucstore_checkpoint(&shown, &none) == UCSTORE_NO_VIEW && none.at == NULL);
+    CHECK(ucstore_checkpoint_next(&none, 0, 9, room, sizeof room, &size, &done) == UCSTORE_NO_CHECKPOINT);
+    CHECK(ucstore_checkpoint_close(&none) == UCSTORE_NO_CHECKPOINT && room[0] == 0xAA && size == 99 && done);
+    CHECK(strcmp(ucstore_status_text(UCSTORE_NO_CHECKPOINT), "the handle has no checkpoint") == 0);
+    CHECK(strcmp(ucstore_status_text(UCSTORE_HAS_CHECKPOINT + 1), ucstore_status_text(-1)) == 0);
+}
+
 /* A store of 255 runs, which are all compacted next. */
 static void open_full(struct ucstore *full) {
     struct ucstore_options options;
@@ -1126,6 +1191,7 @@ int main(int argc, char **argv) {
     CHECK(writes != NULL && history != NULL);
     without_store();
     without_view();
+    without_checkpoint();
     refusals();
     refused_jobs();
     flush_jobs();

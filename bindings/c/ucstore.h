@@ -6,7 +6,7 @@
  *
  * Each function of a store takes the handle's address first, and each but `ucstore_version` answers one of the statuses
  * below. On any status but UCSTORE_OK no write is taken and no output is written, but for what `ucstore_prepare`,
- * `ucstore_prepare_bytes` and `ucstore_log_next` tell.
+ * `ucstore_prepare_bytes`, `ucstore_checkpoint_next` and `ucstore_log_next` tell.
  *
  * Writes are gathered in a memtable, which becomes a run when it is full. Runs are compacted then, by the calling thread. Nothing else
  * has to be called for it. Jobs do both in other threads.
@@ -23,6 +23,13 @@
  * while another one writes. It copies no run, and keeps the memory of those that it shows until it is closed. A snapshot
  * is read through its store alone, and costs no such memory: each compaction keeps what is read at it, until it is
  * released.
+ *
+ * A checkpoint is a view whose rows are laid out as a log, piece by piece, made of zeros too:
+ *
+ *     struct ucstore_checkpoint checkpoint = {0};
+ *
+ * So a program cuts its log: it writes the pieces to a new file, one behind the other, and then the batches that were
+ * written since the view was taken.
  *
  * A job is a flush or a compaction that is done away from its store, made of zeros too:
  *
@@ -41,10 +48,10 @@
  * file has to be cut back too. What is written otherwise isn't in such a log.
  *
  * What C owes:
- * - It neither copies, changes nor frees what is in a handle, a batch, a view or a job, but by these functions. Each may
- *   lie anywhere, and move between calls. It is closed before it ends.
- * - One call at a time on a handle, reads too, on a batch, a view and a job. Two of them may be used by two threads at
- *   once, and each may go from thread to thread.
+ * - It neither copies, changes nor frees what is in a handle, a batch, a view, a checkpoint or a job, but by these
+ *   functions. Each may lie anywhere, and move between calls. It is closed before it ends.
+ * - One call at a time on a handle, reads too, on a batch, a view, a checkpoint and a job. Two of them may be used by two
+ *   threads at once, and each may go from thread to thread.
  * - A job ends on the store that it was taken from, and on no other one. UCSTORE_NOT_OF_STORE tells of most mistakes, not
  *   of all.
  * - Each address leads to as much memory as its type or its length says. If a length is 0, its address is not read, and may
@@ -83,6 +90,11 @@ struct ucstore_view {
     void *at;
 };
 
+/* A checkpoint: none if it is all zeros. */
+struct ucstore_checkpoint {
+    void *at;
+};
+
 /* A job: none if it is all zeros. */
 struct ucstore_job {
     void *at;
@@ -115,7 +127,9 @@ enum ucstore_status {
     UCSTORE_HAS_JOB = 22,          /* The handle has a job already. */
     UCSTORE_NOT_OF_STORE = 23,     /* The job isn't out of the store. */
     UCSTORE_RUNS_CLAIMED = 24,     /* No run more may be, and jobs have those that would be compacted: end one. */
-    UCSTORE_JOB_ENDED = 25         /* The job has ended. */
+    UCSTORE_JOB_ENDED = 25,        /* The job has ended. */
+    UCSTORE_NO_CHECKPOINT = 26,    /* The handle has no checkpoint. */
+    UCSTORE_HAS_CHECKPOINT = 27    /* The handle has a checkpoint already. */
 };
 
 /* Which operator merges a key's operands into its value. */
@@ -155,6 +169,8 @@ static inline const char *ucstore_status_text(int32_t status) {
         "the job isn't out of the store",
         "jobs have the runs that would be compacted",
         "the job has ended",
+        "the handle has no checkpoint",
+        "the handle has a checkpoint already",
     };
     return status >= 0 && (size_t)status < sizeof texts / sizeof texts[0] ? texts[status] : "unknown status";
 }
@@ -424,6 +440,28 @@ int32_t ucstore_view_report(struct ucstore_view *view, struct ucstore_report *re
 /* Frees the view. Its other handles keep it.
  * UCSTORE_NO_VIEW. */
 int32_t ucstore_view_close(struct ucstore_view *view);
+
+/* Puts a checkpoint of the view behind its handle, of which no row is laid out yet. The view stays: each of the two is
+ * closed. What no run of the view has is sorted, once.
+ * UCSTORE_HAS_CHECKPOINT, UCSTORE_NO_VIEW, UCSTORE_OUT_OF_MEMORY. */
+int32_t ucstore_checkpoint(struct ucstore_view *view, struct ucstore_checkpoint *checkpoint);
+
+/* Copies the bytes that a log of `log_length` bytes gets for the next rows into the room, and tells how many they are:
+ * a batch of `most` rows and at most 65,536, or of one if `most` is 0. It has fewer only if no more are left. `done`
+ * tells whether no row was left: `size` is 0 then.
+ *
+ * The pieces one behind the other, from a log of no bytes on, are read back as puts of exactly the rows that the view
+ * has at its last sequence, numbered from 1. There are at most as many as that sequence, so later batches go on behind
+ * them.
+ *
+ * UCSTORE_ROOM: the piece doesn't fit the room. No row is laid out, and `size` tells how much room it needs.
+ * UCSTORE_NO_CHECKPOINT, UCSTORE_TOO_LONG, UCSTORE_SEQUENCES_SPENT, UCSTORE_OUT_OF_MEMORY. */
+int32_t ucstore_checkpoint_next(struct ucstore_checkpoint *checkpoint, uint64_t log_length, uint64_t most, uint8_t *room,
+                                size_t room_length, size_t *size, bool *done);
+
+/* Frees the checkpoint. Its view stays.
+ * UCSTORE_NO_CHECKPOINT. */
+int32_t ucstore_checkpoint_close(struct ucstore_checkpoint *checkpoint);
 
 /* Compacts the runs that are picked next, if there are any, and tells whether there were. A store that compacts by
  * itself needs no such call.

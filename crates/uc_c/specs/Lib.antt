@@ -15,3 +15,4 @@ pub mod Compacting
 pub mod LogWrites
 pub mod LogWalk
 pub mod LogSteps
+pub mod Checkpoints

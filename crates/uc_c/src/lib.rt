@@ -15,15 +15,16 @@
 //! status is `OK`.
 //!
 //! C gathers operations in a [`BatchHandle`](uc_handle::BatchHandle), which is held in the same way. So is a view, in a
-//! [`ViewHandle`](uc_handle::ViewHandle), and so is a job, in a [`JobHandle`](uc_handle::JobHandle). Stores and views
-//! are read by the same functions, over [`Readable`](readable::Readable).
+//! [`ViewHandle`](uc_handle::ViewHandle), a checkpoint, in a [`CheckpointHandle`](uc_handle::CheckpointHandle), and a job, in
+//! a [`JobHandle`](uc_handle::JobHandle). Stores and views are read by the same functions, over
+//! [`Readable`](readable::Readable).
 //!
 //! The functions of `logs.rt` need no handle: C keeps a log in a file of its own, appends what they lay out, and walks
 //! over it. Where a walk stops, it tells why through an address.
 //!
 //! Read `status.rt` and `specs/Replies.antt` first, for what the functions answer, then `opening.rt`, `batches.rt`,
 //! `writing.rt`, `snapshots.rt`, `readable.rt`, `reading.rt`, `many.rt`, `scanning.rt`, `views.rt`, `view_reading.rt`,
-//! `compacting.rt`, `jobs.rt`, `job_laws.rt`, `c_report.rt` and, with `specs/LogWalk.antt`, `logs.rt`.
+//! `checkpoints.rt`, `compacting.rt`, `jobs.rt`, `job_laws.rt`, `c_report.rt` and, with `specs/LogWalk.antt`, `logs.rt`.
 //!
 //! Tests: its own.
 #![tactic(auto)]
@@ -35,6 +36,7 @@ mod c_ended;
 mod c_log_place;
 mod c_options;
 mod c_report;
+mod checkpoints;
 mod compacting;
 mod fault_codes;
 mod job_laws;

@@ -84,6 +84,12 @@ pub const RUNS_CLAIMED: i32 = 24;
 /// The job has ended.
 pub const JOB_ENDED: i32 = 25;
 
+/// The handle has no checkpoint.
+pub const NO_CHECKPOINT: i32 = 26;
+
+/// The handle has a checkpoint already.
+pub const HAS_CHECKPOINT: i32 = 27;
+
 /// The statuses have the numbers that `enum ucstore_status` gives them, in its order.
 pub fn statuses_are_numbered()
     ensures first { statuses.OK ∷ statuses.OUT_OF_MEMORY ∷ statuses.NO_STORE ∷ statuses.HAS_STORE ∷ statuses.NOT_FOUND
@@ -97,6 +103,7 @@ pub fn statuses_are_numbered()
     ensures jobs { statuses.NO_JOB ∷ statuses.HAS_JOB ∷ statuses.NOT_OF_STORE ∷ statuses.RUNS_CLAIMED
         ∷ statuses.JOB_ENDED ∷ []
         ≡ pos 21 ∷ pos 22 ∷ pos 23 ∷ pos 24 ∷ pos 25 ∷ [] }
+    ensures checkpoints { statuses.NO_CHECKPOINT ∷ statuses.HAS_CHECKPOINT ∷ [] ≡ pos 26 ∷ pos 27 ∷ [] }
 {}
 
 /// The status where there is no room for a run.

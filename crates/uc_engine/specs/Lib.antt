@@ -18,3 +18,6 @@ pub mod EngineJobs
 pub mod HeldEngineJobs
 pub mod EngineReports
 pub mod TakenJobs
+pub use Rattle.uc_checkpoint.specs.Checkpoints
+pub mod EngineCheckpoints
+pub mod HeldEngineCheckpoints

@@ -3,11 +3,12 @@
 //!
 //! An [`Engine`] is a [`LiveStore`](uc_live::LiveStore) of one of the operators, and which that is. Each method is a
 //! match over the operators, and does what the store's method of the same name does. It starts no thread. An
-//! [`EngineView`] is a [`View`](uc_live::View) in the same way, and an [`EngineJob`] a [`Job`](uc_live::Job). A [`TakenJob`] is
-//! one of these or a [`FlushJob`].
+//! [`EngineView`] is a [`View`](uc_live::View) in the same way, an [`EngineJob`] a [`Job`](uc_live::Job), and an
+//! [`EngineCheckpoint`] a [`Checkpoint`](uc_checkpoint::Checkpoint). A [`TakenJob`] is an [`EngineJob`] or a [`FlushJob`].
 //!
 //! Read `specs/Engines.antt` first, then `operator_kind.rt`, `engine.rt`, `opening.rt`, `writing.rt`, `reading.rt`,
-//! `snapshots.rt`, `compacting.rt`, `engine_job.rt`, `engine_flush.rt`, `taken_job.rt` and `engine_view.rt`.
+//! `snapshots.rt`, `compacting.rt`, `engine_job.rt`, `engine_flush.rt`, `taken_job.rt`, `engine_view.rt` and
+//! `engine_checkpoint.rt`.
 //!
 //! Tests: `uc_tests_engine`.
 //!
@@ -18,6 +19,7 @@
 
 mod compacting;
 mod engine;
+mod engine_checkpoint;
 mod engine_flush;
 mod engine_job;
 mod engine_view;
@@ -30,6 +32,7 @@ mod taken_job;
 mod writing;
 
 pub use engine::Engine;
+pub use engine_checkpoint::EngineCheckpoint;
 pub use engine_job::EngineJob;
 pub use engine_view::EngineView;
 pub use opening::OpenedEngine;
@@ -38,6 +41,7 @@ pub use report::EngineReport;
 pub use taken_job::TakenJob;
 pub use uc_batch::{BatchError, Ended};
 pub use uc_bytes::{Bytes, OpRef};
+pub use uc_checkpoint::{CheckpointError, pieces_are_read_back, rows_are_at_most_the_writes};
 pub use uc_live::{
     FeedError, FlushEnd, FlushJob, GREATEST_STOP, InstallError, JobEnd, JobStage, LiveOpenError,
     LiveOptions, Options, ReleaseError, RoomError, WriteError, batches_are_walked, flushes_go_in,

@@ -1,23 +1,26 @@
-//! What C holds, in a struct of one address: an engine, a batch that is gathered, a view of an engine, or a job.
+//! What C holds, in a struct of one address: an engine, a batch that is gathered, a view of an engine, a checkpoint of a
+//! view, or a job.
 //!
 //! C cannot hold a `Box`. So [`Handle`] is a struct of one address, which C sees, and the box behind it, which a
 //! contract sees. An export takes a `&mut Handle`, takes the box out of it, calls the engine, and puts the box back.
 //! No export has a pointer in its contract, and none has a proof of its own that speaks of memory. [`BatchHandle`],
-//! [`ViewHandle`] and [`JobHandle`] are the same for a batch, a view and a job: no type argument crosses to C.
+//! [`ViewHandle`], [`CheckpointHandle`] and [`JobHandle`] are the same for the others: no type argument crosses to C.
 //!
-//! Read `handle.rt` first, then `batch_handle.rt`, `view_handle.rt`, `job_handle.rt`, and `loose.rt`, a box as its
-//! address.
+//! Read `handle.rt` first, then `batch_handle.rt`, `view_handle.rt`, `checkpoint_handle.rt`, `job_handle.rt`, and
+//! `loose.rt`, a box as its address.
 //!
 //! Tests: `uc_c`.
 #![tactic(auto)]
 
 mod batch_handle;
+mod checkpoint_handle;
 mod handle;
 mod job_handle;
 mod loose;
 mod view_handle;
 
 pub use batch_handle::BatchHandle;
+pub use checkpoint_handle::CheckpointHandle;
 pub use handle::Handle;
 pub use job_handle::JobHandle;
 pub use view_handle::ViewHandle;

@@ -3,7 +3,7 @@
 //! A [`LiveStore`] is the one to begin with. It has one owner, gathers single writes, flushes and compacts by itself:
 //! [`LiveStore::open`] opens it from the bytes of a write-ahead log, [`LiveStore::write`] writes, [`LiveStore::get`] and
 //! [`LiveStore::scan`] read, [`LiveStore::snapshot`] takes a snapshot. Other threads read a [`View`] of it, and run its
-//! compactions as [`Job`]s. It comes from `uc_live`.
+//! compactions as [`Job`]s. It comes from `uc_live`. A [`Checkpoint`] of a view is its rows as a log that a store opens from.
 //!
 //! An [`Owned`] store shows its runs, and its owner says what is compacted. [`open_log`] opens one from the bytes of a log, and says
 //! how far the log could be read; [`open_pieces`] lets go of the log meanwhile. Both take [`Workers`] first: [`Alone`], or
@@ -39,6 +39,7 @@ pub use opened_shared::{OpenedShared, open_shared};
 pub use shared_batches::feed_shared_batch;
 pub use uc_batch::{Ended, Op, Pieces, Writes};
 pub use uc_bytes::{Bytes, OpRef, Write};
+pub use uc_checkpoint::{Checkpoint, CheckpointError};
 pub use uc_live::{
     Job, JobEnd, JobStage, LiveOpenError, LiveOptions, LiveStore, OpenedStore, RoomError, View,
     WriteError,

@@ -1,0 +1,4 @@
+mod Laid
+mod Counted
+mod Parted
+mod Paged

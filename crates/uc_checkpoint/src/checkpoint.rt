@@ -1,0 +1,245 @@
+//! [`Checkpoint`]: the rows of a view as a write-ahead log, piece by piece.
+ghost use Rattle.std.specs.Prelude.{◌≡◌, ◌≤◌, ◌<◌, ◌+◌, ◌^◌, ◌++◌, ◌∷◌, [], IfOk, IfErr, MatchOption, OnOk, length, option_map};
+ghost use Rattle.uc_batch.specs.Gathering.{FitTogether, numbered_text};
+ghost use Rattle.uc_checkpoint.specs.Checkpoints.{LaysInto, LaysOut, RefusesPiece, all_rows, piece_size, put_of, puts_of, rows_behind, rows_left};
+ghost use Rattle.uc_checkpoint.specs.HeldCheckpoints.{IsNext, IsPage, Parts, RefusesRows, Splits};
+ghost use Rattle.uc_checkpoint.specs.declared.checkpoint.TheConstants.{MOST_ROWS};
+
+use crate::checkpoint_error::CheckpointError;
+use std::alloc::{AllocError, Global};
+use std::marker::Model;
+use uc_batch::{PushError, WriteBatch};
+use uc_bytes::{Bytes, MAX_SEQUENCE, OpRef};
+use uc_live::View;
+use uc_logrec::payload_bytes;
+use uc_oper::Operator;
+use uc_query_read::{scan_rows_are_determined, scan_rows_are_first};
+
+/// The most rows of a piece.
+const MOST_ROWS: u64 = 1 << 16;
+
+/// A view whose rows are laid out as a write-ahead log that puts them, piece by piece.
+pub struct Checkpoint<O: Operator> {
+    view: View<O>,
+    /// Each row below it is laid out, and no other. None once all are.
+    next: Option<Bytes>,
+    /// How many rows are laid out: the sequence of the last one.
+    rows: u64,
+}
+
+impl<O: Operator> Model for Checkpoint<O> {
+    ghost use Rattle.uc_checkpoint.specs.Checkpoints.{Progress};
+    ghost use Rattle.uc_checkpoint.specs.HeldCheckpoints.{progress, IsProgress};
+
+    ghost Value = { Progress };
+
+    ghost view = { progress };
+
+    ghost invariant = { IsProgress O.meaning };
+}
+
+// A destructor of its own: where a value is dropped, the proof of a caller has one call, and not one for each field.
+impl<O: Operator> Drop for Checkpoint<O> {
+    fn drop(self) {
+        let Checkpoint {
+            view: _,
+            next: _,
+            rows: _,
+        } = self;
+    }
+}
+
+/// Rows of a piece, and the key of the row behind them, if there is one.
+#[derive(Drop)]
+struct Page {
+    rows: Vec<(Bytes, Bytes)>,
+    next: Option<Bytes>,
+}
+
+/// What a log gets for the next rows, and where the checkpoint goes on behind them.
+#[derive(Drop)]
+struct Piece {
+    text: Vec<u8>,
+    next: Option<Bytes>,
+    rows: u64,
+}
+
+/// Adds the put of a row to a batch.
+fn push_row(batch: &mut WriteBatch, row: &(Bytes, Bytes)) -> Result<(), CheckpointError>
+    requires { length batch.old < MOST_ROWS }
+    ensures ok { OnOk result (batch.new ≡ batch.old ++ put_of row.now ∷ []) }
+    ensures err { IfErr result (λ error. RefusesRows (row.now ∷ []) error) }
+{
+    let (key, value) = row;
+    match batch.push(&OpRef::put(key.as_slice(), value.as_slice())) {
+        Ok(()) => Ok(()),
+        Err(PushError::TooLong) => Err(CheckpointError::TooLong),
+        Err(PushError::Full) => unreachable!(),
+        Err(PushError::Memory) => Err(CheckpointError::Memory),
+    }
+}
+
+/// The batch that puts rows.
+fn batch_of(alloc: Global, rows: &[(Bytes, Bytes)]) -> Result<WriteBatch, CheckpointError>
+    requires { length rows.now ≤ MOST_ROWS }
+    ensures ok { IfOk result (λ batch. batch ≡ puts_of rows.now) }
+    ensures err { IfErr result (λ error. RefusesRows rows.now error) }
+{
+    let mut batch = WriteBatch::new(alloc)?;
+    for row in rows {
+        push_row(&mut batch, row)?;
+    }
+    Ok(batch)
+}
+
+/// The first `most` rows, and the key of the row behind them.
+fn split(rows: Vec<(Bytes, Bytes)>, most: u64) -> Page
+    requires { length rows.items ≤ most + 1 }
+    ensures { Splits most rows.items result.rows.items result.next }
+{
+    let mut rows = rows;
+    if rows.len() as u64 <= most {
+        return Page { rows, next: None };
+    }
+    let next = rows.pop().map(|(key, _)| key);
+    Page { rows, next }
+}
+
+/// The bytes of a batch, with a sequence.
+fn numbered(alloc: Global, batch: &WriteBatch, seq: u64) -> Result<Vec<u8>, AllocError>
+    ensures text { IfOk result (λ bytes. bytes.items ≡ numbered_text seq batch.now) }
+    ensures fit { FitTogether batch.now }
+{
+    let bytes = batch.as_bytes();
+    let mut numbered = Vec::with_capacity(alloc, bytes.len())?;
+    numbered.extend_from_slice(&seq.to_le_bytes())?;
+    numbered.extend_from_slice(&bytes[8..])?;
+    Ok(numbered)
+}
+
+impl<O: Operator> Checkpoint<O> {
+    /// That of a view, of which nothing is laid out yet. What no run of the view has is sorted, once. An `Err` loses the
+    /// view.
+    pub fn of(alloc: Global, view: View<O>) -> Result<Checkpoint<O>, AllocError>
+        ensures { IfOk result (λ checkpoint. checkpoint ≡ record { seen = view; rows = 0 }) }
+    {
+        let mut view = view;
+        view.sort(alloc)?;
+        Ok(Checkpoint {
+            view,
+            next: Some(Bytes::from(Vec::new(alloc))),
+            rows: 0,
+        })
+    }
+
+    /// How many rows are laid out.
+    pub fn rows(&self) -> u64
+        ensures { result ≡ self.now.rows }
+    {
+        self.rows
+    }
+
+    /// The next rows, as many as a piece has.
+    fn page(&self, alloc: Global, most: u64) -> Result<Page, AllocError>
+        ensures { IfOk result (λ page.
+            IsPage (all_rows O.meaning self.now.seen) self.now.rows (piece_size most) page.rows.items page.next) }
+    {
+        scan_rows_are_first::<O>();
+        scan_rows_are_determined::<O>();
+        let Some(next) = &self.next else {
+            return Ok(Page {
+                rows: Vec::new(alloc),
+                next: None,
+            });
+        };
+        let most = most.clamp(1, MOST_ROWS);
+        let rows = self.view.scan(alloc, next.as_slice(), &None, most + 1)?;
+        Ok(split(rows.into_vec(), most))
+    }
+
+    /// The piece that comes next, if a row is left.
+    fn piece(
+        &self,
+        alloc: Global,
+        log_length: u64,
+        most: u64,
+    ) -> Result<Option<Piece>, CheckpointError>
+        ensures ok { IfOk result (λ piece. MatchOption piece (rows_left O.meaning self.now ≡ [])
+            (λ p. IsNext O.meaning log_length most self.now p.text.items p.next p.rows)) }
+        ensures err { IfErr result (RefusesPiece O.meaning self.now) }
+    {
+        let page = self.page(alloc, most)?;
+        if page.rows.is_empty() {
+            return Ok(None);
+        }
+        let batch = batch_of(alloc, &page.rows)?;
+        let count = page.rows.len() as u64;
+        if count > MAX_SEQUENCE - self.rows {
+            return Err(CheckpointError::SequencesSpent);
+        }
+        let bytes = numbered(alloc, &batch, self.rows + 1)?;
+        let text = payload_bytes(alloc, log_length, &bytes)?;
+        let Page { rows: _, next } = page;
+        let rows = self.rows + count;
+        Ok(Some(Piece { text, next, rows }))
+    }
+
+    /// Goes on behind a piece.
+    fn go_on(&mut self, next: Option<Bytes>, rows: u64)
+        requires parts { Parts next rows (all_rows O.meaning self.old.seen) }
+        requires within { rows ≤ length (all_rows O.meaning self.old.seen) }
+        requires below { rows < 2 ^ 56 }
+        ensures { self.new ≡ record self.old { rows = rows } }
+    {
+        self.next = next;
+        self.rows = rows;
+    }
+
+    /// Lays the next rows out: the bytes that a log of `log_length` bytes gets for them. They are a batch, whose sequences
+    /// go on behind the rows before. There are `most` rows and at most 65,536, but one if `most` is 0; fewer only if no more
+    /// are left. It is `None` if no row is left. An `Err` changes nothing.
+    pub fn next(
+        &mut self,
+        alloc: Global,
+        log_length: u64,
+        most: u64,
+    ) -> Result<Option<Vec<u8>>, CheckpointError>
+        ensures ok { IfOk result (λ piece.
+            LaysOut O.meaning log_length (option_map (λ bytes. bytes.items) piece) self.old self.new) }
+        ensures many { OnOk result (self.new.rows ≡ rows_behind O.meaning most self.old) }
+        ensures err { IfErr result (λ error. RefusesPiece O.meaning self.old error × (self.new ≡ self.old)) }
+    {
+        let Some(piece) = self.piece(alloc, log_length, most)? else {
+            return Ok(None);
+        };
+        let Piece { text, next, rows } = piece;
+        self.go_on(next, rows);
+        Ok(Some(text))
+    }
+
+    /// Lays the next rows out in the room, as [`next`](Checkpoint::next) does, and tells how many bytes the piece has. If
+    /// they don't fit, nothing changes, and no row is laid out. An `Err` changes nothing.
+    pub fn next_into(
+        &mut self,
+        alloc: Global,
+        log_length: u64,
+        most: u64,
+        room: &mut [u8],
+    ) -> Result<Option<usize>, CheckpointError>
+        ensures ok { IfOk result (λ size.
+            LaysInto O.meaning log_length most size room.old room.new self.old self.new) }
+        ensures err { IfErr result (λ error.
+            RefusesPiece O.meaning self.old error × (room.new ≡ room.old) × (self.new ≡ self.old)) }
+    {
+        let Some(piece) = self.piece(alloc, log_length, most)? else {
+            return Ok(None);
+        };
+        let Piece { text, next, rows } = piece;
+        let size = text.len();
+        if size <= room.len() {
+            room[..size].copy_from_slice(&text);
+            self.go_on(next, rows);
+        }
+        Ok(Some(size))
+    }
+}

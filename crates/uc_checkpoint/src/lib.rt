@@ -1,0 +1,20 @@
+//! Checkpoints: what a store held at a moment, as a write-ahead log that puts its rows.
+//!
+//! A [`Checkpoint`] lays the rows of a view out, piece by piece. Its pieces, one behind the other, are a log: a store that opens
+//! from it has the view's rows at their last sequences, numbered from 1, and goes on with later batches. So a program cuts its
+//! log by a checkpoint. Read `specs/Checkpoints.antt` first, then `checkpoint.rt`.
+//!
+//! By the laws of `laws.rt` the log is read back as puts of exactly those rows, which are at most as many as the last sequence.
+//!
+//! An `Err` of `Memory` comes only if an allocation fails.
+//!
+//! Tests: `uc_tests_live`.
+#![tactic(auto)]
+
+mod checkpoint;
+mod checkpoint_error;
+mod laws;
+
+pub use checkpoint::Checkpoint;
+pub use checkpoint_error::CheckpointError;
+pub use laws::{pieces_are_read_back, rows_are_at_most_the_writes};
