@@ -97,3 +97,20 @@ pub(crate) fn read_number(bytes: &[u8]) -> (u64, &[u8])
     let (low, rest) = rest.split_at(width.min(rest.len()));
     (low_number(low), rest)
 }
+
+/// The bytes behind the number at the front.
+#[inline]
+#[tactic(auto, unfolding(crate::specs::Numbers::number_from))]
+pub(crate) fn skip_number(bytes: &[u8]) -> &[u8]
+    ensures { result.now ≡ (numbers.number_from bytes.now).1 }
+{
+    let [first, rest @ ..] = bytes else {
+        return bytes;
+    };
+    if *first <= LONG {
+        return rest;
+    }
+    let width = usize::from(*first - LONG);
+    let (_, rest) = rest.split_at(width.min(rest.len()));
+    rest
+}

@@ -2,8 +2,10 @@
 ghost use Rattle.std.specs.Prelude.{◌≡◌, ◌<◌, ◌^◌, ◌↔◌, IsTrue, IfOk};
 ghost use Rattle.uc_run_entry.specs.Overwriting as overwriting;
 ghost use Rattle.uc_run_entry.specs.Packed as packed;
+ghost use Rattle.uc_run_points.specs.Numbers.{number_from};
 ghost use Rattle.uc_run_points.specs.Spelling as spelling;
 
+use crate::number::read_number;
 use std::alloc::{AllocError, Global};
 use std::marker::Model;
 use uc_bytes::Bytes;
@@ -19,25 +21,26 @@ const VALUE: u64 = 0x1;
 #[derive(Debug, Drop)]
 pub struct PointRef<'a> {
     key: &'a [u8],
-    /// The sequence, above two bits of the tag.
-    trailer: u64,
+    /// Bytes that begin with the trailer, the sequence above two bits of the tag. Most walks never read it.
+    trailer: &'a [u8],
     text: &'a [u8],
 }
 
 impl<'a> Model for PointRef<'a> {
     ghost use Rattle.uc_run_entry.specs.declared.entry.Entry.{Entry};
+    ghost use Rattle.uc_run_points.specs.Numbers.{number_from};
     ghost use Rattle.uc_run_points.specs.Spelling.{entry_of};
 
     ghost Value = { Entry };
 
-    ghost view = { λ p. entry_of p.trailer p.key.now p.text.now };
+    ghost view = { λ p. entry_of (number_from p.trailer.now).0 p.key.now p.text.now };
 }
 
 impl<'a> PointRef<'a> {
-    /// The point that a trailer and two texts make.
+    /// The point that two texts make with the trailer at the front of some bytes.
     #[inline]
-    pub(crate) fn new(key: &'a [u8], trailer: u64, text: &'a [u8]) -> PointRef<'a>
-        ensures { result ≡ spelling.entry_of trailer key.now text.now }
+    pub(crate) fn new(key: &'a [u8], trailer: &'a [u8], text: &'a [u8]) -> PointRef<'a>
+        ensures { result ≡ spelling.entry_of (number_from trailer.now).0 key.now text.now }
     {
         PointRef { key, trailer, text }
     }
@@ -56,7 +59,7 @@ impl<'a> PointRef<'a> {
         ensures value { result ≡ self.now.seq }
         ensures below { result < 2 ^ 62 }
     {
-        self.trailer / 4
+        read_number(self.trailer).0 / 4
     }
 
     /// What it says of the key.
@@ -64,7 +67,7 @@ impl<'a> PointRef<'a> {
     pub fn what(&self) -> WhatRef<'a>
         ensures { packed.what_of result ≡ self.now.what }
     {
-        match self.trailer % 4 {
+        match read_number(self.trailer).0 % 4 {
             DELETION => WhatRef::Delete,
             VALUE => WhatRef::Put(self.text),
             _ => WhatRef::Merge(self.text),

@@ -5,7 +5,7 @@ ghost use Rattle.uc_run_entry.specs.Packed.{what_of};
 ghost use Rattle.uc_run_points.specs.Spelling as spelling;
 ghost use Rattle.uc_run_points.specs.Spelling.{Fits};
 
-use crate::number::{push_number, read_number};
+use crate::number::{push_number, read_number, skip_number};
 use crate::point_ref::PointRef;
 use std::alloc::AllocError;
 use uc_run_entry::WhatRef;
@@ -67,8 +67,8 @@ pub(crate) fn read_entry(bytes: &[u8]) -> (PointRef<'_>, &[u8])
 {
     let (key_len, rest) = read_number(bytes);
     let (text_len, rest) = read_number(rest);
-    let (trailer, rest) = read_number(rest);
-    let (key, rest) = split_front(rest, key_len);
+    let trailer = rest;
+    let (key, rest) = split_front(skip_number(trailer), key_len);
     let (text, rest) = split_front(rest, text_len);
     (PointRef::new(key, trailer, text), rest)
 }
