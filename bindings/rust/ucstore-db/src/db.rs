@@ -109,7 +109,7 @@ impl Db {
         if batch.is_empty() {
             return self.shared().check();
         }
-        self.shared().write(&batch.bytes(), is_synced)
+        self.shared().write(batch.bytes(), is_synced)
     }
 
     /// Waits until all acknowledged writes are on the device.
