@@ -206,7 +206,7 @@ pub unsafe extern "C" fn ucstore_db_get(
             let value = Value::of(room, room_length, size)?;
             (Handle::get(db)?, text(key, key_length)?, value)
         };
-        value.put(db.get(key)?)
+        value.put_by(|room| db.get_to_room(key, room))
     })
 }
 

@@ -3,6 +3,7 @@
 use crate::call::Refusal;
 use crate::status::Status;
 use std::ffi::c_void;
+use std::mem::MaybeUninit;
 use std::ptr::NonNull;
 use std::slice;
 
@@ -71,6 +72,8 @@ impl<T: Copy> Room<T> {
         if at.is_null() && count > 0 {
             return Err(Status::Null.into());
         }
+        // No memory is larger than that.
+        let count = count.min(isize::MAX as usize / size_of::<T>());
         Ok(Room {
             at,
             count,
@@ -86,6 +89,15 @@ impl<T: Copy> Room<T> {
     /// How many more there is room for.
     pub(crate) fn left(&self) -> usize {
         self.count - self.filled
+    }
+
+    /// All of it, to be written by others.
+    pub(crate) fn whole(&mut self) -> &mut [MaybeUninit<T>] {
+        if self.count == 0 {
+            return &mut [];
+        }
+        // SAFETY: Who made the room owes the memory, which overlaps nothing else that is used meanwhile.
+        unsafe { slice::from_raw_parts_mut(self.at.cast(), self.count) }
     }
 
     /// Writes items behind the others, as many as there is room for.

@@ -5,6 +5,7 @@ use crate::handle::{Handle, SnapshotHandle};
 use crate::memory::{items, text, Place, Room};
 use crate::status::Status;
 use std::ffi::c_void;
+use std::mem::MaybeUninit;
 
 /// The length that says that a key has no value.
 const NO_VALUE: u64 = u64::MAX;
@@ -31,11 +32,13 @@ impl Value {
         Ok(Value { room, size })
     }
 
-    /// Copies a value, if there is one.
-    pub(crate) fn put(mut self, value: Option<Vec<u8>>) -> Result<(), Refusal> {
-        let value = value.ok_or(Status::NotFound)?;
-        self.room.push(&value);
-        self.size.put(value.len());
+    /// Lets a lookup copy a value there, as much of it as there is room for, which returns the size of all of it.
+    pub(crate) fn put_by(
+        mut self,
+        lookup: impl FnOnce(&mut [MaybeUninit<u8>]) -> Result<Option<usize>, db::Error>,
+    ) -> Result<(), Refusal> {
+        let size = lookup(self.room.whole())?.ok_or(Status::NotFound)?;
+        self.size.put(size);
         Ok(())
     }
 }
@@ -173,7 +176,7 @@ pub unsafe extern "C" fn ucstore_db_snapshot_get(
                 value,
             )
         };
-        value.put(snapshot.get(key)?)
+        value.put_by(|room| snapshot.get_to_room(key, room))
     })
 }
 

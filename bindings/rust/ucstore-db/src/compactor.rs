@@ -79,12 +79,12 @@ mod tests {
         let mut batch = Batch::new();
         let bytes = batch.put("k", "v").unwrap().bytes();
         for _ in 0..256 {
-            shared.write(&bytes, false).unwrap();
+            shared.write(bytes.clone(), false).unwrap();
         }
         let job = lock(&shared.store).take_job().unwrap().unwrap();
-        shared.write(&bytes, false).unwrap();
+        shared.write(bytes.clone(), false).unwrap();
         thread::scope(|scope| {
-            let writer = scope.spawn(|| shared.write(&bytes, false).unwrap());
+            let writer = scope.spawn(|| shared.write(bytes.clone(), false).unwrap());
             thread::sleep(Duration::from_millis(50));
             assert!(!writer.is_finished());
             assert!(shared.run(job).unwrap());

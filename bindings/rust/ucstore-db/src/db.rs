@@ -9,6 +9,7 @@ use crate::snapshot::{Rows, Snapshot};
 use crate::stats::Stats;
 use crate::workers::Workers;
 use std::fmt;
+use std::mem::MaybeUninit;
 use std::path::Path;
 use std::sync::Arc;
 use ucstore::Batch;
@@ -109,7 +110,7 @@ impl Db {
         if batch.is_empty() {
             return self.shared().check();
         }
-        self.shared().write(&batch.bytes(), is_synced)
+        self.shared().write(batch.bytes(), is_synced)
     }
 
     /// Waits until all acknowledged writes are on the device.
@@ -129,6 +130,44 @@ impl Db {
     pub fn get(&self, key: impl AsRef<[u8]>) -> Result<Option<Vec<u8>>, Error> {
         self.shared().counts.lookups.add(1);
         Ok(self.shared().view()?.get(key)?)
+    }
+
+    /// Puts the value under a key into a vector, instead of what that has, and tells whether there is one. The vector is empty
+    /// without one, and its memory is used again.
+    ///
+    /// ```
+    /// # use ucstore_db::{Db, Options};
+    /// # fn main() -> Result<(), ucstore_db::Error> {
+    /// let db = Db::in_memory(&Options::default())?;
+    /// db.put("colour", "blue")?;
+    /// let mut value = Vec::new();
+    /// assert!(db.get_into("colour", &mut value)?);
+    /// assert_eq!(value, b"blue");
+    /// # Ok(())
+    /// # }
+    /// ```
+    ///
+    /// # Errors
+    ///
+    /// Those of [`get`](Db::get).
+    pub fn get_into(&self, key: impl AsRef<[u8]>, value: &mut Vec<u8>) -> Result<bool, Error> {
+        self.shared().counts.lookups.add(1);
+        Ok(self.shared().view()?.get_into(key, value)?)
+    }
+
+    /// Copies the value under a key into a room, as much of it as there is room for. Returns the size of all of it, if there is
+    /// one: what of the room is below it has values then.
+    ///
+    /// # Errors
+    ///
+    /// Those of [`get`](Db::get).
+    pub fn get_to_room(
+        &self,
+        key: impl AsRef<[u8]>,
+        room: &mut [MaybeUninit<u8>],
+    ) -> Result<Option<usize>, Error> {
+        self.shared().counts.lookups.add(1);
+        Ok(self.shared().view()?.get_to_room(key, room)?)
     }
 
     /// For each key its value, if there is one, at one moment. The keys come in any order.

@@ -18,7 +18,8 @@ pub(crate) struct Group {
     pub(crate) is_synced: bool,
     /// How many batches it has.
     pub(crate) batches: u64,
-    pub(crate) outcome: Arc<Outcome>,
+    /// There is one once another writer waits for it.
+    outcome: Option<Arc<Outcome>>,
 }
 
 /// What becomes of a group, which its writers wait for.
@@ -34,8 +35,8 @@ pub(crate) enum Role {
     Leads,
     /// It waits for the leader.
     Follows(Arc<Outcome>),
-    /// The group is full: it waits for the next one.
-    Waits(Arc<Outcome>),
+    /// The group is full: it waits until that is written, and joins with its batch again.
+    Waits(Arc<Outcome>, Vec<u8>),
 }
 
 /// The group that writers join now, if there is one. Its leader waits until the one before is written.
@@ -46,20 +47,20 @@ pub(crate) struct Groups {
 
 impl Groups {
     /// Joins the group that is open, or opens one.
-    pub(crate) fn join(&self, batch: &[u8], is_synced: bool) -> Role {
+    pub(crate) fn join(&self, batch: Vec<u8>, is_synced: bool) -> Role {
         let mut open = lock(&self.open);
         let Some(group) = &mut *open else {
             *open = Some(Group {
-                batch: batch.to_vec(),
+                batch,
                 is_synced,
                 batches: 1,
-                outcome: Arc::default(),
+                outcome: None,
             });
             return Role::Leads;
         };
-        let outcome = Arc::clone(&group.outcome);
-        if !group.add(batch) {
-            return Role::Waits(outcome);
+        let outcome = Arc::clone(group.outcome.get_or_insert_default());
+        if !group.add(&batch) {
+            return Role::Waits(outcome, batch);
         }
         group.is_synced |= is_synced;
         Role::Follows(outcome)
@@ -75,6 +76,13 @@ impl Group {
     /// How many bytes a store gathers for it at most: 8 for each operation's sequence, and its texts.
     pub(crate) fn memory(&self) -> u64 {
         self.batch.len() as u64 + 8 * u64::from(count_of(&self.batch))
+    }
+
+    /// Tells the writers that wait what became of it, once it is written or refused.
+    pub(crate) fn tell(self, told: &Result<(), Error>) {
+        if let Some(outcome) = self.outcome {
+            outcome.tell(told.clone());
+        }
     }
 
     /// Adds a batch, and tells whether there was room.
@@ -93,12 +101,6 @@ impl Group {
 }
 
 impl Outcome {
-    /// Tells the writers of the group.
-    pub(crate) fn tell(&self, told: Result<(), Error>) {
-        *lock(&self.told) = Some(told);
-        self.changed.notify_all();
-    }
-
     /// Waits until it is told.
     pub(crate) fn wait(&self) -> Result<(), Error> {
         let told = self
@@ -107,6 +109,12 @@ impl Outcome {
             .unwrap_or_else(PoisonError::into_inner);
         told.clone().expect("it was told")
     }
+
+    /// Tells those who wait.
+    fn tell(&self, told: Result<(), Error>) {
+        *lock(&self.told) = Some(told);
+        self.changed.notify_all();
+    }
 }
 
 /// How many operations a batch has.
@@ -114,6 +122,9 @@ fn count_of(batch: &[u8]) -> u32 {
     let count = batch[8..].first_chunk().expect("a batch has a header");
     u32::from_le_bytes(*count)
 }
+
+#[cfg(test)]
+mod schedules;
 
 #[cfg(test)]
 mod tests {
@@ -129,11 +140,8 @@ mod tests {
     #[test]
     fn a_group_is_the_batch_of_its_batches() {
         let groups = Groups::default();
-        assert!(matches!(groups.join(&batch("a", 3), false), Role::Leads));
-        assert!(matches!(
-            groups.join(&batch("b", 5), true),
-            Role::Follows(_)
-        ));
+        assert!(matches!(groups.join(batch("a", 3), false), Role::Leads));
+        assert!(matches!(groups.join(batch("b", 5), true), Role::Follows(_)));
         let group = groups.close();
         let mut both = Batch::new();
         both.put("a", [7; 3]).unwrap().put("b", [7; 5]).unwrap();
@@ -144,9 +152,9 @@ mod tests {
     #[test]
     fn a_group_may_be_full() {
         let groups = Groups::default();
-        groups.join(&batch("a", MOST_BYTES), false);
-        assert!(matches!(groups.join(&batch("b", 1), true), Role::Waits(_)));
+        groups.join(batch("a", MOST_BYTES), false);
+        assert!(matches!(groups.join(batch("b", 1), true), Role::Waits(..)));
         assert!(!groups.close().is_synced);
-        assert!(matches!(groups.join(&batch("b", 1), true), Role::Leads));
+        assert!(matches!(groups.join(batch("b", 1), true), Role::Leads));
     }
 }

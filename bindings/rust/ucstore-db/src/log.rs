@@ -80,9 +80,9 @@ impl Log {
         Ok(())
     }
 
-    /// What an error of its file says.
+    /// What an error of its file says. Its name isn't needed before.
     fn refusal(&self) -> impl FnOnce(std::io::Error) -> Error {
-        let name = Name::Log(self.number).text();
-        move |error| Error::of_file(&name)(error)
+        let name = Name::Log(self.number);
+        move |error| Error::of_file(&name.text())(error)
     }
 }

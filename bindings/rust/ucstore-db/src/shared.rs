@@ -108,12 +108,16 @@ impl Shared {
     }
 
     /// Writes a batch, with those of the writers that come meanwhile.
-    pub(crate) fn write(&self, batch: &[u8], is_synced: bool) -> Result<(), Error> {
+    pub(crate) fn write(&self, mut batch: Vec<u8>, is_synced: bool) -> Result<(), Error> {
         loop {
-            match self.groups.join(batch, is_synced) {
+            batch = match self.groups.join(batch, is_synced) {
                 Role::Leads => return self.lead(),
                 Role::Follows(outcome) => return outcome.wait(),
-                Role::Waits(outcome) => drop(outcome.wait()),
+                Role::Waits(outcome, batch) => {
+                    // What becomes of others is theirs.
+                    let _ = outcome.wait();
+                    batch
+                }
             }
         }
     }
@@ -124,7 +128,7 @@ impl Shared {
         let group = self.groups.close();
         let told = self.take(&mut log, &group);
         drop(log);
-        group.outcome.tell(told.clone());
+        group.tell(&told);
         self.events.tell();
         told
     }

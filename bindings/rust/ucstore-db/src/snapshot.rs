@@ -5,6 +5,7 @@ use crate::error::Error;
 use crate::newest::sort;
 use std::cell::Cell;
 use std::fmt;
+use std::mem::MaybeUninit;
 use std::sync::Arc;
 use ucstore::{Scan, View};
 
@@ -79,6 +80,32 @@ impl Snapshot {
     pub fn get(&self, key: impl AsRef<[u8]>) -> Result<Option<Vec<u8>>, Error> {
         self.counts.lookups.add(1);
         Ok(self.view.get(key)?)
+    }
+
+    /// Puts the value under a key into a vector, instead of what that has, and tells whether there is one. The vector is empty
+    /// without one, and its memory is used again.
+    ///
+    /// # Errors
+    ///
+    /// Those of [`get`](Snapshot::get).
+    pub fn get_into(&self, key: impl AsRef<[u8]>, value: &mut Vec<u8>) -> Result<bool, Error> {
+        self.counts.lookups.add(1);
+        Ok(self.view.get_into(key, value)?)
+    }
+
+    /// Copies the value under a key into a room, as much of it as there is room for. Returns the size of all of it, if there is
+    /// one: what of the room is below it has values then.
+    ///
+    /// # Errors
+    ///
+    /// Those of [`get`](Snapshot::get).
+    pub fn get_to_room(
+        &self,
+        key: impl AsRef<[u8]>,
+        room: &mut [MaybeUninit<u8>],
+    ) -> Result<Option<usize>, Error> {
+        self.counts.lookups.add(1);
+        Ok(self.view.get_to_room(key, room)?)
     }
 
     /// For each key its value, if there is one. The keys come in any order.

@@ -3,6 +3,7 @@
 mod common;
 
 use common::{map_of, open, Call, Device, Numbers};
+use std::mem::MaybeUninit;
 use std::sync::{Arc, Mutex, OnceLock};
 use std::thread;
 use std::time::{Duration, Instant};
@@ -290,8 +291,13 @@ fn numbers_of_work_are_counted() {
     let snapshot = db.snapshot().unwrap();
     assert_eq!(snapshot.get_many(["key", "other"]).unwrap()[1], None);
     snapshot.get("key").unwrap();
+    let (mut value, mut room) = (vec![], [MaybeUninit::uninit(); 2]);
+    assert!(snapshot.get_into("key", &mut value).unwrap() && value == b"value");
+    assert!(!db.get_into("other", &mut value).unwrap() && value.is_empty());
+    assert_eq!(snapshot.get_to_room("other", &mut room).unwrap(), None);
+    assert_eq!(db.get_to_room("key", &mut room).unwrap(), Some(5));
     let stats = db.stats();
-    assert_eq!((stats.batches, stats.groups, stats.lookups), (10, 10, 4));
+    assert_eq!((stats.batches, stats.groups, stats.lookups), (10, 10, 8));
     // Each batch has a header of 12 bytes, and a put has a tag and two lengths.
     assert_eq!(stats.user_bytes, 10 * (12 + 3 + 8));
     let logged = device.files()["000001.log"].len() as u64;

@@ -114,12 +114,19 @@ impl Batch {
     /// A sequence is set by writing it over the 8 bytes, low byte first. It is 0, which stands for the one behind the
     /// store's last one.
     pub fn bytes(&self) -> Vec<u8> {
-        let mut room = vec![0; self.size()];
+        let mut bytes = Vec::with_capacity(self.size());
         let mut size = 0;
+        // SAFETY: All bytes are copied there, because there is room for them.
         unsafe {
-            sys::ucstore_batch_bytes(self.handle(), room.as_mut_ptr(), room.len(), &mut size)
-        };
-        room
+            sys::ucstore_batch_bytes(
+                self.handle(),
+                bytes.as_mut_ptr(),
+                bytes.capacity(),
+                &mut size,
+            );
+            bytes.set_len(size);
+        }
+        bytes
     }
 
     /// How many bytes the batch has.

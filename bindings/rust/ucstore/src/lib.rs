@@ -61,6 +61,7 @@ mod job;
 mod log;
 mod options;
 mod reads;
+mod record;
 mod report;
 mod scan;
 mod snapshot;

@@ -2,6 +2,8 @@
 
 use crate::error::{check, Error};
 use crate::sys;
+use std::mem::MaybeUninit;
+use std::slice;
 
 /// The bytes of a value for which a lookup doesn't ask twice.
 const USUAL_VALUE: usize = 512;
@@ -84,30 +86,60 @@ pub(crate) struct Range<'a> {
 impl<H> Reads<H> {
     /// The value under a key, if there is one.
     pub(crate) fn get(&self, key: &[u8]) -> Result<Option<Vec<u8>>, Error> {
-        value_by(|room, size| unsafe {
+        value_by(|room| self.get_to_room(key, room))
+    }
+
+    /// Puts the value under a key into a vector, which is empty without one, and tells whether there is one.
+    pub(crate) fn get_into(&self, key: &[u8], value: &mut Vec<u8>) -> Result<bool, Error> {
+        value.clear();
+        while let Some(size) = self.get_to_room(key, value.spare_capacity_mut())? {
+            if size <= value.capacity() {
+                // SAFETY: So many bytes were copied there.
+                unsafe { value.set_len(size) };
+                return Ok(true);
+            }
+            value.reserve(size);
+        }
+        Ok(false)
+    }
+
+    /// Copies the value under a key into a room, as much of it as there is room for. Returns the size of all of it, if there
+    /// is one.
+    pub(crate) fn get_to_room(
+        &self,
+        key: &[u8],
+        room: &mut [MaybeUninit<u8>],
+    ) -> Result<Option<usize>, Error> {
+        let mut size = 0;
+        let status = unsafe {
             (self.functions.get)(
                 self.handle,
                 key.as_ptr(),
                 key.len(),
-                room.as_mut_ptr(),
+                room.as_mut_ptr().cast(),
                 room.len(),
-                size,
+                &mut size,
             )
-        })
+        };
+        found(status, size)
     }
 
     /// The value under a key at a snapshot, if there is one.
     pub(crate) fn get_at(&self, key: &[u8], at: u64) -> Result<Option<Vec<u8>>, Error> {
-        value_by(|room, size| unsafe {
-            (self.functions.get_at)(
-                self.handle,
-                key.as_ptr(),
-                key.len(),
-                at,
-                room.as_mut_ptr(),
-                room.len(),
-                size,
-            )
+        value_by(|room| {
+            let mut size = 0;
+            let status = unsafe {
+                (self.functions.get_at)(
+                    self.handle,
+                    key.as_ptr(),
+                    key.len(),
+                    at,
+                    room.as_mut_ptr().cast(),
+                    room.len(),
+                    &mut size,
+                )
+            };
+            found(status, size)
         })
     }
 
@@ -191,20 +223,32 @@ impl<H> Reads<H> {
     }
 }
 
-/// The value that a lookup copies into a room, if there is one.
+/// The size of the value that a lookup found, if there is one.
+fn found(status: i32, size: usize) -> Result<Option<usize>, Error> {
+    match status {
+        sys::UCSTORE_NOT_FOUND => Ok(None),
+        status => check(status).map(|()| Some(size)),
+    }
+}
+
+/// The value that a lookup copies into a room, if there is one. It returns the size of all of it.
 fn value_by(
-    mut lookup: impl FnMut(&mut [u8], &mut usize) -> i32,
+    mut lookup: impl FnMut(&mut [MaybeUninit<u8>]) -> Result<Option<usize>, Error>,
 ) -> Result<Option<Vec<u8>>, Error> {
-    let (mut room, mut size) = ([0; USUAL_VALUE], 0);
-    match lookup(&mut room, &mut size) {
-        sys::UCSTORE_NOT_FOUND => return Ok(None),
-        status => check(status)?,
-    }
+    let mut room = [MaybeUninit::uninit(); USUAL_VALUE];
+    let Some(size) = lookup(&mut room)? else {
+        return Ok(None);
+    };
     if size <= USUAL_VALUE {
-        return Ok(Some(room[..size].to_vec()));
+        // SAFETY: So many bytes were copied there.
+        let value = unsafe { slice::from_raw_parts(room.as_ptr().cast::<u8>(), size) };
+        return Ok(Some(value.to_vec()));
     }
-    let mut value = vec![0; size];
-    check(lookup(&mut value, &mut size))?;
+    let mut value = Vec::with_capacity(size);
+    let again = lookup(value.spare_capacity_mut())?;
+    assert_eq!(again, Some(size), "nothing is written meanwhile");
+    // SAFETY: So many bytes were copied there.
+    unsafe { value.set_len(size) };
     Ok(Some(value))
 }
 

@@ -6,6 +6,7 @@ use crate::error::{check, Error};
 use crate::job::{EndedJob, Job};
 use crate::options::{Operator, Options};
 use crate::reads::{Functions, Reads};
+use crate::record::record_by;
 use crate::report::Report;
 use crate::scan::{end_of_prefix, Scan};
 use crate::snapshot::Snapshot;
@@ -15,10 +16,6 @@ use std::cell::UnsafeCell;
 use std::fmt;
 use std::ptr;
 use std::sync::atomic::{AtomicU64, Ordering};
-
-/// The bytes of a record's header in a log, and the most that a record has behind it.
-const HEADER_SIZE: usize = 7;
-const MOST_FRAGMENT: usize = 32_768 - HEADER_SIZE;
 
 /// The number of the next store.
 static NEXT_NUMBER: AtomicU64 = AtomicU64::new(0);
@@ -401,7 +398,7 @@ impl Store {
                 self.handle(),
                 batch.handle(),
                 length,
-                room.as_mut_ptr(),
+                room.as_mut_ptr().cast(),
                 room.len(),
                 size,
             )
@@ -420,7 +417,7 @@ impl Store {
                 batch.as_ptr(),
                 batch.len(),
                 length,
-                room.as_mut_ptr(),
+                room.as_mut_ptr().cast(),
                 room.len(),
                 size,
             )
@@ -479,24 +476,5 @@ impl fmt::Debug for Store {
             .debug_struct("Store")
             .field("report", &self.report())
             .finish_non_exhaustive()
-    }
-}
-
-/// The bytes that a batch of some size adds to a log.
-fn record_by(
-    size: usize,
-    mut prepare: impl FnMut(&mut [u8], &mut usize) -> i32,
-) -> Result<Vec<u8>, Error> {
-    // Room for a header in each block, and for the end of the block before.
-    let mut room = vec![0; size + HEADER_SIZE * (size / MOST_FRAGMENT + 3)];
-    loop {
-        let mut size = 0;
-        let status = prepare(&mut room, &mut size);
-        if status != sys::UCSTORE_ROOM {
-            check(status)?;
-            room.truncate(size);
-            return Ok(room);
-        }
-        room.resize(size, 0);
     }
 }

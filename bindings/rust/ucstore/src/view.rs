@@ -7,6 +7,7 @@ use crate::scan::{end_of_prefix, Scan};
 use crate::sys;
 use std::cell::UnsafeCell;
 use std::fmt;
+use std::mem::MaybeUninit;
 use std::ptr;
 
 /// The functions that read a view.
@@ -76,6 +77,30 @@ impl View {
     /// [`Error::OutOfMemory`].
     pub fn get(&self, key: impl AsRef<[u8]>) -> Result<Option<Vec<u8>>, Error> {
         self.reads().get(key.as_ref())
+    }
+
+    /// Puts the value under a key into a vector, instead of what that has, and tells whether there is one. The vector is empty
+    /// without one, and its memory is used again.
+    ///
+    /// # Errors
+    ///
+    /// [`Error::OutOfMemory`].
+    pub fn get_into(&self, key: impl AsRef<[u8]>, value: &mut Vec<u8>) -> Result<bool, Error> {
+        self.reads().get_into(key.as_ref(), value)
+    }
+
+    /// Copies the value under a key into a room, as much of it as there is room for. Returns the size of all of it, if there is
+    /// one: what of the room is below it has values then.
+    ///
+    /// # Errors
+    ///
+    /// [`Error::OutOfMemory`].
+    pub fn get_to_room(
+        &self,
+        key: impl AsRef<[u8]>,
+        room: &mut [MaybeUninit<u8>],
+    ) -> Result<Option<usize>, Error> {
+        self.reads().get_to_room(key.as_ref(), room)
     }
 
     /// The value under a key at a snapshot that the store had then, if there is one.

@@ -1,5 +1,6 @@
 //! Views that threads read, and jobs that threads run, while the store goes on.
 
+use std::mem::MaybeUninit;
 use std::sync::mpsc;
 use std::thread;
 use ucstore::{Error, Operator, Options, Store, View};
@@ -47,6 +48,46 @@ fn a_view_stays_what_it_is() {
     let mut rows = again.into_prefix("");
     assert_eq!(rows.next_row(), Ok(Some((&b"a"[..], &b"1"[..]))));
     assert_eq!(rows.map(Result::unwrap).count(), 1);
+}
+
+#[test]
+fn values_are_read_into_memory_that_is_there() {
+    let store = empty(Operator::Append);
+    let long = vec![7; 3000];
+    store.put("empty", "").unwrap();
+    store.put("long", &long).unwrap();
+    store.merge("joined", "a").unwrap();
+    store.merge("joined", "b").unwrap();
+    let view = store.view().unwrap();
+    let mut value = b"before".to_vec();
+    for (key, wanted) in [("joined", &b"a,b"[..]), ("long", &long), ("empty", b"")] {
+        assert_eq!(view.get_into(key, &mut value), Ok(true));
+        assert_eq!(value, wanted);
+        assert_eq!(view.get(key).unwrap().as_deref(), Some(wanted));
+    }
+    let memory = value.as_ptr();
+    assert_eq!(view.get_into("long", &mut value), Ok(true));
+    assert!(value == long && value.as_ptr() == memory);
+    assert_eq!(view.get_into("none", &mut value), Ok(false));
+    assert!(value.is_empty() && value.capacity() >= long.len());
+    assert_eq!(view.get_into("empty", &mut Vec::new()), Ok(true));
+}
+
+#[test]
+fn a_room_takes_as_much_of_a_value_as_fits() {
+    let store = empty(Operator::Append);
+    store.put("k", "abcdef").unwrap();
+    let view = store.view().unwrap();
+    for (length, wanted) in [(0, "........"), (4, "abcd...."), (8, "abcdef..")] {
+        let mut room = [MaybeUninit::new(b'.'); 8];
+        assert_eq!(view.get_to_room("k", &mut room[..length]), Ok(Some(6)));
+        // SAFETY: All of it had values before.
+        assert_eq!(
+            room.map(|byte| unsafe { byte.assume_init() }),
+            wanted.as_bytes()
+        );
+        assert_eq!(view.get_to_room("none", &mut room), Ok(None));
+    }
 }
 
 #[test]
