@@ -2,7 +2,8 @@
 use crate::batches::Texts;
 use std::alloc::Global;
 use std::test::Fail;
-use uc_store::{Checkpoint, LiveOptions, LiveStore, OpRef};
+use uc_checkpoint::Checkpoint;
+use uc_store::{LiveOptions, LiveStore, OpRef};
 
 /// Writes an operation.
 fn write(alloc: Global, store: &mut LiveStore<Texts>, op: OpRef<'_>) -> Result<(), Fail> {

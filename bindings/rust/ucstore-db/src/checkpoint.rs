@@ -1,6 +1,6 @@
 //! Checkpoints, which let logs go.
 
-use crate::base_file::BaseFile;
+use crate::base_file;
 use crate::error::Error;
 use crate::event::Event;
 use crate::folder::Folder;
@@ -42,7 +42,7 @@ impl Shared {
         };
         // Behind a failure it isn't tried again before as much more was logged.
         *due = self.log_bytes() + self.options.checkpoint_least;
-        let bytes = BaseFile::write(&*begun.folder, begun.number, begun.view)?;
+        let bytes = base_file::write(&*begun.folder, begun.number, &begun.view)?;
         if let Some(log) = &mut *lock(&self.log) {
             log.older = 0;
         }

@@ -56,6 +56,10 @@ pub const UCSTORE_NOT_OF_STORE: i32 = 23;
 pub const UCSTORE_RUNS_CLAIMED: i32 = 24;
 /// The job has ended.
 pub const UCSTORE_JOB_ENDED: i32 = 25;
+/// The handle has no checkpoint.
+pub const UCSTORE_NO_CHECKPOINT: i32 = 26;
+/// The handle has a checkpoint already.
+pub const UCSTORE_HAS_CHECKPOINT: i32 = 27;
 
 /// A handle: no store if it is all zeros.
 #[repr(C)]
@@ -72,6 +76,12 @@ pub struct ucstore_batch {
 /// What a store held at a moment: none if it is all zeros.
 #[repr(C)]
 pub struct ucstore_view {
+    pub at: *mut c_void,
+}
+
+/// A view whose rows are laid out as a log: none if it is all zeros.
+#[repr(C)]
+pub struct ucstore_checkpoint {
     pub at: *mut c_void,
 }
 
@@ -358,6 +368,18 @@ extern "C" {
     pub fn ucstore_view_last(view: *mut ucstore_view, seq: *mut u64) -> i32;
     pub fn ucstore_view_report(view: *mut ucstore_view, report: *mut ucstore_report) -> i32;
     pub fn ucstore_view_close(view: *mut ucstore_view) -> i32;
+
+    pub fn ucstore_checkpoint(view: *mut ucstore_view, checkpoint: *mut ucstore_checkpoint) -> i32;
+    pub fn ucstore_checkpoint_next(
+        checkpoint: *mut ucstore_checkpoint,
+        log_length: u64,
+        most: u64,
+        room: *mut u8,
+        room_length: usize,
+        size: *mut usize,
+        done: *mut bool,
+    ) -> i32;
+    pub fn ucstore_checkpoint_close(checkpoint: *mut ucstore_checkpoint) -> i32;
 
     pub fn ucstore_job(store: *mut ucstore, job: *mut ucstore_job, taken: *mut bool) -> i32;
     pub fn ucstore_job_run(job: *mut ucstore_job) -> i32;

@@ -55,6 +55,7 @@
 #![warn(missing_docs)]
 
 mod batch;
+mod checkpoint;
 mod ended;
 mod error;
 mod job;
@@ -72,6 +73,7 @@ mod view;
 use ucstore_sys as sys;
 
 pub use batch::Batch;
+pub use checkpoint::Checkpoint;
 pub use ended::{BatchFault, Ended, LogFault};
 pub use error::Error;
 pub use job::{EndedJob, Job};

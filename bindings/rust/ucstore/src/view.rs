@@ -1,5 +1,6 @@
 //! [`View`]: what a store held at a moment.
 
+use crate::checkpoint::Checkpoint;
 use crate::error::{check, Error};
 use crate::reads::{Functions, Reads};
 use crate::report::Report;
@@ -158,6 +159,16 @@ impl View {
     /// A row may be [`Error::NotProtected`] or [`Error::OutOfMemory`], and the last one then.
     pub fn scan_at(&self, low: impl AsRef<[u8]>, high: Option<&[u8]>, at: u64) -> Scan<&View> {
         Scan::of(self, low.as_ref(), high, Some(at))
+    }
+
+    /// The rows at the last sequence as a write-ahead log, piece by piece. The view stays. What no run of it has is sorted,
+    /// once.
+    ///
+    /// # Errors
+    ///
+    /// [`Error::OutOfMemory`].
+    pub fn checkpoint(&self) -> Result<Checkpoint, Error> {
+        Checkpoint::of(self)
     }
 
     /// The last sequence then: 0 if nothing was written.

@@ -3,7 +3,7 @@
 use std::mem::MaybeUninit;
 use std::sync::mpsc;
 use std::thread;
-use ucstore::{Error, Operator, Options, Store, View};
+use ucstore::{Ended, Error, Operator, Options, Store, View};
 
 /// A store that leaves its compactions to jobs.
 fn empty(operator: Operator) -> Store {
@@ -100,6 +100,36 @@ fn a_view_reads_the_snapshots_that_were_there() {
     assert_eq!(view.get_at("k", sequence).unwrap(), Some(b"old".to_vec()));
     assert_eq!(view.scan_at("", None, sequence).count(), 1);
     assert_eq!(view.get_at("k", 7), Err(Error::NotProtected));
+}
+
+#[test]
+fn a_store_opens_from_the_checkpoint_of_a_view() {
+    let store = empty(Operator::Append);
+    for number in 0..300u32 {
+        store.put(number.to_be_bytes(), "old").unwrap();
+        store.merge(number.to_be_bytes(), "new").unwrap();
+    }
+    store.put("long", vec![b'v'; 1 << 20]).unwrap();
+    store
+        .delete_range(7u32.to_be_bytes(), 9u32.to_be_bytes())
+        .unwrap();
+    let view = store.view().unwrap();
+    let checkpoint = view.checkpoint().unwrap();
+    store.put("later", "1").unwrap();
+    drop(store);
+    let pieces: Vec<_> = checkpoint.map(Result::unwrap).collect();
+    assert_eq!(pieces.len(), 3);
+    let (again, ended) =
+        Store::open(Operator::Append, &Options::default(), &pieces.concat()).unwrap();
+    assert_eq!((ended, again.last()), (Ended::Clean, 299));
+    assert!(again.scan("", None).eq(view.scan("", None)));
+}
+
+#[test]
+fn the_checkpoint_of_nothing_has_no_piece() {
+    let mut checkpoint = empty(Operator::Tail).view().unwrap().checkpoint().unwrap();
+    assert_eq!(checkpoint.next_piece(), Ok(None));
+    assert_eq!(checkpoint.next_piece(), Ok(None));
 }
 
 /// Counts what a view has of one key, which never falls from view to view.

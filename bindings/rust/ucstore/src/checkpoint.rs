@@ -1,0 +1,133 @@
+//! [`Checkpoint`]: the rows of a view as a log, piece by piece.
+
+use crate::error::{check, Error};
+use crate::sys;
+use crate::view::View;
+use std::fmt;
+use std::iter::FusedIterator;
+use std::ptr;
+
+/// How many rows a piece has at most.
+const PIECE_ROWS: u64 = 128;
+
+/// The bytes of the room at first.
+const ROOM_BYTES: usize = 16 * 1024;
+
+/// The rows of a view at its last sequence as a write-ahead log, as [`View::checkpoint`] makes it.
+///
+/// [`Store::open`](crate::Store::open) opens a store of exactly these rows from its pieces, one behind the other. They are
+/// numbered from 1. There are at most as many as the view's last sequence, so batches that were written later go on behind
+/// them.
+///
+/// As an iterator it copies each piece. [`next_piece`](Checkpoint::next_piece) lends it instead:
+///
+/// ```
+/// # use ucstore::{Ended, Operator, Options, Store};
+/// # fn main() -> Result<(), ucstore::Error> {
+/// let store = Store::create(Operator::Append, &Options::default())?;
+/// store.put("colour", "red")?;
+/// store.merge("colour", "blue")?;
+/// let mut log = Vec::new();
+/// let mut checkpoint = store.view()?.checkpoint()?;
+/// while let Some(piece) = checkpoint.next_piece()? {
+///     log.extend_from_slice(piece);
+/// }
+///
+/// let (again, ended) = Store::open(Operator::Append, &Options::default(), &log)?;
+/// assert_eq!((ended, again.last()), (Ended::Clean, 1));
+/// assert_eq!(again.get("colour")?, Some(b"red,blue".to_vec()));
+/// # Ok(())
+/// # }
+/// ```
+pub struct Checkpoint {
+    handle: sys::ucstore_checkpoint,
+    /// How many bytes the pieces so far have.
+    length: u64,
+    room: Vec<u8>,
+    /// Whether no piece comes any more.
+    is_done: bool,
+}
+
+// The library lets handles go from thread to thread.
+unsafe impl Send for Checkpoint {}
+
+impl Checkpoint {
+    pub(crate) fn of(view: &View) -> Result<Checkpoint, Error> {
+        let mut checkpoint = Checkpoint {
+            handle: sys::ucstore_checkpoint {
+                at: ptr::null_mut(),
+            },
+            length: 0,
+            room: vec![0; ROOM_BYTES],
+            is_done: false,
+        };
+        check(unsafe { sys::ucstore_checkpoint(view.handle(), &mut checkpoint.handle) })?;
+        Ok(checkpoint)
+    }
+
+    /// The next bytes of the log, lent until the next call; none behind the last row.
+    ///
+    /// # Errors
+    ///
+    /// [`Error::TooLong`], [`Error::OutOfMemory`]. No piece comes behind one.
+    pub fn next_piece(&mut self) -> Result<Option<&[u8]>, Error> {
+        if self.is_done {
+            return Ok(None);
+        }
+        let size = self.lay_out().inspect_err(|_| self.is_done = true)?;
+        Ok(size.map(|size| &self.room[..size]))
+    }
+
+    /// Lays the next piece out in the room, which grows if it doesn't fit, and tells how many bytes it has.
+    fn lay_out(&mut self) -> Result<Option<usize>, Error> {
+        loop {
+            let mut size = 0;
+            let status = unsafe {
+                sys::ucstore_checkpoint_next(
+                    &mut self.handle,
+                    self.length,
+                    PIECE_ROWS,
+                    self.room.as_mut_ptr(),
+                    self.room.len(),
+                    &mut size,
+                    &mut self.is_done,
+                )
+            };
+            if status == sys::UCSTORE_ROOM {
+                self.room.resize(size, 0);
+                continue;
+            }
+            check(status)?;
+            self.length += size as u64;
+            return Ok((!self.is_done).then_some(size));
+        }
+    }
+}
+
+impl Iterator for Checkpoint {
+    type Item = Result<Vec<u8>, Error>;
+
+    fn next(&mut self) -> Option<Self::Item> {
+        self.next_piece()
+            .map(|piece| piece.map(<[u8]>::to_vec))
+            .transpose()
+    }
+}
+
+impl FusedIterator for Checkpoint {}
+
+impl Drop for Checkpoint {
+    fn drop(&mut self) {
+        // One that wasn't begun answers that it isn't there.
+        unsafe { sys::ucstore_checkpoint_close(&mut self.handle) };
+    }
+}
+
+impl fmt::Debug for Checkpoint {
+    fn fmt(&self, formatter: &mut fmt::Formatter<'_>) -> fmt::Result {
+        formatter
+            .debug_struct("Checkpoint")
+            .field("length", &self.length)
+            .finish_non_exhaustive()
+    }
+}
