@@ -40,7 +40,7 @@ pub use shared_batches::feed_shared_batch;
 pub use uc_batch::{Ended, Op, Pieces, Writes};
 pub use uc_bytes::{Bytes, OpRef, Write};
 pub use uc_live::{
-    Job, JobEnd, JobStage, LiveOpenError, LiveOptions, LiveStore, OpenedStore, RoomError, View,
+    FlushEnd, FlushJob, Job, JobEnd, JobStage, LiveOpenError, LiveOptions, LiveStore, OpenedStore, RoomError, View,
     WriteError,
 };
 pub use uc_oper::{Append, Counter, Maximum, Operator, Tail};
