@@ -41,7 +41,7 @@ pub use uc_batch::{Ended, Op, Pieces, Writes};
 pub use uc_bytes::{Bytes, OpRef, Write};
 pub use uc_checkpoint::{Checkpoint, CheckpointError};
 pub use uc_live::{
-    Job, JobEnd, JobStage, LiveOpenError, LiveOptions, LiveStore, OpenedStore, RoomError, View,
+    FlushEnd, FlushJob, Job, JobEnd, JobStage, LiveOpenError, LiveOptions, LiveStore, OpenedStore, RoomError, View,
     WriteError,
 };
 pub use uc_oper::{Append, Counter, Maximum, Operator, Tail};

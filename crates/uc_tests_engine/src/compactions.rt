@@ -65,6 +65,7 @@ fn writes_are_never_too_many(rt: HostRuntime) -> Result<(), Fail> {
             ..Options::usual()
         },
         stop_trigger: 255,
+        max_write_buffer_number: 1,
         compacts_itself: false,
     };
     let mut engine = empty(alloc, OperatorKind::Append, options)?;

@@ -177,6 +177,7 @@ pub(crate) fn gathering() -> LiveOptions {
             ..Options::usual()
         },
         stop_trigger: 3,
+        max_write_buffer_number: 1,
         compacts_itself: true,
     }
 }

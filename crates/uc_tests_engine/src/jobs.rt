@@ -158,6 +158,7 @@ fn wide() -> LiveOptions {
             ..Options::usual()
         },
         stop_trigger: 255,
+        max_write_buffer_number: 1,
         compacts_itself: false,
     }
 }

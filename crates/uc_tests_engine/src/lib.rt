@@ -3,7 +3,8 @@
 //! `worked.rt` has the values that are worked out by hand for each operator, and `given.rt` the engines and bytes that
 //! tests begin with. `writes.rt`, `batches.rt`, `steps.rt`, `reads.rt`, `snapshots.rt`, `compactions.rt` and
 //! `openings.rt` try each call on its happy path and each refusal, and `views.rt` views, also in several threads.
-//! `jobs.rt` tries jobs, by the type of `busy.rt`, which knows that its engine takes them back. `drawn.rt` plays drawn
+//! `jobs.rt` tries jobs, by the type of `busy.rt`, which knows that its engine takes them back, and `flushes.rt` flushes by
+//! jobs. `drawn.rt` plays drawn
 //! calls beside the plain program of `plain.rt`, `drawn_views.rt` takes views meanwhile, and `drawn_jobs.rt` jobs;
 //! `alike.rt` compares.
 #![tactic(auto)]
@@ -21,6 +22,8 @@ mod drawn;
 mod drawn_jobs;
 #[cfg(test)]
 mod drawn_views;
+#[cfg(test)]
+mod flushes;
 #[cfg(test)]
 mod given;
 #[cfg(test)]

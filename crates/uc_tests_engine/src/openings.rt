@@ -95,6 +95,11 @@ fn bad_options_are_refused(rt: HostRuntime) -> Result<(), Fail> {
     assert!(rt; refuses_options(rt.alloc(), triggers(0, 36)));
     assert!(rt; refuses_options(rt.alloc(), triggers(4, 256)));
     assert!(rt; refuses_options(rt.alloc(), triggers(5, 4)));
+    let none = LiveOptions {
+        max_write_buffer_number: 0,
+        ..small()
+    };
+    assert!(rt; refuses_options(rt.alloc(), none));
     Ok(())
 }
 

@@ -3,7 +3,7 @@
 use std::mem::MaybeUninit;
 use std::sync::mpsc;
 use std::thread;
-use ucstore::{Ended, Error, Operator, Options, Store, View};
+use ucstore::{Ended, Error, Job, Operator, Options, Store, View};
 
 /// A store that leaves its compactions to jobs.
 fn empty(operator: Operator) -> Store {
@@ -196,6 +196,65 @@ fn a_job_that_was_not_run_gives_its_runs_back() {
     let mut again = store.take_job().unwrap().unwrap();
     again.run().unwrap();
     assert!(store.end_job(again).unwrap().is_installed());
+}
+
+/// A store that leaves memtables of 100 bytes to jobs, up to three of them.
+fn leaving() -> Store {
+    let options = Options {
+        write_buffer_size: 100,
+        max_write_buffer_number: 3,
+        ..Default::default()
+    };
+    Store::create(Operator::Append, &options).unwrap()
+}
+
+/// Writes until there is a job, which is a flush.
+fn write_until_full(store: &Store) -> Job {
+    let runs = store.report().runs;
+    loop {
+        store.put("k", "v").unwrap();
+        assert_eq!(store.report().runs, runs);
+        if let Some(job) = store.take_job().unwrap() {
+            return job;
+        }
+    }
+}
+
+#[test]
+fn a_full_memtable_is_flushed_beside_writes() {
+    let store = leaving();
+    let mut job = write_until_full(&store);
+    let last = store.last();
+    let worker = thread::spawn(move || {
+        job.run().unwrap();
+        job
+    });
+    store.put("behind", "it").unwrap();
+    assert!(store.take_job().unwrap().is_none());
+    let ended = store.end_job(worker.join().unwrap()).unwrap();
+    assert!(ended.is_installed());
+    assert_eq!((store.report().runs, store.report().gathered), (1, 1));
+    assert_eq!(store.last(), last + 1);
+    assert_eq!(store.get("k").unwrap(), Some(b"v".to_vec()));
+}
+
+#[test]
+fn a_flush_that_comes_late_installs_nothing() {
+    let store = leaving();
+    let mut job = write_until_full(&store);
+    store.flush().unwrap();
+    job.run().unwrap();
+    assert!(!store.end_job(job).unwrap().is_installed());
+    assert_eq!(store.report().runs, 1);
+    // One that is forgotten is flushed by a write, once three memtables are full.
+    drop(write_until_full(&store));
+    while store.report().runs == 1 {
+        assert!(store.report().gathered < 100);
+        assert!(store.take_job().unwrap().is_none());
+        store.put("k", "v").unwrap();
+    }
+    let job = write_until_full(&store);
+    assert!(!store.end_job(job).unwrap().is_installed());
 }
 
 #[test]
