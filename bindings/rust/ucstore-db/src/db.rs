@@ -8,11 +8,20 @@ use crate::shared::Shared;
 use crate::snapshot::{Rows, Snapshot};
 use crate::stats::Stats;
 use crate::workers::Workers;
+use std::cell::Cell;
 use std::fmt;
 use std::mem::MaybeUninit;
 use std::path::Path;
 use std::sync::Arc;
 use ucstore::Batch;
+
+/// How many bytes a thread keeps for its next operation at most.
+const MOST_KEPT: usize = 64 << 10;
+
+thread_local! {
+    /// The batch in which a thread gathers a single operation. Its memory is used again.
+    static SINGLE: Cell<Batch> = Cell::default();
+}
 
 /// A database that threads share: a clone is the same one. It is closed where the last clone is dropped.
 #[derive(Clone)]
@@ -55,7 +64,8 @@ impl Db {
     ///
     /// Those of [`write`](Db::write).
     pub fn put(&self, key: impl AsRef<[u8]>, value: impl AsRef<[u8]>) -> Result<(), Error> {
-        self.write(Batch::new().put(key, value)?)
+        let (key, value) = (key.as_ref(), value.as_ref());
+        self.write_one(|batch| batch.put(key, value).map(|_| ()))
     }
 
     /// Combines a key with an operand.
@@ -64,7 +74,8 @@ impl Db {
     ///
     /// Those of [`write`](Db::write).
     pub fn merge(&self, key: impl AsRef<[u8]>, operand: impl AsRef<[u8]>) -> Result<(), Error> {
-        self.write(Batch::new().merge(key, operand)?)
+        let (key, operand) = (key.as_ref(), operand.as_ref());
+        self.write_one(|batch| batch.merge(key, operand).map(|_| ()))
     }
 
     /// Removes a key.
@@ -73,7 +84,8 @@ impl Db {
     ///
     /// Those of [`write`](Db::write).
     pub fn delete(&self, key: impl AsRef<[u8]>) -> Result<(), Error> {
-        self.write(Batch::new().delete(key)?)
+        let key = key.as_ref();
+        self.write_one(|batch| batch.delete(key).map(|_| ()))
     }
 
     /// Removes each key from `begin` to below `end`: none if `begin` isn't below `end`.
@@ -86,7 +98,8 @@ impl Db {
         begin: impl AsRef<[u8]>,
         end: impl AsRef<[u8]>,
     ) -> Result<(), Error> {
-        self.write(Batch::new().delete_range(begin, end)?)
+        let (begin, end) = (begin.as_ref(), end.as_ref());
+        self.write_one(|batch| batch.delete_range(begin, end).map(|_| ()))
     }
 
     /// Takes a batch: all of it, or nothing. It is acknowledged as [`Options::sync`] says.
@@ -287,10 +300,34 @@ impl Db {
         })
     }
 
+    /// Takes a batch of one operation.
+    fn write_one(
+        &self,
+        add: impl FnOnce(&mut Batch) -> Result<(), ucstore::Error>,
+    ) -> Result<(), Error> {
+        let shared = self.shared();
+        shared.write(bytes_of_one(add)?, shared.is_synced())
+    }
+
     /// What its threads share.
     fn shared(&self) -> &Shared {
         &self.workers.shared
     }
+}
+
+/// The bytes of a batch of one operation.
+fn bytes_of_one(
+    add: impl FnOnce(&mut Batch) -> Result<(), ucstore::Error>,
+) -> Result<Vec<u8>, ucstore::Error> {
+    // A thread that ends may have none any more.
+    let mut batch = SINGLE.try_with(Cell::take).unwrap_or_default();
+    add(&mut batch)?;
+    let bytes = batch.bytes();
+    if bytes.len() <= MOST_KEPT {
+        batch.clear();
+        let _ = SINGLE.try_with(|single| single.set(batch));
+    }
+    Ok(bytes)
 }
 
 impl fmt::Debug for Db {
