@@ -134,7 +134,7 @@ struct ucstore_db_options {
     uint32_t max_size_amplification_percent;  /* Above how many percent of the oldest run's size the newer ones are compacted with it. */
     uint32_t min_merge_width;                 /* The least number of runs for a compaction by size ratio, at least 2. */
     uint32_t max_merge_width;                 /* The greatest number of runs for a compaction, at least `min_merge_width`. */
-    uint32_t compactors;                      /* How many threads compact. Without any the store compacts within writes. */
+    uint32_t compactors;                      /* How many threads flush and compact. Without any, writes do. */
     uint32_t slow_trigger;                    /* From how many runs on writes are slowed, by a millisecond each time. */
     uint64_t checkpoint_ratio;                /* By how many times the logs exceed the data when a checkpoint is made. */
     uint64_t checkpoint_least;                /* How many bytes the logs have at least when a checkpoint is made. */

@@ -107,7 +107,7 @@ class DbOptions(NamedTuple):
     max_merge_width: int = 4294967295
     """The greatest number of runs for a compaction, at least `min_merge_width`."""
     compactors: int = 2
-    """How many threads compact. Without any the store compacts within writes."""
+    """How many threads flush and compact. Without any, writes do."""
     slow_trigger: int = 20
     """From how many runs on writes are slowed, by a millisecond each time."""
     checkpoint_ratio: int = 2

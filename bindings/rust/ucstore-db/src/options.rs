@@ -28,9 +28,10 @@ pub struct Options {
     pub operator: Operator,
     /// When a write is on the device.
     pub sync: Sync,
-    /// How the store in memory is kept. It compacts by itself if there are no `compactors`.
+    /// How the store in memory is kept. It flushes and compacts by itself if there are no `compactors`; else it gathers at
+    /// least two memtables.
     pub store: ucstore::Options,
-    /// How many threads compact.
+    /// How many threads flush and compact.
     pub compactors: usize,
     /// From how many runs on writes are slowed, by a millisecond each time.
     pub slow_trigger: u32,
@@ -49,10 +50,22 @@ pub struct Options {
 impl Options {
     /// The options of the store in memory.
     pub(crate) fn to_store(&self) -> ucstore::Options {
+        let compacts_itself = self.compactors == 0;
+        // One memtable is written to while a thread flushes the other.
+        let least = if compacts_itself { 1 } else { 2 };
         ucstore::Options {
-            compacts_itself: self.compactors == 0,
+            compacts_itself,
+            max_write_buffer_number: self.store.max_write_buffer_number.max(least),
             ..self.store
         }
+    }
+
+    /// How many bytes are gathered when a write flushes them itself.
+    pub(crate) fn most_gathered(&self) -> u64 {
+        let store = self.to_store();
+        store
+            .write_buffer_size
+            .saturating_mul(store.max_write_buffer_number.into())
     }
 }
 

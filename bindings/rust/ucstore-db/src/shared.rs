@@ -19,6 +19,9 @@ use ucstore::{Store, View};
 /// From how many bytes on scans make a run of what is gathered.
 const MOST_SORTED: u64 = 32 << 10;
 
+/// In how many steps threads are told of what is gathered beyond a full memtable, which the store measures more closely.
+const STEPS: u64 = 16;
+
 /// By how much a write is slowed while there are many runs.
 const SLOW: Duration = Duration::from_millis(1);
 
@@ -46,8 +49,8 @@ pub(crate) struct Shared {
     pub(crate) events: Events,
     /// Whether writes are slowed.
     is_slowed: AtomicBool,
-    /// How many bytes the writes have at most that no run has yet. It is changed while the log is locked.
-    gathered: AtomicU64,
+    /// How many bytes the writes have at most that no run has yet. It is changed while the store is locked, or the log.
+    pub(crate) gathered: AtomicU64,
     /// How many runs there were behind the last write or compaction.
     pub(crate) runs: AtomicU64,
     pub(crate) is_closing: AtomicBool,
@@ -85,7 +88,7 @@ impl Shared {
     ) -> Result<Shared, Error> {
         let report = store.report();
         // What was recovered isn't measured: it is flushed before the next write.
-        let gathered = u64::from(report.gathered > 0) * options.store.write_buffer_size;
+        let gathered = u64::from(report.gathered > 0) * options.most_gathered();
         Ok(Shared {
             options: options.clone(),
             checkpointing: Mutex::new(options.checkpoint_least),
@@ -137,7 +140,7 @@ impl Shared {
     fn take(&self, log: &mut Option<Log>, group: &Group) -> Result<(), Error> {
         self.check()?;
         self.slow_down();
-        if self.gathered.load(Ordering::Relaxed) >= self.options.store.write_buffer_size {
+        if self.gathered.load(Ordering::Relaxed) >= self.options.most_gathered() {
             self.flush_gathered()?;
         }
         let length = log.as_ref().map_or(0, |log| log.length);
@@ -148,8 +151,7 @@ impl Shared {
                 return Err(self.fail(error));
             }
         }
-        self.commit(log);
-        self.gathered.fetch_add(group.memory(), Ordering::Relaxed);
+        self.commit(log, group.memory());
         self.counts.groups.add(1);
         self.counts.batches.add(group.batches);
         self.counts.user_bytes.add(group.batch.len() as u64);
@@ -177,15 +179,35 @@ impl Shared {
         }
     }
 
-    /// Commits what is prepared, and wakes whom it gives work.
-    fn commit(&self, log: &Option<Log>) {
+    /// Commits what is prepared, of about so many bytes, and wakes whom it gives work.
+    fn commit(&self, log: &Option<Log>, bytes: u64) {
         let store = lock(&self.store);
         store.commit();
         self.newest.raise();
+        self.add_gathered(bytes);
         let report = store.report();
         self.tell_runs(report.runs);
         drop(store);
         self.ask_checkpoint(log, report.bytes);
+    }
+
+    /// Counts what was gathered. A full memtable gives work.
+    fn add_gathered(&self, bytes: u64) {
+        let size = self.options.store.write_buffer_size;
+        let step = (size / STEPS).max(1);
+        let before = self.gathered.fetch_add(bytes, Ordering::Relaxed);
+        let after = before + bytes;
+        if after >= size && before / step != after / step {
+            self.work.notify_all();
+        }
+    }
+
+    /// Counts what a job has flushed.
+    pub(crate) fn subtract_gathered(&self, bytes: u64) {
+        let left = |gathered: u64| Some(gathered.saturating_sub(bytes));
+        let _ = self
+            .gathered
+            .fetch_update(Ordering::Relaxed, Ordering::Relaxed, left);
     }
 
     /// Tells how many runs there are. Another number than before may give work.
@@ -220,15 +242,23 @@ impl Shared {
         Instant::now()
     }
 
-    /// Tells that runs were compacted, if they were. The thread holds no lock.
-    pub(crate) fn tell_compaction(&self, is_done: bool, begun: Instant) {
-        if is_done {
-            self.events.push(Event::Compacted {
-                runs: self.runs.load(Ordering::Relaxed),
-                took: begun.elapsed(),
-            });
-        }
-        self.events.tell();
+    /// Counts and tells that runs were compacted.
+    pub(crate) fn tell_compacted(&self, begun: Instant) {
+        self.counts.compactions.add(1);
+        self.events.push(Event::Compacted {
+            runs: self.runs.load(Ordering::Relaxed),
+            took: begun.elapsed(),
+        });
+    }
+
+    /// Counts and tells that about so many bytes were flushed.
+    pub(crate) fn tell_flushed(&self, bytes: u64, begun: Instant) {
+        self.counts.flushes.add(1);
+        self.events.push(Event::Flushed {
+            runs: self.runs.load(Ordering::Relaxed),
+            bytes,
+            took: begun.elapsed(),
+        });
     }
 
     /// A view that has each write that was acknowledged before.
@@ -280,12 +310,7 @@ impl Shared {
         let bytes = self.gathered.swap(0, Ordering::Relaxed);
         self.tell_runs(runs);
         if gathered > 0 {
-            self.counts.flushes.add(1);
-            self.events.push(Event::Flushed {
-                runs,
-                bytes,
-                took: begun.elapsed(),
-            });
+            self.tell_flushed(bytes, begun);
         }
         Ok(())
     }
