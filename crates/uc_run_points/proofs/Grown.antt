@@ -1,15 +1,18 @@
 -- Points with one more, and with fewer.
-use Rattle.std.proofs.Common.{◌≡◌, ℕ, ◌+◌, ◌-◌, ◌*◌, ◌/◌, ◌%◌, ◌<◌, ◌≤◌, Bool, true, false, cond, eqb, ltb, List, [], ◌∷◌, ◌++◌, length, get_or, take, drop, refl, sym, ap, ◌∙◌, append_assoc, length-append, arith}
+use Rattle.std.proofs.Common.{◌≡◌, ℕ, ◌+◌, ◌-◌, ◌*◌, ◌/◌, ◌%◌, ◌<◌, ◌≤◌, Bool, true, false, cond, eqb, ltb, List, [], ◌∷◌, ◌++◌, length, get_or, take, drop, refl, sym, ap, ◌∙◌, append_assoc, length-append, arith, subst}
+use mathlib.Core.List.{IsPrefix}
 use Rattle.std.specs.List.{AllByRecursion}
 use Rattle.std.proofs.ByRecursion.{All-append, All-take, All-drop}
 use Rattle.std.specs.Int.{w64, to_le_bytes}
+use Rattle.std.proofs.lemmas.List.Elements.{All-from_recursion}
+use Rattle.uc_run_entry.specs.declared.entry.What.TheVariants.{Delete}
 use Rattle.std.proofs.lemmas.Bool.Decides.{nat_tests}
-use Rattle.std.proofs.lemmas.List.{take_at, drop_at, append-nil, take-append-le, take-append-drop, length_push, get_or_push, get_or_append_left, get_or-take, take-take, drop_all, length-drop, length-take-le}
+use Rattle.std.proofs.lemmas.List.{take_at, drop_at, append-nil, take-append-le, take-append-drop, take_more, drop_more, length_push, get_or_push, get_or_append_left, get_or-take, take-take, drop_all, length-drop, length-take-le}
 use Rattle.uc_run_entry.specs.declared.entry.Entry.{Entry}
-use Rattle.uc_run_points.specs.Spelling.{text_of, trailer_of, entry_text, entries_text, entries_from, Fits, AreSpelled}
+use Rattle.uc_run_points.specs.Spelling.{text_of, trailer_of, entry_text, entries_text, entries_from, Fits, AreSpelled, entry_from}
 use Rattle.uc_run_points.specs.Numbers.{number_text, width_of}
 use Rattle.uc_run_points.specs.Starts.{AreStarts}
-use Rattle.uc_run_points.proofs.EntriesAgain.{length-entries_from, spelled_by, are_spelled}
+use Rattle.uc_run_points.proofs.EntriesAgain.{entry_again, length-entries_from, spelled_by, are_spelled}
 
 pub entries_text-append : (es fs : List Entry) → entries_text (es ++ fs) ≡ entries_text es ++ entries_text fs
 entries_text-append [] fs = refl
@@ -196,3 +199,76 @@ pub count_grows : (count : ℕ) (bytes : List ℕ) → AreSpelled count bytes �
 count_grows count bytes spelled e grown is =
     let l : length grown ≡ length bytes + length (entry_text e) = ap (λ (xs : List ℕ). length xs) is ∙ length-append bytes (entry_text e) in
     omega (arith, l, count_small count bytes spelled, entry_some e)
+
+-- ---- the starts of many
+
+-- the offset of an entry of some, behind others
+module _ (count : ℕ) (bytes : List ℕ) (spelled : AreSpelled count bytes) (k : ℕ) (lt : k < count) (rest : List ℕ) (is : rest ≡ entries_text (drop k (entries_from count bytes))) where
+  abbrev fs : List Entry
+  fs = entries_from count bytes
+
+  abbrev any : Entry
+  any = record { key = []; seq = 0; what = Delete }
+
+  abbrev next : Entry
+  next = get_or fs k any
+
+  inside : k < length fs
+  inside = let l = length-entries_from count bytes in omega (arith, lt, l)
+
+  first : drop k fs ≡ next ∷ drop (k + 1) fs
+  first = drop_more fs k any inside
+
+  cut_there : length bytes ≡ length (entries_text (take k fs)) + length rest
+  cut_there =
+      ap (λ (xs : List ℕ). length xs) (spelled.spelled ∙ text_cut k fs) ∙ length-append (entries_text (take k fs)) (entries_text (drop k fs))
+      ∙ ap (λ (xs : List ℕ). length (entries_text (take k fs)) + length xs) (sym is)
+
+  pub rest_within : length rest ≤ length bytes
+  rest_within = let l = cut_there in omega (arith, l)
+
+  pub rest_after : (entry_from rest).1 ≡ entries_text (drop (k + 1) fs)
+  rest_after =
+      ap (λ (xs : List ℕ). (entry_from xs).1) (is ∙ ap entries_text first)
+      ∙ ap (λ (q : Entry × List ℕ). q.1) (entry_again next (entries_text (drop (k + 1) fs)) (All-from_recursion Fits fs spelled.fits k any inside))
+
+  pub starts_more : (before : List Entry) (starts more : List ℕ) (place size here : ℕ) → length before ≡ place → length (entries_text before) ≡ size → here ≡ size + (length bytes - length rest) → AreStarts (before ++ take k fs) starts →
+      more ≡ cond (eqb ((place + k) % 16) 0) (starts ++ here ∷ []) starts → AreStarts (before ++ take (k + 1) fs) more
+  starts_more before starts more place size here many long_text at_here are is_more =
+      let so_far = before ++ take k fs in
+      let long : length so_far ≡ place + k = let a = length-append before (take k fs) in let t = length-take-le k fs (omega (arith, inside)) in omega (arith, a, t, many) in
+      let to_here : length (entries_text so_far) ≡ here =
+      let e = ap (λ (xs : List ℕ). length xs) (entries_text-append before (take k fs)) ∙ length-append (entries_text before) (entries_text (take k fs)) in
+      omega (arith, e, long_text, at_here, cut_there) in
+      let one : so_far ++ next ∷ [] ≡ before ++ take (k + 1) fs = append_assoc before (take k fs) (next ∷ []) ∙ ap (λ (xs : List Entry). before ++ xs) (sym (take_more fs k any inside)) in
+      let grown : cond (eqb (length so_far % 16) 0) (starts ++ length (entries_text so_far) ∷ []) starts ≡ more =
+      ap (λ n. cond (eqb (n % 16) 0) (starts ++ length (entries_text so_far) ∷ []) starts) long
+      ∙ ap (λ n. cond (eqb ((place + k) % 16) 0) (starts ++ n ∷ []) starts) to_here ∙ sym is_more in
+      subst (λ (xs : List Entry). AreStarts xs more) one (subst (AreStarts (so_far ++ next ∷ [])) grown (starts_pushed so_far next starts are (eqb (length so_far % 16) 0) refl))
+
+-- what is put at the end leaves the front
+pub begins_with : (b : Bool) (xs ys ws zs : List ℕ) → IsPrefix xs ys → zs ≡ cond b (ys ++ ws) ys → IsPrefix xs zs
+begins_with true xs ys ws zs h e = (h.0 ++ ws, sym (append_assoc xs h.0 ws) ∙ ap (λ (us : List ℕ). us ++ ws) h.1 ∙ sym e)
+begins_with false xs ys ws zs h e = (h.0, h.1 ∙ sym e)
+
+-- ---- two behind each other
+
+module _ (n m : ℕ) (bytes others : List ℕ) (spelled : AreSpelled n bytes) (more : AreSpelled m others) where
+  both_fit : AllByRecursion Fits (entries_from n bytes ++ entries_from m others)
+  both_fit = All-append Fits (entries_from n bytes) (entries_from m others) spelled.fits more.fits
+
+  both_long : n + m ≡ length (entries_from n bytes ++ entries_from m others)
+  both_long =
+      let l = length-append (entries_from n bytes) (entries_from m others) in
+      omega (arith, l, length-entries_from n bytes, length-entries_from m others)
+
+  both_text : bytes ++ others ≡ entries_text (entries_from n bytes ++ entries_from m others)
+  both_text =
+      ap (λ (xs : List ℕ). xs ++ others) spelled.spelled ∙ ap (λ (xs : List ℕ). entries_text (entries_from n bytes) ++ xs) more.spelled
+      ∙ sym (entries_text-append (entries_from n bytes) (entries_from m others))
+
+  pub entries_joined : entries_from (n + m) (bytes ++ others) ≡ entries_from n bytes ++ entries_from m others
+  entries_joined = spelled_by (entries_from n bytes ++ entries_from m others) both_fit (n + m) both_long (bytes ++ others) both_text
+
+  pub spelled_joined : AreSpelled (n + m) (bytes ++ others)
+  spelled_joined = are_spelled (entries_from n bytes ++ entries_from m others) both_fit (n + m) both_long (bytes ++ others) both_text

@@ -1,6 +1,8 @@
 //! [`Points`]: the points of a run, as bytes.
-ghost use Rattle.std.specs.Prelude.{◌≡◌, ◌<◌, ◌≤◌, ◌^◌, ◌*◌, ◌%◌, ◌==◌, ◌++◌, [], ◌∷◌, length, take, drop, if◌then◌else◌, IfOk, OnOk, OnErr};
+ghost use Rattle.std.specs.Prelude.{List, ◌+◌, ◌≡◌, ◌<◌, ◌≤◌, ◌^◌, ◌*◌, ◌%◌, ◌==◌, ◌++◌, [], ◌∷◌, length, take, drop, if◌then◌else◌, IfOk, OnOk, OnErr};
 ghost use Rattle.std.specs.List.{AllByRecursion, slice_get};
+ghost use mathlib.Core.List.{IsPrefix};
+ghost use Rattle.uc_run_entry.specs.declared.entry.Entry.{Entry as EntryOf};
 ghost use Rattle.uc_run_entry.specs.Packed as packed;
 ghost use Rattle.uc_run_points.specs.Spelling as spelling;
 ghost use Rattle.uc_run_points.specs.Spelling.{AreSpelled, Fits};
@@ -9,7 +11,7 @@ ghost use Rattle.uc_run_points.specs.Starts.{AreStarts, block_points};
 use crate::point_ref::PointRef;
 use crate::point_slice::PointSlice;
 use crate::points_ahead::PointsAhead;
-use crate::spelling::push_entry;
+use crate::spelling::{push_entry, read_entry};
 use std::alloc::{AllocError, Global};
 use std::marker::Model;
 use uc_run_entry::{Entry, WhatRef};
@@ -70,6 +72,32 @@ fn push_start(starts: &mut Vec<usize>, place: usize, offset: usize) -> Result<()
 {
     if place % BLOCK_POINTS == 0 {
         starts.push(offset)?;
+    }
+    Ok(())
+}
+
+/// Pushes the offset of each entry of some bytes that is the first of a block, where so many entries and bytes come before
+/// them. It costs a step for each entry. An `Err` may leave some of them pushed.
+fn push_starts(
+    starts: &mut Vec<usize>,
+    place: usize,
+    offset: usize,
+    bytes: &[u8],
+    count: usize,
+) -> Result<(), AllocError>
+    requires spelled { AreSpelled count bytes.now }
+    requires place { place + count < 2 ^ 64 }
+    requires offset { offset + length bytes.now < 2 ^ 64 }
+    ensures pushed { (es : List EntryOf) → length es ≡ place → length (spelling.entries_text es) ≡ offset →
+        AreStarts es starts.old.items →
+        OnOk result (AreStarts (es ++ spelling.entries_from count bytes.now) starts.new.items) }
+    ensures begins { IsPrefix starts.old.items starts.new.items }
+{
+    let mut rest = bytes;
+    for number in 0..count {
+        push_start(starts, place + number, offset + (bytes.len() - rest.len()))?;
+        let (_, behind) = read_entry(rest);
+        rest = behind;
     }
     Ok(())
 }
@@ -141,14 +169,26 @@ impl Points {
         self.push(point.key(), point.seq(), point.what())
     }
 
-    /// Pushes copies of points. An `Err` may leave some of them pushed.
+    /// Pushes copies of points: a copy of their bytes, and a step for each. An `Err` pushes nothing.
     pub fn extend(&mut self, points: &Points) -> Result<(), AllocError>
-        ensures { OnOk result (self.new ≡ self.old ++ points.now) }
+        ensures pushed { OnOk result (self.new ≡ self.old ++ points.now) }
+        ensures as_it_was { OnErr result (self.new ≡ self.old) }
     {
-        let mut ahead = points.ahead();
-        while let Some(point) = ahead.next() {
-            self.push_point(&point)?;
+        let (offset, blocks) = (self.bytes.len(), self.starts.len());
+        self.bytes.extend_from_slice(&points.bytes)?;
+        let pushed = push_starts(
+            &mut self.starts,
+            self.count,
+            offset,
+            &points.bytes,
+            points.count,
+        );
+        if let Err(error) = pushed {
+            self.starts.truncate(blocks);
+            self.bytes.truncate(offset);
+            return Err(error);
         }
+        self.count += points.count;
         Ok(())
     }
 

@@ -1,4 +1,4 @@
-use Rattle.std.proofs.Common.{rules, ◌≡◌, map, take, drop, ◌/◌, length}
+use Rattle.std.proofs.Common.{rules, ◌≡◌, take, drop, ◌/◌, length}
 use Rattle.std.proofs.lemmas.Result.{IfOk-weaker}
 use Rattle.uc_oper.specs.declared.effect.Effect.TheVariants.{Keep}
 use Rattle.uc_run_entry.specs.Lookup as lookup

@@ -1,4 +1,4 @@
-use Rattle.std.proofs.Common.{◌≡◌, map, take}
+use Rattle.std.proofs.Common.{◌≡◌, take}
 use Rattle.uc_run_entry.specs.Lookup as lookup
 use Rattle.uc_compact.proofs.folder.folded_onto.Given as goal
 

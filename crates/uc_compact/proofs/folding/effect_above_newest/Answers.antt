@@ -1,4 +1,4 @@
-use Rattle.std.proofs.Common.{[], ◌∷◌, refl, sym, ◌∙◌, ap, map}
+use Rattle.std.proofs.Common.{[], ◌∷◌, refl, sym, ◌∙◌, ap}
 use Rattle.std.specs.Prelude.{None}
 use Rattle.uc_oper.specs.declared.effect.Effect.TheVariants.{Set}
 use Rattle.std.specs.Option.{option_to_list}

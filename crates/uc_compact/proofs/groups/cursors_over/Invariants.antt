@@ -1,4 +1,4 @@
-use Rattle.std.proofs.Common.{◌≡◌, map, take}
+use Rattle.std.proofs.Common.{◌≡◌, take}
 use Rattle.uc_compact.proofs.groups.cursors_over.Given as goal
 
 abbrev pub invariant-loop-points : goal.invariant-loop-points

@@ -30,6 +30,6 @@ returns g t c =
     let keeping = c.args.keeping.now in
     let kept : c.in_ok-kept.kept ≡ points_kept m keeping pieces (flat_map (λ points. points) below) = search rules in
     let top : c.in_ok-top.top ≡ points_kept m keeping pieces (flat_map (λ points. points) from) = search rules in
-    let all : c.extend.new.self ≡ c.in_ok-kept.kept ++ c.in_ok-top.top = c.in_ok-extend.ensures in
+    let all : c.extend.new.self ≡ c.in_ok-kept.kept ++ c.in_ok-top.top = c.in_ok-extend.ensures.pushed in
     both_kept (λ points. points) cut c.args.runs.now m keeping pieces c.in_ok-below.below.items below c.in_ok-below.from.items from c.in_ok-kept.kept c.in_ok-top.top c.extend.new.self
     c.as_slice-below.ensures.value c.as_slice-from.ensures.value (map-id _ ∙ c.in_ok-below.ensures.below) (map-id _ ∙ c.in_ok-below.ensures.from) kept top all

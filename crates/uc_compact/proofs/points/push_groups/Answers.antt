@@ -1,4 +1,4 @@
-use Rattle.std.proofs.Common.{ap, map}
+use Rattle.std.proofs.Common.{ap}
 use Rattle.std.specs.Prelude.{option_map}
 use Rattle.uc_compact.proofs.Pushing.{first, one_key, next, done, came, ended, one_key_by, made_by}
 use Rattle.uc_compact.proofs.points.push_groups.Goals as goal

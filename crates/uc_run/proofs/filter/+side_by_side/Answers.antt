@@ -1,6 +1,5 @@
-use Rattle.std.proofs.Common.{rules, ◌≡◌, ◌+◌, ◌-◌, ◌/◌, ◌≤◌, ◌<◌, ◌++◌, List, ℕ, length, take, drop, sym, ap, ◌∙◌, subst, arith}
-use Rattle.std.proofs.lemmas.List.{take_at, take-append-drop}
-use Rattle.uc_run_entry.specs.declared.entry.Entry.{Entry}
+use Rattle.std.proofs.Common.{rules, ◌≡◌, ◌+◌, ◌-◌, ◌/◌, ◌≤◌, List, ℕ, length, take, drop, sym, subst, arith}
+use Rattle.std.proofs.lemmas.List.{take_at}
 use Rattle.uc_run.specs.Filters.{HasBits, AdmitsAll}
 use Rattle.uc_run.proofs.Admitting.{both_admitted}
 use Rattle.uc_run.proofs.Walking.{halves}

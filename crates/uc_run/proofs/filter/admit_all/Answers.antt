@@ -1,4 +1,4 @@
-use Rattle.std.proofs.Common.{rules, ◌≡◌, ◌+◌, ◌-◌, List, Some, length, take, drop, sym, ap, ◌∙◌, subst}
+use Rattle.std.proofs.Common.{rules, ◌≡◌, ◌+◌, List, Some, take, sym, ◌∙◌, subst}
 use Rattle.std.specs.List.{slice_get}
 use Rattle.uc_run_entry.specs.declared.entry.Entry.{Entry}
 use Rattle.uc_run.specs.Filters.{Admits, AdmitsAll}

@@ -1,4 +1,4 @@
-use Rattle.std.proofs.Common.{filter, map, ltb, leb, sym, ap, ◌∙◌, subst}
+use Rattle.std.proofs.Common.{filter, ltb, leb, sym, ap, ◌∙◌, subst}
 use Rattle.uc_run_entry.specs.declared.entry.Entry.{Entry}
 use Rattle.uc_compact.specs.Choice.{PointsFall}
 use Rattle.uc_compact.proofs.NumbersFall.{points_filter, filter_both}
