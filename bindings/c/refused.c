@@ -81,6 +81,13 @@ static struct ucstore_batch gathered;
 static struct ucstore_view shown, again;
 static struct ucstore_job out;
 
+/* A checkpoint of the view, the values that this had, and the pieces so far. */
+static struct ucstore_checkpoint begun;
+static uint64_t begun_lengths[KEYS];
+static uint8_t begun_values[ROOM], pieces[ROOM];
+static size_t begun_size, pieces_length, piece;
+static bool is_laid_out;
+
 static uint8_t history[MOST_LOG];
 static size_t history_length;
 
@@ -98,7 +105,7 @@ struct held {
     uint64_t last;
     uint64_t keeps[MOST_KEEPS], value_lengths[KEYS];
     size_t keep_count, size, batch_length, values_length;
-    bool is_shown, is_again, is_out;
+    bool is_shown, is_again, is_out, is_begun;
     uint8_t rows[ROOM], batch[BATCH], values[ROOM];
 };
 
@@ -117,6 +124,7 @@ static void lay_out_keys(void) {
 
 static void look_at_views(struct held *held) {
     held->is_out = out.at != NULL;
+    held->is_begun = begun.at != NULL;
     held->is_shown = shown.at != NULL;
     held->is_again = again.at != NULL;
     held->values_length = 0;
@@ -145,6 +153,7 @@ static void look(struct held *held) {
 
 static bool are_same_views(const struct held *one, const struct held *other) {
     return one->is_out == other->is_out && one->is_shown == other->is_shown && one->is_again == other->is_again
+        && one->is_begun == other->is_begun
         && one->values_length == other->values_length
         && memcmp(one->values, other->values, one->values_length) == 0
         && (!one->is_shown || memcmp(one->value_lengths, other->value_lengths, sizeof one->value_lengths) == 0);
@@ -168,7 +177,7 @@ struct call {
 enum {
     PUT, DELETE, MERGE, DELETE_RANGE, BATCH_PUT, BATCH_DELETE, BATCH_MERGE, BATCH_DELETE_RANGE, WRITE, WRITE_BYTES, PREPARE,
     PREPARE_BYTES, FLUSH, SNAPSHOT, RELEASE, GET, GET_AT, GET_MANY, SCAN, SCAN_AT, VIEW, VIEW_AGAIN, VIEW_GET, VIEW_GET_AT,
-    VIEW_GET_MANY, VIEW_SCAN, VIEW_SCAN_AT, VIEW_CLOSE, JOB, JOB_RUN, JOB_END, COMPACT, OPEN, NEXT, KINDS
+    VIEW_GET_MANY, VIEW_SCAN, VIEW_SCAN_AT, VIEW_CLOSE, CHECKPOINT, CHECKPOINT_NEXT, JOB, JOB_RUN, JOB_END, COMPACT, OPEN, NEXT, KINDS
 };
 
 static size_t draw_text(uint8_t *text, size_t most) {
@@ -326,6 +335,11 @@ static int32_t try_call(const struct call *call) {
     case VIEW_CLOSE:
         ucstore_view_close(&again);
         return ucstore_view_close(&shown);
+    case CHECKPOINT:
+        return ucstore_checkpoint(&shown, &begun);
+    case CHECKPOINT_NEXT:
+        return ucstore_checkpoint_next(&begun, pieces_length, 30, pieces + pieces_length, ROOM - pieces_length, &piece,
+                                       &is_laid_out);
     case JOB:
         return ucstore_job(&store, &out, &told);
     case JOB_RUN:
@@ -366,6 +380,38 @@ static int32_t with_refusals(const struct call *call, struct held *held) {
     return status;
 }
 
+/* Notes what the view has of which a checkpoint has just begun. */
+static void begin_pieces(const struct held *held) {
+    memcpy(begun_lengths, held->value_lengths, sizeof begun_lengths);
+    memcpy(begun_values, held->values, held->values_length);
+    begun_size = held->values_length;
+    pieces_length = 0;
+}
+
+/* Opens the pieces, which have the values that the view had. */
+static void check_pieces(void) {
+    static uint64_t lengths[KEYS];
+    static uint8_t values[ROOM];
+    struct ucstore opened = {0};
+    struct ucstore_options options;
+    struct ucstore_ended ended = {7, 7, 7};
+    size_t size = 0;
+    CHECK(ucstore_options_init(&options) == UCSTORE_OK);
+    CHECK(ucstore_open(&opened, UCSTORE_APPEND, &options, pieces, pieces_length, &ended) == UCSTORE_OK && ended.kind == UCSTORE_CLEAN);
+    CHECK(ucstore_get_many(&opened, keys, keys_length, key_lengths, KEYS, lengths, KEYS, values, ROOM, &size) == UCSTORE_OK);
+    CHECK(size == begun_size && memcmp(values, begun_values, size) == 0 && memcmp(lengths, begun_lengths, sizeof lengths) == 0);
+    CHECK(ucstore_close(&opened) == UCSTORE_OK);
+}
+
+/* Takes the piece that was laid out, or ends the checkpoint if no row was left. */
+static void take_piece(void) {
+    pieces_length += piece;
+    if (is_laid_out) {
+        check_pieces();
+        CHECK(ucstore_checkpoint_close(&begun) == UCSTORE_OK);
+    }
+}
+
 /* Takes what is prepared, while each allocation is refused. */
 static void commit(void) {
     granted = 0;
@@ -381,12 +427,19 @@ static void step(struct held *held) {
     struct call call = draw_call(held);
     int32_t status = with_refusals(&call, held);
     CHECK(status == UCSTORE_OK || status == UCSTORE_NOT_FOUND || status == UCSTORE_NOT_PROTECTED || status == UCSTORE_LOG_ENDS
-          || status == UCSTORE_NO_VIEW || status == UCSTORE_HAS_VIEW || status == UCSTORE_NO_JOB || status == UCSTORE_HAS_JOB);
+          || status == UCSTORE_NO_VIEW || status == UCSTORE_HAS_VIEW || status == UCSTORE_NO_JOB || status == UCSTORE_HAS_JOB
+          || status == UCSTORE_NO_CHECKPOINT || status == UCSTORE_HAS_CHECKPOINT);
     if (call.kind == PREPARE || call.kind == PREPARE_BYTES) {
         /* No read sees it before it is taken. */
         look(&before);
         CHECK(is_same(&before, held));
         commit();
+    }
+    if (call.kind == CHECKPOINT && status == UCSTORE_OK) {
+        begin_pieces(held);
+    }
+    if (call.kind == CHECKPOINT_NEXT && status == UCSTORE_OK) {
+        take_piece();
     }
     if (call.kind == WRITE) {
         CHECK(ucstore_batch_clear(&gathered) == UCSTORE_OK);
@@ -446,6 +499,7 @@ static void soak(size_t calls) {
     CHECK(ucstore_close(&store) == UCSTORE_OK);
     ucstore_view_close(&again);
     ucstore_view_close(&shown);
+    ucstore_checkpoint_close(&begun);
     CHECK(live == 0);
 }
 
