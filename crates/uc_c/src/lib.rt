@@ -36,6 +36,8 @@ mod c_ended;
 mod c_log_place;
 mod c_options;
 mod c_report;
+#[cfg(test)]
+mod checkpoint_tests;
 mod checkpoints;
 mod compacting;
 mod fault_codes;
