@@ -5,7 +5,8 @@
 #
 # The parts are rust, c, sanitizers, valgrind, python and ended, or all where none is named. `needs` alone says what is missing
 # for them.
-# - rust: crashes and faults of a device at each call, damaged bytes, threads, processes that are ended by signal 9, an example.
+# - rust: crashes and faults of a device at each call, damaged bytes, threads and each order of their steps, use for long,
+#   processes that are ended by signal 9, an example.
 # - c: each function, threads, the cases of bindings/cases and drawn ones, and programs, by gcc and clang and as C++.
 # - sanitizers: those of addresses, undefined behaviour and threads. valgrind: once.
 # - python: each call, the same cases, the types by mypy where there is one, and how fast a scan is.

@@ -4,6 +4,8 @@ use crate::counts::Counts;
 use crate::error::Error;
 use crate::folder::{File, Folder};
 use crate::name::Name;
+use std::io;
+use std::panic::{catch_unwind, AssertUnwindSafe};
 use std::sync::Arc;
 use std::time::Instant;
 
@@ -48,7 +50,8 @@ impl Log {
     /// behind its length isn't known.
     pub(crate) fn append(&mut self, record: &[u8], is_synced: bool) -> Result<(), Error> {
         self.is_synced = false;
-        self.file.append(record).map_err(self.refusal())?;
+        let file = &mut self.file;
+        ask_device(|| file.append(record)).map_err(self.refusal())?;
         if is_synced {
             self.sync()?;
         }
@@ -61,7 +64,8 @@ impl Log {
     pub(crate) fn sync(&mut self) -> Result<(), Error> {
         if !self.is_synced {
             let begun = Instant::now();
-            self.file.sync().map_err(self.refusal())?;
+            let file = &mut self.file;
+            ask_device(|| file.sync()).map_err(self.refusal())?;
             self.counts.add_sync(begun.elapsed());
             self.is_synced = true;
         }
@@ -81,8 +85,15 @@ impl Log {
     }
 
     /// What an error of its file says. Its name isn't needed before.
-    fn refusal(&self) -> impl FnOnce(std::io::Error) -> Error {
+    fn refusal(&self) -> impl FnOnce(io::Error) -> Error {
         let name = Name::Log(self.number);
         move |error| Error::of_file(&name.text())(error)
     }
+}
+
+/// Asks a device for something. A panic of its own is an error too: what the file holds then isn't known either, and writers
+/// wait to be told.
+fn ask_device(work: impl FnOnce() -> io::Result<()>) -> io::Result<()> {
+    catch_unwind(AssertUnwindSafe(work))
+        .unwrap_or_else(|_| Err(io::Error::other("the device panicked")))
 }

@@ -3,6 +3,13 @@
 use crate::error::Error;
 use ucstore::{log_writes, Batch, BatchFault, Ended, Operation, Store, Write};
 
+/// From how many bytes on batches are written together: each call of the store has a cost of its own.
+const ENOUGH: usize = 32 << 10;
+
+/// As how many bytes an operation counts beside its texts, and a range deletion, of which a memtable has few.
+const OPERATION_SIZE: usize = 16;
+const RANGE_SIZE: usize = 1024;
+
 /// The bytes of a record's header in a log, and the types of records that begin a batch.
 const HEADER_SIZE: usize = 7;
 const FULL: u8 = 1;
@@ -20,7 +27,7 @@ pub(crate) struct Replay {
 impl Replay {
     /// Writes the batches of a log to a store, with the sequences that they had: those behind the store's last one. The
     /// log behind a base may begin later, because a base has fewer writes than it was made of. Tells the offset behind
-    /// each batch.
+    /// each batch. Small ones are written together.
     pub(crate) fn of(
         store: &Store,
         log: &[u8],
@@ -29,20 +36,25 @@ impl Replay {
     ) -> Result<Replay, Error> {
         let mut writes = log_writes(log);
         let mut gathered = Gathered::default();
-        let mut offset = 0;
-        while let Some(write) = writes.next().transpose()? {
-            // Another batch was fetched.
-            if writes.offset() != offset {
-                gathered.write(store)?;
+        loop {
+            let (offset, begins) = (writes.offset(), writes.is_between_batches());
+            let Some(write) = writes.next_write()? else {
+                break;
+            };
+            if begins {
                 tell(offset);
-                if write.sequence != store.last() + 1 && !(is_behind_base && offset == 0) {
+                let next = gathered.next(store);
+                if write.sequence != next && !(is_behind_base && offset == 0) {
+                    gathered.write(store)?;
                     return Ok(Replay {
                         end: offset,
                         ended: Ended::Clean,
                         is_gap: true,
                     });
                 }
-                offset = writes.offset();
+                if gathered.size >= ENOUGH {
+                    gathered.write(store)?;
+                }
             }
             gathered.add(&write)?;
         }
@@ -76,35 +88,57 @@ impl Replay {
     }
 }
 
-/// The writes of a batch.
+/// Writes that are one behind the other.
 #[derive(Default)]
 struct Gathered {
     batch: Batch,
+    /// The bytes of the batch, whose memory is used again.
+    bytes: Vec<u8>,
     first: u64,
+    count: u64,
+    /// About how many bytes they have.
+    size: usize,
 }
 
 impl Gathered {
+    /// The sequence behind the last one.
+    fn next(&self, store: &Store) -> u64 {
+        match self.count {
+            0 => store.last() + 1,
+            count => self.first + count,
+        }
+    }
+
     /// Adds the next one.
-    fn add(&mut self, write: &Write) -> Result<(), Error> {
-        if self.batch.is_empty() {
+    fn add(&mut self, write: &Write<&[u8]>) -> Result<(), Error> {
+        if self.count == 0 {
             self.first = write.sequence;
         }
-        match &write.operation {
+        self.size += match write.operation {
+            Operation::Put { key, value } => key.len() + value.len(),
+            Operation::Merge { key, operand } => key.len() + operand.len(),
+            Operation::Delete { key } => key.len(),
+            Operation::DeleteRange { begin, end } => RANGE_SIZE + begin.len() + end.len(),
+        };
+        match write.operation {
             Operation::Put { key, value } => self.batch.put(key, value)?,
-            Operation::Delete { key } => self.batch.delete(key)?,
             Operation::Merge { key, operand } => self.batch.merge(key, operand)?,
+            Operation::Delete { key } => self.batch.delete(key)?,
             Operation::DeleteRange { begin, end } => self.batch.delete_range(begin, end)?,
         };
+        self.size += OPERATION_SIZE;
+        self.count += 1;
         Ok(())
     }
 
     /// Writes them with their sequences, and forgets them.
     fn write(&mut self, store: &Store) -> Result<(), Error> {
-        if !self.batch.is_empty() {
-            let mut bytes = self.batch.bytes();
-            bytes[..8].copy_from_slice(&self.first.to_le_bytes());
-            store.write_bytes(&bytes)?;
+        if self.count > 0 {
+            self.batch.bytes_into(&mut self.bytes);
+            self.bytes[..8].copy_from_slice(&self.first.to_le_bytes());
+            store.write_bytes(&self.bytes)?;
             self.batch.clear();
+            (self.count, self.size) = (0, 0);
         }
         Ok(())
     }

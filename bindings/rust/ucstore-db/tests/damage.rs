@@ -194,6 +194,27 @@ fn an_older_log_ends_with_a_batch() {
 }
 
 #[test]
+fn a_batch_that_is_missing_in_a_log_is_noticed() {
+    let mut story = Story::new();
+    story.write("abcadea");
+    let files = story.device.files();
+    for (number, ends) in story.lengths.windows(2).enumerate() {
+        let mut fewer = files.clone();
+        fewer.get_mut("000001.log").unwrap().drain(ends[0]..ends[1]);
+        let device = Device::of(&fewer);
+        if number + 2 < story.lengths.len() {
+            let begin = ends[0];
+            assert_eq!(
+                open(&device).unwrap_err().to_string(),
+                format!("000001.log is damaged at {begin}: writes before this are missing")
+            );
+        }
+        let map = map_of(&open_to_fault(&device).unwrap());
+        assert_eq!(story.maps[number], map);
+    }
+}
+
+#[test]
 fn a_file_that_is_missing_is_named() {
     let mut story = Story::new();
     story.write("ab");

@@ -284,6 +284,8 @@ struct Gate {
     is_shut: Arc<(Mutex<bool>, Condvar)>,
     /// How many syncs wait.
     waiting: Arc<AtomicU64>,
+    /// How many syncs come before one that panics, if one does.
+    panics_behind: Arc<Mutex<Option<u64>>>,
 }
 
 /// A file of it.
@@ -308,6 +310,9 @@ impl Gate {
                 .unwrap(),
         );
         self.waiting.fetch_sub(1, Ordering::SeqCst);
+        let panics_behind = self.panics_behind.lock().unwrap().take();
+        assert!(panics_behind != Some(0), "the device panics");
+        *self.panics_behind.lock().unwrap() = panics_behind.map(|count| count - 1);
     }
 
     fn waits(&self) -> bool {
@@ -383,6 +388,35 @@ fn writers_that_come_together_share_a_sync() {
         stats.groups < THREADS && stats.syncs == stats.groups,
         "{stats}"
     );
+}
+
+#[test]
+fn writers_whose_device_panics_are_told() {
+    let gate = Gate::default();
+    let db = Db::open_on(Arc::new(gate.clone()), &counters()).unwrap();
+    gate.shut(true);
+    *gate.panics_behind.lock().unwrap() = Some(1);
+    thread::scope(|scope| {
+        let db = &db;
+        let writer = |key: u64| move || db.merge(key.to_le_bytes(), one());
+        let first = scope.spawn(writer(0));
+        wait_for(|| gate.waits());
+        let others: Vec<_> = (1..THREADS).map(|key| scope.spawn(writer(key))).collect();
+        thread::sleep(Duration::from_millis(50));
+        gate.shut(false);
+        first.join().unwrap().unwrap();
+        for other in others {
+            let error = other.join().unwrap().unwrap_err();
+            assert!(matches!(error, Error::ReadOnly { .. }));
+            assert!(error
+                .to_string()
+                .ends_with("000001.log: the device panicked"));
+        }
+    });
+    assert_eq!(map_of(&db).len(), 1);
+    assert!(db.failure().is_some() && db.close().is_err());
+    let again = Db::open_on(Arc::new(gate.clone()), &counters()).unwrap();
+    assert_eq!(number(again.get(0u64.to_le_bytes()).unwrap()), 1);
 }
 
 #[test]

@@ -114,7 +114,15 @@ impl Batch {
     /// A sequence is set by writing it over the 8 bytes, low byte first. It is 0, which stands for the one behind the
     /// store's last one.
     pub fn bytes(&self) -> Vec<u8> {
-        let mut bytes = Vec::with_capacity(self.size());
+        let mut bytes = Vec::new();
+        self.bytes_into(&mut bytes);
+        bytes
+    }
+
+    /// Puts the [`bytes`](Batch::bytes) into a vector, instead of what that has. Its memory is used again.
+    pub fn bytes_into(&self, bytes: &mut Vec<u8>) {
+        bytes.clear();
+        bytes.reserve(self.size());
         let mut size = 0;
         // SAFETY: All bytes are copied there, because there is room for them.
         unsafe {
@@ -126,7 +134,6 @@ impl Batch {
             );
             bytes.set_len(size);
         }
-        bytes
     }
 
     /// How many bytes the batch has.

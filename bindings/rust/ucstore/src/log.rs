@@ -4,48 +4,76 @@ use crate::ended::Ended;
 use crate::error::{check, Error};
 use crate::sys;
 use std::iter::FusedIterator;
+use std::ops;
 
-/// An operation of a log.
-#[derive(Clone, Debug, PartialEq, Eq, Hash)]
-pub enum Operation {
+/// An operation of a log, whose texts are lent or its own.
+#[derive(Clone, Copy, Debug, PartialEq, Eq, Hash)]
+pub enum Operation<T = Vec<u8>> {
     /// A key is set to a value.
     Put {
         /// The key.
-        key: Vec<u8>,
+        key: T,
         /// Its value.
-        value: Vec<u8>,
+        value: T,
     },
     /// A key is removed.
     Delete {
         /// The key.
-        key: Vec<u8>,
+        key: T,
     },
     /// A key is combined with an operand.
     Merge {
         /// The key.
-        key: Vec<u8>,
+        key: T,
         /// The operand.
-        operand: Vec<u8>,
+        operand: T,
     },
     /// The keys from `begin` to below `end` are removed.
     DeleteRange {
         /// The first key.
-        begin: Vec<u8>,
+        begin: T,
         /// The key behind the last one.
-        end: Vec<u8>,
+        end: T,
     },
 }
 
 /// A write of a log.
-#[derive(Clone, Debug, PartialEq, Eq, Hash)]
-pub struct Write {
+#[derive(Clone, Copy, Debug, PartialEq, Eq, Hash)]
+pub struct Write<T = Vec<u8>> {
     /// Its sequence.
     pub sequence: u64,
     /// What it does.
-    pub operation: Operation,
+    pub operation: Operation<T>,
+}
+
+impl Write<&[u8]> {
+    /// The write with texts of its own.
+    fn to_own(self) -> Write {
+        let operation = match self.operation {
+            Operation::Put { key, value } => Operation::Put {
+                key: key.to_vec(),
+                value: value.to_vec(),
+            },
+            Operation::Delete { key } => Operation::Delete { key: key.to_vec() },
+            Operation::Merge { key, operand } => Operation::Merge {
+                key: key.to_vec(),
+                operand: operand.to_vec(),
+            },
+            Operation::DeleteRange { begin, end } => Operation::DeleteRange {
+                begin: begin.to_vec(),
+                end: end.to_vec(),
+            },
+        };
+        Write {
+            sequence: self.sequence,
+            operation,
+        }
+    }
 }
 
 /// The writes of a log up to its first fault, fetched batch by batch. [`log_writes`] makes it.
+///
+/// As an iterator it copies each write. [`next_write`](LogWrites::next_write) lends it instead.
 #[derive(Debug)]
 pub struct LogWrites<'a> {
     log: &'a [u8],
@@ -88,6 +116,19 @@ pub fn log_writes(log: &[u8]) -> LogWrites<'_> {
 }
 
 impl LogWrites<'_> {
+    /// The next write, lent until the next call; none behind the last one.
+    ///
+    /// # Errors
+    ///
+    /// [`Error::OutOfMemory`]. No write comes behind it.
+    pub fn next_write(&mut self) -> Result<Option<Write<&[u8]>>, Error> {
+        if self.failed {
+            return Ok(None);
+        }
+        self.fetch().inspect_err(|_| self.failed = true)?;
+        Ok((self.left > 0).then(|| self.write()))
+    }
+
     /// How the log ends, once all writes were returned.
     pub fn ended(&self) -> Option<Ended> {
         self.ended
@@ -96,6 +137,11 @@ impl LogWrites<'_> {
     /// Where the log goes on behind the batches that were fetched.
     pub fn offset(&self) -> u64 {
         self.place.offset
+    }
+
+    /// Whether the next write, if there is one, begins another batch.
+    pub fn is_between_batches(&self) -> bool {
+        self.left == 0
     }
 
     /// Passes over what is left. It returns where the log goes on, and how it ends.
@@ -154,18 +200,21 @@ impl LogWrites<'_> {
         u64::from_le_bytes(self.bytes(8).try_into().expect("a number has 8 bytes"))
     }
 
-    /// The next text, behind its length.
-    fn text(&mut self) -> Vec<u8> {
+    /// Where the next text of the room is, behind its length.
+    fn text(&mut self) -> ops::Range<usize> {
         let length = self.number() as usize;
-        self.bytes(length).to_vec()
+        let begin = self.at;
+        self.at += length;
+        begin..self.at
     }
 
     /// The next write of the room.
-    fn write(&mut self) -> Write {
+    fn write(&mut self) -> Write<&[u8]> {
         self.left -= 1;
         let sequence = self.number();
         let tag = self.bytes(1)[0];
         let (first, second) = (self.text(), self.text());
+        let (first, second) = (&self.room[first], &self.room[second]);
         let operation = match tag {
             0 => Operation::Delete { key: first },
             1 => Operation::Put {
@@ -192,14 +241,9 @@ impl Iterator for LogWrites<'_> {
     type Item = Result<Write, Error>;
 
     fn next(&mut self) -> Option<Self::Item> {
-        if self.failed {
-            return None;
-        }
-        if let Err(error) = self.fetch() {
-            self.failed = true;
-            return Some(Err(error));
-        }
-        (self.left > 0).then(|| Ok(self.write()))
+        self.next_write()
+            .map(|write| write.map(Write::to_own))
+            .transpose()
     }
 }
 

@@ -170,3 +170,33 @@ fn faults_are_named() {
     );
     assert!(!fault.is_sound() && !refused.is_sound());
 }
+
+#[test]
+fn writes_are_lent_with_where_their_batches_end() {
+    let mut logged = Logged::open(vec![]);
+    let mut batch = put("a", 1);
+    batch.merge("b", "2").unwrap().delete("c").unwrap();
+    batch.delete_range("d", "e").unwrap();
+    logged.write(&batch);
+    let first = logged.log.len() as u64;
+    logged.write(&put("f", 40_000));
+    let (mut writes, mut found) = (log_writes(&logged.log), vec![]);
+    loop {
+        let place = (writes.offset(), writes.is_between_batches());
+        let Some(write) = writes.next_write().unwrap() else {
+            break;
+        };
+        found.push((place, write.sequence, format!("{:?}", write.operation)));
+    }
+    let places: Vec<_> = found.iter().map(|(place, ..)| *place).collect();
+    let (begin, inside) = ((0, true), (first, false));
+    assert_eq!(places, [begin, inside, inside, inside, (first, true)]);
+    assert_eq!(writes.offset(), logged.log.len() as u64);
+    assert_eq!(writes.next_write(), Ok(None));
+    let copied = log_writes(&logged.log).map(Result::unwrap);
+    assert!(copied
+        .map(|it| (it.sequence, format!("{:?}", it.operation)))
+        .eq(found
+            .into_iter()
+            .map(|(_, sequence, text)| (sequence, text))));
+}

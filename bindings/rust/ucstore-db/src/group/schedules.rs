@@ -5,6 +5,7 @@
 
 use super::*;
 use std::collections::HashSet;
+use std::env;
 use std::mem;
 
 /// What a batch is like.
@@ -340,6 +341,10 @@ fn three_writers_are_told_what_became_of_their_batches() {
 
 #[test]
 fn four_writers_are_told_what_became_of_their_batches() {
-    let states = search_all(4, &[Kind::Usual, Kind::Synced, Kind::Large]);
-    assert!(states > 200_000, "{states} are fewer");
+    let (kinds, least) = match env::var_os("LONG") {
+        Some(_) => (&Kind::ALL[..3], 200_000),
+        None => (&Kind::ALL[1..3], 50_000),
+    };
+    let states = search_all(4, kinds);
+    assert!(states > least, "{states} are fewer");
 }
