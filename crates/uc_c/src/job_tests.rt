@@ -74,7 +74,6 @@ fn compact(rt: &impl Abort, alloc: Global, store: &mut Handle) {
     assert!(rt; taken);
     assert_eq!(rt; ucstore_job_run(alloc, &mut job), OK);
     assert_eq!(rt; end(alloc, store, &mut job), (OK, true));
-    assert_eq!(rt; end(alloc, store, &mut job), (JOB_ENDED, false));
     assert_eq!(rt; ucstore_job_run(alloc, &mut job), JOB_ENDED);
     assert_eq!(rt; ucstore_job(alloc, store, &mut job, &mut taken), HAS_JOB);
     assert_eq!(rt; runs(alloc, store), 1);

@@ -18,19 +18,22 @@ fn leaving() -> LiveOptions {
     }
 }
 
-/// Flushes what is gathered by a job that is taken, run if that is wanted, and ended at once.
-fn flush_by_job(
-    alloc: Global,
-    engine: &mut Engine,
-    is_run: bool,
-) -> Result<Option<FlushEnd>, AllocError> {
+/// Flushes what is gathered by a job that is taken, run and ended at once.
+fn flush_by_job(alloc: Global, engine: &mut Engine) -> Result<Option<FlushEnd>, AllocError> {
     flushes_go_in::<Counter>();
     let Some(mut job) = engine.start_flush(alloc)? else {
         return Ok(None);
     };
-    if is_run {
-        job.run(alloc)?;
-    }
+    job.run(alloc)?;
+    Ok(Some(engine.end_flush(alloc, &mut job)))
+}
+
+/// Takes a job, and ends it without a run.
+fn give_back(alloc: Global, engine: &mut Engine) -> Result<Option<FlushEnd>, AllocError> {
+    flushes_go_in::<Counter>();
+    let Some(mut job) = engine.start_flush(alloc)? else {
+        return Ok(None);
+    };
     Ok(Some(engine.end_flush(alloc, &mut job)))
 }
 
@@ -46,11 +49,10 @@ fn puts(alloc: Global, engine: &mut Engine, first: u8, count: u8) -> bool {
 
 /// Nothing is flushed until a memtable is full, a job that isn't run leaves it, and one that is run installs it.
 fn goes_in(alloc: Global, engine: &mut Engine) -> Result<bool, Fail> {
-    let is_early = puts(alloc, engine, 1, 2) && flush_by_job(alloc, engine, true)?.is_none();
-    let is_left = puts(alloc, engine, 3, 1)
-        && flush_by_job(alloc, engine, false)? == Some(FlushEnd::NotRun);
+    let is_early = puts(alloc, engine, 1, 2) && flush_by_job(alloc, engine)?.is_none();
+    let is_left = puts(alloc, engine, 3, 1) && give_back(alloc, engine)? == Some(FlushEnd::NotRun);
     let is_gathered = engine.gathered() == 3 && engine.report().runs == 0;
-    let is_in = flush_by_job(alloc, engine, true)? == Some(FlushEnd::Installed(1));
+    let is_in = flush_by_job(alloc, engine)? == Some(FlushEnd::Installed(1));
     let is_there = engine.gathered() == 0 && engine.report().runs == 1;
     let is_read = has(alloc, engine, &[1], b"v")? && engine.last() == 3;
     Ok(is_early && is_left && is_gathered && is_in && is_there && is_read)
