@@ -70,6 +70,23 @@ fn points_say_what_entries_say(rt: HostRuntime) -> Result<(), Fail> {
     Ok(())
 }
 
+/// Lengths around those at which a number takes another byte, and a long one.
+const LENGTHS: [usize; 10] = [0, 127, 128, 247, 248, 255, 256, 16_383, 16_384, 1 << 24];
+
+/// Whether points whose key and text have this length are packed and unpacked.
+fn is_said_at_length(alloc: Global, len: usize) -> Result<bool, AllocError> {
+    let text = Vec::from_elem(alloc, b'x', len)?;
+    is_said_each_way(alloc, &text, 7, &text)
+}
+
+#[test]
+fn points_have_texts_of_any_length(rt: HostRuntime) -> Result<(), Fail> {
+    for len in &LENGTHS {
+        assert!(rt; is_said_at_length(rt.alloc(), *len)?, "length {len}");
+    }
+    Ok(())
+}
+
 /// Whether a point is the same as the put of `v` to `k` with sequence 7.
 fn is_the_put(alloc: Global, key: &[u8], seq: u64, what: WhatRef<'_>) -> Result<bool, AllocError>
     requires { seq < 2 ^ 56 }
