@@ -12,7 +12,7 @@
 # - python: each call, the same cases, the types by mypy where there is one, and how fast a scan is.
 # - ended: programs of C and Python are ended by signal 9 while eight threads write, and the example until it is done.
 #
-# It takes less than two minutes, or some ten with LONG=1. SEED (1) is that of what is drawn. It needs cargo with Rust 1.89, gcc,
+# It takes some two minutes, or twelve with LONG=1. SEED (1) is that of what is drawn. It needs cargo with Rust 1.89, gcc,
 # clang, valgrind and python3, and no network. UCSTORE_LIB_DIR may name the folder of libucstore.a and libucstore.so.2; else
 # ./install at the top puts them into a temporary folder.
 set -euo pipefail

@@ -42,7 +42,7 @@ pub(crate) struct Shared {
     /// The writers that come together.
     groups: Groups,
     /// Why nothing can be written any more.
-    failure: Mutex<Option<Error>>,
+    failure: OnceLock<Error>,
     /// What failed first in a thread of the database's own.
     noted: Mutex<Option<Error>>,
     pub(crate) counts: Arc<Counts>,
@@ -99,7 +99,7 @@ impl Shared {
             store: Mutex::new(store),
             work: Condvar::new(),
             groups: Groups::default(),
-            failure: Mutex::new(fault.map(Error::into_cause)),
+            failure: fault.map_or_else(OnceLock::new, |fault| fault.into_cause().into()),
             noted: Mutex::new(None),
             counts,
             events: Events::of(options.events.clone()),
@@ -367,13 +367,12 @@ impl Shared {
 
     /// Refuses all writes from now on, for the first reason that there is. Returns what they are told.
     pub(crate) fn fail(&self, error: Error) -> Error {
-        let mut failure = lock(&self.failure);
-        let is_first = failure.is_none();
-        let failure = failure.get_or_insert(error.into_cause()).clone();
+        let is_first = self.failure.set(error.into_cause()).is_ok();
+        let failure = self.failure.get().expect("it was set");
         if is_first {
-            self.tell_failure(&failure);
+            self.tell_failure(failure);
         }
-        failure
+        failure.clone()
     }
 
     /// Notes what failed in a thread of the database's own.
@@ -396,7 +395,7 @@ impl Shared {
 
     /// Why nothing can be written, if that is so.
     pub(crate) fn failure(&self) -> Option<Error> {
-        lock(&self.failure).clone()
+        self.failure.get().cloned()
     }
 
     /// Checks that something can be written.
