@@ -209,6 +209,14 @@ fn work_together(db: &Db, folder: &Path, writers: &mut [Writer], time: Duration)
     });
 }
 
+/// Opens a database, which has what its writers wrote.
+fn open(folder: &Path, writers: &[Writer]) -> Db {
+    let db = Db::open(folder, &options()).unwrap();
+    let model: Map = writers.iter().flat_map(|it| it.model.clone()).collect();
+    assert!(map_of(&db) == model, "it isn't as it was closed");
+    db
+}
+
 #[test]
 fn memory_and_files_stay_within_bounds() {
     let folder = Temporary::new("soak");
@@ -216,13 +224,8 @@ fn memory_and_files_stay_within_bounds() {
     let mut writers: Vec<Writer> = (0..WRITERS).map(Writer::new).collect();
     let mut first = None;
     let mut logged = 0;
-    for round in 0..rounds {
-        let db = Db::open(folder.path(), &options()).unwrap();
-        let model: Map = writers.iter().flat_map(|it| it.model.clone()).collect();
-        assert!(
-            map_of(&db) == model,
-            "it opens otherwise behind round {round}"
-        );
+    for _ in 0..rounds {
+        let db = open(folder.path(), &writers);
         work_together(
             &db,
             folder.path(),
@@ -238,6 +241,7 @@ fn memory_and_files_stay_within_bounds() {
             "{memory} bytes behind {first}"
         );
     }
+    open(folder.path(), &writers);
     // What is in the folder in the end is a small part of all that was written.
     assert!(logged > 4 * files(folder.path()).1);
 }
