@@ -1,5 +1,5 @@
 //! What holds of the logs of checkpoints.
-ghost use Rattle.std.specs.Prelude.{◌≡◌, ◌≤◌, ℕ, List, [], ◌++◌, length};
+ghost use Rattle.std.specs.Prelude.{◌≡◌, ◌≤◌, ℕ, List, [], ◌++◌, Some, length, take};
 ghost use Rattle.uc_bytes.specs.declared.write.Write.{Write};
 ghost use Rattle.uc_batch.specs.declared.ended.Ended.TheVariants.{Clean};
 ghost use Rattle.uc_batch.specs.Log.{log_writes};
@@ -8,7 +8,7 @@ ghost use Rattle.uc_live.specs.Coming.{HasTaken};
 ghost use Rattle.uc_live.specs.Lives as lives;
 ghost use Rattle.uc_live.specs.Lives.{Live};
 ghost use Rattle.uc_live.specs.Views.{Seen, seen_in};
-ghost use Rattle.uc_checkpoint.specs.Checkpoints.{Progress, IsLaidOut, IsPiece, all_rows, rows_left, writes_that_put};
+ghost use Rattle.uc_checkpoint.specs.Checkpoints.{Progress, IsLaidOut, IsPiece, LaysInto, all_rows, rows_left, writes_that_put};
 
 use uc_batch::gathered_batch_is_read;
 use uc_live::{batches_are_walked, recorded_batch_is_recovered, views_answer_as_their_writes};
@@ -29,6 +29,16 @@ pub fn pieces_are_read_back<O: Operator>()
     batches_are_walked();
     recorded_batch_is_recovered();
     gathered_batch_is_read();
+}
+
+/// A piece that is in the room goes on behind a log of the rows before it. So the pieces that were laid out in rooms are read
+/// back too.
+pub fn pieces_in_rooms_are_read_back<O: Operator>()
+    ensures { (s : Seen) (log room room' : List ℕ) (most size : ℕ) (old new : Progress) → IsLaidOut O.meaning s log old →
+        LaysInto O.meaning (length log) most (Some size) room room' old new → size ≤ length room →
+        IsLaidOut O.meaning s (log ++ take size room') new }
+{
+    pieces_are_read_back::<O>();
 }
 
 /// A view of a store has at most as many rows as the store has taken writes, and so as its last sequence says.

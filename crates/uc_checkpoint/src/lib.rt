@@ -17,4 +17,4 @@ mod laws;
 
 pub use checkpoint::Checkpoint;
 pub use checkpoint_error::CheckpointError;
-pub use laws::{pieces_are_read_back, rows_are_at_most_the_writes};
+pub use laws::{pieces_are_read_back, pieces_in_rooms_are_read_back, rows_are_at_most_the_writes};
