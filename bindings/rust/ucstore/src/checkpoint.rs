@@ -7,11 +7,12 @@ use std::fmt;
 use std::iter::FusedIterator;
 use std::ptr;
 
-/// How many rows a piece has at most.
-const PIECE_ROWS: u64 = 128;
+/// How many rows the first piece has at most, and how many any has.
+const FIRST_ROWS: u64 = 16;
+const MOST_ROWS: u64 = 4096;
 
-/// The bytes of the room at first.
-const ROOM_BYTES: usize = 16 * 1024;
+/// How many bytes a piece has at most that has more rows than one.
+const ROOM_BYTES: usize = 64 * 1024;
 
 /// The rows of a view at its last sequence as a write-ahead log, as [`View::checkpoint`] makes it.
 ///
@@ -43,6 +44,8 @@ pub struct Checkpoint {
     handle: sys::ucstore_checkpoint,
     /// How many bytes the pieces so far have.
     length: u64,
+    /// How many rows the next piece has at most.
+    rows: u64,
     room: Vec<u8>,
     /// Whether no piece comes any more.
     is_done: bool,
@@ -58,6 +61,7 @@ impl Checkpoint {
                 at: ptr::null_mut(),
             },
             length: 0,
+            rows: FIRST_ROWS,
             room: vec![0; ROOM_BYTES],
             is_done: false,
         };
@@ -78,28 +82,38 @@ impl Checkpoint {
         Ok(size.map(|size| &self.room[..size]))
     }
 
-    /// Lays the next piece out in the room, which grows if it doesn't fit, and tells how many bytes it has.
+    /// Lays the next piece out in the room, and tells how many bytes it has. It has fewer rows if it doesn't fit, and the
+    /// room grows for a single one.
     fn lay_out(&mut self) -> Result<Option<usize>, Error> {
         loop {
             let mut size = 0;
+            let room = match self.rows {
+                1 => self.room.len(),
+                _ => ROOM_BYTES,
+            };
             let status = unsafe {
                 sys::ucstore_checkpoint_next(
                     &mut self.handle,
                     self.length,
-                    PIECE_ROWS,
+                    self.rows,
                     self.room.as_mut_ptr(),
-                    self.room.len(),
+                    room,
                     &mut size,
                     &mut self.is_done,
                 )
             };
-            if status == sys::UCSTORE_ROOM {
-                self.room.resize(size, 0);
-                continue;
+            match (status, self.rows) {
+                (sys::UCSTORE_ROOM, 1) => self.room.resize(size, 0),
+                (sys::UCSTORE_ROOM, rows) => self.rows = rows / 2,
+                _ => {
+                    check(status)?;
+                    if size <= ROOM_BYTES / 4 {
+                        self.rows = MOST_ROWS.min(2 * self.rows);
+                    }
+                    self.length += size as u64;
+                    return Ok((!self.is_done).then_some(size));
+                }
             }
-            check(status)?;
-            self.length += size as u64;
-            return Ok((!self.is_done).then_some(size));
         }
     }
 }

@@ -118,7 +118,10 @@ fn a_store_opens_from_the_checkpoint_of_a_view() {
     store.put("later", "1").unwrap();
     drop(store);
     let pieces: Vec<_> = checkpoint.map(Result::unwrap).collect();
-    assert_eq!(pieces.len(), 3);
+    // Only a row that is larger makes a larger piece.
+    let (last, others) = pieces.split_last().unwrap();
+    assert!(last.len() > 1 << 20 && others.len() > 1);
+    assert!(others.iter().all(|piece| piece.len() <= 64 << 10));
     let (again, ended) =
         Store::open(Operator::Append, &Options::default(), &pieces.concat()).unwrap();
     assert_eq!((ended, again.last()), (Ended::Clean, 299));
