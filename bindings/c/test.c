@@ -1147,7 +1147,6 @@ static void refusals(void) {
     uint64_t seq = 7;
     CHECK(ucstore_version() == UCSTORE_ABI);
     CHECK(strcmp(ucstore_status_text(UCSTORE_ROOM), "the room is too small") == 0);
-    CHECK(strcmp(ucstore_status_text(UCSTORE_JOB_ENDED + 1), ucstore_status_text(-1)) == 0);
     CHECK(ucstore_log_next(text, 1, &place, room, sizeof room, &size, &seq, &ended) == UCSTORE_BAD_PLACE && place.batches == 1);
     CHECK(ucstore_create(&store, UCSTORE_TAIL, &options) == UCSTORE_BAD_SIZE && store.at == NULL);
     CHECK(ucstore_options_init(&options) == UCSTORE_OK && options.write_buffer_size == 4194304 && options.size == sizeof options);
