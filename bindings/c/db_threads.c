@@ -33,6 +33,13 @@ static void hear(void *context, const struct ucstore_db_event *event) {
     CHECK(pthread_mutex_unlock(&lock) == 0);
 }
 
+static bool has_heard(void) {
+    CHECK(pthread_mutex_lock(&lock) == 0);
+    bool has = events > 0;
+    CHECK(pthread_mutex_unlock(&lock) == 0);
+    return has;
+}
+
 /* The database of a folder, with small memtables and checkpoints. */
 static struct ucstore_db *opened(const char *folder) {
     struct ucstore_db_options options;
@@ -151,7 +158,7 @@ int main(int argc, char **argv) {
     OK(ucstore_db_close(db));
     db = opened(argv[1]);
     OK(ucstore_db_snapshot(db, &snapshot));
-    CHECK(sum_of(snapshot) == THREADS * ROUNDS && events > 0);
+    CHECK(sum_of(snapshot) == THREADS * ROUNDS && has_heard());
     OK(ucstore_db_snapshot_close(snapshot));
     OK(ucstore_db_close(db));
     printf("threads of the database see each moment whole\n");
