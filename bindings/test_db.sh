@@ -199,6 +199,8 @@ try_ended() {
 # Runs a program for so many milliseconds at most. Tells whether it was done by then. The shell says of an end that it was one.
 run_for() { # MILLISECONDS PROGRAM..
     local process
+    # It may end before it opens its files.
+    : > "$work/said"
     "${@:2}" > "$work/counts" 2> "$work/said" &
     process=$!
     sleep "$(printf '0.%03d' "$1")"
