@@ -9,12 +9,15 @@ STORES = (("ours", "ucstore", "#1f4e8c"), ("RocksDB", "RocksDB", "#b3541e"), ("L
 
 # The works that are shown: what it is, its benchmark, its work and its case.
 WORKS = (
+    ("puts of one thread", "db_bench", "fillrandom", "files, 1 threads"),
     ("puts", "db_bench", "fillrandom", "files, 4 threads"),
-    ("counters that are added to", "db_bench", "mergerandom", "files, 4 threads"),
+    ("additions of one thread", "db_bench", "mergerandom", "files, 1 threads"),
+    ("additions", "db_bench", "mergerandom", "files, 4 threads"),
+    ("lookups of one thread", "db_bench", "readrandom", "files, 1 threads"),
     ("lookups", "db_bench", "readrandom", "files, 4 threads"),
     ("lookups beside a writer", "db_bench", "readwhilewriting", "files, 4 threads"),
     ("scans of ten rows", "db_bench", "seekrandom", "files, 4 threads"),
-    ("half reads, half updates", "ycsb", "a", "files, 100 bytes, 4 threads"),
+    ("half reads, half updates", "ycsb", "a", "files-100-bytes, 4 threads"),
 )
 
 
@@ -40,10 +43,11 @@ def stores_table(results):
     rows = shown(results)
     if not rows:
         return ""
-    names = [name for _, name, _ in STORES]
-    lines = ["|Thousands a second, four threads, in a folder|" + "|".join(names) + "|", "|---|" + "---:|" * len(names)]
+    measured = [(key, name) for key, name, _ in STORES if any(key in rates for _, rates in rows)]
+    names = [name for _, name in measured]
+    lines = ["|Thousands a second by four threads|" + "|".join(names) + "|", "|---|" + "---:|" * len(names)]
     for label, rates in rows:
-        lines.append(f"|{label}|" + "|".join(value_text(round(rates[key])) if key in rates else "" for key, _, _ in STORES) + "|")
+        lines.append(f"|{label}|" + "|".join(value_text(round(rates[key])) if key in rates else "" for key, _ in measured) + "|")
     return "\n".join(lines) + "\n"
 
 
@@ -54,7 +58,7 @@ def draw_stores(results):
     """A group of bars for each work, each as long as its share of the fastest."""
     rows = shown(results)
     height = TOP + sum(len(rates) * BAR + GAP for _, rates in rows) + 10
-    drawing = Drawing(680, height, "Thousands of operations a second, by four threads, in a folder")
+    drawing = Drawing(680, height, "Thousands of operations a second in a folder, by four threads")
     y = TOP
     for label, rates in rows:
         most = max(rates.values())

@@ -61,8 +61,7 @@ set_goals
 print_head
 for part; do
     case $part in
-        memory) measure "memory, $value bytes" memory ;;
-        files) measure "files, $value bytes" files ;;
+        memory | files) measure "$part-$value-bytes" "$part" ;;
         *) fail "there is no case $part" ;;
     esac
 done
