@@ -8,7 +8,8 @@
 # - debian: a root of Debian 12 without the Rattle kit gets the .deb packages by apt; lintian finds nothing in them.
 # - wheel: the same root gets the wheel in an environment of its own. One of Debian 11, whose glibc is older than the wheel's name
 #   says, refuses it.
-# - tar: both roots unpack the archive anywhere, and C programs are built against it: in Debian 11 those of the store alone.
+# - tar: both roots unpack the archive anywhere, and C programs are built against it: in Debian 11 those of the store alone,
+#   and the program says which glibc it lacks.
 # - crates: cargo builds a program over the packaged crates, against the archive's library.
 #
 # In each root the programs of bindings/, `ucstore report` over an example, and the short tests of Python run. It needs root,
@@ -122,13 +123,14 @@ wheel() {
 }
 
 tar_archive() {
-    local suite
+    local suite program=$report
     for suite in bookworm bullseye; do
+        if [ "$suite" = bullseye ]; then program='! ucstore --help 2> said && grep -q GLIBC_2.34 said'; fi
         run_in "$suite" "
             mkdir elsewhere && tar -C elsewhere -xzf ucstore-$version-x86_64-linux.tar.gz
             here=\$(echo /work/elsewhere/ucstore-*)
             export PATH=\$here/bin:\$PATH PKG_CONFIG_PATH=\$here/lib/pkgconfig
-            $report
+            $program
             cc c/first.c \$(pkg-config --cflags --libs ucstore) -o first && LD_LIBRARY_PATH=\$here/lib ./first
             cc c/first.c \$(pkg-config --cflags ucstore) \$here/lib/libucstore.a -o first_static && ./first_static" "the archive"
     done
