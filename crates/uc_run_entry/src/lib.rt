@@ -4,9 +4,6 @@
 //! range deletions over them. And it has a range of sequences. [`is_run`] says which of these make a run. Read
 //! `specs/Run.antt` first, then `specs/PlainList.antt`: a run stands for a plain list of writes.
 //!
-//! A run has many points, so each is small: a [`Point`] says what an [`Entry`] says in 56 bytes, and allocates only if
-//! its texts are longer than [`INLINE_BYTES`]. `specs/Packed.antt` says how.
-//!
 //! Range deletions may overlap. A lookup needs all those over a key at once, so [`cut_ranges`] cuts them at all their
 //! ends into [`Fragments`], each with the sequences of the ranges over it (RocksDB's fragmented range tombstones).
 //! `specs/Cutting.antt` defines them, and `fragment_laws.rt` has their laws. Read `cutting.rt` first.
@@ -35,7 +32,6 @@ mod laws;
 mod lists;
 mod newest;
 mod node;
-mod point;
 mod range;
 mod seqs;
 mod share;
@@ -58,7 +54,6 @@ pub use laws::{
     plain_list_does_what_is_found, plain_list_is_in_order, stripes_of_plain_list_do_what_is_found,
 };
 pub use newest::newer;
-pub use point::{INLINE_BYTES, Point, points_of};
 pub use range::Range;
 pub use seqs::Seqs;
 pub use span::Span;
