@@ -9,9 +9,9 @@ import unittest
 
 import ucstore
 from ucstore import (
-    BadOption, BatchFault, Delete, DeleteRange, End, Ended, LogFault, Merge, NoJob, NoStore, NoView, NotABatch,
-    NotProtected, Operator, Options, Put, SequenceBack, SequencesSpent, Store, UnknownOperator, WriteBatch, batch_bytes,
-    log_writes,
+    BadOption, BatchFault, Delete, DeleteRange, End, Ended, LogFault, Merge, NoCheckpoint, NoJob, NoStore, NoView,
+    NotABatch, NotProtected, Operator, Options, Put, SequenceBack, SequencesSpent, Store, UnknownOperator, WriteBatch,
+    batch_bytes, log_writes,
 )
 
 
@@ -260,6 +260,30 @@ class Calls(unittest.TestCase):
         self.assertRaises(NotProtected, view.get_at, b"b", 7)
         view.close()
         view.close()
+
+    def test_a_checkpoint_is_a_log_of_a_view(self):
+        rows = {b"%05d" % number: b"v" * (number % 50) for number in range(9000)}
+        rows[b"long"] = bytes(200_000)
+        self.store.write([Put(b"gone", b"1"), Delete(b"gone"), *(Put(*row) for row in rows.items())])
+        with self.store.view() as view:
+            checkpoint = view.checkpoint()
+        self.store.delete_range(b"", b"z")
+        pieces = list(checkpoint)
+        self.assertEqual(list(checkpoint), [])
+        self.assertTrue(all(len(piece) <= 1 << 16 for piece in pieces if len(piece) < 200_000))
+        self.assertLess(len(pieces), 40)
+        with Store.open(Operator.APPEND, b"".join(pieces)) as again:
+            self.assertEqual((dict(again.items()), again.last, str(again.ended)), (rows, 9001, "clean"))
+        checkpoint.close()
+        checkpoint.close()
+        with self.store.view() as view, view.checkpoint() as empty:
+            self.assertEqual(list(empty), [])
+        with self.store.view() as view:
+            closed = view.checkpoint()
+            closed.close()
+            self.assertRaises(NoCheckpoint, next, closed)
+            self.assertRaises(StopIteration, next, closed)
+        self.assertRaises(NoView, view.checkpoint)
 
     def test_threads_read_views_while_the_store_is_written(self):
         newest, is_done = [self.store.view()], threading.Event()

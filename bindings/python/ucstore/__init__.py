@@ -29,12 +29,13 @@ from pathlib import Path
 from typing import Iterable, Iterator, List, NamedTuple, Optional, Tuple, TypeVar, Union
 
 __all__ = [
-    "BadOption", "BatchFault", "BatchFull", "Closed", "Damaged", "Db", "DbBatch", "DbError", "DbOptions",
-    "DbSnapshot", "DbStats", "Delete", "DeleteRange", "End", "Ended", "Event", "EventKind", "FileFault", "Forked",
-    "IdsSpent", "Job", "Locked", "LogFault", "LogWrites", "Merge", "Missing", "NoJob", "NoStore", "NoView",
-    "NotABatch", "NotProtected", "Operation", "Operator", "Options", "OtherOperator", "OutOfMemory", "Progress",
-    "Put", "ReadOnly", "Report", "RunsClaimed", "SequenceBack", "SequencesSpent", "Snapshot", "Store", "Sync",
-    "TooLong", "UcstoreError", "UnknownOperator", "View", "Write", "WriteBatch", "batch_bytes", "log_writes",
+    "BadOption", "BatchFault", "BatchFull", "Checkpoint", "Closed", "Damaged", "Db", "DbBatch", "DbError",
+    "DbOptions", "DbSnapshot", "DbStats", "Delete", "DeleteRange", "End", "Ended", "Event", "EventKind", "FileFault",
+    "Forked", "IdsSpent", "Job", "Locked", "LogFault", "LogWrites", "Merge", "Missing", "NoCheckpoint", "NoJob",
+    "NoStore", "NoView", "NotABatch", "NotProtected", "Operation", "Operator", "Options", "OtherOperator",
+    "OutOfMemory", "Progress", "Put", "ReadOnly", "Report", "RunsClaimed", "SequenceBack", "SequencesSpent",
+    "Snapshot", "Store", "Sync", "TooLong", "UcstoreError", "UnknownOperator", "View", "Write", "WriteBatch",
+    "batch_bytes", "log_writes",
 ]
 
 
@@ -132,13 +133,19 @@ class RunsClaimed(UcstoreError):
     status, text = 24, "jobs have the runs that would be compacted"
 
 
+class NoCheckpoint(UcstoreError, ValueError):
+    """The checkpoint is closed."""
+
+    status, text = 26, "the checkpoint is closed"
+
+
 _OK, _NOT_FOUND, _ROOM, _LOG_ENDS = 0, 4, 14, 15
 
 _ERRORS = {
     error.status: error
     for error in (
         OutOfMemory, NoStore, NotProtected, UnknownOperator, BadOption, IdsSpent, SequencesSpent, TooLong,
-        NotABatch, SequenceBack, BatchFull, NoView, NoJob, RunsClaimed,
+        NotABatch, SequenceBack, BatchFull, NoView, NoJob, RunsClaimed, NoCheckpoint,
     )
 }
 
@@ -396,6 +403,9 @@ _SIGNATURES = {
     "view": (_POINTER, _POINTER),
     "view_again": (_POINTER, _POINTER),
     "view_close": (_POINTER,),
+    "checkpoint": (_POINTER, _POINTER),
+    "checkpoint_next": (_POINTER, _U64, _U64, *_PLACE, _POINTER, _POINTER),
+    "checkpoint_close": (_POINTER,),
     "job": (_POINTER, _POINTER, _POINTER),
     "job_run": (_POINTER,),
     "job_end": (_POINTER, _POINTER, _POINTER),
@@ -432,6 +442,9 @@ _MOST_FRAGMENT = 32768 - _HEADER
 
 # How many rows a page has at most.
 _PAGE_ROWS = 128
+
+# How many rows the first piece of a checkpoint has at most and how many any has, and the bytes of one with more rows than one.
+_FIRST_ROWS, _MOST_ROWS, _PIECE_BYTES = 16, 4096, 64 * 1024
 
 _Row = Tuple[bytes, bytes]
 
@@ -1004,10 +1017,79 @@ class View(_HeldReader):
         """The view once more, for another thread. No run is copied. Raises `OutOfMemory`."""
         return View(_library.view_again, self)
 
+    def checkpoint(self) -> "Checkpoint":
+        """The rows at the last sequence as a log, piece by piece. The view stays. Raises `OutOfMemory`."""
+        return Checkpoint(self)
+
     def close(self) -> None:
         """Frees the view. A second call does nothing."""
         with self._lock:
             _library.view_close(self._handle)
+
+
+class Checkpoint(_Held):
+    """The rows of a view at its last sequence as a log, piece by piece, as `View.checkpoint` makes it.
+
+    `Store.open` opens a store of exactly these rows from the pieces one behind the other. They are numbered from 1, so
+    batches that were written later go on behind them.
+
+        >>> with Store(Operator.APPEND) as store:
+        ...     store[b"colour"] = b"red"
+        ...     store.merge(b"colour", b"blue")
+        ...     with store.view() as view, view.checkpoint() as checkpoint:
+        ...         log = b"".join(checkpoint)
+        >>> with Store.open(Operator.APPEND, log) as store:
+        ...     store[b"colour"], store.last
+        (b'red,blue', 1)
+    """
+
+    def __init__(self, view: View) -> None:
+        self._begin()
+        self._length, self._rows, self._room, self._is_done = 0, _FIRST_ROWS, bytearray(_PIECE_BYTES), False
+        view._call(_library.checkpoint, self._handle)
+
+    def __iter__(self) -> "Checkpoint":
+        return self
+
+    def __next__(self) -> bytes:
+        """The next piece. Raises `NoCheckpoint`, `TooLong` and `OutOfMemory`: no piece comes behind one."""
+        with self._lock:
+            if self._is_done:
+                raise StopIteration
+            try:
+                piece = self._piece()
+            except UcstoreError:
+                self._is_done = True
+                raise
+            if self._is_done:
+                raise StopIteration
+            return piece
+
+    def _piece(self) -> bytes:
+        """Lays the next piece out. It has fewer rows if it doesn't fit, and the room grows for a single one."""
+        size, done = _SIZE(), ctypes.c_bool()
+        while True:
+            length = len(self._room) if self._rows == 1 else _PIECE_BYTES
+            room = (ctypes.c_char * length).from_buffer(self._room)
+            told = (ctypes.byref(size), ctypes.byref(done))
+            status = _library.checkpoint_next(self._handle, self._length, self._rows, room, length, *told)
+            if status != _ROOM:
+                break
+            if self._rows == 1:
+                self._room = bytearray(size.value)
+            else:
+                self._rows //= 2
+        _check(status)
+        if size.value <= _PIECE_BYTES // 4:
+            self._rows = min(2 * self._rows, _MOST_ROWS)
+        self._length += size.value
+        self._is_done = done.value
+        return bytes(memoryview(self._room)[:size.value])
+
+    def close(self) -> None:
+        """Frees the checkpoint. Its view stays. A second call does nothing."""
+        with self._lock:
+            _library.checkpoint_close(self._handle)
 
 
 class Job(_Held):

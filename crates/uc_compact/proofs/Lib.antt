@@ -33,4 +33,3 @@ pub mod OnTop
 pub mod Best
 pub mod Newest
 pub mod Apart
-pub mod Named

@@ -1,55 +1,33 @@
 //! [`Cursor`]: the place of a merge in one run.
-ghost use Rattle.std.specs.Prelude.{◌≡◌, ◌++◌, true, Some, option_map, take, drop, IfSome, IfNone, OnOk};
-ghost use Rattle.std.specs.List.{slice_get};
+ghost use Rattle.std.specs.Prelude.{◌≡◌, ◌++◌, ◌∷◌, true, option_map, take, drop, IfSome, IfNone, OnOk};
 ghost use Rattle.uc_bytes.specs.Bytes.{same_bytes};
 ghost use Rattle.uc_compact.specs.Heads as heads;
 
 use std::alloc::AllocError;
 use std::marker::Model;
+use std::mem;
 use uc_run::same_text;
 use uc_run_points::{PointRef, PointSlice, PointsAhead};
 
 /// The points of a run that are still ahead. A contract sees it as their list.
 #[derive(Debug, Drop)]
 pub(crate) struct Cursor<'a> {
-    ahead: PointsAhead<'a>,
+    /// The next point: each is decoded once.
+    next: Option<PointRef<'a>>,
+    /// Those behind it.
+    behind: PointsAhead<'a>,
 }
 
 impl<'a> Model for Cursor<'a> {
-    ghost use Rattle.std.specs.Prelude.{List};
+    ghost use Rattle.std.specs.Prelude.{List, IfNone, ◌≡◌, []};
+    ghost use Rattle.std.specs.List.{cons_option};
     ghost use Rattle.uc_run_entry.specs.declared.entry.Entry.{Entry};
 
     ghost Value = { List Entry };
 
-    ghost view = { λ c. c.ahead };
-}
+    ghost view = { λ c. cons_option c.next c.behind };
 
-/// The next point, if there is one of the key.
-fn next_named<'a>(ahead: &PointsAhead<'a>, key: &[u8]) -> Option<PointRef<'a>>
-    ensures found { IfSome result (λ p. (slice_get ahead.now 0 ≡ Some p) × (same_bytes p.key key.now ≡ true)) }
-    ensures none { IfNone result (heads.first_named key.now ahead.now ≡ 0) }
-{
-    match ahead.first() {
-        Some(point) if same_text(point.key(), key) => Some(point),
-        _ => None,
-    }
-}
-
-/// Pushes the next points as long as they are of the key, and passes over them.
-fn take_named<'a>(
-    ahead: &mut PointsAhead<'a>,
-    key: &[u8],
-    points: &mut Vec<PointRef<'a>>,
-) -> Result<(), AllocError>
-    ensures taken { OnOk result
-        (points.new.items ≡ points.old.items ++ take (heads.first_named key.now ahead.old) ahead.old) }
-    ensures left { OnOk result (ahead.new ≡ drop (heads.first_named key.now ahead.old) ahead.old) }
-{
-    while let Some(point) = next_named(ahead, key) {
-        points.push(point)?;
-        ahead.pass(1);
-    }
-    Ok(())
+    ghost invariant = { λ c. IfNone c.next (c.behind ≡ []) };
 }
 
 impl<'a> Cursor<'a> {
@@ -57,18 +35,35 @@ impl<'a> Cursor<'a> {
     pub(crate) fn new(points: &PointSlice<'a>) -> Cursor<'a>
         ensures { result ≡ points.now }
     {
+        let mut behind = points.ahead();
         Cursor {
-            ahead: points.ahead(),
+            next: behind.next(),
+            behind,
         }
     }
 
     /// The key of the next point.
+    #[inline]
     pub(crate) fn key(&self) -> Option<&'a [u8]>
         ensures { option_map (λ key. key.now) result ≡ heads.first_key self.now }
     {
-        match self.ahead.first() {
+        match &self.next {
             None => None,
             Some(point) => Some(point.key()),
+        }
+    }
+
+    /// The next point, if there is one of the key, and moves past it.
+    #[inline]
+    fn next_named(&mut self, key: &[u8]) -> Option<PointRef<'a>>
+        ensures found { IfSome result (λ p. (self.old ≡ p ∷ self.new) × (same_bytes p.key key.now ≡ true)) }
+        ensures none { IfNone result ((heads.first_named key.now self.old ≡ 0) × (self.new ≡ self.old)) }
+    {
+        match &self.next {
+            Some(point) if same_text(point.key(), key) => {
+                mem::replace(&mut self.next, self.behind.next())
+            }
+            _ => None,
         }
     }
 
@@ -82,6 +77,9 @@ impl<'a> Cursor<'a> {
             (points.new.items ≡ points.old.items ++ take (heads.first_named key.now self.old) self.old) }
         ensures left { OnOk result (self.new ≡ drop (heads.first_named key.now self.old) self.old) }
     {
-        take_named(&mut self.ahead, key, points)
+        while let Some(point) = self.next_named(key) {
+            points.push(point)?;
+        }
+        Ok(())
     }
 }
