@@ -2,3 +2,4 @@ pub mod Numbers
 pub mod Spelling
 pub mod Starts
 pub mod Held
+pub mod Slices

@@ -1,31 +1,35 @@
 //! [`PointSlice`]: points that are neighbours.
 ghost use Rattle.std.specs.Prelude.{◌≡◌, ◌≤◌, ◌<◌, ◌^◌, ◌-◌, ◌↔◌, true, false, Bool, Some, [], length, take, drop, IsTrue};
-ghost use Rattle.std.specs.List.{slice_get};
+ghost use Rattle.std.specs.List.{slice_get, AllWithin, HoldsAt};
 ghost use Rattle.std.specs.List.Sorted.{IsPartitionPoint, IsPartitionedBy};
 
 use crate::point_ref::PointRef;
 use crate::point_test::PointTest;
-use crate::points::Points;
+use crate::points::{BLOCK_POINTS, Points};
 use crate::points_ahead::PointsAhead;
 use std::marker::Model;
 
 /// Points that are neighbours, as a slice has elements. It takes no memory. A contract sees their list.
 #[derive(Debug, Drop)]
 pub struct PointSlice<'a> {
+    /// All points, of which these are some.
     points: &'a Points,
+    /// How many points come before the first of these.
     begin: usize,
-    end: usize,
+    /// These points: the bytes of the first are at hand.
+    ahead: PointsAhead<'a>,
 }
 
 impl<'a> Model for PointSlice<'a> {
-    ghost use Rattle.std.specs.Prelude.{List, ◌-◌, ◌≤◌, ◌<◌, ◌^◌, length, take, drop};
+    ghost use Rattle.std.specs.Prelude.{List};
     ghost use Rattle.uc_run_entry.specs.declared.entry.Entry.{Entry};
+    ghost use Rattle.uc_run_points.specs.Slices.{IsSlice};
 
     ghost Value = { List Entry };
 
-    ghost view = { λ s. take (s.end - s.begin) (drop s.begin s.points.now) };
+    ghost view = { λ s. s.ahead };
 
-    ghost invariant = { λ s. (s.begin ≤ s.end) × (s.end ≤ length s.points.now) × (s.end < 2 ^ 63) };
+    ghost invariant = { IsSlice };
 }
 
 impl<'a> PointSlice<'a> {
@@ -34,10 +38,12 @@ impl<'a> PointSlice<'a> {
     pub(crate) fn new(points: &'a Points) -> PointSlice<'a>
         ensures { result ≡ points.now }
     {
+        // Proof step: there are fewer than 2 ^ 63.
+        let _ = points.len();
         PointSlice {
             points,
             begin: 0,
-            end: points.len(),
+            ahead: points.ahead(),
         }
     }
 
@@ -47,7 +53,7 @@ impl<'a> PointSlice<'a> {
         ensures count { result ≡ length self.now }
         ensures bound { result < 2 ^ 63 }
     {
-        self.end - self.begin
+        self.ahead.len()
     }
 
     /// Whether there are none.
@@ -55,22 +61,40 @@ impl<'a> PointSlice<'a> {
     pub fn is_empty(&self) -> bool
         ensures { IsTrue result ↔ (self.now ≡ []) }
     {
-        self.begin == self.end
+        self.ahead.len() == 0
     }
 
-    /// The point at a place. It costs a step for each point before it in its block.
+    /// The points from a place on. It costs a step for each point before it, from the nearest one whose bytes are at hand:
+    /// that is the first of the slice, or the first of a block.
+    #[inline]
+    fn from(&self, place: usize) -> PointsAhead<'a>
+        requires { place ≤ length self.now }
+        ensures { result ≡ drop place self.now }
+    {
+        let all = self.begin + place;
+        if place <= all % BLOCK_POINTS {
+            let mut ahead = self.ahead.again();
+            ahead.pass(place);
+            return ahead;
+        }
+        let mut ahead = self.points.from(all);
+        ahead.truncate(self.ahead.len() - place);
+        ahead
+    }
+
+    /// The point at a place. It costs a step for each point before it in the slice, or in its block if these are fewer.
     #[inline]
     pub fn get(&self, place: usize) -> Option<PointRef<'a>>
         ensures { result ≡ slice_get self.now place }
     {
-        if place < self.end - self.begin {
-            self.points.get(self.begin + place)
+        if place < self.ahead.len() {
+            self.from(place).first()
         } else {
             None
         }
     }
 
-    /// The point at a place. It costs a step for each point before it in its block.
+    /// The point at a place, at the cost of [`get`](PointSlice::get).
     #[inline]
     pub fn at(&self, place: usize) -> PointRef<'a>
         requires { place < length self.now }
@@ -108,23 +132,39 @@ impl<'a> PointSlice<'a> {
     pub fn ahead(&self) -> PointsAhead<'a>
         ensures { result ≡ self.now }
     {
-        let mut ahead = self.points.from(self.begin);
-        ahead.truncate(self.end - self.begin);
-        ahead
+        self.ahead.again()
     }
 
-    /// Those from a place to below another.
+    /// Those from a place to below another, at the cost of a look at the first of them.
     #[inline]
     pub fn slice(&self, begin: usize, end: usize) -> PointSlice<'a>
         requires order { begin ≤ end }
         requires within { end ≤ length self.now }
         ensures { result ≡ take (end - begin) (drop begin self.now) }
     {
+        let mut ahead = self.from(begin);
+        ahead.truncate(end - begin);
         PointSlice {
             points: self.points,
             begin: self.begin + begin,
-            end: self.begin + end,
+            ahead,
         }
+    }
+
+    /// Passes over the first points as long as they pass a test, over `most` at most, and says over how many. The first that
+    /// doesn't pass is then the first of the slice. Each is looked at once.
+    #[inline]
+    pub fn pass_while<T: PointTest>(&mut self, most: usize, test: &T) -> usize
+        ensures most { result ≤ most }
+        ensures bound { result ≤ length self.old }
+        ensures before { AllWithin (λ p. T.passing test.now p ≡ true) self.old 0 result }
+        ensures there { result < most → result < length self.old →
+            HoldsAt (λ p. T.passing test.now p ≡ false) self.old result }
+        ensures rest { self.new ≡ drop result self.old }
+    {
+        let count = self.ahead.pass_while(most, test);
+        self.begin += count;
+        count
     }
 
     /// Those before a place, and those from it on.

@@ -17,7 +17,7 @@ use std::marker::Model;
 use uc_run_entry::{Entry, WhatRef};
 
 /// How many points each block has; the last may have fewer.
-const BLOCK_POINTS: usize = 16;
+pub(crate) const BLOCK_POINTS: usize = 16;
 
 /// Points in one arena, with the places at which blocks of them begin. A contract sees the list of the entries.
 #[derive(Debug, Drop)]
@@ -161,14 +161,6 @@ impl Points {
         Ok(())
     }
 
-    /// Pushes a point. An `Err` pushes nothing.
-    pub fn push_point(&mut self, point: &PointRef<'_>) -> Result<(), AllocError>
-        ensures pushed { OnOk result (self.new ≡ self.old ++ point.now ∷ []) }
-        ensures as_it_was { OnErr result (self.new ≡ self.old) }
-    {
-        self.push(point.key(), point.seq(), point.what())
-    }
-
     /// Pushes copies of points: a copy of their bytes, and a step for each. An `Err` pushes nothing.
     pub fn extend(&mut self, points: &Points) -> Result<(), AllocError>
         ensures pushed { OnOk result (self.new ≡ self.old ++ points.now) }
@@ -218,7 +210,7 @@ impl Points {
     pub fn ahead(&self) -> PointsAhead<'_>
         ensures { result ≡ self.now }
     {
-        self.from(0)
+        PointsAhead::new(&self.bytes, self.count)
     }
 
     /// The point at a place, if there is one. It costs a step for each point before it in its block.

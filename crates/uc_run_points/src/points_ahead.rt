@@ -28,6 +28,7 @@ impl<'a> Model for PointsAhead<'a> {
 
 impl<'a> PointsAhead<'a> {
     /// So many points, whose bytes begin here.
+    #[inline]
     pub(crate) fn new(bytes: &'a [u8], count: usize) -> PointsAhead<'a>
         ensures { result ≡ entries_from count bytes.now }
     {
@@ -42,12 +43,15 @@ impl<'a> PointsAhead<'a> {
         self.count
     }
 
-    /// The bytes from the next point on.
+    /// A second walk from here on.
     #[inline]
-    pub(crate) fn bytes(&self) -> &'a [u8]
-        ensures { self.now ≡ entries_from (length self.now) result.now }
+    pub(crate) fn again(&self) -> PointsAhead<'a>
+        ensures { result ≡ self.now }
     {
-        self.bytes
+        PointsAhead {
+            bytes: self.bytes,
+            count: self.count,
+        }
     }
 
     /// The next point, if there is one, which stays ahead.
@@ -94,20 +98,35 @@ impl<'a> PointsAhead<'a> {
         self.count = self.count.min(count);
     }
 
+    /// Passes over the next points as long as they pass a test, over `most` at most, and says over how many. The first that
+    /// doesn't pass stays ahead.
+    pub fn pass_while<T: PointTest>(&mut self, most: usize, test: &T) -> usize
+        ensures most { result ≤ most }
+        ensures bound { result ≤ length self.old }
+        ensures before { AllWithin (λ p. T.passing test.now p ≡ true) self.old 0 result }
+        ensures there { result < most → result < length self.old →
+            HoldsAt (λ p. T.passing test.now p ≡ false) self.old result }
+        ensures rest { self.new ≡ drop result self.old }
+    {
+        let most = most.min(self.len());
+        for count in 0..most {
+            let mut behind = self.again();
+            match behind.next() {
+                Some(point) if test.passes(&point) => *self = behind,
+                _ => return count,
+            }
+        }
+        most
+    }
+
     /// How many of the next points pass a test, before one that doesn't.
     pub fn count_passing<T: PointTest>(self, test: &T) -> usize
         ensures bound { result ≤ length self.entry }
         ensures before { AllWithin (λ p. T.passing test.now p ≡ true) self.entry 0 result }
         ensures there { result < length self.entry → HoldsAt (λ p. T.passing test.now p ≡ false) self.entry result }
     {
-        let many = self.len();
         let mut ahead = self;
-        for count in 0..many {
-            match ahead.next() {
-                Some(point) if test.passes(&point) => {}
-                _ => return count,
-            }
-        }
-        many
+        let many = ahead.len();
+        ahead.pass_while(many, test)
     }
 }
