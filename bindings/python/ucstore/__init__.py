@@ -431,7 +431,7 @@ class _Library:
 _library = _Library()
 
 # The bytes of a value for which a lookup doesn't ask twice, those for each of many values, and those of a scan's page.
-_USUAL_VALUE, _USUAL_SHARE, _PAGE_BYTES = 512, 64, 16 * 1024
+_USUAL_VALUE, _USUAL_SHARE, _PAGE_BYTES = 512, 256, 16 * 1024
 
 # What the library says of a key without a value.
 _NO_VALUE = (1 << 64) - 1

@@ -25,7 +25,7 @@ def bytes_of(text: Bytes) -> bytes:
 
 
 # The bytes of a value for which a lookup doesn't ask twice, and those for each of many values.
-_USUAL_VALUE, _USUAL_SHARE = 512, 64
+_USUAL_VALUE, _USUAL_SHARE = 512, 256
 _UsualRoom = ctypes.c_char * _USUAL_VALUE
 
 # The rows and the bytes of a scan's first page, and by how many times the second page, and the third, have more.

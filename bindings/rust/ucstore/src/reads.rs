@@ -9,7 +9,7 @@ use std::slice;
 const USUAL_VALUE: usize = 512;
 
 /// The bytes for each of many values for which their lookup doesn't ask twice.
-const USUAL_SHARE: usize = 64;
+const USUAL_SHARE: usize = 256;
 
 /// What the library says of a key without a value.
 const NO_VALUE: u64 = u64::MAX;
