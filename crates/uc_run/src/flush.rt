@@ -10,7 +10,6 @@ ghost use Rattle.uc_run.specs.Flush as flush;
 
 use crate::entry_ref::EntryRef;
 use crate::laws::flushed_writes_are_a_run;
-use crate::make_small::make_small;
 use crate::ranked_point::{RankedPoint, pack_ranked, sort_by_key};
 use crate::run::Run;
 use crate::slot::Slot;
@@ -18,7 +17,7 @@ use crate::slot_totals::last_seq;
 use std::alloc::{AllocError, Global};
 use uc_bytes::{OpKind, OpRef, WriteRef};
 use uc_run_entry::{Range, WhatRef, cut_ranges};
-use uc_run_points::Points;
+use uc_run_points::{Points, make_small};
 
 /// The texts of a slot in the arena.
 fn texts_at<'a>(text: &'a [u8], slot: &Slot) -> (&'a [u8], &'a [u8])

@@ -27,7 +27,6 @@ mod hashing;
 mod heads;
 mod laws;
 mod lookup;
-mod make_small;
 mod memtable;
 mod near;
 mod number_blocks;

@@ -7,7 +7,6 @@ ghost use Rattle.uc_run.specs.Size.{memtable_size};
 ghost use Rattle.uc_run.specs.Slots.{Grows};
 
 use crate::flush::{run_of_slots, write_at};
-use crate::make_small::make_small;
 use crate::run::Run;
 use crate::size::op_size;
 use crate::slot::Slot;
@@ -15,6 +14,7 @@ use crate::slot_totals::{last_seq, reach, size_of_slots};
 use std::alloc::{AllocError, Global};
 use std::marker::Model;
 use uc_bytes::{Write, WriteRef};
+use uc_run_points::make_small;
 
 /// The newest writes, before they become a run (RocksDB wiki, "MemTable"). A contract sees it as the list of the
 /// writes that were inserted, in order.

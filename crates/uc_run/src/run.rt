@@ -126,6 +126,8 @@ impl Run {
         ensures { IfOk result (λ run.
             run ≡ record { low = low; high = high; points = points; fragments = fragments }) }
     {
+        let mut points = points;
+        points.shrink_to_fit();
         let size = size_of(&points, fragments.as_slice());
         let fences = fences_of(alloc, &points)?;
         let filter = filter_of(alloc, &points)?;
@@ -153,6 +155,8 @@ impl Run {
         ensures { IfOk result (λ run.
             run ≡ record { low = low; high = high; points = points; fragments = fragments }) }
     {
+        let mut points = points;
+        points.shrink_to_fit();
         let (filter, fences) = filter_beside_fences(rt, alloc, &points)?;
         let size = size_of(&points, fragments.as_slice());
         Ok(Run {

@@ -11,6 +11,7 @@
 //! Tests: `uc_tests_runs`.
 #![tactic(auto)]
 
+mod freeing;
 mod number;
 mod point_ref;
 mod point_slice;
@@ -19,6 +20,7 @@ mod points;
 mod points_ahead;
 mod spelling;
 
+pub use freeing::make_small;
 pub use point_ref::PointRef;
 pub use point_slice::PointSlice;
 pub use point_test::PointTest;

@@ -8,6 +8,7 @@ ghost use Rattle.uc_run_points.specs.Spelling as spelling;
 ghost use Rattle.uc_run_points.specs.Spelling.{AreSpelled, Fits};
 ghost use Rattle.uc_run_points.specs.Starts.{AreStarts, block_points};
 
+use crate::freeing::make_small;
 use crate::point_ref::PointRef;
 use crate::point_slice::PointSlice;
 use crate::points_ahead::PointsAhead;
@@ -20,7 +21,7 @@ use uc_run_entry::{Entry, WhatRef};
 pub(crate) const BLOCK_POINTS: usize = 16;
 
 /// Points in one arena, with the places at which blocks of them begin. A contract sees the list of the entries.
-#[derive(Debug, Drop)]
+#[derive(Debug)]
 pub struct Points {
     /// The arena: the entries' bytes, one behind the other.
     bytes: Vec<u8>,
@@ -39,6 +40,18 @@ impl Model for Points {
     ghost view = { entries_of };
 
     ghost invariant = { AreHeld };
+}
+
+impl Drop for Points {
+    fn drop(mut self) {
+        make_small(&mut self.bytes);
+        make_small(&mut self.starts);
+        let Points {
+            bytes: _,
+            starts: _,
+            count: _,
+        } = self;
+    }
 }
 
 /// Pushes the bytes of an entry. An `Err` pushes nothing.
@@ -193,6 +206,14 @@ impl Points {
         self.bytes.truncate(size);
         self.starts.truncate(count.div_ceil(BLOCK_POINTS));
         self.count = count;
+    }
+
+    /// Gives back the memory that no point takes.
+    pub fn shrink_to_fit(&mut self)
+        ensures { self.new ≡ self.old }
+    {
+        self.bytes.shrink_to_fit();
+        self.starts.shrink_to_fit();
     }
 
     /// The points from a place on. It costs a step for each point before it in its block.
