@@ -1,6 +1,9 @@
 -- Where a search goes on from the fences of blocks.
-use Rattle.std.proofs.Common.{◌≡◌, ℕ, ◌+◌, ◌-◌, ◌*◌, ◌<◌, ◌≤◌, Bool, true, false, List, [], length, get_or, take, drop, min, refl, sym, ap, ◌∙◌, arith}
-use Rattle.std.specs.List.{AllWithin}
+use Rattle.std.proofs.Common.{◌≡◌, ℕ, ◌-◌, ◌*◌, ◌<◌, ◌≤◌, Bool, true, false, ltb, List, [], ◌∷◌, ◌++◌, length, get_or, Some, refl, sym, ap, ◌∙◌, arith}
+use Rattle.std.specs.List.{AllWithin, slice_get}
+use Rattle.std.proofs.lemmas.Bool.Decides.{nat_tests}
+use Rattle.std.proofs.lemmas.List.{length_push, get_or_push, get_or_append_left}
+use Rattle.std.proofs.lemmas.Option.{get_or_from_slice_get}
 use Rattle.std.specs.List.Sorted.{IsStrictlySortedBy, IsPartitionPoint, IsPartitionedBy}
 use Rattle.std.specs.Ordering.{is_le}
 use Rattle.std.proofs.lemmas.Bool.{false≢true}
@@ -10,9 +13,9 @@ use Rattle.uc_run_entry.specs.declared.entry.What.TheVariants.{Delete}
 use Rattle.uc_run.specs.Blocks.{blocks_of}
 use Rattle.uc_run_entry.specs.Order.{entry_cmp}
 use Rattle.uc_run_entry.specs.Seek.{is_passed}
-use Rattle.uc_run.specs.Fences.{IsFenced}
+use Rattle.uc_run.specs.Fences.{AreFences, IsFenced}
 use Rattle.uc_run.specs.Prefixes.{AreRising}
-use Rattle.uc_run_entry.proofs.Partitions.{partitioned, part_parted, part_point}
+use Rattle.uc_run_entry.proofs.Partitions.{partitioned}
 use Rattle.uc_run.proofs.Order.{passed_before}
 
 any : Entry
@@ -49,15 +52,12 @@ module _ (test : List ℕ → Bool) (points : List Entry) (fences : List (List �
         fails_on 0 k d (omega arith) m (sym (fence_test 0 [] d first) ∙ place.1 0 [] (omega arith) first)),
   )
 
-  module _ (passed end : ℕ) (some : 0 < passed) (bound : passed ≤ length fences) (place : IsPartitionPoint (λ key. test key ≡ true) (λ key. test key ≡ false) fences passed) (ends : end ≡ min (length points) (passed * 16)) where
+  module _ (passed : ℕ) (some : 0 < passed) (bound : passed ≤ length fences) (place : IsPartitionPoint (λ key. test key ≡ true) (λ key. test key ≡ false) fences passed) where
     abbrev begin : ℕ
     begin = (passed - 1) * 16
 
-    within : end ≤ length points
-    within = omega (arith, ends)
-
-    in_order : begin < end
-    in_order = let has : 16 * (passed - 1) < length points = has_point (passed - 1) (omega (arith, some, bound)) in omega (arith, has, ends, some)
+    pub begin_within : begin < length points
+    begin_within = let has : 16 * (passed - 1) < length points = has_point (passed - 1) (omega (arith, some, bound)) in omega (arith, has)
 
     begin_passes : (d : Entry) → test (get_or points begin d).key ≡ true
     begin_passes d =
@@ -65,23 +65,28 @@ module _ (test : List ℕ → Bool) (points : List Entry) (fences : List (List �
         let e : begin ≡ 16 * (passed - 1) = omega arith in
         ap (λ k. test (get_or points k d).key) e ∙ sym (fence_test (passed - 1) [] d last) ∙ place.0 (passed - 1) [] (omega arith) (omega (arith, some))
 
-    before_block : AllWithin (λ p. test p.key ≡ true) points 0 begin
-    before_block k d least l = parted k begin d (omega (arith, l)) (omega (arith, in_order, within)) (begin_passes d)
-
-    behind_block : AllWithin (λ p. test p.key ≡ false) points end (length points)
-    behind_block k d le l =
-        let to_fence : end ≡ 16 * passed = omega (arith, ends, le, l) in
-        let next : passed < length fences = has_fence passed (omega (arith, to_fence, le, l)) in
-        fails_on end k d le l (ap (λ j. test (get_or points j d).key) to_fence ∙ sym (fence_test passed [] d next) ∙ place.1 passed [] (omega arith) next)
-
-    pub last_parted : IsPartitionedBy (λ p. test p.key) (take (end - begin) (drop begin points))
-    last_parted = part_parted (λ p. test p.key) points begin end (omega (arith, in_order)) within parted
-
-    pub last_place : (r : ℕ) → r ≤ length (take (end - begin) (drop begin points)) → IsPartitionPoint (λ p. test p.key ≡ true) (λ p. test p.key ≡ false) (take (end - begin) (drop begin points)) r → IsPartitionPoint (λ p. test p.key ≡ true) (λ p. test p.key ≡ false) points (begin + r)
-    last_place r le inner = part_point (λ p. test p.key) points begin end (omega (arith, in_order)) within before_block behind_block r le inner
+    -- all before the last block whose fence passes do
+    pub before_block : AllWithin (λ p. test p.key ≡ true) points 0 begin
+    before_block k d least l = parted k begin d (omega (arith, l)) begin_within (begin_passes d)
 
 pub fences_rise : (points : List Entry) → IsStrictlySortedBy entry_cmp points → (fences : List (List ℕ)) → IsFenced points fences → AreRising fences
 fences_rise points sorted fences fenced i j d le l =
     let key : List ℕ = get_or fences j d in
     fences_parted (is_passed key true) points fences (partitioned (λ p. is_passed key true p.key) entry_cmp (passed_before key true) points sorted) fenced i j d le l
     (ap is_le (tied_itself nat_list_cmp_total key))
+
+-- one more block has its fence
+pub one_more_fence : (points : List Entry) (keys : List (List ℕ)) (first : Entry) → AreFences points keys → slice_get points (16 * length keys) ≡ Some first → AreFences points (keys ++ first.key ∷ [])
+one_more_fence points keys first are there i d e l = by (ltb i (length keys)) refl
+  where
+    by : (b : Bool) → ltb i (length keys) ≡ b → get_or (keys ++ first.key ∷ []) i d ≡ (get_or points (16 * i) e).key
+    by true f =
+        let lt : i < length keys = grind (arith, nat_tests) in
+        get_or_append_left keys (first.key ∷ []) d i lt ∙ are i d e lt
+    by false f =
+        let ge : length keys ≤ i = grind (arith, nat_tests) in
+        let more = length_push keys first.key in
+        let last : length keys ≡ i = omega (arith, ge, l, more) in
+        get_or_push keys first.key d i last
+        ∙ sym (ap (λ (p : Entry). p.key) (get_or_from_slice_get points (16 * length keys) first e there))
+        ∙ ap (λ n. (get_or points (16 * n) e).key) last

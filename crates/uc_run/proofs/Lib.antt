@@ -7,9 +7,10 @@ pub mod Effects
 pub mod Slots
 pub mod Order
 pub mod LookupEffects
-pub mod NewestPut
+pub mod Rests
+pub mod OnKey
+pub mod Lasting
 pub mod Fenced
-pub mod KeyPoints
 pub mod PrefixOrder
 pub mod TextOrder
 pub mod SameText

@@ -1,8 +1,6 @@
 -- Tests of points that pass what stands before a point that they pass.
-use Rattle.std.proofs.Common.{◌≡◌, ℕ, ◌<◌, Bool, true, false, ltb, leb, List, [], ◌∷◌, ◌⊎◌, inl, inr, ⊎_elim, refl, sym, ap, ◌∙◌, subst, arith}
+use Rattle.std.proofs.Common.{◌≡◌, ℕ, Bool, true, false, ltb, leb, List, ◌⊎◌, inl, inr, ⊎_elim, refl, sym, ap, ◌∙◌, subst, arith}
 use Rattle.std.specs.Prelude.{◌&&◌}
-use Rattle.std.specs.List.{AllByRecursion}
-use Rattle.std.specs.List.Sorted.{IsStrictlySortedBy}
 use Rattle.std.specs.Cmp.Lexicographic.{same_text, bytes_decides}
 use Rattle.std.specs.declared.cmp.Ordering.{Ordering}
 use Rattle.std.specs.declared.cmp.Ordering.TheVariants.{Less, Equal, Greater}
@@ -17,8 +15,7 @@ use Rattle.uc_run_entry.specs.Order.{entry_cmp}
 use Rattle.uc_run_entry.specs.Seek.{is_passed}
 use Rattle.uc_run_entry.specs.Lookup.{is_visible}
 use Rattle.uc_run_entry.proofs.Sorted.{entry_total}
-use Rattle.uc_run_entry.proofs.Points.{PointsFall as Fall}
-use Rattle.uc_run.specs.Places.{PointsFall, is_newer, newest_first}
+use Rattle.uc_run.specs.Places.{is_newer}
 
 -- the key of a point is at or below that of one behind it
 key_by : (x y : List ℕ) (a b : ℕ) (o : Ordering) → bytes_cmp x y ≡ o → ordering_then o (nat_cmp a b) ≡ Less → (bytes_cmp x y ≡ Less) ⊎ (x ≡ y)
@@ -58,15 +55,6 @@ pub newer_before : (key : List ℕ) (at : ℕ) (p q : Entry) → entry_cmp p q �
 newer_before key at p q less newer =
     let target : Entry = record { key = key; seq = at; what = q.what } in
     ap is_lt (entry_total.trans p q target less (less_of (entry_cmp q target) newer))
-
-less_number : (a b : ℕ) → nat_cmp a b ≡ Less → a < b
-less_number a b e = grind (arith, nat_tests)
-
-pub seq_before : (seq : ℕ) (p q : Entry) → newest_first p q ≡ Less → ltb seq q.seq ≡ true → ltb seq p.seq ≡ true
-seq_before seq p q less newer = let lt : q.seq < p.seq = less_number q.seq p.seq less in grind (arith, nat_tests)
-
-pub number_before : (at a b : ℕ) → nat_cmp b a ≡ Less → ltb at b ≡ true → ltb at a ≡ true
-number_before at a b less newer = let lt : b < a = less_number b a less in grind (arith, nat_tests)
 
 -- a sequence is at or below another where it isn't above
 pub not_above : (at seq : ℕ) → ltb at seq ≡ false → leb seq at ≡ true
@@ -144,13 +132,3 @@ both_by Greater e = absurd cc
 -- who looks behind a key passes over what he who looks from it on does
 pub passed_both : (key : List ℕ) (p : Entry) → is_passed key false p.key ≡ true → is_passed key true p.key ≡ true
 passed_both key p passed = both_by (bytes_cmp p.key key) passed
-
--- the points of a key fall
-falling_below : (n : ℕ) (ps : List Entry) (p : Entry) → n ≡ p.seq → AllByRecursion (λ q. q.seq < n) ps → AllByRecursion (λ q. newest_first p q ≡ Less) ps
-falling_below n [] p e h = tt
-falling_below n (q ∷ qs) p e h = (let lt : q.seq < n = h.0 in grind (arith, nat_tests), falling_below n qs p e h.1)
-
-pub points_fall : (ps : List Entry) → Fall ps → PointsFall ps
-unfolding IsStrictlySortedBy
-points_fall [] h = tt
-points_fall (p ∷ ps) h = (falling_below p.seq ps p refl h.0, points_fall ps h.1)

@@ -1,17 +1,16 @@
 -- Where points that are passed end.
-use Rattle.std.proofs.Common.{◌≡◌, ℕ, zero, suc, ◌+◌, ◌-◌, ◌<◌, ◌≤◌, max, Bool, true, false, cond, ltb, List, [], ◌∷◌, length, filter, get_or, take, drop, refl, sym, ap, ◌∙◌, subst, arith}
+use Rattle.std.proofs.Common.{◌≡◌, ℕ, zero, suc, ◌+◌, ◌<◌, ◌≤◌, max, Bool, true, false, cond, ltb, List, [], ◌∷◌, length, filter, get_or, drop, refl, sym, ap, ◌∙◌, subst, arith}
 use Rattle.std.specs.List.{AllWithin, HoldsAt}
 use Rattle.std.specs.List.Sorted.{IsStrictlySortedBy, IsPartitionPoint, IsPartitionedBy}
 use Rattle.std.proofs.lemmas.Bool.{false≢true}
 use Rattle.std.proofs.lemmas.Bool.Decides.{nat_tests}
-use Rattle.std.proofs.lemmas.List.{length-drop, length-take-le}
+use Rattle.std.proofs.lemmas.List.{get_or-drop}
 use Rattle.std.proofs.lemmas.List.Sums.{count_by-le-length, length-filter}
 use Rattle.uc_run_entry.specs.declared.entry.Entry.{Entry}
-use Rattle.uc_run_entry.specs.declared.entry.What.TheVariants.{Delete}
 use Rattle.uc_run_entry.specs.Order.{entry_cmp}
 use Rattle.uc_run_entry.specs.Seek.{is_passed, seek_place}
-use Rattle.uc_run_entry.proofs.Partitions.{partitioned, part_at, places_in_order}
-use Rattle.uc_run.proofs.Order.{passed_before, passed_both}
+use Rattle.uc_run_entry.proofs.Partitions.{partitioned}
+use Rattle.uc_run.proofs.Order.{passed_before}
 
 module _ {X : Type 0} (test : X → Bool) where
   abbrev Passes : X → Type 0
@@ -55,34 +54,31 @@ module _ {X : Type 0} (test : X → Bool) where
           let none : length (filter test xs) ≡ 0 = none_counted xs (λ k d low l. none_behind x xs parted e (suc k) d (omega arith) (omega (arith, l))) in
           ((λ k d low l. absurd (omega (arith, l, none))), (λ k d low l. none_behind x xs parted e k d (omega arith) l))
 
-  -- the first of a part that fails is at their end, or that is before the part
-  pub ends_at : (xs : List X) (place few n m : ℕ) → place + few ≤ length xs → m ≤ length xs → n < length (take few (drop place xs)) → IsPartitionPoint Passes Fails xs m → AllWithin Passes (take few (drop place xs)) 0 n → HoldsAt Fails (take few (drop place xs)) n → (d : X) →
-      place + n ≡ max place m
-  ends_at xs place few n m within bound short point before here d = by_place (ltb m (place + n)) refl (ltb (place + n) m) refl
+  -- what a walk from a place passes, all that pass have
+  pub walk_within : (xs : List X) (place n m : ℕ) → place + n ≤ length xs → IsPartitionPoint Passes Fails xs m → AllWithin Passes (drop place xs) 0 n → (d : X) → place + n ≤ max place m
+  walk_within xs place zero m within point before d = omega arith
+  walk_within xs place (suc j) m within point before d = by (ltb m (place + suc j)) refl
     where
-      lt : n < few
-      lt =
-          let l : length (drop place xs) ≡ length xs - place = length-drop place xs in
-          let t : length (take few (drop place xs)) ≡ few = length-take-le few (drop place xs) (omega (arith, l, within)) in
-          omega (arith, short, t)
+      by : (b : Bool) → ltb m (place + suc j) ≡ b → place + suc j ≤ max place m
+      by true e =
+          let lt : m < place + suc j = grind (arith, nat_tests) in
+          let passes : test (get_or xs (place + j) d) ≡ true = sym (ap test (get_or-drop place xs j d)) ∙ before j d (omega arith) (omega arith) in
+          absurd (false≢true (sym (point.1 (place + j) d (omega (arith, lt)) (omega (arith, within))) ∙ passes))
+      by false e = let ge : place + suc j ≤ m = grind (arith, nat_tests) in omega (arith, ge)
 
-      fails : test (get_or xs (place + n) d) ≡ false
-      fails = sym (ap test (part_at xs place few n d lt)) ∙ here d
+  -- where a walk from a place meets the first that fails, those that pass end, if they didn't end before the place
+  pub walk_ends : (xs : List X) (place n m : ℕ) → place + n ≤ length xs → m ≤ length xs → IsPartitionPoint Passes Fails xs m → AllWithin Passes (drop place xs) 0 n → (place + n < length xs → HoldsAt Fails (drop place xs) n) → (d : X) → place + n ≡ max place m
+  walk_ends xs place n m within bound point before there d = by (ltb (place + n) m) refl
+    where
+      le : place + n ≤ max place m
+      le = walk_within xs place n m within point before d
 
-      passes : (k : ℕ) → k < n → test (get_or xs (place + k) d) ≡ true
-      passes k l = sym (ap test (part_at xs place few k d (omega (arith, l, lt)))) ∙ before k d (omega arith) l
-
-      by_last : (j : ℕ) → n ≡ j → m < place + j → place + j ≡ max place m
-      by_last zero e less = omega (arith, less)
-      by_last (suc j) e less = absurd (false≢true (sym (point.1 (place + j) d (omega (arith, less)) (omega (arith, e, lt, within))) ∙ passes j (omega (arith, e))))
-
-      by_place : (b : Bool) → ltb m (place + n) ≡ b → (c : Bool) → ltb (place + n) m ≡ c → place + n ≡ max place m
-      by_place true e c f = by_last n refl (grind (arith, nat_tests))
-      by_place false e true f = absurd (false≢true (sym fails ∙ point.0 (place + n) d (omega arith) (grind (arith, nat_tests))))
-      by_place false e false f =
-          let ge : place + n ≤ m = grind (arith, nat_tests) in
-          let le : m ≤ place + n = grind (arith, nat_tests) in
-          omega (arith, ge, le)
+      by : (b : Bool) → ltb (place + n) m ≡ b → place + n ≡ max place m
+      by true e =
+          let lt : place + n < m = grind (arith, nat_tests) in
+          let fails : test (get_or xs (place + n) d) ≡ false = sym (ap test (get_or-drop place xs n d)) ∙ there (omega (arith, lt, bound)) d in
+          absurd (false≢true (sym fails ∙ point.0 (place + n) d (omega arith) lt))
+      by false e = let ge : m ≤ place + n = grind (arith, nat_tests) in omega (arith, ge, le)
 
 module _ (points : List Entry) (low : List ℕ) (strict : Bool) where
   abbrev passed : Entry → Bool
@@ -96,14 +92,3 @@ module _ (points : List Entry) (low : List ℕ) (strict : Bool) where
   seek_point sorted n e =
       subst (IsPartitionPoint (λ p. passed p ≡ true) (λ p. passed p ≡ false) points) (length-filter passed points ∙ sym e)
       (count_point passed points (partitioned passed entry_cmp (passed_before low strict) points sorted))
-
--- who looks behind a key passes no less than who looks for it
-pub seek_order : (points : List Entry) (key : List ℕ) → IsStrictlySortedBy entry_cmp points → seek_place points key false ≤ seek_place points key true
-seek_order points key sorted =
-    places_in_order (λ p. is_passed key false p.key) (λ p. is_passed key true p.key) (λ p. passed_both key p) (record { key = []; seq = 0; what = Delete }) points (seek_place points key false) (seek_place points key true)
-    (seek_bound points key false (seek_place points key false) refl)
-    (seek_point points key false sorted (seek_place points key false) refl) (seek_point points key true sorted (seek_place points key true) refl)
-
--- who stands before a key's points stands behind them once they are passed
-pub end_of : (points : List Entry) (key : List ℕ) (place end : ℕ) → IsStrictlySortedBy entry_cmp points → place ≡ seek_place points key false → end ≡ max place (seek_place points key true) → end ≡ seek_place points key true
-end_of points key place end sorted stands e = let le : seek_place points key false ≤ seek_place points key true = seek_order points key sorted in omega (arith, stands, e, le)

@@ -7,6 +7,7 @@ pub mod HeldRuns
 pub mod Blocks
 pub mod Fences
 pub mod Places
+pub mod Found
 pub mod Prefixes
 pub mod Ranks
 pub mod NextKey

@@ -9,23 +9,23 @@ ghost use Rattle.uc_run.specs.Cursors.{has_ranges};
 ghost use Rattle.uc_run.specs.Hiding.{hidden_to};
 ghost use Rattle.uc_run.specs.NextKey.{IsNextKey};
 
-use crate::fences::passed_from;
-use crate::lookup::{effect_found, newest_put};
+use crate::fences::pass_before;
+use crate::lookup::effect_found;
 use crate::near::{end_of_hiding, fragments_ended, fragments_near};
-use crate::places::points_between;
 use crate::run::Run;
 use std::alloc::{AllocError, Global};
 use std::marker::Model;
-use uc_bytes::Bytes;
 use uc_oper::{Effect, Operator};
 use uc_run_entry::plain_list_does_what_is_found;
+use uc_run_points::PointSlice;
 
 /// A place in a run, on a walk in order of key. A contract sees it as the run's contents and how many of its points it
 /// passed.
 #[derive(Debug, Drop)]
 pub struct Cursor<'a> {
     run: &'a Run,
-    place: usize,
+    /// The points that aren't passed.
+    ahead: PointSlice<'a>,
     /// The fragment at which the search for the one over the next key begins.
     fragment: usize,
 }
@@ -47,7 +47,7 @@ impl<'a> Cursor<'a> {
     {
         Cursor {
             run,
-            place: run.place_of(low),
+            ahead: run.found(low, false),
             fragment: 0,
         }
     }
@@ -68,7 +68,7 @@ impl<'a> Cursor<'a> {
             IsNextKey self.now.run.points low strict (option_map (λ key. key.now) result) }
     {
         self.run.recall();
-        let point = self.run.entries().get(self.place)?;
+        let point = self.ahead.get(0)?;
         Some(point.key())
     }
 
@@ -84,12 +84,13 @@ impl<'a> Cursor<'a> {
     pub fn is_before(&self, key: &[u8]) -> bool
         ensures { IsTrue result ↔ (self.now.place ≡ seek_place self.now.run.points key.now false) }
     {
-        self.run.place_of(key) == self.place
+        self.run.recall();
+        self.run.found(key, false).len() == self.ahead.len()
     }
 
     /// What the run's writes at or below a sequence together do to a key, if the cursor is just before the key's
-    /// points. A key whose newest point is a put costs a look at that, if the run has no range deletions. Otherwise a key
-    /// with few points costs a step for each. A key with many, or past the end of the cursor's fragment, costs a search.
+    /// points. It costs a step for each of the key's points down to the last put or delete at or below the sequence; above
+    /// the sequence, if they are many, a search. A key past the end of the cursor's fragment costs a search too.
     pub fn effect<O: Operator>(
         &self,
         alloc: Global,
@@ -101,17 +102,8 @@ impl<'a> Cursor<'a> {
     {
         self.run.recall();
         plain_list_does_what_is_found::<O>();
-        let points = self.run.entries();
-        let fragments = self.run.fragments();
-        if fragments.is_empty() {
-            if let Some(value) = newest_put(points, self.place, key, at) {
-                return Ok(Effect::Set(Some(Bytes::from_slice(alloc, value)?)));
-            }
-        }
-        let end = passed_from(points, self.run.fences(), self.place, key, true);
-        let on = points_between(points, self.place, end, key, at);
-        let over = fragments_near(fragments, self.fragment, key);
-        effect_found::<O>(alloc, &on, over, key, at)
+        let over = fragments_near(self.run.fragments(), self.fragment, key);
+        effect_found::<O>(alloc, &self.ahead, over, key, at)
     }
 
     /// The end of the fragment over the key, if that has a range deletion at or below the sequence. From the key to
@@ -136,13 +128,8 @@ impl<'a> Cursor<'a> {
             } }
     {
         self.run.recall();
-        self.place = passed_from(
-            self.run.entries(),
-            self.run.fences(),
-            self.place,
-            low,
-            strict,
-        );
+        let (points, fences) = (self.run.entries(), self.run.fences());
+        pass_before(points, fences, &mut self.ahead, low, strict);
         self.fragment = fragments_ended(self.run.fragments(), self.fragment, low);
     }
 

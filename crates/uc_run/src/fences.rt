@@ -1,10 +1,10 @@
 //! [`Fences`]: the first keys of blocks of points, and searches by them.
-ghost use Rattle.std.specs.Prelude.{◌≡◌, ◌<◌, ◌≤◌, true, false, max, length, IfOk, IfSome};
-ghost use Rattle.std.specs.List.{AllWithin, HoldsAt};
+ghost use Rattle.std.specs.Prelude.{◌≡◌, ◌≤◌, true, false, max, length, drop, IfOk};
 ghost use Rattle.std.specs.List.Sorted.{IsStrictlySortedBy, IsPartitionPoint, IsPartitionedBy};
 ghost use Rattle.uc_run_entry.specs.Order.{entry_cmp};
 ghost use Rattle.uc_run_entry.specs.Seek as seek;
 ghost use Rattle.uc_run.specs.Fences.{IsFenced};
+ghost use Rattle.uc_run.specs.Places.{IsRest, place_of};
 
 use crate::places::is_passed;
 use crate::prefixes::{prefixes_of, shared_front, undecided};
@@ -112,30 +112,6 @@ impl PointTest for IsPassed<'_> {
     }
 }
 
-/// How many of the points lie before the search, if those that do come first. It looks at them one by one.
-fn place_in(points: &PointSlice<'_>, low: &[u8], strict: bool) -> usize
-    requires { IsPartitionedBy (λ p. seek.is_passed low.now strict p.key) points.now }
-    ensures bound { result ≤ length points.now }
-    ensures place { IsPartitionPoint (λ p. seek.is_passed low.now strict p.key ≡ true)
-        (λ p. seek.is_passed low.now strict p.key ≡ false) points.now result }
-{
-    points.ahead().count_passing(&IsPassed { low, strict })
-}
-
-/// The place of the first of the points that the search finds.
-fn first_behind(points: &PointSlice<'_>, low: &[u8], strict: bool) -> Option<usize>
-    ensures { IfSome result (λ n. (n < length points.now)
-        × AllWithin (λ p. seek.is_passed low.now strict p.key ≡ true) points.now 0 n
-        × HoldsAt (λ p. seek.is_passed low.now strict p.key ≡ false) points.now n) }
-{
-    let count = points.ahead().count_passing(&IsPassed { low, strict });
-    if count < points.len() {
-        Some(count)
-    } else {
-        None
-    }
-}
-
 /// How many fences lie before the search.
 fn fences_passed(points: &Points, fences: &Fences, low: &[u8], strict: bool) -> usize
     requires sorted { IsStrictlySortedBy entry_cmp points.now }
@@ -150,45 +126,53 @@ fn fences_passed(points: &Points, fences: &Fences, low: &[u8], strict: bool) -> 
     begin + keys_passed(&keys[begin..end], low, strict)
 }
 
-/// How many points lie before the search: all before the last block whose fence does, and some of that block.
+/// The points that the search finds, and all behind them. It looks at the points of one block, one by one: the last block
+/// whose fence lies before the search.
+pub(crate) fn found_by_fences<'a>(
+    points: &'a Points,
+    fences: &Fences,
+    low: &[u8],
+    strict: bool,
+) -> PointSlice<'a>
+    requires sorted { IsStrictlySortedBy entry_cmp points.now }
+    requires fenced { IsFenced points.now fences.now }
+    ensures { result ≡ drop (seek.seek_place points.now low.now strict) points.now }
+{
+    let all = points.as_slice();
+    let count = all.len();
+    let passed = fences_passed(points, fences, low, strict);
+    if passed == 0 {
+        return all;
+    }
+    let (_, mut found) = all.split_at((passed - 1) * BLOCK_POINTS);
+    found.pass_while(count, &IsPassed { low, strict });
+    found
+}
+
+/// How many points lie before the search.
 pub(crate) fn seek_by_fences(points: &Points, fences: &Fences, low: &[u8], strict: bool) -> usize
     requires sorted { IsStrictlySortedBy entry_cmp points.now }
     requires fenced { IsFenced points.now fences.now }
-    ensures bound { result ≤ length points.now }
-    ensures place { IsPartitionPoint (λ p. seek.is_passed low.now strict p.key ≡ true)
-        (λ p. seek.is_passed low.now strict p.key ≡ false) points.now result }
-    ensures count { result ≡ seek.seek_place points.now low.now strict }
+    ensures { result ≡ seek.seek_place points.now low.now strict }
 {
-    let passed = fences_passed(points, fences, low, strict);
-    if passed == 0 {
-        return 0;
-    }
-    let count = points.len();
-    let begin = (passed - 1) * BLOCK_POINTS;
-    let end = count.min(passed * BLOCK_POINTS);
-    begin + place_in(&points.as_slice().slice(begin, end), low, strict)
+    points.len() - found_by_fences(points, fences, low, strict).len()
 }
 
-/// The place, from `place` on, of the first point that the search finds. A few points are looked at one by one; if none
-/// of them is it, the fences are searched.
-pub(crate) fn passed_from(
-    points: &Points,
+/// Passes the points that lie before the search, of which some were passed before. A few points are looked at one by one; if
+/// all of them lie before it, the fences are searched.
+pub(crate) fn pass_before<'a>(
+    points: &'a Points,
     fences: &Fences,
-    place: usize,
+    ahead: &mut PointSlice<'a>,
     low: &[u8],
     strict: bool,
-) -> usize
+)
     requires sorted { IsStrictlySortedBy entry_cmp points.now }
     requires fenced { IsFenced points.now fences.now }
-    requires within { place ≤ length points.now }
-    ensures { result ≡ max place (seek.seek_place points.now low.now strict) }
+    requires rest { IsRest points.now ahead.old }
+    ensures { ahead.new ≡ drop (max (place_of points.now ahead.old) (seek.seek_place points.now low.now strict)) points.now }
 {
-    if place == points.len() {
-        return place;
-    }
-    let few = FEW_POINTS.min(points.len() - place);
-    match first_behind(&points.as_slice().slice(place, place + few), low, strict) {
-        Some(count) => place + count,
-        None => place.max(seek_by_fences(points, fences, low, strict)),
+    if ahead.pass_while(FEW_POINTS, &IsPassed { low, strict }) == FEW_POINTS {
+        *ahead = found_by_fences(points, fences, low, strict);
     }
 }

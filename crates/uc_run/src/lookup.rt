@@ -1,52 +1,55 @@
 //! What a lookup of a key finds among points and fragments.
-ghost use Rattle.std.specs.Prelude.{◌≡◌, false, not, filter, Some, IfOk, IfSome, nat_le};
+ghost use Rattle.std.specs.Prelude.{◌≡◌, Bool, not, ◌&&◌, filter, IfOk, nat_le};
 ghost use Rattle.std.specs.List.{AllByRecursion, flat_map, slice_get};
-ghost use Rattle.std.specs.List.Sorted.{IsStrictlySortedBy};
+ghost use Rattle.std.specs.List.Sorted.{IsStrictlySortedBy, IsPartitionedBy};
 ghost use Rattle.uc_oper.specs.Operation.{Operation};
 ghost use Rattle.uc_oper.specs.declared.effect.Effect.{Effect as EffectOf};
-ghost use Rattle.uc_oper.specs.declared.effect.Effect.TheVariants.{Keep, Set};
 ghost use Rattle.uc_run_entry.specs.Order.{entry_cmp, IsFalling, AreInOrder};
 ghost use Rattle.uc_run_entry.specs.Run.{covers};
 ghost use Rattle.uc_run_entry.specs.Lookup as lookup;
 ghost use Rattle.uc_run_entry.specs.Overwriting as overwriting;
-ghost use Rattle.uc_run_entry.specs.Seek.{seek_place};
-ghost use Rattle.uc_run.specs.Places.{PointsFall};
+ghost use Rattle.uc_run.specs.Places as places;
+ghost use Rattle.uc_run.specs.Found.{before_points};
 
 use crate::near::fragments_near;
-use crate::places::newer_than;
-use crate::texts::same_text;
+use crate::places::{is_on, without_newer};
 use std::alloc::{AllocError, Global};
 use uc_oper::{Effect, Operator};
-use uc_run_entry::{Fragment, WhatRef, covering_fragment};
-use uc_run_points::{PointRef, PointSlice, PointTest, Points};
+use uc_run_entry::{Fragment, covering_fragment};
+use uc_run_points::{PointRef, PointSlice, PointTest};
 
-/// Passes the points that overwrite nothing.
+/// Passes the points of a key that overwrite nothing, above a sequence if there is one.
 #[derive(Drop)]
-struct IsMerge;
+struct IsMerge<'a> {
+    key: &'a [u8],
+    above: Option<u64>,
+}
 
-impl PointTest for IsMerge {
-    ghost passing = { λ _ p. not (overwriting.overwrites p) };
+impl PointTest for IsMerge<'_> {
+    ghost passing = { λ test p. not (overwriting.overwrites p) && places.is_on test.key.now test.above p };
 
     #[inline]
     fn passes(&self, point: &PointRef<'_>) -> bool {
-        !point.overwrites()
+        !point.overwrites() && is_on(point, self.key, self.above)
     }
 }
 
-/// The points, the newest first, without those that a newer one overwrites.
-fn lasting<'a>(points: &PointSlice<'a>) -> PointSlice<'a>
+/// The points of the key above the sequence, which come first, without those that a newer one overwrites.
+fn lasting<'a>(points: &PointSlice<'a>, key: &[u8], above: Option<u64>) -> PointSlice<'a>
+    requires { IsPartitionedBy (places.is_on key.now above) points.now }
     ensures { (m : Operation) (before : EffectOf) →
-        lookup.points_effect m before result ≡ lookup.points_effect m before points.now }
+        lookup.points_effect m before result ≡
+        lookup.points_effect m before (filter (places.is_on key.now above) points.now) }
 {
-    let count = points.ahead().count_passing(&IsMerge);
-    if count < points.len() {
-        points.slice(0, count + 1)
-    } else {
-        points.slice(0, count)
+    let mut ahead = points.ahead();
+    let count = ahead.pass_while(points.len(), &IsMerge { key, above });
+    match ahead.first() {
+        Some(point) if is_on(&point, key, above) => points.slice(0, count + 1),
+        _ => points.slice(0, count),
     }
 }
 
-/// What points of one key, the newest first, make of an effect before them. An `Err` loses that effect.
+/// What points, the newest first, make of an effect before them. An `Err` loses that effect.
 fn points_effect<O: Operator>(
     alloc: Global,
     before: Effect,
@@ -54,12 +57,36 @@ fn points_effect<O: Operator>(
 ) -> Result<Effect, AllocError>
     ensures { IfOk result (λ effect. effect ≡ lookup.points_effect O.meaning before points.now) }
 {
-    let points = lasting(points);
     let mut effect = before;
     for place in (0..points.len()).rev() {
         effect = points.at(place).what().after::<O>(alloc, effect)?;
     }
     Ok(effect)
+}
+
+/// What the points of the key above the sequence, which come first, make of an effect before them. If the newest is a put or
+/// a delete, no other is looked at. An `Err` loses that effect.
+fn effect_above<O: Operator>(
+    alloc: Global,
+    before: Effect,
+    points: &PointSlice<'_>,
+    key: &[u8],
+    above: Option<u64>,
+) -> Result<Effect, AllocError>
+    requires { IsPartitionedBy (places.is_on key.now above) points.now }
+    ensures { IfOk result (λ effect. effect ≡
+        lookup.points_effect O.meaning before (filter (places.is_on key.now above) points.now)) }
+{
+    let Some(newest) = points.get(0) else {
+        return Ok(before);
+    };
+    if !is_on(&newest, key, above) {
+        return Ok(before);
+    }
+    if newest.overwrites() {
+        return newest.what().after::<O>(alloc, before);
+    }
+    points_effect::<O>(alloc, before, &lasting(points, key, above))
 }
 
 /// The sequence of the newest range deletion over the key at or below the sequence. For a key before the first fragment or
@@ -77,27 +104,13 @@ fn newest_over(fragments: &[Fragment], key: &[u8], at: u64) -> Option<u64>
     fragment.seqs.newest_at_or_below(at)
 }
 
-/// The value that the first of a key's points puts, if the search for the key finds that point at the place, and it is a
-/// put at or below the sequence. Then it alone says what the key's points do.
-#[inline]
-pub(crate) fn newest_put<'a>(
-    points: &'a Points,
-    place: usize,
-    key: &[u8],
-    at: u64,
-) -> Option<&'a [u8]>
-    requires sorted { IsStrictlySortedBy entry_cmp points.now }
-    requires place { place ≡ seek_place points.now key.now false }
-    ensures { (m : Operation) → IfSome result (λ value.
-        lookup.points_effect m Keep (filter (lookup.is_visible key.now at) points.now) ≡ Set (Some value.now)) }
+/// The effect before all points of a run: none, or that of a range deletion.
+fn effect_before(newest: Option<u64>) -> Effect
+    ensures { result ≡ before_points newest }
 {
-    let point = points.get(place)?;
-    if at < point.seq() || !same_text(point.key(), key) {
-        return None;
-    }
-    match point.what() {
-        WhatRef::Put(value) => Some(value),
-        WhatRef::Delete | WhatRef::Merge(_) => None,
+    match newest {
+        None => Effect::Keep,
+        Some(_) => Effect::Set(None),
     }
 }
 
@@ -105,19 +118,19 @@ pub(crate) fn newest_put<'a>(
 /// range deletion over it. That deletion is one of the fragments' sequences.
 pub(crate) fn effect_found<O: Operator>(
     alloc: Global,
-    on: &PointSlice<'_>,
+    points: &PointSlice<'_>,
     fragments: &[Fragment],
     key: &[u8],
     at: u64,
 ) -> Result<Effect, AllocError>
-    requires fall { PointsFall on.now }
+    requires sorted { IsStrictlySortedBy entry_cmp points.now }
     requires order { AreInOrder fragments.now }
     requires falling { AllByRecursion (λ f. IsFalling f.seqs) fragments.now }
-    ensures { IfOk result (λ effect. effect ≡ lookup.above_newest O.meaning on.now
+    ensures { IfOk result (λ effect. effect ≡
+        lookup.above_newest O.meaning (filter (lookup.is_visible key.now at) points.now)
         (filter (λ seq. nat_le seq at) (flat_map (λ f. f.seqs) (filter (λ f. covers f key.now) fragments.now)))) }
 {
-    match newest_over(fragments, key, at) {
-        None => points_effect::<O>(alloc, Effect::Keep, on),
-        Some(newest) => points_effect::<O>(alloc, Effect::Set(None), &newer_than(on, newest)),
-    }
+    let newest = newest_over(fragments, key, at);
+    let on = without_newer(points, key, at);
+    effect_above::<O>(alloc, effect_before(newest), &on, key, newest)
 }

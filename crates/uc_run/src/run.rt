@@ -1,5 +1,5 @@
 //! [`Run`]: points and range deletions, sorted by key.
-ghost use Rattle.std.specs.Prelude.{◌≡◌, ◌≤◌, ◌↔◌, false, IsTrue, length, IfOk, option_map};
+ghost use Rattle.std.specs.Prelude.{◌≡◌, ◌↔◌, false, IsTrue, length, drop, IfOk, option_map};
 ghost use Rattle.std.specs.List.{slice_get};
 ghost use Rattle.std.specs.List.Sorted.{IsStrictlySortedBy};
 ghost use Rattle.std.specs.Thread.{IsSync};
@@ -16,10 +16,10 @@ ghost use Rattle.uc_run.specs.Filters.{AdmitsAll};
 ghost use Rattle.uc_run.specs.NextKey.{IsNextKey};
 
 use crate::cursor::Cursor;
-use crate::fences::{Fences, fences_of, seek_by_fences};
+use crate::fences::{Fences, fences_of, found_by_fences, seek_by_fences};
 use crate::filter::{Filter, filter_in_threads, filter_of};
 use crate::lookup::effect_found;
-use crate::places::points_on;
+use crate::places::points_from;
 use crate::run_size::size_of;
 use crate::same::same_points;
 use std::alloc::{AllocError, Global};
@@ -27,7 +27,7 @@ use std::marker::{Model, Sync};
 use std::thread::{Threads, join};
 use uc_oper::{Effect, Operator};
 use uc_run_entry::{Entry, Fragment, Fragments, WhatRef, plain_list_does_what_is_found};
-use uc_run_points::{Points, points_of};
+use uc_run_points::{PointSlice, Points, points_of};
 
 /// An immutable sorted table (LevelDB `table_format.md`, in memory): points in order of key, fragments of range
 /// deletions, and the range of their sequences. A contract sees it as these.
@@ -244,12 +244,11 @@ impl Run {
         seek_by_fences(&self.points, &self.fences, low, strict) as u64
     }
 
-    /// The place of the first point whose key is at or above `low`.
-    pub(crate) fn place_of(&self, low: &[u8]) -> usize
-        ensures bound { result ≤ length self.now.points }
-        ensures place { result ≡ seek.seek_place self.now.points low.now false }
+    /// The points from the first whose key is at or above `low` (above it if `strict`) on.
+    pub(crate) fn found(&self, low: &[u8], strict: bool) -> PointSlice<'_>
+        ensures { result ≡ drop (seek.seek_place self.now.points low.now strict) self.now.points }
     {
-        seek_by_fences(&self.points, &self.fences, low, false)
+        found_by_fences(&self.points, &self.fences, low, strict)
     }
 
     /// The fences of its points.
@@ -271,9 +270,8 @@ impl Run {
     pub fn next_key(&self, low: &[u8], strict: bool) -> Option<&[u8]>
         ensures { IsNextKey self.now.points low.now strict (option_map (λ key. key.now) result) }
     {
-        let point = self
-            .points
-            .get(seek_by_fences(&self.points, &self.fences, low, strict))?;
+        self.recall();
+        let point = self.found(low, strict).get(0)?;
         Some(point.key())
     }
 
@@ -289,8 +287,8 @@ impl Run {
         ensures { IfOk result (λ effect. effect ≡ effect_on O.meaning (plain_list self.now) key.now at) }
     {
         plain_list_does_what_is_found::<O>();
-        let on = points_on(&self.points, &self.fences, &self.filter, key, at);
-        effect_found::<O>(alloc, &on, self.fragments.as_slice(), key, at)
+        let points = points_from(&self.points, &self.fences, &self.filter, key);
+        effect_found::<O>(alloc, &points, self.fragments.as_slice(), key, at)
     }
 
     /// Whether the runs have equal points, fragments and ranges.

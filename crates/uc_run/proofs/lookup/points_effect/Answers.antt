@@ -9,6 +9,6 @@ pub loop-place-preserved : goal.loop-place-preserved
 loop-place-preserved g c =
     let m = g.O.Operator.meaning in
     let p = c.at.result in
-    let points = c.lasting-points.result in
+    let points = c.args.points.now in
     let made : c.in_ok-effect.effect ≡ composed m c.loop-place.effect (lookup.what_effect p.what) = search rules in
     drop_oldest m c.loop-place.effect c.in_ok-effect.effect points c.loop-place.place p _ (search rules) (search rules) (sym (get_or_from_slice_get points _ p p c.at.ensures)) made c.loop-place.invariant
