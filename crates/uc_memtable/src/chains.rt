@@ -6,10 +6,11 @@ ghost use Rattle.uc_memtable.specs.Linked.{has_label};
 use crate::linking::{bucket_of, link, make_room, newest_labelled, unlink_from};
 use std::alloc::{AllocError, Global};
 use std::marker::Model;
+use uc_run_points::make_small;
 
 /// A list of labels, in which the places of a label are found from the newest on: a hash table whose buckets are chains
 /// of falling places. A contract sees it as the labels.
-#[derive(Debug, Drop)]
+#[derive(Debug)]
 pub(crate) struct Chains {
     /// For each bucket the end of its newest place: the place and 1, or 0 if there is none.
     heads: Vec<usize>,
@@ -27,6 +28,19 @@ impl Model for Chains {
     ghost view = { labels_of };
 
     ghost invariant = { AreLinked };
+}
+
+impl Drop for Chains {
+    fn drop(mut self) {
+        make_small(&mut self.heads);
+        make_small(&mut self.labels);
+        make_small(&mut self.before);
+        let Chains {
+            heads: _,
+            labels: _,
+            before: _,
+        } = self;
+    }
 }
 
 impl Chains {

@@ -11,7 +11,7 @@ use crate::prefixes::{prefixes_of, shared_front, undecided};
 use std::alloc::{AllocError, Global};
 use std::marker::Model;
 use uc_bytes::Bytes;
-use uc_run_points::{PointRef, PointSlice, PointTest, Points};
+use uc_run_points::{PointRef, PointSlice, PointTest, Points, make_small};
 
 /// How many points each block has; the last may have fewer.
 const BLOCK_POINTS: usize = 16;
@@ -21,7 +21,7 @@ const FEW_POINTS: usize = 8;
 
 /// The key of the first point of each block, apart from the points, so that a search touches few cache lines. A
 /// contract sees it as these keys.
-#[derive(Debug, Drop)]
+#[derive(Debug)]
 pub(crate) struct Fences {
     keys: Vec<Bytes>,
     /// How many bytes all keys have in common at their front.
@@ -40,6 +40,18 @@ impl Model for Fences {
     ghost use Rattle.uc_run.specs.Prefixes.{ArePrefixes};
 
     ghost invariant = { λ f. ArePrefixes f.keys.items f.shared f.prefixes.items };
+}
+
+impl Drop for Fences {
+    fn drop(mut self) {
+        make_small(&mut self.keys);
+        make_small(&mut self.prefixes);
+        let Fences {
+            keys: _,
+            shared: _,
+            prefixes: _,
+        } = self;
+    }
 }
 
 impl Fences {

@@ -7,7 +7,7 @@ use crate::filter_bits::{BLOCK_WORDS, admit, is_admitted};
 use std::alloc::{AllocError, Global};
 use std::marker::{Model, Sync};
 use std::thread::{Threads, join};
-use uc_run_points::{PointSlice, Points};
+use uc_run_points::{PointSlice, Points, make_small};
 
 /// How many points share a block: ten bits for each, of which six are set. Of other keys about 1.1 % are admitted.
 const BLOCK_POINTS: usize = 51;
@@ -17,7 +17,7 @@ const PARTS: usize = 4;
 
 /// A Bloom filter (Bloom, 1970) in blocks of a cache line (RocksDB wiki, "RocksDB Bloom Filter"): a look at it touches
 /// one line. A contract sees it as its words. One without words admits no key.
-#[derive(Debug, Drop)]
+#[derive(Debug)]
 pub(crate) struct Filter {
     words: Vec<u64>,
 }
@@ -28,6 +28,13 @@ impl Model for Filter {
     ghost Value = { List ℕ };
 
     ghost view = { λ f. f.words.items };
+}
+
+impl Drop for Filter {
+    fn drop(mut self) {
+        make_small(&mut self.words);
+        let Filter { words: _ } = self;
+    }
 }
 
 impl Filter {
