@@ -1,8 +1,8 @@
 -- What points do in turn, the newest first.
-use Rattle.std.proofs.Common.{◌≡◌, ℕ, zero, suc, ◌+◌, ◌-◌, ◌<◌, ◌≤◌, true, List, [], ◌∷◌, ◌++◌, length, get_or, take, Some, None, refl, sym, ap, ◌∙◌, arith}
+use Rattle.std.proofs.Common.{◌≡◌, ℕ, zero, suc, ◌+◌, ◌-◌, ◌<◌, ◌≤◌, true, List, [], ◌∷◌, ◌++◌, length, get_or, take, drop, Some, None, refl, sym, ap, ◌∙◌, arith}
 use Rattle.std.specs.Prelude.{Bool, false, not, filter, nat_lt}
 use Rattle.std.specs.List.{slice_get}
-use Rattle.std.proofs.lemmas.List.{take_more}
+use Rattle.std.proofs.lemmas.List.{take_more, take-take, drop-take, take-append-drop}
 use Rattle.std.proofs.lemmas.Bool.{false≢true}
 use Rattle.uc_oper.specs.Operation.{Operation}
 use Rattle.uc_oper.specs.Composition.{composed}
@@ -43,6 +43,31 @@ module _ (m : Operation) where
       ap (λ (effect : Effect). points_effect m effect (take (n - 1) ps)) made
       ∙ sym (oldest_first before (take (n - 1) ps) p)
       ∙ ap (points_effect m before) (sym split)
+      ∙ left
+
+  -- one point alone
+  pub one_does : (before : Effect) (points : List Entry) (p : Entry) → length points ≡ 1 → slice_get points 0 ≡ Some p → composed m before (what_effect p.what) ≡ points_effect m before points
+  one_does before [] p long e = absurd (omega (arith, long))
+  one_does before (q ∷ []) p long e = let same : p ≡ q = cc in ap (λ (r : Entry). composed m before (what_effect r.what)) same
+  one_does before (q ∷ r ∷ rs) p long e = absurd (omega (arith, long))
+
+  -- older points, and then newer ones
+  in_turn : (before : Effect) (newer older : List Entry) → points_effect m before (newer ++ older) ≡ points_effect m (points_effect m before older) newer
+  in_turn before [] older = refl
+  in_turn before (p ∷ ps) older = ap (λ (effect : Effect). composed m effect (what_effect p.what)) (in_turn before ps older)
+
+  -- the oldest few of what is left go onto the effect
+  pub drop_few : (before after : Effect) (ps : List Entry) (begin end : ℕ) (whole : Effect) → begin ≤ end → end ≤ length ps → after ≡ points_effect m before (take (end - begin) (drop begin ps)) → points_effect m before (take end ps) ≡ whole → points_effect m after (take begin ps) ≡ whole
+  drop_few before after ps begin end whole order within made left =
+      let all : begin + (end - begin) ≡ end = omega (arith, order) in
+      let few = take (end - begin) (drop begin ps) in
+      let split : take begin ps ++ few ≡ take end ps =
+      ap (λ (es : List Entry). take begin ps ++ es) (sym (drop-take begin (end - begin) ps) ∙ ap (λ n. drop begin (take n ps)) all)
+      ∙ ap (λ (es : List Entry). es ++ drop begin (take end ps)) (sym (take-take begin end ps order))
+      ∙ take-append-drop begin (take end ps) in
+      ap (λ (effect : Effect). points_effect m effect (take begin ps)) made
+      ∙ sym (in_turn before (take begin ps) few)
+      ∙ ap (points_effect m before) split
       ∙ left
 
   -- by the first of the sequences, where there is one

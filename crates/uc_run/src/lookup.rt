@@ -15,8 +15,11 @@ use crate::near::fragments_near;
 use crate::places::{is_on, without_newer};
 use std::alloc::{AllocError, Global};
 use uc_oper::{Effect, Operator};
-use uc_run_entry::{Fragment, covering_fragment};
+use uc_run_entry::{Fragment, WhatRef, covering_fragment};
 use uc_run_points::{PointRef, PointSlice, PointTest};
+
+/// How many points are gathered at a time.
+const FEW_POINTS: usize = 16;
 
 /// Passes the points of a key that overwrite nothing, above a sequence if there is one.
 #[derive(Drop)]
@@ -49,7 +52,38 @@ fn lasting<'a>(points: &PointSlice<'a>, key: &[u8], above: Option<u64>) -> Point
     }
 }
 
-/// What points, the newest first, make of an effect before them. An `Err` loses that effect.
+/// The points, each looked at once.
+fn gathered<'a>(alloc: Global, points: &PointSlice<'a>) -> Result<Vec<PointRef<'a>>, AllocError>
+    ensures { IfOk result (λ refs. refs.items ≡ points.now) }
+{
+    let mut refs = Vec::with_capacity(alloc, points.len())?;
+    let mut ahead = points.ahead();
+    while let Some(point) = ahead.next() {
+        refs.push(point)?;
+    }
+    Ok(refs)
+}
+
+/// What a few points, the newest first, make of an effect before them. An `Err` loses that effect.
+fn few_effect<O: Operator>(
+    alloc: Global,
+    before: Effect,
+    points: &PointSlice<'_>,
+) -> Result<Effect, AllocError>
+    ensures { IfOk result (λ effect. effect ≡ lookup.points_effect O.meaning before points.now) }
+{
+    if points.len() == 1 {
+        return points.at(0).what().after::<O>(alloc, before);
+    }
+    let refs = gathered(alloc, points)?;
+    let mut effect = before;
+    for place in (0..refs.len()).rev() {
+        effect = refs[place].what().after::<O>(alloc, effect)?;
+    }
+    Ok(effect)
+}
+
+/// What points, the newest first, make of an effect before them: the oldest few first. An `Err` loses that effect.
 fn points_effect<O: Operator>(
     alloc: Global,
     before: Effect,
@@ -58,8 +92,11 @@ fn points_effect<O: Operator>(
     ensures { IfOk result (λ effect. effect ≡ lookup.points_effect O.meaning before points.now) }
 {
     let mut effect = before;
-    for place in (0..points.len()).rev() {
-        effect = points.at(place).what().after::<O>(alloc, effect)?;
+    let mut end = points.len();
+    while end > 0 {
+        let begin = end.saturating_sub(FEW_POINTS);
+        effect = few_effect::<O>(alloc, effect, &points.slice(begin, end))?;
+        end = begin;
     }
     Ok(effect)
 }
@@ -83,10 +120,11 @@ fn effect_above<O: Operator>(
     if !is_on(&newest, key, above) {
         return Ok(before);
     }
-    if newest.overwrites() {
-        return newest.what().after::<O>(alloc, before);
+    let what = newest.what();
+    match what {
+        WhatRef::Put(_) | WhatRef::Delete => what.after::<O>(alloc, before),
+        WhatRef::Merge(_) => points_effect::<O>(alloc, before, &lasting(points, key, above)),
     }
-    points_effect::<O>(alloc, before, &lasting(points, key, above))
 }
 
 /// The sequence of the newest range deletion over the key at or below the sequence. For a key before the first fragment or

@@ -1,5 +1,5 @@
 //! Places among points and sequences, by binary search.
-ghost use Rattle.std.specs.Prelude.{◌≡◌, ℕ, count_by, drop, filter};
+ghost use Rattle.std.specs.Prelude.{◌≡◌, ◌≤◌, ℕ, count_by, length, drop, filter};
 ghost use Rattle.std.specs.List.Sorted.{IsStrictlySortedBy};
 ghost use Rattle.uc_run_entry.specs.Order.{entry_cmp};
 ghost use Rattle.uc_run_entry.specs.Seek as seek;
@@ -16,6 +16,9 @@ use uc_run_points::{PointRef, PointSlice, PointTest, Points};
 
 /// How many points are passed one by one before a binary search.
 const FEW_POINTS: usize = 16;
+
+/// Among how many points a binary search begins.
+const NEAR_POINTS: usize = 1024;
 
 /// Whether `key` lies before a search that starts at `low` (just above it if `strict`).
 #[inline]
@@ -57,16 +60,31 @@ impl PointTest for IsNewer<'_> {
     }
 }
 
+/// How many of the points come before the key's at or below the sequence. It is a binary search, at first among the nearest:
+/// few keys have more points.
+fn count_newer(points: &PointSlice<'_>, key: &[u8], at: u64) -> usize
+    requires { IsStrictlySortedBy entry_cmp points.now }
+    ensures bound { result ≤ length points.now }
+    ensures count { result ≡ count_by (places.is_newer key.now at) points.now }
+{
+    let test = IsNewer { key, at };
+    let near = points.slice(0, points.len().min(NEAR_POINTS));
+    let count = near.partition_point(&test);
+    if count < near.len() {
+        return count;
+    }
+    points.partition_point(&test)
+}
+
 /// The points without those that come before the key's at or below the sequence. A few of these are passed one by one, more by
 /// a binary search.
 pub(crate) fn without_newer<'a>(points: &PointSlice<'a>, key: &[u8], at: u64) -> PointSlice<'a>
     requires { IsStrictlySortedBy entry_cmp points.now }
     ensures { result ≡ drop (count_by (places.is_newer key.now at) points.now) points.now }
 {
-    let test = IsNewer { key, at };
     let mut rest = points.slice(0, points.len());
-    if rest.pass_while(FEW_POINTS, &test) == FEW_POINTS {
-        let (_, behind) = points.split_at(points.partition_point(&test));
+    if rest.pass_while(FEW_POINTS, &IsNewer { key, at }) == FEW_POINTS {
+        let (_, behind) = points.split_at(count_newer(points, key, at));
         return behind;
     }
     rest

@@ -82,6 +82,7 @@ impl<'a> PointsAhead<'a> {
     }
 
     /// Passes over so many points, or all if there are fewer.
+    #[inline]
     pub fn pass(&mut self, count: usize)
         ensures { self.new ≡ drop count self.old }
     {

@@ -1,14 +1,19 @@
-use Rattle.std.proofs.Common.{rules, ◌≡◌, sym}
-use Rattle.std.proofs.lemmas.Option.{get_or_from_slice_get}
-use Rattle.uc_oper.specs.Composition.{composed}
-use Rattle.uc_run_entry.specs.Lookup as lookup
-use Rattle.uc_run.proofs.LookupEffects.{drop_oldest}
+use Rattle.std.proofs.Common.{rules, ◌≡◌, ◌-◌, ◌≤◌, List, take, drop, ap, ◌∙◌, arith}
+use Rattle.uc_run_entry.specs.declared.entry.Entry.{Entry}
+use Rattle.uc_run_entry.specs.Lookup.{points_effect}
+use Rattle.uc_run.proofs.LookupEffects.{drop_few}
 use Rattle.uc_run.proofs.lookup.points_effect.Goals as goal
 
-pub loop-place-preserved : goal.loop-place-preserved
-loop-place-preserved g c =
+pub loop-end-preserved : goal.loop-end-preserved
+loop-end-preserved g c =
     let m = g.O.Operator.meaning in
-    let p = c.at.result in
     let points = c.args.points.now in
-    let made : c.in_ok-effect.effect ≡ composed m c.loop-place.effect (lookup.what_effect p.what) = search rules in
-    drop_oldest m c.loop-place.effect c.in_ok-effect.effect points c.loop-place.place p _ (search rules) (search rules) (sym (get_or_from_slice_get points _ p p c.at.ensures)) made c.loop-place.invariant
+    let end = c.loop-end.end in
+    let begin = c.saturating_sub-begin.result in
+    let order : begin ≤ end = search rules in
+    let made : c.in_ok-effect.effect ≡ points_effect m c.loop-end.effect (take (end - begin) (drop begin points)) =
+    c.in_ok-effect.ensures ∙ ap (λ (es : List Entry). points_effect m c.loop-end.effect es) c.slice.ensures in
+    record {
+      within = omega (arith, order, c.loop-end.invariant.within);
+      left = drop_few m c.loop-end.effect c.in_ok-effect.effect points begin end _ order c.loop-end.invariant.within made c.loop-end.invariant.left;
+    }

@@ -10,15 +10,9 @@ use Rattle.uc_run.proofs.Order.{newer_before}
 use Rattle.uc_run.proofs.Walking.{slice_front}
 use Rattle.uc_run.proofs.places.without_newer.Goals as goal
 
-pub partition_point-requires : goal.partition_point-requires
-partition_point-requires c = partitioned (is_newer c.args.key.now c.args.at) entry_cmp (newer_before c.args.key.now c.args.at) c.args.points.now c.requires
-
 pub returns-then-pass_while-eq-FEW_POINTS : goal.returns-then-pass_while-eq-FEW_POINTS
 returns-then-pass_while-eq-FEW_POINTS c =
-    let points = c.args.points.now in
-    let n = c.partition_point.result in
-    c.split_at-behind.ensures.back
-    ∙ ap (λ k. drop k points) (count-front (is_newer c.args.key.now c.args.at) points n c.partition_point.ensures.bound c.partition_point.ensures.place)
+    c.split_at-behind.ensures.back ∙ ap (λ k. drop k c.args.points.now) c.count_newer.ensures.count
 
 pub returns : goal.returns
 returns c =
