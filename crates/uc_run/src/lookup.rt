@@ -33,7 +33,7 @@ impl PointTest for IsMerge<'_> {
 
     #[inline]
     fn passes(&self, point: &PointRef<'_>) -> bool {
-        !point.overwrites() && is_on(point, self.key, self.above)
+        is_on(point, self.key, self.above) && !point.overwrites()
     }
 }
 

@@ -97,7 +97,7 @@ pub(crate) fn is_on(point: &PointRef<'_>, key: &[u8], above: Option<u64>) -> boo
 {
     match above {
         None => same_text(point.key(), key),
-        Some(seq) => seq < point.seq() && same_text(point.key(), key),
+        Some(seq) => same_text(point.key(), key) && seq < point.seq(),
     }
 }
 
