@@ -1,5 +1,5 @@
 -- What prefixes decide of keys in order.
-use Rattle.std.proofs.Common.{◌≡◌, ℕ, ◌+◌, ◌-◌, ◌<◌, ◌≤◌, Bool, true, false, ltb, leb, List, [], ◌∷◌, ◌++◌, Some, length, get_or, take, drop, map, refl, sym, ap, ◌∙◌, subst, arith}
+use Rattle.std.proofs.Common.{◌≡◌, ℕ, ◌+◌, ◌-◌, ◌<◌, ◌≤◌, Bool, true, false, eqb, ltb, leb, List, [], ◌∷◌, ◌++◌, Some, length, get_or, take, drop, map, refl, sym, ap, ◌∙◌, subst, arith}
 use Rattle.std.specs.List.{All, AllWithin, slice_get}
 use Rattle.std.specs.List.Sorted.{IsNonDecreasing, IsPartitionPoint, IsPartitionedBy}
 use Rattle.std.specs.declared.cmp.Ordering.TheVariants.{Less, Greater}
@@ -7,6 +7,7 @@ use Rattle.std.specs.Ordering.{is_lt, is_le}
 use Rattle.std.specs.Cmp.Lexicographic.{same_text}
 use Rattle.std.proofs.lemmas.List.{get_or_default, get_or-map, length-map, map_more, take-append-drop}
 use Rattle.std.proofs.lemmas.List.Elements.{All-more}
+use Rattle.std.proofs.lemmas.Option.{slice_get-get_or}
 use Rattle.std.proofs.lemmas.Bool.Decides.{nat_tests}
 use Rattle.uc_bytes.specs.Bytes.{bytes_cmp, same_bytes}
 use Rattle.uc_run_entry.specs.Seek.{is_passed}
@@ -35,6 +36,23 @@ module _ (ns : List ℕ) (wanted : ℕ) where
     (λ k d l m. let e : leb (get_or ns k d) wanted ≡ true = point.0 k d l m in grind (arith, nat_tests)),
     (λ k d l m. let e : leb (get_or ns k d) wanted ≡ false = point.1 k d l m in grind (arith, nat_tests)),
   )
+
+  -- where no number is equal, as many are below it as up to it
+  pub none_equal : IsNonDecreasing ns → (i : ℕ) → IsPartitionPoint (λ n. n < wanted) (λ n. wanted ≤ n) ns i → (slice_get ns i ≡ Some wanted → ⊥) → IsPartitionPoint (λ n. n ≤ wanted) (λ n. wanted < n) ns i
+  none_equal rise i point other = ((λ k d l m. let lt : get_or ns k d < wanted = point.0 k d l m in omega (arith, lt)), above)
+    where
+      above : (k d : ℕ) → i ≤ k → k < length ns → wanted < get_or ns k d
+      above k d le l =
+          let here : i < length ns = omega (arith, le, l) in
+          let least : wanted ≤ get_or ns i d = point.1 i d (omega arith) here in
+          let up : get_or ns i d ≤ get_or ns k d = rise i k d le l in
+          by here least up (eqb (get_or ns i d) wanted) refl
+        where
+          by : i < length ns → wanted ≤ get_or ns i d → get_or ns i d ≤ get_or ns k d → (b : Bool) → eqb (get_or ns i d) wanted ≡ b → wanted < get_or ns k d
+          by here least up true e =
+              let same : get_or ns i d ≡ wanted = grind (arith, nat_tests) in
+              absurd (other (slice_get-get_or ns i d here ∙ ap (λ (n : ℕ). Some n) same))
+          by here least up false e = grind (arith, nat_tests)
 
   pub points_in_order : (i j : ℕ) → i ≤ length ns → IsPartitionPoint (λ n. n < wanted) (λ n. wanted ≤ n) ns i → IsPartitionPoint (λ n. n ≤ wanted) (λ n. wanted < n) ns j → i ≤ j
   points_in_order i j le first second = by (ltb j i) refl

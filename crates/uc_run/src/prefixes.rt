@@ -1,7 +1,7 @@
 //! Prefixes of keys: numbers that order as the keys do, made of the bytes after those that all keys share.
-ghost use Rattle.std.specs.Prelude.{◌≡◌, ◌<◌, ◌≤◌, true, false, length, map, drop, slice_index, nat_eq, IfOk};
+ghost use Rattle.std.specs.Prelude.{◌≡◌, ◌<◌, ◌≤◌, ◌↔◌, true, false, Some, length, map, drop, slice_index, nat_eq, IsTrue, IfOk};
 ghost use Rattle.std.specs.List as list;
-ghost use Rattle.std.specs.List.{AllWithin};
+ghost use Rattle.std.specs.List.{AllWithin, slice_get};
 ghost use Rattle.std.specs.List.Sorted.{IsNonDecreasing, IsPartitionPoint};
 ghost use Rattle.uc_run_entry.specs.Seek as seek;
 ghost use Rattle.uc_run.specs.Prefixes as prefixes;
@@ -95,7 +95,19 @@ pub(crate) fn prefixes_of(
     Ok(prefixes)
 }
 
-/// How many prefixes are below one, and how many at or below it.
+/// Whether the prefix at a place is this one.
+#[inline]
+fn is_at(prefixes: &[u64], place: usize, wanted: u64) -> bool
+    ensures { IsTrue result ↔ (slice_get prefixes.now place ≡ Some wanted) }
+{
+    match prefixes.get(place) {
+        None => false,
+        Some(prefix) => *prefix == wanted,
+    }
+}
+
+/// How many prefixes are below one, and how many at or below it. Few searches have an equal prefix: only those cost a second
+/// search.
 fn equal_range(prefixes: &[u64], wanted: u64) -> (usize, usize)
     requires { IsNonDecreasing prefixes.now }
     ensures below { IsPartitionPoint (λ prefix. prefix < wanted) (λ prefix. wanted ≤ prefix) prefixes.now result.0 }
@@ -104,6 +116,9 @@ fn equal_range(prefixes: &[u64], wanted: u64) -> (usize, usize)
     ensures bound { result.1 ≤ length prefixes.now }
 {
     let below = prefixes.partition_point(|prefix| *prefix < wanted);
+    if !is_at(prefixes, below, wanted) {
+        return (below, below);
+    }
     let up_to = prefixes.partition_point(|prefix| *prefix <= wanted);
     (below, up_to)
 }
