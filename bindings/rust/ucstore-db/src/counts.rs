@@ -1,5 +1,6 @@
 //! [`Counts`]: what a database counts.
 
+use crate::lanes::Lanes;
 use crate::sync_times::SyncTimes;
 use std::sync::atomic::{AtomicU64, Ordering};
 use std::time::{Duration, Instant};
@@ -18,7 +19,7 @@ pub(crate) struct Counts {
     pub(crate) flushes: Count,
     pub(crate) compactions: Count,
     pub(crate) checkpoints: Count,
-    pub(crate) lookups: Count,
+    lookups: Lanes<Count>,
     /// The bytes of the batches that were taken.
     pub(crate) user_bytes: Count,
     /// The bytes that were appended to logs.
@@ -36,6 +37,16 @@ impl Counts {
     pub(crate) fn add_sync(&self, took: Duration) {
         self.syncs.add(1);
         self.sync_times.add(took);
+    }
+
+    /// Counts keys that are looked up.
+    pub(crate) fn add_lookups(&self, more: u64) {
+        self.lookups.own().add(more);
+    }
+
+    /// How many keys were looked up.
+    pub(crate) fn lookups(&self) -> u64 {
+        self.lookups.iter().map(Count::get).sum()
     }
 
     /// Counts for how long a write was slowed or waited.
@@ -58,7 +69,7 @@ impl Default for Counts {
             flushes: Count::default(),
             compactions: Count::default(),
             checkpoints: Count::default(),
-            lookups: Count::default(),
+            lookups: Lanes::default(),
             user_bytes: Count::default(),
             logged_bytes: Count::default(),
             base_bytes: Count::default(),

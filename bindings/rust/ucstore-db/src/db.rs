@@ -141,7 +141,7 @@ impl Db {
     ///
     /// [`Error::Store`] if memory is refused, as for each read.
     pub fn get(&self, key: impl AsRef<[u8]>) -> Result<Option<Vec<u8>>, Error> {
-        self.shared().counts.lookups.add(1);
+        self.shared().counts.add_lookups(1);
         Ok(self.shared().view()?.get(key)?)
     }
 
@@ -164,7 +164,7 @@ impl Db {
     ///
     /// Those of [`get`](Db::get).
     pub fn get_into(&self, key: impl AsRef<[u8]>, value: &mut Vec<u8>) -> Result<bool, Error> {
-        self.shared().counts.lookups.add(1);
+        self.shared().counts.add_lookups(1);
         Ok(self.shared().view()?.get_into(key, value)?)
     }
 
@@ -179,7 +179,7 @@ impl Db {
         key: impl AsRef<[u8]>,
         room: &mut [MaybeUninit<u8>],
     ) -> Result<Option<usize>, Error> {
-        self.shared().counts.lookups.add(1);
+        self.shared().counts.add_lookups(1);
         Ok(self.shared().view()?.get_to_room(key, room)?)
     }
 

@@ -78,7 +78,7 @@ impl Snapshot {
     ///
     /// [`Error::Store`] if memory is refused, as for each read.
     pub fn get(&self, key: impl AsRef<[u8]>) -> Result<Option<Vec<u8>>, Error> {
-        self.counts.lookups.add(1);
+        self.counts.add_lookups(1);
         Ok(self.view.get(key)?)
     }
 
@@ -89,7 +89,7 @@ impl Snapshot {
     ///
     /// Those of [`get`](Snapshot::get).
     pub fn get_into(&self, key: impl AsRef<[u8]>, value: &mut Vec<u8>) -> Result<bool, Error> {
-        self.counts.lookups.add(1);
+        self.counts.add_lookups(1);
         Ok(self.view.get_into(key, value)?)
     }
 
@@ -104,7 +104,7 @@ impl Snapshot {
         key: impl AsRef<[u8]>,
         room: &mut [MaybeUninit<u8>],
     ) -> Result<Option<usize>, Error> {
-        self.counts.lookups.add(1);
+        self.counts.add_lookups(1);
         Ok(self.view.get_to_room(key, room)?)
     }
 
@@ -118,7 +118,7 @@ impl Snapshot {
         keys: impl IntoIterator<Item = K>,
     ) -> Result<Vec<Option<Vec<u8>>>, Error> {
         let values = self.view.get_many(keys)?;
-        self.counts.lookups.add(values.len() as u64);
+        self.counts.add_lookups(values.len() as u64);
         Ok(values)
     }
 

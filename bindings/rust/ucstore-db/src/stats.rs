@@ -74,7 +74,7 @@ impl Stats {
             user_bytes: counts.user_bytes.get(),
             logged_bytes: counts.logged_bytes.get(),
             base_bytes: counts.base_bytes.get(),
-            lookups: counts.lookups.get(),
+            lookups: counts.lookups(),
             syncs: counts.syncs.get(),
             sync_p50,
             sync_p99,

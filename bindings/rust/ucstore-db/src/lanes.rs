@@ -1,0 +1,38 @@
+//! [`Lanes`]: a few of the same, so that threads seldom meet at one.
+
+use crate::padded::Padded;
+use std::sync::atomic::{AtomicUsize, Ordering};
+
+/// How many there are.
+const LANES: usize = 16;
+
+/// The number of the next thread.
+static NEXT: AtomicUsize = AtomicUsize::new(0);
+
+thread_local! {
+    /// The number of a thread among those that came here.
+    static NUMBER: usize = NEXT.fetch_add(1, Ordering::Relaxed);
+}
+
+/// A few of the same, each on cache lines of its own. A thread has one of them, and shares it with few others.
+#[derive(Default)]
+pub(crate) struct Lanes<T> {
+    lanes: [Padded<T>; LANES],
+}
+
+impl<T> Lanes<T> {
+    /// That of the calling thread.
+    pub(crate) fn own(&self) -> &T {
+        &self.lanes[own_place()].0
+    }
+
+    /// All of them.
+    pub(crate) fn iter(&self) -> impl Iterator<Item = &T> {
+        self.lanes.iter().map(|lane| &lane.0)
+    }
+}
+
+/// The place of the calling thread's own.
+fn own_place() -> usize {
+    NUMBER.with(|number| number % LANES)
+}

@@ -1,0 +1,7 @@
+//! [`Padded`]: a thing on cache lines of its own.
+
+/// A thing on cache lines of its own, so that what threads do to it slows nothing beside it. Processors fetch two lines of 64 bytes
+/// together.
+#[derive(Default)]
+#[repr(align(128))]
+pub(crate) struct Padded<T>(pub(crate) T);
