@@ -2,7 +2,8 @@
 
 use crate::error::Error;
 use crate::lock;
-use std::sync::{Arc, Condvar, Mutex, PoisonError};
+use crate::patience::Patience;
+use std::sync::{Arc, Mutex, OnceLock};
 
 /// The bytes of a batch's sequence and count.
 const HEADER_SIZE: usize = 12;
@@ -25,8 +26,7 @@ pub(crate) struct Group {
 /// What becomes of a group, which its writers wait for.
 #[derive(Default)]
 pub(crate) struct Outcome {
-    told: Mutex<Option<Result<(), Error>>>,
-    changed: Condvar,
+    told: OnceLock<Result<(), Error>>,
 }
 
 /// What a writer does about its batch.
@@ -102,18 +102,14 @@ impl Group {
 
 impl Outcome {
     /// Waits until it is told.
-    pub(crate) fn wait(&self) -> Result<(), Error> {
-        let told = self
-            .changed
-            .wait_while(lock(&self.told), |told| told.is_none())
-            .unwrap_or_else(PoisonError::into_inner);
-        told.clone().expect("it was told")
+    pub(crate) fn wait(&self, patience: Patience) -> Result<(), Error> {
+        let told = patience.look(|| self.told.get());
+        told.unwrap_or_else(|| self.told.wait()).clone()
     }
 
     /// Tells those who wait.
     fn tell(&self, told: Result<(), Error>) {
-        *lock(&self.told) = Some(told);
-        self.changed.notify_all();
+        self.told.set(told).expect("it is told once");
     }
 }
 

@@ -63,6 +63,7 @@ mod newest;
 mod operator_file;
 mod options;
 mod padded;
+mod patience;
 mod reading;
 mod recovery;
 mod replay;
@@ -83,9 +84,18 @@ pub use stats::Stats;
 pub use ucstore;
 pub use ucstore::{Batch, Operator};
 
-use std::sync::{Mutex, MutexGuard, PoisonError};
+use std::sync::{Mutex, MutexGuard, PoisonError, TryLockError};
 
 /// Locks, also behind a thread that panicked: what is locked here is whole between two calls.
 fn lock<T>(mutex: &Mutex<T>) -> MutexGuard<'_, T> {
     mutex.lock().unwrap_or_else(PoisonError::into_inner)
+}
+
+/// Locks as [`lock`] does, unless another thread has locked it.
+fn try_lock<T>(mutex: &Mutex<T>) -> Option<MutexGuard<'_, T>> {
+    match mutex.try_lock() {
+        Ok(guard) => Some(guard),
+        Err(TryLockError::Poisoned(error)) => Some(error.into_inner()),
+        Err(TryLockError::WouldBlock) => None,
+    }
 }

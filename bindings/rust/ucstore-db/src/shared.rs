@@ -9,6 +9,7 @@ use crate::lock;
 use crate::log::Log;
 use crate::newest::Newest;
 use crate::options::{Options, Sync};
+use crate::patience::Patience;
 use crate::recovery::Recovery;
 use std::sync::atomic::{AtomicBool, AtomicU64, Ordering};
 use std::sync::{Arc, Condvar, Mutex, MutexGuard, OnceLock, PoisonError};
@@ -112,13 +113,14 @@ impl Shared {
 
     /// Writes a batch, with those of the writers that come meanwhile.
     pub(crate) fn write(&self, mut batch: Vec<u8>, is_synced: bool) -> Result<(), Error> {
+        let patience = Patience::of(self.options.sync);
         loop {
             batch = match self.groups.join(batch, is_synced) {
-                Role::Leads => return self.lead(),
-                Role::Follows(outcome) => return outcome.wait(),
+                Role::Leads => return self.lead(patience),
+                Role::Follows(outcome) => return outcome.wait(patience),
                 Role::Waits(outcome, batch) => {
                     // What becomes of others is theirs.
-                    let _ = outcome.wait();
+                    let _ = outcome.wait(patience);
                     batch
                 }
             }
@@ -126,8 +128,8 @@ impl Shared {
     }
 
     /// Writes the open group behind those before it.
-    fn lead(&self) -> Result<(), Error> {
-        let mut log = lock(&self.log);
+    fn lead(&self, patience: Patience) -> Result<(), Error> {
+        let mut log = patience.lock(&self.log);
         let group = self.groups.close();
         let told = self.take(&mut log, &group);
         drop(log);

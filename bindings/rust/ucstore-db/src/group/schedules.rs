@@ -119,7 +119,7 @@ impl<'a> State<'a> {
     fn is_able(&self, writer: usize) -> bool {
         match &self.places[writer] {
             Place::Leads => !self.is_log_held,
-            Place::Follows(outcome) | Place::Waits(outcome, _) => lock(&outcome.told).is_some(),
+            Place::Follows(outcome) | Place::Waits(outcome, _) => outcome.told.get().is_some(),
             Place::Told(_) => false,
             _ => true,
         }
@@ -144,9 +144,9 @@ impl<'a> State<'a> {
                 group.tell(&told);
                 Place::Told(told)
             }
-            Place::Follows(outcome) => Place::Told(outcome.wait()),
+            Place::Follows(outcome) => Place::Told(outcome.wait(Patience::None)),
             Place::Waits(outcome, batch) => {
-                let _ = outcome.wait();
+                let _ = outcome.wait(Patience::None);
                 Place::Comes(batch)
             }
             Place::Told(_) => unreachable!("it isn't able to"),
@@ -275,7 +275,7 @@ impl Outline {
             self.outcomes.push(at);
         }
         self.text += &format!(", {name} {number}");
-        self.add_told(lock(&outcome.told).as_ref());
+        self.add_told(outcome.told.get());
     }
 
     fn add_told(&mut self, told: Option<&Result<(), Error>>) {
