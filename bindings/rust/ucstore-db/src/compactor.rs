@@ -58,8 +58,7 @@ impl Shared {
         let store = lock(&self.store);
         let before = store.report().gathered;
         let ended = store.end_job(taken.job).expect("a job of this store");
-        // Readers let go of what is replaced.
-        self.newest.raise();
+        self.newest.change(&store);
         let report = store.report();
         self.runs.store(report.runs, Ordering::Relaxed);
         self.work.notify_all();
@@ -67,6 +66,7 @@ impl Shared {
         let is_done = ended.is_installed();
         // What it had is freed behind the store's lock.
         drop(ended);
+        self.newest.let_go();
         if report.gathered < before {
             self.subtract_gathered(taken.gathered);
             self.tell_flushed(taken.gathered, begun);

@@ -13,7 +13,7 @@ use std::fmt;
 use std::mem::MaybeUninit;
 use std::path::Path;
 use std::sync::Arc;
-use ucstore::Batch;
+use ucstore::{Batch, View};
 
 /// How many bytes a thread keeps for its next operation at most.
 const MOST_KEPT: usize = 64 << 10;
@@ -141,8 +141,8 @@ impl Db {
     ///
     /// [`Error::Store`] if memory is refused, as for each read.
     pub fn get(&self, key: impl AsRef<[u8]>) -> Result<Option<Vec<u8>>, Error> {
-        self.shared().counts.add_lookups(1);
-        Ok(self.shared().view()?.get(key)?)
+        let key = key.as_ref();
+        self.look_up(|view| view.get(key))
     }
 
     /// Puts the value under a key into a vector, instead of what that has, and tells whether there is one. The vector is empty
@@ -164,8 +164,8 @@ impl Db {
     ///
     /// Those of [`get`](Db::get).
     pub fn get_into(&self, key: impl AsRef<[u8]>, value: &mut Vec<u8>) -> Result<bool, Error> {
-        self.shared().counts.add_lookups(1);
-        Ok(self.shared().view()?.get_into(key, value)?)
+        let key = key.as_ref();
+        self.look_up(|view| view.get_into(key, value))
     }
 
     /// Copies the value under a key into a room, as much of it as there is room for. Returns the size of all of it, if there is
@@ -179,8 +179,8 @@ impl Db {
         key: impl AsRef<[u8]>,
         room: &mut [MaybeUninit<u8>],
     ) -> Result<Option<usize>, Error> {
-        self.shared().counts.add_lookups(1);
-        Ok(self.shared().view()?.get_to_room(key, room)?)
+        let key = key.as_ref();
+        self.look_up(|view| view.get_to_room(key, room))
     }
 
     /// For each key its value, if there is one, at one moment. The keys come in any order.
@@ -298,6 +298,16 @@ impl Db {
         Ok(Db {
             workers: Arc::new(workers),
         })
+    }
+
+    /// Looks a key up.
+    fn look_up<T>(
+        &self,
+        read: impl FnOnce(&View) -> Result<T, ucstore::Error>,
+    ) -> Result<T, Error> {
+        let shared = self.shared();
+        shared.counts.add_lookups(1);
+        shared.read(read)
     }
 
     /// Takes a batch of one operation.

@@ -26,6 +26,12 @@ impl<T> Lanes<T> {
         &self.lanes[own_place()].0
     }
 
+    /// That of the calling thread, and the next one.
+    pub(crate) fn own_and_next(&self) -> [&T; 2] {
+        let own = own_place();
+        [own, (own + 1) % LANES].map(|place| &self.lanes[place].0)
+    }
+
     /// All of them.
     pub(crate) fn iter(&self) -> impl Iterator<Item = &T> {
         self.lanes.iter().map(|lane| &lane.0)

@@ -27,10 +27,12 @@
 //!
 //! # Reads
 //!
-//! A read sees each write that was acknowledged before it began. It reads a view that all readers share. The first read
-//! behind a write renews it, which locks the store for the time of a share. A writer renews it before a flush: so no
+//! A read sees each write that was acknowledged before it began. A thread looks keys up in a view that no other thread uses
+//! meanwhile, and renews it behind a write. The writer has shown the next view by then, if the last one was used; else the
+//! first reader makes it, which locks the store for the time of a share. While nothing is written, threads look keys up without
+//! a lock in common. A writer shows what there is before a flush: so no
 //! read waits for a flush, a compaction or a checkpoint. Only behind 64 range deletions the store flushes by itself,
-//! and then the first read may wait.
+//! and then the first read may wait. Views are let go of when the runs change, so threads that read no more keep nothing.
 //!
 //! # What it tells
 //!
@@ -55,6 +57,7 @@ mod disk_folder;
 mod error;
 mod event;
 mod folder;
+mod front;
 mod group;
 mod lanes;
 mod log;
@@ -68,6 +71,7 @@ mod reading;
 mod recovery;
 mod replay;
 mod shared;
+mod shown;
 mod snapshot;
 mod stats;
 mod sync_times;

@@ -5,17 +5,21 @@ use crate::{lock, try_lock};
 use std::hint;
 use std::sync::{Mutex, MutexGuard};
 use std::thread;
+use std::time::{Duration, Instant};
 
-/// How often a thread looks at once, and how often it lets others use its processor before it looks again: for some twenty
-/// microseconds together, if none of these wants it.
+/// How often a thread looks without giving up its processor.
 const SPINS: u32 = 50;
-const YIELDS: u32 = 100;
+
+/// For how long it lets others use that before it looks again. Where one of them keeps it, that is once.
+const YIELDS: Duration = Duration::from_micros(50);
 
 /// How often a thread looks for what it waits for, before it sleeps. To sleep and be woken takes longer than most groups do.
 #[derive(Clone, Copy, PartialEq, Eq)]
 pub(crate) enum Patience {
     /// It sleeps at once: a device is waited for.
     None,
+    /// It looks for less than a microsecond, and keeps its processor: others wait for it.
+    Short,
     /// It looks as often as it pays.
     Long,
 }
@@ -31,19 +35,23 @@ impl Patience {
 
     /// Looks for something, and returns it if it is there before the thread would sleep.
     pub(crate) fn look<T>(self, mut find: impl FnMut() -> Option<T>) -> Option<T> {
-        let looks = match self {
-            Patience::None => 0,
-            Patience::Long => SPINS + YIELDS,
-        };
-        (0..looks).find_map(|look| {
+        let spins = if self == Patience::None { 0 } else { SPINS };
+        for _ in 0..spins {
             let found = find();
-            match found {
-                Some(_) => {}
-                None if look < SPINS => hint::spin_loop(),
-                None => thread::yield_now(),
+            if found.is_some() {
+                return found;
             }
-            found
-        })
+            hint::spin_loop();
+        }
+        let begun = (self == Patience::Long).then(Instant::now);
+        while begun.is_some_and(|begun| begun.elapsed() < YIELDS) {
+            thread::yield_now();
+            let found = find();
+            if found.is_some() {
+                return found;
+            }
+        }
+        None
     }
 
     /// Locks.
@@ -56,29 +64,25 @@ impl Patience {
 mod tests {
     use super::*;
 
-    /// How often it looks for what is there at some look.
-    fn looks(patience: Patience, found_at: u32) -> (u32, Option<u32>) {
+    /// How often it looks for what is there at some look, and whether it finds it.
+    fn looks(patience: Patience, found_at: u32) -> (u32, bool) {
         let mut looks = 0;
         let found = patience.look(|| {
             looks += 1;
-            (looks == found_at).then_some(looks)
+            (looks == found_at).then_some(())
         });
-        (looks, found)
-    }
-
-    #[test]
-    fn nobody_looks_for_what_a_device_is_waited_for() {
-        assert!(Patience::of(Sync::Always) == Patience::None);
-        assert!(Patience::of(Sync::Never) == Patience::Long);
-        assert!(Patience::of(Sync::EveryMs(5)) == Patience::Long);
+        (looks, found.is_some())
     }
 
     #[test]
     fn patience_ends() {
-        assert_eq!(looks(Patience::None, 1), (0, None));
-        assert_eq!(looks(Patience::Long, 1), (1, Some(1)));
-        assert_eq!(looks(Patience::Long, 120), (120, Some(120)));
-        assert_eq!(looks(Patience::Long, 0), (SPINS + YIELDS, None));
+        assert_eq!(looks(Patience::None, 1), (0, false));
+        assert_eq!(looks(Patience::Short, 1), (1, true));
+        assert_eq!(looks(Patience::Short, 0), (SPINS, false));
+        let begun = Instant::now();
+        let (least, is_found) = looks(Patience::Long, 0);
+        assert!(least >= SPINS && !is_found && begun.elapsed() >= YIELDS);
+        assert_eq!(looks(Patience::Long, SPINS), (SPINS, true));
     }
 
     #[test]
@@ -88,7 +92,7 @@ mod tests {
             thread::scope(|scope| {
                 let guard = lock(&mutex);
                 let waiting = scope.spawn(|| *patience.lock(&mutex));
-                thread::sleep(std::time::Duration::from_millis(20));
+                thread::sleep(Duration::from_millis(20));
                 assert!(!waiting.is_finished());
                 drop(guard);
                 assert_eq!(waiting.join().unwrap(), 1);

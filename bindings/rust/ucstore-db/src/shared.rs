@@ -94,7 +94,7 @@ impl Shared {
             options: options.clone(),
             checkpointing: Mutex::new(options.checkpoint_least),
             log: Mutex::new(log),
-            newest: Newest::of(&store)?,
+            newest: Newest::default(),
             gathered: AtomicU64::new(gathered),
             runs: AtomicU64::new(report.runs),
             store: Mutex::new(store),
@@ -185,11 +185,14 @@ impl Shared {
     fn commit(&self, log: &Option<Log>, bytes: u64) {
         let store = lock(&self.store);
         store.commit();
-        self.newest.raise();
+        self.newest.raise(&store);
         self.add_gathered(bytes);
         let report = store.report();
-        self.tell_runs(report.runs);
+        let is_flushed = self.tell_runs(report.runs);
         drop(store);
+        if is_flushed {
+            self.newest.let_go();
+        }
         self.ask_checkpoint(log, report.bytes);
     }
 
@@ -212,11 +215,13 @@ impl Shared {
             .fetch_update(Ordering::Relaxed, Ordering::Relaxed, left);
     }
 
-    /// Tells how many runs there are. Another number than before may give work.
-    fn tell_runs(&self, runs: u64) {
-        if self.runs.swap(runs, Ordering::Relaxed) != runs {
+    /// Tells how many runs there are, and returns whether that is another number than before, which may give work.
+    fn tell_runs(&self, runs: u64) -> bool {
+        let is_other = self.runs.swap(runs, Ordering::Relaxed) != runs;
+        if is_other {
             self.work.notify_all();
         }
+        is_other
     }
 
     /// Slows a write while there are many runs.
@@ -263,6 +268,14 @@ impl Shared {
         });
     }
 
+    /// Reads what has each write that was acknowledged before.
+    pub(crate) fn read<T>(
+        &self,
+        read: impl FnOnce(&View) -> Result<T, ucstore::Error>,
+    ) -> Result<T, Error> {
+        self.newest.read(&self.store, read)
+    }
+
     /// A view that has each write that was acknowledged before.
     pub(crate) fn view(&self) -> Result<View, Error> {
         self.newest.view(&self.store)
@@ -305,10 +318,10 @@ impl Shared {
         let (gathered, runs) = self.call(|store| {
             let gathered = store.report().gathered;
             store.flush()?;
-            // Readers let go of the memtables.
-            self.newest.raise();
+            self.newest.change(store);
             Ok((gathered, store.report().runs))
         })?;
+        self.newest.let_go();
         let bytes = self.gathered.swap(0, Ordering::Relaxed);
         self.tell_runs(runs);
         if gathered > 0 {

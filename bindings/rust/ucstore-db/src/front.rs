@@ -1,0 +1,49 @@
+//! [`Front`]: the view that is shown to readers, and the last ones before it.
+
+use crate::error::Error;
+use crate::shown::Shown;
+use std::collections::VecDeque;
+use std::mem;
+
+/// How many views before the shown one stay.
+const MOST_BEFORE: usize = 8;
+
+/// The view that is shown to readers, and the last ones before it.
+///
+/// These stay until their readers have renewed theirs, so that who shows a view frees it too. What a view holds is a writer's memory: a
+/// reader that frees it waits for the allocator, and the writer waits for the reader.
+#[derive(Default)]
+pub(crate) struct Front {
+    newest: Option<Shown>,
+    before: VecDeque<Shown>,
+}
+
+impl Front {
+    /// Shows a view. Returns one that stays no longer.
+    #[must_use = "it is freed behind the lock"]
+    pub(crate) fn show(&mut self, next: Shown) -> Option<Shown> {
+        self.before.extend(self.newest.replace(next));
+        let is_full = self.before.len() > MOST_BEFORE;
+        is_full.then(|| self.before.pop_front()).flatten()
+    }
+
+    /// The shown view, if it has so many groups.
+    pub(crate) fn share(&self, least: u64) -> Result<Option<Shown>, Error> {
+        let shown = self.newest.as_ref().filter(|shown| shown.taken >= least);
+        shown.map(Shown::again).transpose()
+    }
+
+    /// Takes out the views before the shown one, and that too if it has fewer groups.
+    pub(crate) fn take_old(&mut self, least: u64) -> VecDeque<Shown> {
+        let mut old = mem::take(&mut self.before);
+        old.extend(self.newest.take_if(|shown| shown.taken < least));
+        old
+    }
+
+    /// How many groups each view has.
+    #[cfg(test)]
+    pub(crate) fn taken(&self) -> impl Iterator<Item = u64> + '_ {
+        let all = self.before.iter().chain(&self.newest);
+        all.map(|shown| shown.taken)
+    }
+}
