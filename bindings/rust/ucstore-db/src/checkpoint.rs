@@ -79,8 +79,8 @@ impl Shared {
     }
 
     /// Asks for a checkpoint if the logs exceed the data by as much as the options say.
-    pub(crate) fn ask_checkpoint(&self, log: &Option<Log>, data: u64) {
-        let (Some(log), Some(thread)) = (log, self.checkpointer.get()) else {
+    pub(crate) fn ask_checkpoint(&self, log: &Log, data: u64) {
+        let Some(thread) = self.checkpointer.get() else {
             return;
         };
         if log.older + log.length >= self.long_log(self.options.checkpoint_least, data)

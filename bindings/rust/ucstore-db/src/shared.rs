@@ -28,8 +28,8 @@ const SLOW: Duration = Duration::from_millis(1);
 
 /// What the threads of a database share.
 ///
-/// Locks are taken in the order of these fields. Who writes holds `log` from before the batch is prepared until it is
-/// committed; the store is locked for each call alone, so that views and jobs are taken meanwhile.
+/// Locks are taken in the order of these fields, but for the last one of `newest`, which says so. Who writes holds `log` from before
+/// the batch is prepared until it is committed; the store is locked for each call alone, so that views and jobs are taken meanwhile.
 pub(crate) struct Shared {
     pub(crate) options: Options,
     /// Held by a checkpoint. It has the bytes of logs from which on the next one is due.
@@ -138,26 +138,43 @@ impl Shared {
         told
     }
 
-    /// Logs a group, and takes it.
+    /// Takes a group, behind its record in the log if there is one.
     fn take(&self, log: &mut Option<Log>, group: &Group) -> Result<(), Error> {
         self.check()?;
         self.slow_down();
         if self.gathered.load(Ordering::Relaxed) >= self.options.most_gathered() {
             self.flush_gathered()?;
         }
-        let length = log.as_ref().map_or(0, |log| log.length);
-        let record = self.call(|store| store.prepare_bytes(length, &group.batch))?;
-        if let Some(log) = log {
-            if let Err(error) = log.append(&record, group.is_synced) {
-                lock(&self.store).give_up();
-                return Err(self.fail(error));
-            }
+        let is_flushed = match log {
+            Some(log) => self.take_logged(log, group)?,
+            None => self.call(|store| {
+                store.write_bytes(&group.batch)?;
+                Ok(self.tell_taken(store, group))
+            })?,
+        };
+        if is_flushed {
+            self.newest.let_go();
         }
-        self.commit(log, group.memory());
         self.counts.groups.add(1);
         self.counts.batches.add(group.batches);
         self.counts.user_bytes.add(group.batch.len() as u64);
         Ok(())
+    }
+
+    /// Logs a group, and takes it. Views and jobs are taken while it is logged. Returns whether the store has flushed by itself.
+    fn take_logged(&self, log: &mut Log, group: &Group) -> Result<bool, Error> {
+        let record = self.call(|store| store.prepare_bytes(log.length, &group.batch))?;
+        if let Err(error) = log.append(&record, group.is_synced) {
+            lock(&self.store).give_up();
+            return Err(self.fail(error));
+        }
+        let store = lock(&self.store);
+        store.commit();
+        let is_flushed = self.tell_taken(&store, group);
+        let bytes = store.report().bytes;
+        drop(store);
+        self.ask_checkpoint(log, bytes);
+        Ok(is_flushed)
     }
 
     /// What a call of the store answers. If jobs have all runs that would be compacted for it, it waits until one has
@@ -181,19 +198,11 @@ impl Shared {
         }
     }
 
-    /// Commits what is prepared, of about so many bytes, and wakes whom it gives work.
-    fn commit(&self, log: &Option<Log>, bytes: u64) {
-        let store = lock(&self.store);
-        store.commit();
-        self.newest.raise(&store);
-        self.add_gathered(bytes);
-        let report = store.report();
-        let is_flushed = self.tell_runs(report.runs);
-        drop(store);
-        if is_flushed {
-            self.newest.let_go();
-        }
-        self.ask_checkpoint(log, report.bytes);
+    /// Tells that the store has taken a group, and returns whether it has flushed by itself.
+    fn tell_taken(&self, store: &Store, group: &Group) -> bool {
+        self.newest.raise(store);
+        self.add_gathered(group.memory());
+        self.tell_runs(store.report().runs)
     }
 
     /// Counts what was gathered. A full memtable gives work.
