@@ -256,6 +256,7 @@ mod tests {
         for round in 2..20 {
             assert_eq!(get(&shared), round - 1);
             put(&shared, round);
+            assert!(shared.newest.is_shown());
             // So no reader waits for the store.
             let store = lock(&shared.store);
             assert_eq!(get(&shared), round);

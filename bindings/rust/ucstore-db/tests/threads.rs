@@ -162,13 +162,15 @@ fn each_new_thread_sees_what_was_written() {
     assert_eq!(lookups, 200);
 }
 
-/// Reads a counter again and again. It has what was acknowledged before, and no less than it had.
-fn read_rising(db: &Db, acknowledged: &AtomicU64, last: u64) {
+/// Reads a counter again and again. It has what was acknowledged before, and what any thread has found before.
+fn read_rising(db: &Db, acknowledged: &AtomicU64, found: &AtomicU64, last: u64) {
     let mut seen = 0;
     while seen < last {
-        let least = acknowledged.load(Ordering::SeqCst).max(seen);
+        let least = acknowledged.load(Ordering::SeqCst);
+        let least = least.max(found.load(Ordering::SeqCst));
         seen = number(db.get("k").unwrap());
         assert!(least <= seen && seen <= last, "{seen} behind {least}");
+        found.fetch_max(seen, Ordering::SeqCst);
     }
 }
 
@@ -177,11 +179,11 @@ fn lookups_have_what_was_acknowledged_and_never_go_back() {
     let mut options = counters();
     options.store.write_buffer_size = 2000;
     let db = Db::in_memory(&options).unwrap();
-    let acknowledged = AtomicU64::new(0);
+    let [acknowledged, found] = [0, 0].map(AtomicU64::new);
     let last = 2 * writes();
     thread::scope(|scope| {
         for _ in 0..3 * THREADS {
-            scope.spawn(|| read_rising(&db, &acknowledged, last));
+            scope.spawn(|| read_rising(&db, &acknowledged, &found, last));
         }
         for _ in 0..2 {
             scope.spawn(|| {
