@@ -29,7 +29,7 @@ pub(crate) struct Newest {
     /// How many there were at the last change of the runs.
     changed: Padded<AtomicU64>,
     slots: Lanes<Mutex<Option<Shown>>>,
-    /// A view for scans, in which what no run has yet is sorted. It is locked while that is done.
+    /// A view for scans, in which what no run has yet is sorted.
     sorted: Mutex<Option<Shown>>,
     /// It is locked for no longer than a share takes.
     shown: Padded<Mutex<Front>>,
@@ -72,19 +72,22 @@ impl Newest {
         Ok(self.shown(self.taken(), store)?.view)
     }
 
-    /// A view as [`view`](Newest::view) gives it, in which what no run has yet is sorted. It is sorted once, while others look
-    /// keys up.
+    /// A view as [`view`](Newest::view) gives it, in which what no run has yet is sorted. Scans of it don't sort again. Who comes
+    /// while it is sorted does so too: to wait takes longer.
     pub(crate) fn sorted_view(&self, store: &Mutex<Store>) -> Result<View, Error> {
         let least = self.taken();
+        if let Some(shown) = lock(&self.sorted).as_ref().filter(|it| it.taken >= least) {
+            return Ok(shown.view.again()?);
+        }
+        let shown = self.shown(least, store)?;
+        sort(&shown.view)?;
+        let (taken, again) = (shown.taken, shown.again()?);
         let mut sorted = lock(&self.sorted);
-        let shown = renewed(&mut sorted, least, || {
-            let shown = self.shown(least, store)?;
-            sort(&shown.view)?;
-            Ok(shown)
-        })?
-        .again()?;
+        let is_newer = sorted.as_ref().is_none_or(|it| it.taken < taken);
+        let old = is_newer.then(|| sorted.replace(again));
         drop(sorted);
-        self.end_use(&self.sorted, shown.taken);
+        drop(old);
+        self.end_use(&self.sorted, taken);
         Ok(shown.view)
     }
 
