@@ -1,6 +1,7 @@
 //! [`Front`]: the view that is shown to readers, and the last ones before it.
 
 use crate::error::Error;
+use crate::lanes::own_place;
 use crate::shown::Shown;
 use std::collections::VecDeque;
 use std::mem;
@@ -10,12 +11,14 @@ const MOST_BEFORE: usize = 8;
 
 /// The view that is shown to readers, and the last ones before it.
 ///
-/// These stay until their readers have renewed theirs, so that who shows a view frees it too. What a view holds is a writer's memory: a
-/// reader that frees it waits for the allocator, and the writer waits for the reader.
+/// While one thread alone writes, these stay until their readers have renewed theirs, so that it frees them too. What a view holds is
+/// the writer's memory: a reader that frees it waits for the allocator, and the writer waits for the reader.
 #[derive(Default)]
 pub(crate) struct Front {
     newest: Option<Shown>,
     before: VecDeque<Shown>,
+    /// The place of the thread that wrote last.
+    writer: usize,
 }
 
 impl Front {
@@ -25,6 +28,20 @@ impl Front {
         self.before.extend(self.newest.replace(next));
         let is_full = self.before.len() > MOST_BEFORE;
         is_full.then(|| self.before.pop_front()).flatten()
+    }
+
+    /// Shows a view behind a write. Returns those that stay no longer: all, if another thread wrote last.
+    #[must_use = "they are freed behind the lock"]
+    pub(crate) fn show_written(&mut self, next: Shown) -> (VecDeque<Shown>, Option<Shown>) {
+        let place = own_place();
+        let is_same = mem::replace(&mut self.writer, place) == place;
+        let old = self.show(next);
+        let others = if is_same {
+            VecDeque::new()
+        } else {
+            mem::take(&mut self.before)
+        };
+        (others, old)
     }
 
     /// The shown view, if it has so many groups.

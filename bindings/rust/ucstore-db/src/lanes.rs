@@ -39,6 +39,6 @@ impl<T> Lanes<T> {
 }
 
 /// The place of the calling thread's own.
-fn own_place() -> usize {
+pub(crate) fn own_place() -> usize {
     NUMBER.with(|number| number % LANES)
 }

@@ -169,7 +169,7 @@ impl Newest {
         let shown = view.and_then(|view| Some((view, shown()?)));
         let taken = 1 + self.taken.0.fetch_add(1, Ordering::Release);
         if let Some((view, mut shown)) = shown {
-            let old = shown.show(Shown { view, taken });
+            let old = shown.show_written(Shown { view, taken });
             drop(shown);
             drop(old);
         }
@@ -185,6 +185,7 @@ pub(crate) fn sort(view: &View) -> Result<(), Error> {
 #[cfg(test)]
 mod tests {
     use super::*;
+    use crate::lanes::own_place;
     use crate::options::Options;
     use crate::shared::Shared;
     use std::sync::atomic::AtomicBool;
@@ -270,6 +271,28 @@ mod tests {
         assert!(!shared.newest.is_shown());
         // As many stay as there are slots and views before the shown one.
         assert!(shared.newest.held().len() <= 10);
+    }
+
+    #[test]
+    fn a_few_views_stay_while_one_thread_writes() {
+        let shared = in_memory();
+        let shown = || lock(&shared.newest.shown.0).taken().count();
+        for round in 0..40 {
+            put(&shared, round);
+            get(&shared);
+        }
+        assert_eq!(shown(), 9);
+        // A thread whose place is another one writes.
+        let own = own_place();
+        let write = || {
+            let is_other = own_place() != own;
+            if is_other {
+                put(&shared, 40);
+            }
+            is_other
+        };
+        while !thread::scope(|scope| scope.spawn(write).join().unwrap()) {}
+        assert_eq!(shown(), 1);
     }
 
     #[test]
