@@ -17,6 +17,7 @@ use ucstore::{Store, View};
 /// A thread looks keys up in the view of a slot, which is locked for it alone, and renews that from the shown one. The writer of the
 /// next group shows the next one if this one was used. Else the first reader behind it does.
 ///
+/// There are 26 views at most: those of 16 slots, one for scans, the shown one, and eight before it.
 /// A view holds the memtables and runs that the store had. Who changes the runs lets go of all views before that, whether anyone
 /// reads or not. So for long these hold only the runs that the store has, and of what is gathered copies that it has put together
 /// since. What was replaced they hold for as long as a lookup or a sort takes that began before.
