@@ -313,7 +313,7 @@ keep_all() {
     goal report '60 MiB' 'plain Rust' s 'at most' 1.5
     goal report '60 MiB' BTreeMap s 'at most' 0.25
     goal report '60 MiB' RocksDB s 'at most' 0.15
-    goal report '60 MiB' RocksDB MiB 'at most' 1.3
+    goal report '60 MiB' RocksDB MiB 'at most' 0.8
     goal 'report, words' '60 MiB' BTreeMap s 'at most' 0.25
     goal 'report, words' '60 MiB' RocksDB s 'at most' 0.25
     goal 'report, long' '60 MiB' BTreeMap s 'at most' 0.25
