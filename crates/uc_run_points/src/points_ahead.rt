@@ -119,15 +119,4 @@ impl<'a> PointsAhead<'a> {
         }
         most
     }
-
-    /// How many of the next points pass a test, before one that doesn't.
-    pub fn count_passing<T: PointTest>(self, test: &T) -> usize
-        ensures bound { result ≤ length self.entry }
-        ensures before { AllWithin (λ p. T.passing test.now p ≡ true) self.entry 0 result }
-        ensures there { result < length self.entry → HoldsAt (λ p. T.passing test.now p ≡ false) self.entry result }
-    {
-        let mut ahead = self;
-        let many = ahead.len();
-        ahead.pass_while(many, test)
-    }
 }
