@@ -16,9 +16,10 @@ A script keeps its figures by results.sh, which runs this file at its end. bench
 - `goal` bounds the ratio, or our figure if it has "of": "ours". It is null if there is none, and `met` then too.
 - A value or a ratio is a number, a list of the numbers of several runs, or null if it wasn't recorded.
 - A row has its own `date` and `machine` if they differ from the file's, and a `note` if a reader needs one.
-- A file has `libraries` and `options` if RocksDB was measured.
+- A file has `libraries` and `options` if other databases were measured.
 
-A run replaces the works that it measures. The file's other works stay, with the date and the machine that they had.
+A run replaces the works that it measures. The file's other works stay, with the date and the machine that they had. If a script
+measures parts of the cases alone (`part` of results.sh), rows of the same works with other parts stay too.
 """
 
 import datetime
@@ -132,12 +133,19 @@ def processor():
     return None
 
 
+def is_measured(row, kept, parts):
+    """Whether a run has figures of its own for a row: for its case, or for its work and the part that its case begins with."""
+    if (row["work"], row["case"]) in {(line[0], line[1]) for line in kept}:
+        return True
+    is_in_part = not parts or [row["case"].split(", ")[0]] in parts
+    return is_in_part and row["work"] in {line[0] for line in kept}
+
+
 def write(benchmark, folder, file, libraries="", options=""):
-    """Writes what a script kept in its folder. Works that it didn't measure stay as they are in the file."""
-    file, kept = Path(file), lines_of(Path(folder) / "kept")
+    """Writes what a script kept in its folder. What it didn't measure stays as it is in the file."""
+    file, kept, parts = Path(file), lines_of(Path(folder) / "kept"), lines_of(Path(folder) / "parts")
     if not kept:
         sys.exit("results.py: there are no figures")
-    measured = {line[0] for line in kept}
     old = read(file) if file.exists() and file.stat().st_size else {"rows": []}
     results = {"benchmark": benchmark, "date": datetime.date.today().isoformat()}
     results["machine"] = {"name": processor(), "processors": os.cpu_count()}
@@ -146,7 +154,7 @@ def write(benchmark, folder, file, libraries="", options=""):
     elif "libraries" in old:
         results.update(libraries=old["libraries"], options=old["options"])
     results["rows"] = rows_of(kept, lines_of(Path(folder) / "goals"))
-    results["rows"] += [row for row in old["rows"] if row["work"] not in measured]
+    results["rows"] += [row for row in old["rows"] if not is_measured(row, kept, parts)]
     file.write_text(text_of(results))
 
 

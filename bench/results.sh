@@ -6,6 +6,11 @@ keep() { # WORK CASE PROGRAM UNIT VALUE
     printf '%s\t%s\t%s\t%s\t%s\n' "$@" >> "$folder/kept"
 }
 
+# Says that this run measures a part of its works' cases: those that are PART, or begin with it and a comma. The rows of others stay.
+part() { # PART
+    printf '%s\n' "$1" >> "$folder/parts"
+}
+
 # Keeps times and memory.
 keep_ms() { # WORK CASE PROGRAM NANOSECONDS
     keep "$1" "$2" "$3" ms "$(awk -v time="$4" 'BEGIN { printf "%.3f", time / 1e6 }')"

@@ -5,10 +5,12 @@
 #
 # SEED (1) is that of what is drawn. 50,000 writes (WRITES) go to shards by hash, and as many to shards by split points, each beside
 # one store. Thirty workers (KILLS) are killed meanwhile by signal 9, between batches and within them. So are writers, the scheduler,
-# and a worker of examples/sharded.py.
+# and a worker of examples/sharded.py. Readers in other processes and in tasks read meanwhile (test_readers.py). Workers are stopped for
+# five seconds and continued, a disk is full, a folder may only be read, a byte of each file is damaged (test_faults.py). The full disk
+# needs a user who may mount one.
 #
 # It needs a python3 with distributed (Debian's python3-distributed): PYTHON may name one. UCSTORE_LIBRARY may name the shared object;
-# else ./install at the top puts it into a temporary folder. It takes two minutes.
+# else ./install at the top puts it into a temporary folder. It takes four minutes.
 set -euo pipefail
 here=$(cd "$(dirname "${BASH_SOURCE[0]}")" && pwd)
 work=$(mktemp -d)
@@ -44,7 +46,9 @@ fi
 export PYTHONPATH=$here/python PYTHONDONTWRITEBYTECODE=1 TMPDIR=$work
 cd "$work"
 run "$here/python/tests_sharded/test_shard.py" --quiet
-run "$here/python/tests_sharded/test_cluster.py" --quiet 2> "$work/said" || { cat "$work/said" >&2; fail "seed $SEED"; }
+for name in cluster readers faults; do
+    run "$here/python/tests_sharded/test_$name.py" --quiet 2> "$work/said" || { cat "$work/said" >&2; fail "seed $SEED"; }
+done
 printf 'a b a\nc a b\n%.0s' {1..3000} | run "$here/../examples/sharded.py" > "$work/counts" 2> "$work/said" ||
     { cat "$work/said" >&2; fail "the example fails"; }
 printf 'a 9000\nb 6000\nc 3000\n' | diff - "$work/counts" >&2 || fail "the example counts wrongly"

@@ -85,12 +85,13 @@ for part; do
         *) fail "there is no part $part" ;;
     esac
 done
-build_all
+build_all "$@"
 say_machine
 rocksdb_options="universal compaction (trigger 4), memtables of 4 MiB, its log, no compression, a cache of blocks of 8 GiB, a \
 filter of 10 bits a key, max_background_jobs 3"
+say_stores
 echo
 print_head
 for part; do "$part"; done
 say_machine
-write_results_beside db
+write_stores db

@@ -1,6 +1,6 @@
 #!/bin/bash
 # Runs the works of RocksDB's db_bench over the database of bindings/rust/ucstore-db, in memory and in a folder, and over RocksDB,
-# LevelDB, LMDB and SQLite.
+# LevelDB, LMDB and SQLite, and over Redis in memory.
 #
 #     bench/db_bench/run.sh [CASE..]
 #
@@ -62,10 +62,11 @@ set_goals() {
 }
 
 if [ $# -eq 0 ]; then set -- memory files; fi
-build_all
+build_all "$@"
 say_machine
 rocksdb_options="universal compaction (trigger 4), memtables of 4 MiB, no compression, a cache of blocks of 8 GiB, a filter of 10 bits a \
 key, max_background_jobs 3; in memory its memory environment without a log"
+say_stores
 echo
 set_goals
 print_head
@@ -76,4 +77,4 @@ for part; do
     esac
 done
 say_machine
-write_results_beside db_bench
+write_stores db_bench

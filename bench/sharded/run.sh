@@ -53,7 +53,7 @@ find_python() {
 find_library() {
     if [ -z "${OURS:-}" ]; then
         PREFIX="$folder/usr" "$here/../../install" > "$folder/installed" || exit 1
-        OURS=$folder/usr/lib/libucstore.so.1
+        OURS=$folder/usr/lib/libucstore.so.2
     fi
     UCSTORE_LIBRARY=$(realpath -e "$OURS") || exit 2
     export UCSTORE_LIBRARY PYTHONPATH=$here/../../bindings/python PYTHONDONTWRITEBYTECODE=1

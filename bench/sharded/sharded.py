@@ -3,7 +3,7 @@
     sharded.py FOLDER SIZE BATCHES [ADDRESS]
 
 BATCHES batches of SIZE writes go to a store in FOLDER that is empty at first: to as many shards as the scheduler at ADDRESS has
-workers, or to one store that appends to a log too. Behind them a snapshot is taken, at which as many batches of SIZE keys are looked
+workers, one being placed while another is written, or to one store that appends to a log too. Behind them a snapshot is taken, at which as many batches of SIZE keys are looked
 up. It prints the nanoseconds of all writes and of all lookups, and a checksum of the answers.
 """
 
@@ -12,6 +12,7 @@ import random
 import sys
 import time
 import zlib
+from concurrent.futures import Future
 from pathlib import Path
 from typing import Callable, List, Optional
 
@@ -54,6 +55,9 @@ class Single:
         self.length += len(record)
         self.store.commit()
 
+    def finish(self) -> None:
+        """Waits until all batches are written, as they are."""
+
     def reader(self) -> Callable[[List[bytes]], List[Optional[bytes]]]:
         """What answers a batch of keys at a snapshot."""
         at = self.store.take_snapshot()
@@ -67,7 +71,16 @@ class Sharded:
         self.client = Client(address, direct_to_workers=True)
         shards = len(self.client.scheduler_info()["workers"])
         self.store = ShardedStore.create(self.client, folder / "shards", shards, Operator.COUNTER)
-        self.write = self.store.write
+        self.written: List[Future] = []
+
+    def write(self, operations: List[Operation]) -> None:
+        """Begins to write a batch, once at most one other is under way."""
+        self.written.append(self.store.submit(operations))
+
+    def finish(self) -> None:
+        """Waits until all batches are written."""
+        for written in self.written:
+            written.result()
 
     def reader(self) -> Callable[[List[bytes]], List[Optional[bytes]]]:
         """What answers a batch of keys at a snapshot."""
@@ -83,6 +96,7 @@ def main(folder: Path, size: int, count: int, address: Optional[str]) -> None:
     begun = time.perf_counter_ns()
     for batch in batches:
         store.write(batch)
+    store.finish()
     written = time.perf_counter_ns()
     reader = store.reader()
     answers = [reader(keys) for keys in asked]

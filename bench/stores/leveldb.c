@@ -4,7 +4,7 @@
 #include <leveldb/c.h>
 #include <pthread.h>
 
-const bool has_memory = false, has_merges = false;
+const bool has_memory = false, has_merges = false, has_scans = true;
 
 static leveldb_t *db;
 static leveldb_options_t *options;

@@ -5,7 +5,7 @@
 #include <lmdb.h>
 #include <string.h>
 
-const bool has_memory = false, has_merges = false;
+const bool has_memory = false, has_merges = false, has_scans = true;
 
 static MDB_env *env;
 static MDB_dbi table;

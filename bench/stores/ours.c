@@ -3,7 +3,7 @@
 
 #include <ucstore_db.h>
 
-const bool has_memory = true, has_merges = true;
+const bool has_memory = true, has_merges = true, has_scans = true;
 
 static struct ucstore_db *db;
 

@@ -5,7 +5,7 @@
 #include <string.h>
 #include <unistd.h>
 
-const bool has_memory = true, has_merges = true;
+const bool has_memory = true, has_merges = true, has_scans = true;
 
 static rocksdb_t *db;
 static rocksdb_env_t *env;

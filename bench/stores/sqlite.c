@@ -3,7 +3,7 @@
 
 #include <sqlite3.h>
 
-const bool has_memory = false, has_merges = true;
+const bool has_memory = false, has_merges = true, has_scans = true;
 
 static const struct settings *opened;
 static char path[4096];

@@ -1,4 +1,4 @@
-/* What a database does for workload.c: ucstore_db.c, rocksdb.c, leveldb.c, lmdb.c and sqlite.c have these functions. A
+/* What a database does for workload.c: ours.c, rocksdb.c, leveldb.c, lmdb.c, sqlite.c and redis.c have these functions. A
  * program has one database, which threads share, and ends itself where a call fails. */
 #ifndef BENCH_STORES_STORE_H
 #define BENCH_STORES_STORE_H
@@ -23,7 +23,7 @@ struct settings {
 };
 
 /* What a database can't do. */
-extern const bool has_memory, has_merges;
+extern const bool has_memory, has_merges, has_scans;
 
 void open_store(const struct settings *settings);
 

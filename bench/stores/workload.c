@@ -13,13 +13,18 @@
  * - checkpoint: sets drawn keys beside a thread that makes checkpoints; open: closes, and opens again.
  *
  * A line has the work, its threads, its operations, the nanoseconds of all, and of one operation the nanoseconds of the
- * median, the 99th and the 99.9th percent and the longest; then the KiB of memory that the process has.
+ * median, the 99th and the 99.9th percent and the longest; then the KiB of memory that the process has, and with it the server
+ * whose id STORE_SERVER names, if it does.
+ *
+ * Two words aren't works, and have no line: `settle` waits until nothing is left to be compacted, and `check` checks that a database
+ * without rows gives back what is written. A database whose keys have no order leaves out the works that scan.
  *
  * A value begins with the number of its key. So each value that is read is checked. */
 #define _POSIX_C_SOURCE 200809L
 
 #include "../views/times.h"
-#include "store.h"
+#include "check.h"
+#include "keys.h"
 #include "zipf.h"
 
 #include <inttypes.h>
@@ -27,7 +32,7 @@
 #include <stdatomic.h>
 #include <string.h>
 
-enum { KEY = 16, MOST_THREADS = 64, TOGETHER = 32, VALUES = 1 << 20, MOST_VALUE = 1 << 16 };
+enum { MOST_THREADS = 64, TOGETHER = 32, VALUES = 1 << 20, MOST_VALUE = 1 << 16 };
 
 static struct settings settings;
 static uint64_t keys, seed;
@@ -62,15 +67,6 @@ static uint64_t drawn(uint64_t place) {
     mixed = (mixed ^ mixed >> 30) * UINT64_C(0xbf58476d1ce4e5b9);
     mixed = (mixed ^ mixed >> 27) * UINT64_C(0x94d049bb133111eb);
     return mixed ^ mixed >> 31;
-}
-
-/* The key of a number: a letter and fifteen digits. */
-static struct text key_in(uint8_t *room, char letter, uint64_t number) {
-    room[0] = (uint8_t)letter;
-    for (size_t place = KEY; place-- > 1; number /= 10) {
-        room[place] = (uint8_t)('0' + number % 10);
-    }
-    return (struct text){room, KEY};
 }
 
 /* A drawn value that begins with a number. */
@@ -290,13 +286,22 @@ static void join(struct worker *worker) {
     expect(pthread_join(worker->thread, NULL) == 0, "a thread isn't joined");
 }
 
-/* The KiB of memory that the process has. */
-static uint64_t memory(void) {
+/* The KiB of memory that a process has. */
+static uint64_t memory_of(const char *process) {
+    char path[64];
     uint64_t pages = 0;
-    FILE *file = fopen("/proc/self/statm", "r");
-    expect(file != NULL && fscanf(file, "%*s %" SCNu64, &pages) == 1, "there is no /proc/self/statm");
+    FILE *file;
+    snprintf(path, sizeof path, "/proc/%s/statm", process);
+    file = fopen(path, "r");
+    expect(file != NULL && fscanf(file, "%*s %" SCNu64, &pages) == 1, "there is no /proc/PROCESS/statm");
     fclose(file);
     return pages * 4;
+}
+
+/* The KiB of memory of this process, and of the server that has the rows, if there is one. */
+static uint64_t memory(void) {
+    const char *server = getenv("STORE_SERVER");
+    return memory_of("self") + (server == NULL ? 0 : memory_of(server));
 }
 
 static struct worker workers[MOST_THREADS + 1];
@@ -354,15 +359,17 @@ static const struct work *work_of(const char *name, size_t length) {
     return NULL;
 }
 
-/* A word is a work, or `settle`. */
-static void run_word(const char *word, size_t threads) {
+/* Whether a work scans. */
+static bool is_scan(const struct work *work) {
+    return work->run == read_all || work->run == seek_drawn || work->run == ycsb_e;
+}
+
+/* Runs a work, whose name a word begins with. */
+static void run_work(const char *word, size_t threads) {
     size_t length = strcspn(word, ":");
     const char *rest = word + length;
+    const struct work *work = work_of(word, length);
     uint64_t operations = keys;
-    if (strcmp(word, "settle") == 0) {
-        settle();
-        return;
-    }
     if (*rest == ':') {
         operations = number(rest + 1);
         rest += 1 + strcspn(rest + 1, ":");
@@ -371,7 +378,19 @@ static void run_word(const char *word, size_t threads) {
         threads = number(rest + 1);
     }
     expect(threads <= MOST_THREADS, "there are too many threads");
-    measure(work_of(word, length), threads, operations);
+    if (has_scans || !is_scan(work)) {
+        measure(work, threads, operations);
+    }
+}
+
+static void run_word(const char *word, size_t threads) {
+    if (strcmp(word, "settle") == 0) {
+        settle();
+    } else if (strcmp(word, "check") == 0) {
+        check_store(&settings);
+    } else {
+        run_work(word, threads);
+    }
 }
 
 int main(int count, char **words) {

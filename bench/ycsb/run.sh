@@ -1,13 +1,14 @@
 #!/bin/bash
 # Runs YCSB's workloads over the database of bindings/rust/ucstore-db, in memory and in a folder, and over RocksDB, LevelDB, LMDB
-# and SQLite.
+# and SQLite, and over Redis in memory.
 #
 #     bench/ycsb/run.sh [CASE..]
 #
 # A case is `memory` or `files`, or both where none is named. ../stores/stores.sh says what is built, and how often each row is run.
-# RECORDS (1000000) records of VALUE (100) bytes are loaded. Then 1, 4 and 8 threads do OPERATIONS (1000000) of workloads a to f: a
-# half updates, b 1 in 20, c none, d reads what is new, e scans 1 to 100 rows, f reads and writes back. Keys are drawn by YCSB's power law,
-# and evenly in the rows a-even, b-even and c-even.
+# RECORDS (1000000) records of VALUE (100) bytes are loaded. A case's name has the bytes, and the records unless they are a million,
+# so that a file of results holds several. Then 1, 4 and 8 threads do OPERATIONS (1000000) of workloads a to f: a half updates, b 1 in
+# 20, c none, d reads what is new, e scans 1 to 100 rows, f reads and writes back. Keys are drawn by YCSB's power law, and evenly in
+# the rows a-even, b-even and c-even.
 #
 # RESULTS names a file for the figures as JSON.
 set -u -o pipefail
@@ -26,6 +27,11 @@ fail() {
 }
 
 . "$here/../stores/stores.sh"
+
+# What a case is called.
+case_of() { # FOLDER|memory
+    if [ "$records" -eq 1000000 ]; then echo "$1-$value-bytes"; else echo "$1-$value-bytes-$records"; fi
+}
 
 # All workloads of a case. Those that insert come last.
 measure() { # CASE FOLDER|memory
@@ -52,18 +58,19 @@ set_goals() {
 }
 
 if [ $# -eq 0 ]; then set -- memory files; fi
-build_all
+build_all "$@"
 say_machine
 rocksdb_options="universal compaction (trigger 4), memtables of 4 MiB, no compression, a cache of blocks of 8 GiB, a filter of 10 bits a \
 key, max_background_jobs 3; in memory its memory environment without a log"
+say_stores
 echo
 set_goals
 print_head
 for part; do
     case $part in
-        memory | files) measure "$part-$value-bytes" "$part" ;;
+        memory | files) measure "$(case_of "$part")" "$part" ;;
         *) fail "there is no case $part" ;;
     esac
 done
 say_machine
-write_results_beside ycsb
+write_stores ycsb

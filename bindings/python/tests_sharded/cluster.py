@@ -80,9 +80,9 @@ class Cluster:
             self._kill(self.workers.popitem()[1])
 
     @contextmanager
-    def stopped_workers(self) -> Iterator[None]:
-        """Stops all workers for a while: their processes are there, and do nothing."""
-        processes = list(self.workers.values())
+    def stopped_workers(self, count: Optional[int] = None) -> Iterator[None]:
+        """Stops so many workers, or all, for a while: their processes are there, and do nothing."""
+        processes = self.random.sample(list(self.workers.values()), count or len(self.workers))
         for process in processes:
             process.send_signal(signal.SIGSTOP)
         try:

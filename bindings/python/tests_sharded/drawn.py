@@ -1,7 +1,7 @@
 """Drawn operations, and a sharded store beside one store that is fed the same."""
 
 import random
-from typing import Dict, Iterable, List, Optional, Tuple
+from typing import Dict, Iterable, List, Tuple
 
 from ucstore import Delete, DeleteRange, Merge, Operation, Operator, Options, Put, Store
 from ucstore.sharded import Scan, ShardedSnapshot, ShardedStore

@@ -299,7 +299,7 @@ class Refused(OnCluster):
         for changes, wrong in (
             ({"shards": 5}, "shard-4.log isn't there"),
             ({"shards": 3}, None),
-            ({"format": 4}, "its format is 4"),
+            ({"format": 5}, "its format is 5"),
             ({"placement": "sha1"}, "neither by crc32 nor by split points"),
         ):
             path.write_bytes(sealed({**shape, **changes}))

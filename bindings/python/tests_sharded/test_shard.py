@@ -3,6 +3,7 @@
 import errno
 import importlib.metadata
 import json
+import marshal
 import os
 import random
 import resource
@@ -12,6 +13,8 @@ import struct
 import subprocess
 import sys
 import tempfile
+import threading
+import time
 import unittest
 import uuid
 from contextlib import contextmanager, suppress
@@ -19,10 +22,10 @@ from pathlib import Path
 from unittest import mock
 
 import drawn
-from ucstore import Delete, DeleteRange, Merge, Operator, Options, Put, Store, batch_bytes
+from ucstore import Delete, DeleteRange, Merge, NotProtected, Operator, Options, Put, Store, _shard_log, batch_bytes
 from ucstore._shard import (
-    AnotherWriter, BadManifest, Claim, LogDamaged, Manifest, Refusal, Sequencer, Shard, ShardedError, Writer, batch_of, dumps,
-    last_numbers, packed, sealed, unsealed,
+    AnotherWriter, BadManifest, Claim, LogDamaged, Manifest, Refusal, Sequencer, Shard, ShardedError, Writer, acknowledged,
+    batch_of, dumps, last_numbers, packed, sealed, unsealed,
 )
 from ucstore.sharded import Scan
 
@@ -82,12 +85,12 @@ class Folder(unittest.TestCase):
 
 class Manifests(Folder):
     def shape(self, **changes):
-        shape = {"format": 3, "shards": 3, "placement": "crc32", "operator": "TAIL", "options": Options()._asdict()}
+        shape = {"format": 4, "shards": 3, "placement": "crc32", "operator": "TAIL", "options": Options()._asdict()}
         return {**shape, **changes}
 
     def test_each_wrong_shape_is_named(self):
         for wrong, changes in (
-            ("its format is 4, and only 3 is known", {"format": 4}),
+            ("its format is 5, and only 4 is known", {"format": 5}),
             ("0 isn't a number of shards", {"shards": 0}),
             ("'3' isn't a number of shards", {"shards": "3"}),
             ("there is no operator 'SUM'", {"operator": "SUM"}),
@@ -136,6 +139,18 @@ class Manifests(Folder):
             with self.assertRaisesRegex(BadManifest, "manifest.json is refused"):
                 Manifest.read(self.folder)
 
+    def test_a_manifest_of_an_older_format_is_written_anew(self):
+        manifest = Manifest(3, None, Operator.TAIL, Options())
+        make(manifest, self.folder)
+        path = self.folder / "manifest.json"
+        new = path.read_bytes()
+        path.write_bytes(sealed(self.shape(format=3)))
+        self.assertEqual(Manifest.read(self.folder), manifest)
+        manifest.renew(self.folder)
+        self.assertEqual(path.read_bytes(), new)
+        with mock.patch("os.replace", side_effect=OSError):
+            manifest.renew(self.folder)
+
     def test_each_flipped_bit_is_refused(self):
         make(Manifest(3, (b"key-3", b"key-6"), Operator.APPEND, Options()), self.folder)
         path = self.folder / "manifest.json"
@@ -150,8 +165,8 @@ class Manifests(Folder):
         make(Manifest(3, None, Operator.TAIL, Options()), self.folder)
         path, shape = self.folder / "manifest.json", self.shape()
         for text, wrong in (
-            (json.dumps({**shape, "format": 1}), "its format is 1, and only 3 is known"),
-            (sealed({**shape, "format": 4}).decode(), "its format is 4, and only 3 is known"),
+            (json.dumps({**shape, "format": 1}), "its format is 1, and only 4 is known"),
+            (sealed({**shape, "format": 5}).decode(), "its format is 5, and only 4 is known"),
             (json.dumps(shape), "it doesn't have its checksum"),
             (sealed(shape).decode().replace('"shards": 3', '"shards": 2'), "it doesn't have its checksum"),
             ("[]", "it isn't an object"),
@@ -299,6 +314,52 @@ class Sequencers(Folder):
             self.assertEqual((sequencer.last, sequencer.lengths), before)
             sequencer.close()
 
+    def test_a_long_log_is_begun_anew(self):
+        sequencer = self.opened()
+        with mock.patch("ucstore._shard.MOST_RECORDS", 280):
+            for last in range(1, 100):
+                sequencer.append(last, {last % 2: 10 * last})
+                self.assertLessEqual(self.path.stat().st_size, 280 + 28)
+                self.assertEqual(list(last_numbers(self.path, 3)), [last, *sequencer.lengths])
+            self.epoch = new_epoch(self.folder)
+            new = self.opened()
+            # A writer that was thought dead begins no file over the newer one's.
+            for last in range(100, 120):
+                with self.assertRaises((AnotherWriter, ValueError)):
+                    sequencer.append(last, {})
+        self.assertEqual((new.last, new.lengths), (99, [980, 990]))
+        self.assertEqual(list(last_numbers(self.path, 3)), [99, 980, 990])
+
+    def test_readers_see_the_last_record_that_is_whole(self):
+        sequencer = self.opened()
+        self.assertEqual(list(acknowledged(self.folder, 3)), [0, 0, 0])
+        sequencer.append(5, {1: 70})
+        sequencer.append(9, {0: 40})
+        text = self.path.read_bytes()
+        for cut in range(28 + 1):
+            self.path.write_bytes(text[:len(text) - cut])
+            self.assertEqual(list(acknowledged(self.folder, 3)), [5, 0, 70] if cut else [9, 40, 70])
+        self.path.write_bytes(text[:-1] + bytes([text[-1] ^ 1]))
+        self.assertEqual(list(acknowledged(self.folder, 3)), [5, 0, 70])
+        for damaged in (b"", bytes(27), b"\1" * 28, b"\1" * 56):
+            self.path.write_bytes(damaged)
+            with self.assertRaisesRegex(LogDamaged, "sequencer.log is damaged at its end"):
+                acknowledged(self.folder, 3)
+
+    def test_readers_see_no_record_of_a_file_that_was_replaced(self):
+        sequencer, fsync, newer = self.opened(), os.fsync, []
+        sequencer.append(5, {1: 70})
+
+        def replaced(file):
+            fsync(file)
+            if not newer:
+                newer.append(None)
+                newer[0] = self.opened()
+                newer[0].append(9, {0: 40})
+
+        with mock.patch("os.fsync", replaced):
+            self.assertEqual(list(acknowledged(self.folder, 3)), [9, 40, 70])
+
     def test_an_older_writer_acknowledges_nothing(self):
         old = self.opened()
         old.append(5, {1: 70})
@@ -395,9 +456,13 @@ class Shards(Folder):
         self.path = self.folder / "shard-3.log"
         self.epoch = new_epoch(self.folder)
 
-    def opened(self, length=0, keeps=(), options=drawn.OPTIONS, last=1000):
+    def opened(self, length=0, keeps=(), options=drawn.OPTIONS, last=1000, least=1 << 30):
         manifest = Manifest(4, None, Operator.APPEND, options)
-        return Shard.start(Writer(self.folder, manifest, self.epoch, True, 0.1), 3, length, last, keeps)
+        return Shard.start(Writer(self.folder, manifest, self.epoch, True, 0.1, least), 3, length, last, keeps)
+
+    def rows(self, shard, at):
+        """What a shard held at a place."""
+        return list(shard._view_at(at).scan())
 
     def test_a_log_is_cut_at_each_of_its_last_hundred_bytes(self):
         shard = self.opened()
@@ -487,8 +552,8 @@ class Shards(Folder):
 
     def test_an_error_of_a_call_is_its_answer(self):
         shard = self.opened()
-        length = shard.call("apply", 0, 1, part(Put(b"a", b"1")))
-        at = shard.call("take_snapshot")
+        at = length = shard.call("apply", 0, 1, part(Put(b"a", b"1")))
+        self.assertIsNone(shard.call("keep", at))
         wrong_limit, wrong_text = dumps([(0, (b"", None, -1))]), dumps([(0, ("a", None, 1))])
         for kind, call in (
             (ValueError, ("answers", wrong_limit, at)), (TypeError, ("answers", wrong_text, at)),
@@ -530,12 +595,14 @@ class Shards(Folder):
         shard, length, at = self.opened(options=options), 0, 0
         for number in range(700):
             if number == 600:
-                kept, at = length, shard.take_snapshot()
+                at = length
+                shard.keep(at)
             length = shard.apply(length, number + 1, part(Merge(b"%d" % (number % 3), b"%d" % number)))
-        rows = list(shard.scan_at(b"", None, shard.take_snapshot())), list(shard.scan_at(b"", None, at))
+        rows = self.rows(shard, length), self.rows(shard, at)
+        self.assertNotEqual(*rows)
         del shard
-        shard = self.opened(length, [kept], options)
-        self.assertEqual((list(shard.scan_at(b"", None, shard.take_snapshot())), list(shard.scan_at(b"", None, at))), rows)
+        shard = self.opened(length, [at], options)
+        self.assertEqual((self.rows(shard, length), self.rows(shard, at)), rows)
 
     def test_snapshots_are_taken_again(self):
         for seed in range(10):
@@ -544,23 +611,249 @@ class Shards(Folder):
             shard, single, last, length, keeps = self.opened(), Store(Operator.APPEND, drawn.OPTIONS), 0, 0, []
             for _ in range(12):
                 for _ in range(draws.randrange(3)):
-                    keeps.append((length, shard.take_snapshot(), single.take_snapshot()))
+                    shard.keep(length)
+                    keeps.append((length, single.take_snapshot()))
                 first, operations = last + draws.randrange(1, 4), drawn.batch(draws, 100)
                 last = first + len(operations) + draws.randrange(3)
                 length = shard.apply(length, first, part(*operations))
                 single.write(operations, first)
-            keeps.append((length, shard.take_snapshot(), single.take_snapshot()))
+            shard.keep(length)
+            keeps.append((length, single.take_snapshot()))
             alive = [keep for keep in keeps if draws.random() < 0.6]
             del shard
             shard = self.opened(length, [keep[0] for keep in alive])
             self.assertEqual(shard.last, single.last)
-            for _, at, same in alive:
-                self.assertEqual(list(shard.scan_at(b"", None, at)), list(single.scan_at(b"", None, same)))
-            for _, at, _ in alive:
+            for at, same in alive:
+                self.assertEqual(self.rows(shard, at), list(single.scan_at(b"", None, same)))
+            for at, _ in alive:
                 shard.release(at)
+            with self.assertRaises(NotProtected):
+                shard.release(length)
             self.assertEqual(shard.report().snapshots, 0)
             single.close()
             del shard
+
+
+class Cuts(Folder):
+    """A shard's log that is cut: its bases and segments."""
+
+    def setUp(self):
+        super().setUp()
+        make(Manifest(1, None, Operator.APPEND, drawn.OPTIONS), self.folder)
+        self.epoch, self.first, self.length, self.wanted = new_epoch(self.folder), 1, 0, {}
+
+    def opened(self, keeps=(), least=2000):
+        writer = Writer(self.folder, Manifest(1, None, Operator.APPEND, drawn.OPTIONS), self.epoch, True, 5.0, least)
+        return Shard.start(writer, 0, self.length, self.first - 1, keeps)
+
+    def put(self, shard, count, size=90):
+        """Writes so many batches over ten keys, and waits until no base is being written."""
+        for _ in range(count):
+            key, value = b"k%d" % (self.first % 10), b"%d" % self.first * (size // 4)
+            self.length = shard.apply(self.length, self.first, part(Put(key, value)))
+            self.first += 1
+            self.wanted[key] = value
+            self.wait(shard)
+
+    def wait(self, shard):
+        until = time.monotonic() + 20
+        while shard._log._is_busy:
+            self.assertLess(time.monotonic(), until)
+            time.sleep(0.001)
+
+    def files(self):
+        return {path.name: path.read_bytes() for path in self.folder.glob("shard-0*")}
+
+    def restore(self, files):
+        for path in self.folder.glob("shard-0*"):
+            path.unlink()
+        for name, text in files.items():
+            (self.folder / name).write_bytes(text)
+
+    def rows(self, shard, at=None):
+        return dict(shard._view_at(self.length if at is None else at).scan())
+
+    def test_a_log_is_cut_while_batches_come(self):
+        shard = self.opened()
+        for _ in range(40):
+            self.put(shard, 10)
+            self.assertLess(sum(map(len, self.files().values())), 16000)
+        self.assertGreater(self.length, 30000)
+        self.assertEqual(self.files()["shard-0.log"], b"")
+        self.assertEqual(self.rows(shard), self.wanted)
+        del shard
+        before = self.files()
+        shard = self.opened()
+        self.assertEqual((self.rows(shard), self.files()), (self.wanted, before))
+        self.put(shard, 30)
+        del shard
+        self.assertEqual(self.rows(self.opened()), self.wanted)
+
+    def test_a_base_has_the_rows_of_the_oldest_snapshot(self):
+        shard = self.opened()
+        self.put(shard, 100)
+        old, at = dict(self.wanted), self.length
+        shard.keep(at)
+        self.put(shard, 100)
+        newer, then = dict(self.wanted), self.length
+        shard.keep(then)
+        self.put(shard, 100)
+        self.assertLessEqual(shard._log.base, at)
+        for _ in range(2):
+            found = self.rows(shard, at), self.rows(shard, then), self.rows(shard)
+            self.assertEqual(found, (old, newer, self.wanted))
+            del shard
+            shard = self.opened([then, at])
+        shard.release(at)
+        self.put(shard, 100)
+        self.assertEqual((shard._log.base > at, shard._log.base <= then), (True, True))
+        self.assertEqual(self.rows(shard, then), newer)
+        shard.release(then)
+        self.put(shard, 100)
+        self.assertGreater(shard._log.base, then)
+        del shard
+        self.assertEqual(self.rows(self.opened()), self.wanted)
+
+    def test_each_byte_that_is_changed_is_damage_or_changes_nothing(self):
+        shard = self.opened()
+        self.put(shard, 60)
+        del shard
+        files = self.files()
+        self.assertEqual(sorted(len(text) > 0 for text in files.values()), [False, True, True])
+        refused = 0
+        for name, text in files.items():
+            for place in range(len(text)):
+                self.restore({**files, name: text[:place] + bytes([text[place] ^ 1 << place % 8]) + text[place + 1:]})
+                with self.subTest(name=name, place=place):
+                    try:
+                        self.assertEqual(self.rows(self.opened()), self.wanted)
+                    except LogDamaged:
+                        refused += 1
+        self.assertEqual(refused, sum(map(len, files.values())))
+
+    def test_each_file_that_is_cut_or_missing_is_damage(self):
+        shard = self.opened()
+        self.put(shard, 60)
+        del shard
+        files = self.files()
+        for name, text in files.items():
+            for size in range(len(text)):
+                self.restore({**files, name: text[:size]})
+                with self.subTest(name=name, size=size), self.assertRaisesRegex(LogDamaged, f"shard 0: {self.folder}/{name} "):
+                    self.opened()
+            self.restore({other: files[other] for other in files if other != name})
+            with self.subTest(name=name), self.assertRaises(ShardedError):
+                self.opened()
+
+    def test_a_crash_at_each_step_loses_nothing(self):
+        """What each call leaves that changes the folder: each state is opened, read and written."""
+        shard, states = self.opened(), []
+        self.put(shard, 15)
+
+        one = threading.Lock()
+
+        def seen(call):
+            def called(*arguments, **named):
+                with one:
+                    answer = call(*arguments, **named)
+                    states.append((self.files(), self.first, self.length, dict(self.wanted)))
+                return answer
+            return called
+
+        with mock.patch.multiple("os", **{name: seen(getattr(os, name)) for name in ("replace", "fsync", "truncate")}):
+            with mock.patch.object(Path, "unlink", seen(Path.unlink)):
+                self.put(shard, 60)
+        del shard
+        self.assertGreater(len({tuple(sorted(files)) for files, *_ in states}), 5)
+        for files, self.first, self.length, wanted in states:
+            self.restore(files)
+            self.wanted = dict(wanted)
+            shard = self.opened()
+            self.assertEqual(self.rows(shard), wanted)
+            self.put(shard, 30)
+            del shard
+            self.assertEqual(self.rows(self.opened()), self.wanted)
+
+    def test_a_full_device_writes_no_base_and_loses_nothing(self):
+        shard = self.opened()
+        def refuse(*_):
+            raise OSError(errno.ENOSPC, "no space")
+
+        with mock.patch.object(_shard_log.ShardLog, "_write_base", refuse), mock.patch("threading.excepthook") as said:
+            self.put(shard, 100)
+        self.assertEqual((shard._log.base, said.call_count), (0, 0))
+        with mock.patch("ucstore._shard_log.sync_folder", refuse):
+            self.put(shard, 100)
+        self.assertEqual((shard._log.base, self.rows(shard)), (0, self.wanted))
+        self.put(shard, 60)
+        self.assertGreater(shard._log.base, 0)
+        del shard
+        self.assertEqual(self.rows(self.opened()), self.wanted)
+
+    def test_the_lock_is_kept_while_a_base_is_written(self):
+        shard, replace, reached, go_on = self.opened(), os.replace, threading.Event(), threading.Event()
+
+        def stopped(*paths):
+            reached.set()
+            self.assertTrue(go_on.wait(30))
+            replace(*paths)
+
+        with mock.patch("os.replace", stopped):
+            while not shard._log._is_busy:
+                self.length = shard.apply(self.length, self.first, part(Put(b"a", b"%d" % self.first * 99)))
+                self.first += 1
+            self.assertTrue(reached.wait(30))
+            del shard
+            with self.assertRaisesRegex(ShardedError, "is open in another process"):
+                self.opened()
+            go_on.set()
+            self.assertEqual(self.rows(self.opened()), {b"a": b"%d" % (self.first - 1) * 99})
+
+    def test_a_log_is_read_in_windows(self):
+        draws, shard, keeps, single = random.Random(1), self.opened(), [], Store(Operator.APPEND, drawn.OPTIONS)
+        for number in range(60):
+            operations = [Put(b"%d" % draws.randrange(40), bytes([number]) * draws.choice((0, 9, 900, 70000))) for _ in range(9)]
+            self.length = shard.apply(self.length, self.first, part(*operations))
+            self.first += 9
+            single.write(operations)
+            self.wait(shard)
+            if number in (30, 45):
+                shard.keep(self.length)
+                keeps.append((self.length, single.take_snapshot()))
+        self.assertGreater(shard._log.base, 0)
+        del shard
+        with mock.patch("ucstore._shard_log.WINDOW", _shard_log.BLOCK):
+            shard = self.opened([at for at, _ in keeps])
+        for at, same in [*keeps, (self.length, single.take_snapshot())]:
+            self.assertEqual(self.rows(shard, at), dict(single.scan_at(b"", None, same)))
+
+    def test_a_log_behind_what_was_acknowledged_is_damage(self):
+        shard = self.opened()
+        self.put(shard, 15)
+        early = self.length, self.first
+        self.put(shard, 60)
+        del shard
+        files, (self.length, self.first) = self.files(), early
+        place = max(int(name.split(".")[1]) for name in files if name.endswith(".base"))
+        with self.assertRaisesRegex(LogDamaged, f"goes on behind byte {place}, that .* and sequencer.log ends at 15"):
+            self.opened()
+        self.assertEqual(self.files(), files)
+
+    def test_what_was_held_stays_for_readers_for_a_while(self):
+        shard = self.opened()
+        self.put(shard, 5)
+        at, old = self.length, dict(self.wanted)
+        self.put(shard, 5)
+        self.assertEqual(self.rows(shard, at), old)
+        shard.lease(at, 1.5)
+        time.sleep(0.6)
+        self.put(shard, 2)
+        self.assertEqual(marshal.loads(shard.answers(dumps([(7, b"k1"), (8, (b"", None, 1))]), at)), [
+            (7, old[b"k1"]), (8, sorted(old.items())[:1])])
+        time.sleep(1.0)
+        self.put(shard, 2)
+        with self.assertRaises(NotProtected):
+            self.rows(shard, at)
 
 
 class Queries(unittest.TestCase):

@@ -13,18 +13,21 @@ import weakref
 from bisect import bisect_left, bisect_right
 from collections import Counter, defaultdict
 from contextlib import contextmanager, suppress
-from functools import lru_cache
+from functools import lru_cache, partial
 from hashlib import sha256
-from itertools import chain, groupby, islice
+from itertools import chain, islice
+from operator import itemgetter
 from pathlib import Path
-from typing import Any, BinaryIO, Callable, Iterator, Mapping, NamedTuple, Sequence
+from typing import Any, Iterator, Mapping, NamedTuple, Sequence
 from zlib import crc32
 
-from . import _TAGS, Delete, DeleteRange, End, Operation, Operator, Options, Store
-from . import UcstoreError, log_writes
+from . import _TAGS, Delete, DeleteRange, NotProtected, Operation, Operator, Options, Report, Store, View
+from ._shard_files import AnotherWriter, BadManifest, LogDamaged, ShardedError, Writer
+from ._shard_files import append, locked, refusing, replace, undoing
+from ._shard_log import ShardLog
 
 # The format of a store's files. It grows when they change their meaning.
-FORMAT = 3
+FORMAT = 4
 
 # The names that options had in the files of format 2.
 _OLD_NAMES = {
@@ -42,81 +45,11 @@ PAGE_ROWS, PAGE_BYTES = 1000, 1 << 20
 # How many operations are packed together: so few that the processor's cache holds them meanwhile.
 PIECE = 2000
 
+# For how many seconds a shard keeps what it held before a batch, for readers that learn of the batch behind it.
+RECENT = 0.5
 
-class ShardedError(UcstoreError):
-    """What shards refuse besides what a store refuses."""
-
-
-class BadManifest(ShardedError):
-    """A store can't be made or opened as its manifest says."""
-
-
-class LogDamaged(ShardedError):
-    """A log lacks writes that were acknowledged, or can't be read up to them."""
-
-
-class AnotherWriter(ShardedError):
-    """Another writer has the store. Whether it has a batch of this one's isn't known."""
-
-
-@contextmanager
-def refusing(refusal: type[ShardedError], text: str, *errors: type[Exception]) -> Iterator[None]:
-    """Raises a refusal in place of some errors."""
-    try:
-        yield
-    except errors as error:
-        raise refusal(f"{text}: {getattr(error, 'strerror', error)}") from None
-
-
-@contextmanager
-def undoing(undo: Callable[..., None], *arguments: Any) -> Iterator[None]:
-    """Undoes something upon an error."""
-    try:
-        yield
-    except BaseException:
-        undo(*arguments)
-        raise
-
-
-def polls(patience: float) -> Iterator[None]:
-    """Waits between the steps of a loop, which ends after so many seconds."""
-    until = time.monotonic() + patience
-    yield
-    while time.monotonic() < until:
-        time.sleep(0.05)
-        yield
-
-
-def locked(file: BinaryIO, patience: float) -> bool:
-    """Whether this process got a file's lock within so many seconds."""
-    for _ in polls(patience):
-        with suppress(BlockingIOError):
-            fcntl.flock(file, fcntl.LOCK_EX | fcntl.LOCK_NB)
-            return True
-    return False
-
-
-def append(file: BinaryIO, text: bytes, sync: bool = True) -> None:
-    """Writes to a file, and waits for its device."""
-    rest = memoryview(text)
-    # A file without a buffer may take a part.
-    while rest:
-        rest = rest[file.write(rest) :]
-    file.flush()
-    if sync:
-        os.fsync(file.fileno())
-
-
-def replace(path: Path, text: bytes) -> None:
-    """Writes a file, so that a crash leaves the old one or the new one."""
-    new = path.with_suffix(".new")
-    with undoing(new.unlink, True):
-        with open(new, "wb") as file:
-            append(file, text)
-        os.replace(new, path)
-    folder = os.open(path.parent, os.O_RDONLY)
-    os.fsync(folder)
-    os.close(folder)
+# From how many bytes on the sequencer's log is begun anew.
+MOST_RECORDS = 1 << 20
 
 
 def dumps(found: Any) -> bytes:
@@ -125,12 +58,24 @@ def dumps(found: Any) -> bytes:
     return marshal.dumps(found, 2)
 
 
+def _deletions(tags: bytes) -> Iterator[int]:
+    """The places of operations that have no second text."""
+    place = tags.find(_TAGS[Delete])
+    while place >= 0:
+        yield place
+        place = tags.find(_TAGS[Delete], place + 1)
+
+
 def packed(operations: Sequence[Operation]) -> bytes:
-    """A piece: the tags of operations, and their texts. Raises `TypeError` for what is neither."""
-    kinds, texts = list(map(type, operations)), list(chain.from_iterable(operations))
-    if not (set(kinds) <= _TAGS.keys() and set(map(type, texts)) <= {bytes}):
+    """A piece: the tags of operations, and their first and second texts. Raises `TypeError` for what is neither."""
+    kinds = list(map(type, operations))
+    firsts, seconds = list(map(itemgetter(0), operations)), list(map(itemgetter(-1), operations))
+    if not (set(kinds) <= _TAGS.keys() and {*map(type, firsts), *map(type, seconds)} <= {bytes}):
         raise TypeError("an operation is a Put, Delete, Merge or DeleteRange of bytes")
-    return dumps((bytes(map(_TAGS.__getitem__, kinds)), texts))
+    tags = bytes(map(_TAGS.__getitem__, kinds))
+    for place in _deletions(tags):
+        seconds[place] = b""
+    return dumps((tags, firsts, seconds))
 
 
 @lru_cache(1 << 16)
@@ -140,19 +85,26 @@ def _length(length: int) -> bytes:
     return bytes([low | 0x80]) + _length(rest) if rest else bytes([low])
 
 
+# What most texts need: a list is quicker than a function. And each tag as it stands before an operation.
+_LENGTHS, _TAG_BYTES = [_length(length) for length in range(4096)], [bytes([tag]) for tag in range(16)]
+
+
+def _spelled_lengths(texts: Sequence[bytes]) -> list[bytes]:
+    """The lengths of texts as they stand before them."""
+    lengths = list(map(len, texts))
+    return list(map(_LENGTHS.__getitem__ if max(lengths) < len(_LENGTHS) else _length, lengths))
+
+
 def batch_of(part: bytes, first: int) -> bytes:
     """The pieces of a part as a write batch of RocksDB, whose first operation has a sequence."""
-    tag_bytes, bodies, count = [bytes([tag]) for tag in range(16)], [], 0
+    bodies, count = [], 0
     for piece in marshal.loads(part):
-        tags, texts = marshal.loads(piece)
-        fields: list[bytes] = []
-        spelled = zip(map(_length, map(len, texts)), texts)
-        for tag, text in zip(tags, spelled):
-            fields.append(tag_bytes[tag])
-            fields += text
-            if tag != _TAGS[Delete]:
-                fields += next(spelled)
-        bodies.append(b"".join(fields))
+        tags, firsts, seconds = marshal.loads(piece)
+        lengths = _spelled_lengths(seconds)
+        for place in _deletions(tags):
+            lengths[place] = b""
+        fields = zip(map(_TAG_BYTES.__getitem__, tags), _spelled_lengths(firsts), firsts, lengths, seconds)
+        bodies.append(b"".join(chain.from_iterable(fields)))
         count += len(tags)
     return struct.pack("<QI", first, count) + b"".join(bodies)
 
@@ -179,11 +131,12 @@ def unsealed(text: bytes) -> dict[str, Any]:
     shape = json.loads(text)
     if not isinstance(shape, dict):
         raise BadManifest("it isn't an object")
-    if shape.get("format") not in (2, FORMAT):
+    if shape.get("format") not in (2, 3, FORMAT):
         raise BadManifest(f"its format is {shape.get('format')!r}, and only {FORMAT} is known")
     if shape.pop("sha256", None) != _checksum(shape):
         raise BadManifest("it doesn't have its checksum: it is damaged, or was changed")
-    return _renamed(shape) if shape["format"] == 2 else shape
+    # Those of format 3 have no log that was cut, and are spelled as now.
+    return _renamed(shape) if shape["format"] == 2 else {**shape, "format": FORMAT}
 
 
 def _renamed(shape: Mapping[str, Any]) -> dict[str, Any]:
@@ -335,39 +288,46 @@ class Manifest(NamedTuple):
         end = self.shards if high is None else bisect_left(self.splits, high) + 1
         return range(bisect_right(self.splits, low), end)
 
+    def renew(self, folder: Path) -> None:
+        """Writes the file of a store of an older format anew, whose writers don't know all that this one does."""
+        path, text = folder / "manifest.json", sealed(self._shape())
+        if path.read_bytes() != text:
+            replace(path, text)
+
     def parts(self, operations: Sequence[Operation]) -> dict[int, bytes]:
         """The part of each shard that has some of the operations. Raises what `packed` does."""
         parts: dict[int, list[bytes]] = defaultdict(list)
-        shards, splits = self.shards, self.splits
         for begin in range(0, len(operations), PIECE):
-            placed: dict[int, list[Operation]] = defaultdict(list)
-            for operation in operations[begin : begin + PIECE]:
-                if type(operation) is DeleteRange:
-                    for number in self.touched(*operation):
-                        placed[number].append(operation)
-                # Without a call of `owner`, which takes a third of the time.
-                elif splits is None:
-                    placed[crc32(operation[0]) % shards].append(operation)
-                else:
-                    placed[bisect_right(splits, operation[0])].append(operation)
-            for number, some in placed.items():
-                parts[number].append(packed(some))
+            for number, some in enumerate(self._placed(operations[begin : begin + PIECE])):
+                if some:
+                    parts[number].append(packed(some))
+            # Lets those threads go on that send the batch before.
+            time.sleep(0)
         return {number: dumps(pieces) for number, pieces in parts.items()}
 
+    def _placed(self, operations: Sequence[Operation]) -> list[list[Operation]]:
+        """The operations of each shard."""
+        placed: list[list[Operation]] = [[] for _ in range(self.shards)]
+        takes, owners = [some.append for some in placed], self._owners(operations)
+        if DeleteRange in set(map(type, operations)):
+            for operation, owner in zip(operations, owners):
+                if type(operation) is DeleteRange:
+                    for number in self.touched(*operation):
+                        takes[number](operation)
+                else:
+                    takes[owner](operation)
+        else:
+            # Most have no range, and this loop takes most of a writer's time.
+            for operation, owner in zip(operations, owners):
+                takes[owner](operation)
+        return placed
 
-class Writer(NamedTuple):
-    """Who has a store open, and how."""
-
-    folder: Path
-    manifest: Manifest
-    epoch: str
-    sync: bool
-    patience: float
-
-    def check(self) -> None:
-        """Raises `AnotherWriter` if a newer writer has opened the store."""
-        if (self.folder / "epoch").read_text() != self.epoch:
-            raise AnotherWriter(f"a newer writer has opened {self.folder}")
+    def _owners(self, operations: Sequence[Operation]) -> Iterator[int]:
+        """The shard to which the key of each operation belongs, as `owner` says."""
+        keys, shards = map(itemgetter(0), operations), self.shards
+        if self.splits is None:
+            return (number % shards for number in map(crc32, keys))
+        return map(partial(bisect_right, self.splits), keys)
 
 
 def _record(numbers: Sequence[int]) -> bytes:
@@ -397,21 +357,56 @@ def last_numbers(path: Path, count: int) -> Sequence[int]:
     return numbers
 
 
+def acknowledged(folder: Path, count: int) -> Sequence[int]:
+    """The numbers that a sequencer's log ends with, read beside its writer. They are on its device then.
+
+    Raises `LogDamaged` and `OSError`.
+    """
+    path, size = folder / "sequencer.log", 8 * count + 4
+    while True:
+        with open(path, "rb") as file:
+            # Behind the last whole record one may be under way.
+            whole = os.fstat(file.fileno()).st_size // size
+            file.seek(max(whole - 2, 0) * size)
+            records = [file.read(size) for _ in range(min(whole, 2))]
+            os.fsync(file.fileno())
+            is_current = os.path.samestat(os.fstat(file.fileno()), path.stat())
+        # A file that was replaced meanwhile may have a record that nobody else reads.
+        if is_current:
+            return _last_of(records, path)
+
+
+def _last_of(records: Sequence[bytes], path: Path) -> Sequence[int]:
+    """The numbers of the last one of some records that has its checksum. Raises `LogDamaged` if none has."""
+    for record in reversed(records):
+        if crc32(record[:-4]).to_bytes(4, "little") == record[-4:]:
+            return struct.unpack(f"<{len(record) // 8}Q", record[:-4])
+    raise LogDamaged(f"{path} is damaged at its end")
+
+
 class Sequencer:
     """The log of how far all shards are. What it doesn't have wasn't acknowledged."""
 
     def __init__(self, writer: Writer) -> None:
         """Begins an epoch: older writers are refused. Raises `LogDamaged` and `OSError`."""
         replace(writer.folder / "epoch", writer.epoch.encode())
-        path = writer.folder / "sequencer.log"
-        self.last, *self.lengths = last_numbers(path, writer.manifest.shards + 1)
+        self._writer, self._path = writer, writer.folder / "sequencer.log"
+        self.last, *self.lengths = last_numbers(self._path, writer.manifest.shards + 1)
+        self._begin_file()
+
+    def _begin_file(self) -> None:
+        """Begins a file with the last record. Raises `OSError`."""
         # A writer that was thought dead goes on with the old file, which nobody reads.
-        replace(path, _record([self.last, *self.lengths]))
+        replace(self._path, _record([self.last, *self.lengths]))
         # Without a buffer nothing of a record that failed is written later.
-        self._writer, self._file = writer, open(path, "ab", buffering=0)
+        self._file = open(self._path, "ab", buffering=0)
 
     def append(self, last: int, lengths: Mapping[int, int]) -> None:
         """Acknowledges a batch. Raises `AnotherWriter` and `OSError`, and isn't used then."""
+        if self._file.tell() >= MOST_RECORDS:
+            self._writer.check()
+            self._file.close()
+            self._begin_file()
         reached = [lengths.get(number, length) for number, length in enumerate(self.lengths)]
         append(self._file, _record([last, *reached]), self._writer.sync)
         # A newer writer begins an epoch, and then reads the log: it has this record, or is seen.
@@ -436,7 +431,10 @@ class Refusal(NamedTuple):
 
 
 class Shard(Store):
-    """A store beside its log, which one process at a time has open."""
+    """A store beside its log, which one process at a time has open. Its calls come one by one.
+
+    What it held at a moment is named by the place that its log had reached, and shown by a view.
+    """
 
     @classmethod
     def start(
@@ -447,37 +445,35 @@ class Shard(Store):
         `last` is the last sequence that was acknowledged, of all shards. Raises `OutOfMemory`,
         `LogDamaged`, `AnotherWriter`, and `ShardedError` for a file's error.
         """
-        path, manifest = writer.folder / f"shard-{number}.log", writer.manifest
-        whose = f"shard {number}: {path}"
+        whose = f"shard {number}: {writer.folder / f'shard-{number}.log'}"
         with refusing(ShardedError, whose, OSError):
-            file = open(path, "r+b")
-            # Dask may keep an error, and with it the file and its lock.
-            with undoing(file.close):
-                log = _read_log(file, whose, writer, length, last)
-                # As the oldest snapshot was.
-                opened = min(keeps, default=length)
-                shard = cls.open(manifest.operator, log[:opened], manifest.options)
-                shard._write_rest(log, opened, Counter(keeps))
-        shard._writer, shard._whose, shard._file, shard._length = writer, whose, file, length
-        shard._is_cut = False
+            log = ShardLog(writer, number, length, last, list(keeps))
+            # Dask may keep an error, and with it the files and their lock.
+            with undoing(log.close):
+                shard = cls(writer.manifest.operator, writer.manifest.options)
+                shard._writer, shard._log = writer, log
+                shard._replay(Counter(keeps))
         # Dask closes nothing: it drops an actor.
-        weakref.finalize(shard, file.close)
+        weakref.finalize(shard, log.close)
         return shard
 
-    def _write_rest(self, log: bytes, opened: int, keeps: Mapping[int, int]) -> None:
-        """Writes the batches behind what was opened, and takes the snapshots that are alive."""
-        self._keep(keeps[opened])
-        writes = log_writes(log if opened < len(log) else b"")
-        for end, batch in groupby(writes, lambda _: writes.offset):
-            if end > opened:
-                written = list(batch)
-                self.write((write.operation for write in written), written[0].sequence)
-                self._keep(keeps[end])
+    def _replay(self, keeps: Mapping[int, int]) -> None:
+        """Writes what the log has, and takes the snapshots that are alive."""
+        self._length, self._views, self._leases = self._log.base, {}, {}
+        self._kept: Counter[int] = Counter()
+        for batch in self._log.rows():
+            self.write_bytes(batch)
+        self._keep_again(keeps)
+        for place, batch in self._log.batches():
+            self.write_bytes(batch)
+            self._length = place
+            self._keep_again(keeps)
 
-    def _keep(self, count: int) -> None:
-        """Takes snapshots."""
-        for _ in range(count):
-            self.take_snapshot()
+    def _keep_again(self, keeps: Mapping[int, int]) -> None:
+        """Takes the snapshots that are alive at the place that is reached."""
+        if keeps[self._length] > 0:
+            self._kept[self._length] = keeps[self._length]
+            self._view_at(self._length)
 
     def call(self, method: str, *arguments: Any) -> Any:
         """What a method answers, or a `Refusal` with what it raises."""
@@ -492,84 +488,82 @@ class Shard(Store):
         A log that isn't of the length has it already, because an answer was lost.
         """
         if self._length == length:
-            with refusing(ShardedError, self._whose, OSError), undoing(self._file.close):
-                batch = batch_of(part, first)
-                record = self.prepare_bytes(length, batch)
-                self._writer.check()
-                self._cut()
-                append(self._file, record, self._writer.sync)
+            self._get_ready()
+            log = self._log
+            with refusing(ShardedError, log.whose, OSError), undoing(log.close):
+                record = self.prepare_bytes(length - log.begin, batch_of(part, first))
+                log.append(record)
                 self.commit()
-            self._length += len(record)
+            self._length = log.length
         return self._length
 
-    def _cut(self) -> None:
-        """Cuts off what is behind the acknowledged batches, before the first one is appended.
+    def _get_ready(self) -> None:
+        """Makes the log ready for a batch: all that is in it is acknowledged then."""
+        log, length = self._log, self._length
+        with refusing(ShardedError, log.whose, OSError), undoing(log.close):
+            self._writer.check()
+            log.cut()
+            self._view_at(length, RECENT)
+            self._let_go()
+            place = min(self._kept, default=length)
+            if log.is_long(place, 0) and log.is_long(place, super().report().bytes):
+                # On a full device the log grows, and the batch is refused if it has no room.
+                with suppress(OSError):
+                    log.start_base(place, self._views[place])
 
-        Until then no shard loses anything, so that one shard's refusal keeps them all as they are.
-        """
-        if not self._is_cut:
-            self._file.truncate(self._length)
-            self._file.seek(self._length)
-            self._is_cut = True
+    def _view_at(self, place: int, seconds: float = 0.0) -> View:
+        """What it held at a place, which stays for so many seconds. Raises `NotProtected` if it isn't there any more."""
+        if place == self._length and place not in self._views:
+            self._views[place] = self.view()
+        if place not in self._views:
+            raise NotProtected()
+        until = time.monotonic() + seconds
+        self._leases[place] = max(until, self._leases.get(place, until))
+        return self._views[place]
 
-    def answers(self, queries: bytes, at: int) -> bytes:
-        """The answers at a snapshot to keys, and to scans of a limit, with their places, packed."""
-        found: list[tuple[int, Any]] = []
-        for place, query in marshal.loads(queries):
-            if isinstance(query, bytes):
-                found.append((place, self.get_at(query, at)))
-            else:
-                found.append((place, list(islice(self.scan_at(*query[:2], at), query[2]))))
+    def _let_go(self) -> None:
+        """Lets go of what neither a snapshot nor a lease keeps."""
+        now = time.monotonic()
+        self._leases = {place: until for place, until in self._leases.items() if until > now}
+        for place in self._views.keys() - self._kept.keys() - self._leases.keys():
+            del self._views[place]
+
+    def keep(self, place: int) -> None:
+        """Takes a snapshot at a place, until `release` is called as often as this. Raises `NotProtected`."""
+        self._view_at(place)
+        self._kept[place] += 1
+
+    def release(self, place: int) -> None:
+        """Undoes a `keep`. Raises `NotProtected`."""
+        if place not in self._kept:
+            raise NotProtected()
+        self._kept -= Counter([place])
+        self._let_go()
+
+    def lease(self, place: int, seconds: float) -> None:
+        """Keeps what it held at a place for so many seconds, as each read behind this does. Raises `NotProtected`."""
+        self._view_at(place, seconds)
+
+    def report(self) -> Report:
+        """What it holds, in numbers."""
+        return super().report()._replace(snapshots=len(self._kept))
+
+    def answers(self, queries: bytes, at: int, seconds: float = 0.0) -> bytes:
+        """The answers at a place to keys, and to scans of a limit, with their numbers, packed. `lease` says `seconds`."""
+        asked, view = marshal.loads(queries), self._view_at(at, seconds)
+        keys = [(number, query) for number, query in asked if isinstance(query, bytes)]
+        found: list[tuple[int, Any]] = list(zip(map(itemgetter(0), keys), view.get_many(map(itemgetter(1), keys))))
+        for number, query in asked:
+            if not isinstance(query, bytes):
+                found.append((number, list(islice(view.scan(*query[:2]), query[2]))))
         return dumps(found)
 
-    def latest(self, queries: bytes) -> bytes:
-        """The answers at the last sequence, as `answers` gives them."""
-        found: list[tuple[int, Any]] = []
-        for place, query in marshal.loads(queries):
-            if isinstance(query, bytes):
-                found.append((place, self.get(query)))
-            else:
-                found.append((place, list(islice(self.scan(*query[:2]), query[2]))))
-        return dumps(found)
-
-    def page(self, low: bytes, high: bytes | None, at: int) -> bytes:
-        """The first rows of a scan at a snapshot, and whether there may be more, packed."""
+    def page(self, low: bytes, high: bytes | None, at: int, seconds: float = 0.0) -> bytes:
+        """The first rows of a scan at a place, and whether there may be more, packed. `lease` says `seconds`."""
         rows, size = [], 0
-        for row in self.scan_at(low, high, at):
+        for row in self._view_at(at, seconds).scan(low, high):
             rows.append(row)
             size += len(row[0]) + len(row[1])
             if len(rows) == PAGE_ROWS or size >= PAGE_BYTES:
                 return dumps((rows, True))
         return dumps((rows, False))
-
-
-def _read_log(file: BinaryIO, whose: str, writer: Writer, length: int, last: int) -> bytes:
-    """What was acknowledged of a log. Raises `LogDamaged` if that isn't all of it."""
-    if not locked(file, writer.patience):
-        raise ShardedError(f"{whose} is open in another process")
-    writer.check()
-    log = file.read(length)
-    offset, ended = log_writes(log).end()
-    if ended.end != End.CLEAN or offset != length:
-        read = f"{whose} can be read up to byte {offset} of the {length} that were acknowledged"
-        raise LogDamaged(f"{read}: {ended}")
-    _check_rest(log, file.read(), whose, last)
-    return log
-
-
-def _check_rest(log: bytes, rest: bytes, whose: str, last: int) -> None:
-    """Raises `LogDamaged` if the rest of a log shows that the sequencer's log lacks a batch.
-
-    All parts of a batch begin at the sequence behind the last one that was acknowledged. So a batch
-    that begins later was written behind another whose acknowledgement is lost.
-    """
-    if not rest:
-        return
-    writes = log_writes(log + rest)
-    while writes.ended is None and writes.offset < len(log):
-        writes._fetch()
-    for _, batch in groupby(writes, lambda _: writes.offset):
-        first = next(batch).sequence
-        if first > last + 1:
-            lost = f"{first - 1} was acknowledged, and sequencer.log ends at {last}"
-            raise LogDamaged(f"{whose} has a batch from sequence {first} on: {lost}")

@@ -4,95 +4,59 @@ A key belongs to the shard `zlib.crc32(key) % shards`, or to the one between who
 lies. Each shard is a `Store` beside its log. The logs lie in one folder, which the client and all
 workers reach under the same path. A batch is there on all shards or on none: when all have it in
 their logs, the writer appends to `sequencer.log` how long these are. What is behind isn't there,
-and the next batch cuts it off.
+and the next batch cuts it off. A long log is cut: the rows of the oldest snapshot, or of now, are
+written to a base, and what is before it goes.
 """
 
 from __future__ import annotations
 
-import heapq
-import marshal
 import os
-import sys
 import threading
 import time
-from collections import defaultdict
+import weakref
+from concurrent.futures import Future as Written
+from concurrent.futures import ThreadPoolExecutor, wait
 from contextlib import AbstractContextManager, suppress
-from itertools import islice
-from operator import index
 from pathlib import Path
 from typing import Any, Callable, Iterable, Iterator, Mapping, NamedTuple, Sequence
 
 from distributed import CancelledError, Client, Future, KilledWorker
 from distributed import TimeoutError as TimedOut
 
-from . import NoStore, NotProtected, Operation, Operator, Options, Report, _bytes_of
-from ._shard import AnotherWriter, BadManifest, Claim, LogDamaged, Manifest, Refusal, Sequencer
-from ._shard import Shard, ShardedError, Writer, dumps, polls, undoing
+from . import NoStore, NotProtected, Operation, Operator, Options, Report, UcstoreError
+from ._shard import Claim, Manifest, Refusal, Sequencer, Shard
+from ._shard_files import LEAST, AnotherWriter, BadManifest, LogDamaged, ShardedError, Writer, polls, undoing
+from ._shard_reader import SharedSnapshot, ShardedReader, places_name, tell_places
+from ._shard_reads import Deadline, NoWorkers, Reads, Scan, Scans, ShardTimeout
 
 try:
     from tqdm import tqdm
 except ImportError:
     tqdm = None
 
-__all__ = ["AnotherWriter", "BadManifest", "LogDamaged", "NoWorkers", "Scan"]
-__all__ += ["ShardTimeout", "ShardedError", "ShardedSnapshot", "ShardedStore"]
+__all__ = ["AnotherWriter", "BadManifest", "LogDamaged", "NoWorkers", "Scan", "SharedSnapshot"]
+__all__ += ["ShardTimeout", "ShardedError", "ShardedReader", "ShardedSnapshot", "ShardedStore"]
 
 # Seconds between two looks at a shard that doesn't answer, and how often it is opened for a call.
 _POLL, _TRIES = 0.2, 10
+
+# Seconds between two looks for shards that were lost.
+_WATCH = 0.5
+
+# How many batches are under way: one that the shards take, and one that is placed meanwhile.
+_AHEAD = 2
 
 # What Dask says of an actor whose worker is gone.
 _LOST = "Worker holding Actor was lost"
 
 
-class NoWorkers(ShardedError):
-    """No worker is left on which a shard could be opened."""
+class _Begun(NamedTuple):
+    """A call, or an opening, that is under way."""
 
-
-class ShardTimeout(ShardedError):
-    """A shard hasn't answered in time. What was written isn't there."""
-
-
-class Scan(NamedTuple):
-    """A query for rows from `low` to below `high`, or to the last: the first `limit`, or all."""
-
-    low: bytes = b""
-    high: bytes | None = None
-    limit: int | None = None
-
-    def _checked(self) -> Scan:
-        """The same query. Raises `TypeError` and `ValueError` if it isn't one."""
-        high = None if self.high is None else _bytes_of(self.high)
-        limit = None if self.limit is None else index(self.limit)
-        if limit is not None and not 0 <= limit <= sys.maxsize:
-            raise ValueError(f"a limit is None or from 0 to {sys.maxsize}, not {limit}")
-        return Scan(_bytes_of(self.low), high, limit)
-
-
-def _checked(query: bytes | Scan) -> bytes | Scan:
-    """A query. Raises `TypeError` and `ValueError` for another thing: no shard is asked that."""
-    return query._checked() if isinstance(query, Scan) else _bytes_of(query)
-
-
-def _answers(
-    manifest: Manifest,
-    asked: Sequence[bytes | Scan],
-    ask: Callable[[Mapping[int, tuple]], Mapping[int, bytes]],
-) -> list[Any]:
-    """The answers to queries, in their order, of shards that are asked once each."""
-    parts: dict[int, list] = defaultdict(list)
-    for place, query in enumerate(asked):
-        is_scan = isinstance(query, Scan)
-        numbers = manifest.touched(*query[:2]) if is_scan else (manifest.owner(query),)
-        for number in numbers:
-            parts[number].append((place, tuple(query) if is_scan else query))
-    found: list[list] = [[] for _ in asked]
-    for part in ask({number: (dumps(part),) for number, part in parts.items()}).values():
-        for place, answer in marshal.loads(part):
-            found[place].append(answer)
-    return [
-        list(islice(heapq.merge(*some), query.limit)) if isinstance(query, Scan) else some[0]
-        for query, some in zip(asked, found)
-    ]
+    opening: Future
+    """That of the shard."""
+    future: Any
+    """That of the call, or of the opening again."""
 
 
 def _is_lost(future: Any, error: Exception) -> bool:
@@ -105,8 +69,31 @@ def _is_lost(future: Any, error: Exception) -> bool:
     return not is_own and isinstance(error, (OSError, ValueError))
 
 
-class ShardedStore(AbstractContextManager):
-    """A store over shards. Threads may share it: its calls wait for one another."""
+def _outcome(step: Written[Any], deadline: Deadline) -> Any:
+    """What a step comes to. One that hasn't begun in time is given up by `ShardTimeout`."""
+    wait([step], deadline.left())
+    if not step.done() and step.cancel():
+        raise deadline.refusal("the step before")
+    return step.result()
+
+
+def _watch(found: weakref.ref[ShardedStore]) -> None:
+    """Has lost shards of a store opened again until it ends."""
+    while True:
+        time.sleep(_WATCH)
+        store = found()
+        if store is None or store._log is None:
+            return
+        store._open_lost()
+        del store
+
+
+class ShardedStore(Reads, AbstractContextManager):
+    """A store over shards, whose one writer has it open. Threads may share it.
+
+    Writes and snapshots are taken in the order of their calls, and reads at the last sequence meanwhile. A call may have a
+    `timeout` of its own, in seconds for all that it does. Behind it, it raises `ShardTimeout`.
+    """
 
     @classmethod
     def create(
@@ -121,6 +108,7 @@ class ShardedStore(AbstractContextManager):
         sync: bool = True,
         patience: float = 30.0,
         timeout: float | None = None,
+        checkpoint_least: int = LEAST,
     ) -> ShardedStore:
         """Makes an empty store in a folder that is empty or isn't there.
 
@@ -131,7 +119,8 @@ class ShardedStore(AbstractContextManager):
         points, folder = None if splits is None else tuple(splits), Path(path).absolute()
         manifest = Manifest(shards, points, operator, options)
         with manifest.created(folder) as claim:
-            return cls(client, folder, manifest, claim, sync, patience, timeout)
+            writer = Writer(folder, manifest, claim.epoch, sync, patience, checkpoint_least)
+            return cls(client, writer, claim, timeout)
 
     @classmethod
     def open(
@@ -142,13 +131,16 @@ class ShardedStore(AbstractContextManager):
         sync: bool = True,
         patience: float = 30.0,
         timeout: float | None = None,
+        checkpoint_least: int = LEAST,
     ) -> ShardedStore:
         """Opens a store with all batches that were acknowledged.
 
         `sync` says whether each batch is on the logs' devices before it is acknowledged. Without
         it, a machine that crashes may leave logs that are refused. `patience` is for how many
         seconds a call waits for a worker or a lock, and `timeout` for how many it waits for a
-        shard's answer: for ever, if it is None. Openings have no such limit.
+        shard's answer, if it has no timeout of its own: for ever, if it is None. Openings have no
+        such limit. A shard's log is cut when that lets `checkpoint_least` bytes go, and twice those
+        of the data.
 
         Raises what `Store.open` does, `BadManifest`, `AnotherWriter`, `LogDamaged`, `NoWorkers`,
         and `ShardedError` and `OSError` for a file's error.
@@ -156,44 +148,65 @@ class ShardedStore(AbstractContextManager):
         folder = Path(path).absolute()
         manifest, claim = Manifest.read(folder), Claim(folder, patience)
         with undoing(claim.release):
-            return cls(client, folder, manifest, claim, sync, patience, timeout)
+            manifest.renew(folder)
+            writer = Writer(folder, manifest, claim.epoch, sync, patience, checkpoint_least)
+            return cls(client, writer, claim, timeout)
 
-    def __init__(
-        self,
-        client: Client,
-        folder: Path,
-        manifest: Manifest,
-        claim: Claim,
-        sync: bool,
-        patience: float,
-        timeout: float | None,
-    ) -> None:
+    @staticmethod
+    def reader(
+        client: Client, path: str | Path, *, patience: float = 30.0, timeout: float | None = None
+    ) -> ShardedReader:
+        """What reads a store that another process has open. Raises `BadManifest`."""
+        return ShardedReader(client, path, patience=patience, timeout=timeout)
+
+    def __init__(self, client: Client, writer: Writer, claim: Claim, timeout: float | None) -> None:
         """`create` and `open` call it. The claim is theirs until all is open."""
-        self._client, self._patience, self._folder = client, patience, folder
-        self._timeout = timeout
-        self._manifest, self._claim = manifest, claim
-        self._writer = Writer(folder, manifest, claim.epoch, sync, patience)
-        self._guard = threading.RLock()
+        self._client, self._writer, self._claim, self._timeout = client, writer, claim, timeout
+        self._manifest, self._process = writer.manifest, os.getpid()
         self._snapshots: set[ShardedSnapshot] = set()
         self._futures: dict[int, Future] = {}
         self._actors: dict[int, Any] = {}
         self._log: Sequencer | None = None
         # The claim keeps out other processes of this machine, and Dask's lock other clients. This
         # one has its owner's client, so that it can be taken from one that is gone.
-        self._lock = f"ucstore {os.path.realpath(folder)}"
-        self._owner = f"{client.id} {claim.epoch}"
+        self._lock, self._owner = places_name(writer.folder), f"{client.id} {claim.epoch}"
+        # What changes the store is done by one thread, step by step.
+        self._steps, self._stepper = ThreadPoolExecutor(1, "ucstore.sharded"), 0
+        self._ahead = threading.BoundedSemaphore(_AHEAD)
+        with undoing(self._steps.shutdown):
+            self._step(self._begin)
+        threading.Thread(target=_watch, args=(weakref.ref(self),), daemon=True).start()
+
+    def _begin(self) -> None:
+        """Opens all. Upon an error nothing is left of that."""
+        self._stepper = threading.get_ident()
         with undoing(self._let_go):
             self._find_workers()
             self._log = Sequencer(self._writer)
-            self.report()
+            self._ask("report", dict.fromkeys(range(self._manifest.shards), ()))
+
+    def _step(self, function: Callable[..., Any], *arguments: Any, deadline: Deadline = Deadline(None)) -> Any:
+        """What a function comes to that is a step of its own. Raises `NoStore` behind the store's end."""
+        return _outcome(self._later(function, *arguments), deadline)
+
+    def _later(self, function: Callable[..., Any], *arguments: Any) -> Written[Any]:
+        """A function that is a step of its own, behind those that there are."""
+        # A forked child has the store, but not its thread.
+        if self._process != os.getpid():
+            raise NoStore()
+        try:
+            return self._steps.submit(function, *arguments)
+        except RuntimeError:
+            raise NoStore() from None
 
     def close(self) -> None:
-        """Closes the store, and ends its snapshots. A second call does nothing."""
-        with self._guard:
-            try:
-                self._let_go()
-            finally:
-                self._claim.release()
+        """Closes the store behind the writes that it was given, and ends its snapshots. A second call does nothing."""
+        try:
+            with suppress(NoStore):
+                self._step(self._let_go)
+        finally:
+            self._steps.shutdown(wait=False)
+            self._claim.release()
 
     def _let_go(self) -> None:
         """Lets go of all but the claim. The store is closed first, whatever the rest comes to."""
@@ -202,125 +215,206 @@ class ShardedStore(AbstractContextManager):
         if log is not None:
             log.close()
         self._forget(range(self._manifest.shards))
+        # A newer writer has told where the shards are since.
+        with suppress(UcstoreError, ValueError, OSError, TimedOut):
+            self._writer.check()
+            if self._client.status == "running":
+                tell_places(self._client, self._writer.folder, None)
         with suppress(ValueError, OSError, TimedOut):
             if self._client.status == "running":
                 release = self._client.scheduler.lock_release
                 self._client.sync(release, name=self._lock, id=self._owner)
+
+    def _end(self) -> None:
+        """Closes the store within a step."""
+        self._let_go()
+        self._claim.release()
 
     def __exit__(self, *_: Any) -> None:
         self.close()
 
     def _acknowledged(self) -> Sequencer:
         """How far the shards are. Raises `NoStore` if the store is closed."""
-        if self._log is None:
+        log = self._log
+        if log is None:
             raise NoStore()
-        return self._log
+        return log
 
     @property
     def last(self) -> int:
         """The last sequence: 0 if nothing was written."""
         return self._acknowledged().last
 
-    def write(self, operations: Iterable[Operation]) -> int:
+    def write(self, operations: Iterable[Operation], *, timeout: float | None = None) -> int:
         """Writes a batch, and returns its last sequence once all shards have it in their logs.
 
         Raises what `Store.write` does, `NoWorkers`, `AnotherWriter`, `ShardTimeout`, and `ShardedError` for a
         file's error: then the batch isn't there. An `OSError` is one of the sequencer's log: then that
         isn't known. The store is closed, and opening it tells.
         """
+        deadline = Deadline(timeout)
+        return _outcome(self._submit(operations, deadline), deadline)
+
+    def submit(self, operations: Iterable[Operation], *, timeout: float | None = None) -> Written[int]:
+        """Begins to write a batch behind those that were submitted, and returns a future of what `write` does.
+
+        It waits while two are under way, so that one is placed while the shards take the other. If one fails, those behind
+        it are written all the same. Raises `NoStore`, `ShardTimeout`, and `TypeError` for what is no operation.
+        """
+        return self._submit(operations, Deadline(timeout))
+
+    def _submit(self, operations: Iterable[Operation], deadline: Deadline) -> Written[int]:
         batch = list(operations)
-        parts = self._manifest.parts(batch)
-        with self._guard:
-            log = self._acknowledged()
-            first, last = log.last + 1, log.last + len(batch)
-            calls = {number: (log.lengths[number], first, part) for number, part in parts.items()}
-            # A shard that has a part which isn't acknowledged is opened again, as it was.
-            with undoing(self._forget, parts):
-                lengths = self._ask("apply", calls)
-                with undoing(self.close):
-                    log.append(last, lengths)
+        self._acknowledged()
+        if not self._ahead.acquire(timeout=deadline.left()):
+            raise deadline.refusal("the batch before")
+        with undoing(self._ahead.release):
+            parts = self._manifest.parts(batch)
+            written = self._later(self._write, parts, len(batch), deadline)
+        written.add_done_callback(lambda _: self._ahead.release())
+        return written
+
+    def _write(self, parts: Mapping[int, bytes], count: int, deadline: Deadline) -> int:
+        """Writes a batch that was placed, and returns its last sequence."""
+        log = self._acknowledged()
+        deadline.check("the batch before")
+        first, last = log.last + 1, log.last + count
+        calls = {number: (log.lengths[number], first, part) for number, part in parts.items()}
+        # A shard that has a part which isn't acknowledged is opened again, as it was.
+        with undoing(self._forget, parts):
+            lengths = self._ask("apply", calls, deadline)
+            with undoing(self._end):
+                log.append(last, lengths)
         return last
 
-    def get(self, key: bytes) -> bytes | None:
-        """The value under a key now, or None. Raises what `answers` does."""
-        return self.answers([_bytes_of(key)])[0]
+    def _read(self, method: str, calls: Mapping[int, tuple], timeout: float | None) -> Mapping[int, bytes]:
+        """What shards answer to a call at the last sequence."""
+        deadline = Deadline(timeout)
+        while True:
+            lengths = self._acknowledged().lengths
+            # A shard that was written to for long since then has it no more.
+            with suppress(NotProtected):
+                return self._ask(method, {number: (*call, lengths[number]) for number, call in calls.items()}, deadline)
+            deadline.check("the store")
 
-    def answers(self, queries: Iterable[bytes | Scan]) -> list[Any]:
-        """The answers to queries now, all at one moment, as those of a snapshot.
-
-        Raises `OutOfMemory`, `NoWorkers`, `ShardTimeout`, `TypeError` and `ValueError`.
-        """
-
-        def ask(calls: Mapping[int, tuple]) -> dict[int, Any]:
-            with self._guard, undoing(self._forget, calls):
-                self._acknowledged()
-                return self._ask("latest", calls)
-
-        return _answers(self._manifest, list(map(_checked, queries)), ask)
-
-    def snapshot(self) -> ShardedSnapshot:
+    def snapshot(self, *, timeout: float | None = None) -> ShardedSnapshot:
         """A snapshot at the last sequence, which `with` releases at its end.
 
-        Raises `OutOfMemory` and `NoWorkers`.
+        Raises `OutOfMemory`, `NoWorkers` and `ShardTimeout`.
         """
-        with self._guard:
-            lengths, numbers = list(self._acknowledged().lengths), range(self._manifest.shards)
-            with undoing(self._forget, numbers):
-                at = self._ask("take_snapshot", dict.fromkeys(numbers, ()))
-                snapshot = ShardedSnapshot(self, at, lengths)
-                self._snapshots.add(snapshot)
+        deadline = Deadline(timeout)
+        return self._step(self._take_snapshot, deadline, deadline=deadline)
+
+    def _take_snapshot(self, deadline: Deadline) -> ShardedSnapshot:
+        log = self._acknowledged()
+        snapshot = ShardedSnapshot(self, log.last, log.lengths)
+        calls = {number: (length,) for number, length in enumerate(log.lengths)}
+        with undoing(self._forget, calls):
+            self._ask("keep", calls, deadline)
+        self._snapshots.add(snapshot)
         return snapshot
 
-    def report(self) -> list[Report]:
+    def _release(self, snapshot: ShardedSnapshot, deadline: Deadline) -> None:
+        if snapshot in self._snapshots:
+            calls = {number: (length,) for number, length in enumerate(snapshot.lengths)}
+            try:
+                # A shard that is opened again meanwhile takes it again before.
+                with undoing(self._forget, calls):
+                    self._ask("release", calls, deadline)
+            finally:
+                self._snapshots.discard(snapshot)
+
+    def report(self, *, timeout: float | None = None) -> list[Report]:
         """What each shard holds, in numbers."""
-        with self._guard:
-            found = self._ask("report", dict.fromkeys(range(self._manifest.shards), ()))
+        self._acknowledged()
+        found = self._ask("report", dict.fromkeys(range(self._manifest.shards), ()), Deadline(timeout))
         return list(found.values())
 
-    def _ask(self, method: str, calls: Mapping[int, tuple]) -> dict[int, Any]:
+    def _ask(
+        self, method: str, calls: Mapping[int, tuple], deadline: Deadline = Deadline(None)
+    ) -> dict[int, Any]:
         """What shards answer to a call, all at the same time. Lost ones are opened again."""
         answers: dict[int, Any] = {}
         for _ in range(_TRIES):
             asked, begun = [number for number in calls if number not in answers], {}
-            self._open(asked)
+            self._get_open(asked, deadline)
             for number in asked:
                 with suppress(KeyError, ValueError):
-                    begun[number] = self._actors[number].call(method, *calls[number])
-            answers.update(self._ended(begun, ()))
+                    opening, actor = self._futures[number], self._actors[number]
+                    begun[number] = _Begun(opening, actor.call(method, *calls[number]))
+            answers.update(self._ended(begun, (), deadline))
             if len(answers) == len(calls):
                 return {number: answers[number] for number in calls}
         raise ShardedError(f"the workers of shards were lost {_TRIES} times")
 
-    def _open(self, numbers: Iterable[int]) -> None:
+    def _get_open(self, numbers: Sequence[int], deadline: Deadline) -> None:
+        """Opens the shards that aren't open. A write that is under way ends before: what it comes to isn't known."""
+        if not all(map(self._is_open, numbers)):
+            if threading.get_ident() == self._stepper:
+                self._open(numbers, deadline)
+            else:
+                self._step(self._open, numbers, deadline, deadline=deadline)
+
+    def _open(self, numbers: Iterable[int], deadline: Deadline) -> None:
         """Opens the shards that aren't open, as they were acknowledged, but for lost ones."""
         closed = [number for number in numbers if not self._is_open(number)]
         if closed:
-            self._forget(closed)
+            self._acknowledged()
             workers, begun = self._find_workers(), {}
-            # The scheduler takes the worker that has the fewest actors, if it is told some.
-            how = {"workers": workers, "allow_other_workers": True, "actor": True, "pure": False}
             for number in closed:
-                log = self._acknowledged()
-                keeps = [snapshot.lengths[number] for snapshot in self._snapshots]
-                reached = (log.lengths[number], log.last, keeps)
-                start = (Shard.start, self._writer, number, *reached)
-                begun[number] = self._futures[number] = self._client.submit(*start, **how)
-            actors = self._ended(begun, workers)
+                opening = self._futures.get(number)
+                # One whose time was over may still be under way, or have ended since.
+                if opening is None or number in self._actors or opening.status not in ("pending", "finished"):
+                    self._forget([number])
+                    opening = self._futures[number] = self._start(number, workers)
+                begun[number] = _Begun(opening, opening)
+            actors = self._ended(begun, workers, deadline)
             bar = {"desc": "opening shards", "delay": 1.0, "leave": False, "disable": None}
             self._actors.update(tqdm(actors, total=len(closed), **bar) if tqdm else actors)
+            self._tell_places()
+
+    def _start(self, number: int, workers: list[str]) -> Future:
+        """Begins to open a shard, as it was acknowledged."""
+        log, keeps = self._acknowledged(), [snapshot.lengths[number] for snapshot in self._snapshots]
+        reached = (log.lengths[number], log.last, keeps)
+        # The scheduler takes the worker that has the fewest actors, if it is told some.
+        how = {"workers": workers, "allow_other_workers": True, "actor": True, "pure": False}
+        return self._client.submit(Shard.start, self._writer, number, *reached, **how)
+
+    def _open_lost(self) -> None:
+        """Opens lost shards again, for readers of other processes, if there is a worker for them."""
+        lost = [number for number in range(self._manifest.shards) if not self._is_open(number)]
+        if lost and self._client.status == "running" and self._client.scheduler_info().get("workers"):
+            deadline = Deadline(_WATCH)
+            # Calls of this process are told what is wrong.
+            with suppress(UcstoreError, OSError, TimedOut, CancelledError):
+                self._step(self._open, lost, deadline, deadline=deadline)
+
+    def _tell_places(self) -> None:
+        """Tells readers where the shards are. They wait, if that can't be told now."""
+        with suppress(OSError, TimedOut):
+            places = {number: (actor.key, actor._address) for number, actor in list(self._actors.items())}
+            tell_places(self._client, self._writer.folder, places)
 
     def _is_open(self, number: int) -> bool:
-        return number in self._actors and self._futures[number].status == "finished"
+        opening = self._futures.get(number)
+        return number in self._actors and opening is not None and opening.status == "finished"
 
-    def _ended(self, begun: Mapping[int, Any], workers: Iterable[str]) -> Iterator[tuple[int, Any]]:
+    def _ended(
+        self, begun: Mapping[int, _Begun], workers: Iterable[str], deadline: Deadline
+    ) -> Iterator[tuple[int, Any]]:
         """What calls come to, but for lost shards. All have ended when one's error is raised."""
         errors: list[Exception] = []
-        for number, future in begun.items():
+        for number, (opening, future) in begun.items():
             try:
-                answer = self._wait(number, future, workers)
+                answer = self._wait(number, opening, future, workers, deadline)
+            except ShardTimeout as error:
+                errors.append(error)
             except Exception as error:
                 if _is_lost(future, error):
-                    self._forget([number])
+                    # Another thread may have opened it again.
+                    if self._futures.get(number) is opening:
+                        self._forget([number])
                 else:
                     errors.append(error)
             else:
@@ -331,25 +425,28 @@ class ShardedStore(AbstractContextManager):
         if errors:
             raise errors[0]
 
-    def _wait(self, number: int, future: Any, workers: Iterable[str]) -> Any:
-        """What a call, or an opening on workers, comes to. Raises what it raises."""
-        is_call, begun = not isinstance(future, Future), time.monotonic()
+    def _wait(
+        self, number: int, opening: Future, future: Any, workers: Iterable[str], deadline: Deadline
+    ) -> Any:
+        """What a call, or an opening on workers, comes to. Raises what it raises, and `ShardTimeout`."""
+        is_call, usual = opening is not future, Deadline(self._timeout)
         while True:
+            left = deadline.left()
             try:
                 # An actor belongs to the client that is the current one.
                 with self._client.as_current():
-                    return future.result(timeout=_POLL)
+                    return future.result(timeout=_POLL if left is None else min(_POLL, left))
             except TimedOut:
                 # Dask waits for workers that are gone, and a call of a lost actor may never end.
-                is_lost = self._futures[number].status != "finished"
-                if self._futures[number].status == "pending":
+                is_lost = opening.status != "finished"
+                if opening.status == "pending":
                     there = self._client.scheduler_info().get("workers", ())
                     is_lost = set(workers).isdisjoint(there)
                 if is_lost:
                     raise CancelledError() from None
-                waited = time.monotonic() - begun
-                if is_call and self._timeout is not None and waited >= self._timeout:
-                    raise ShardTimeout(f"shard {number} hasn't answered for {waited:.1f} s") from None
+                deadline.check(f"shard {number}")
+                if is_call and left is None:
+                    usual.check(f"shard {number}")
 
     def _forget(self, numbers: Iterable[int]) -> None:
         """Lets go of shards. Their workers close them, once no call is under way."""
@@ -375,7 +472,7 @@ class ShardedStore(AbstractContextManager):
                 owners.pop(name, None)
             return owners.setdefault(name, owner) == owner, list(dask_scheduler.workers)
 
-        for _ in polls(self._patience):
+        for _ in polls(self._writer.patience):
             status, is_mine, workers = self._client.status, True, []
             with suppress(OSError, TimedOut):
                 if status == "running":
@@ -384,76 +481,39 @@ class ShardedStore(AbstractContextManager):
                 return workers
         if is_mine:
             raise NoWorkers(f"no worker is left for a shard: the client is {status}")
-        raise AnotherWriter(f"another writer has {self._folder} open")
+        raise AnotherWriter(f"another writer has {self._writer.folder} open")
 
 
-class ShardedSnapshot(AbstractContextManager):
-    """A snapshot of all shards: it reads what was written before it was taken."""
+class ShardedSnapshot(Scans, AbstractContextManager):
+    """A snapshot of all shards: it reads what was written before it was taken.
 
-    def __init__(self, store: ShardedStore, at: Mapping[int, int], lengths: Sequence[int]) -> None:
+    It may be sent to another process or to a task, as a `SharedSnapshot`, which stays until this is released.
+    """
+
+    def __init__(self, store: ShardedStore, sequence: int, lengths: Sequence[int]) -> None:
         """`ShardedStore.snapshot` calls it."""
-        self._store, self._at, self._manifest = store, at, store._manifest
-        self.sequence = store.last
+        self._store, self._manifest = store, store._manifest
+        self.sequence = sequence
         """The sequence that it is at."""
         self.lengths = lengths
         """How long each shard's log was then."""
 
-    def release(self) -> None:
+    def __reduce__(self) -> tuple:
+        reader = ShardedReader(self._store._client, self._store._writer.folder, timeout=self._store._timeout)
+        return SharedSnapshot, (reader, self.sequence, self.lengths)
+
+    def release(self, *, timeout: float | None = None) -> None:
         """Releases the snapshot. A second call does nothing, nor one behind the store's end."""
-        with self._store._guard:
-            if self in self._store._snapshots:
-                try:
-                    # A shard that is opened again meanwhile takes it again before.
-                    self._ask("release", dict.fromkeys(self._at, ()))
-                finally:
-                    self._store._snapshots.discard(self)
+        deadline = Deadline(timeout)
+        with suppress(NoStore):
+            self._store._step(self._store._release, self, deadline, deadline=deadline)
 
     def __exit__(self, *_: Any) -> None:
         self.release()
 
-    def _ask(self, method: str, calls: Mapping[int, tuple]) -> dict[int, Any]:
-        """What shards answer to a call at the snapshot."""
-        with self._store._guard:
-            self._store._acknowledged()
-            if self not in self._store._snapshots:
-                raise NotProtected()
-            at = {number: (*call, self._at[number]) for number, call in calls.items()}
-            return self._store._ask(method, at)
-
-    def get(self, key: bytes) -> bytes | None:
-        """The value under a key, or None.
-
-        Raises `NotProtected`, `OutOfMemory`, `NoWorkers`, and `TypeError` for what isn't bytes.
-        """
-        return self.answers([_bytes_of(key)])[0]
-
-    def scan(
-        self, low: bytes = b"", high: bytes | None = None, limit: int | None = None
-    ) -> Iterator[tuple[bytes, bytes]]:
-        """The rows that a `Scan` asks for, in the order of their keys. Raises what `answers` does.
-
-        They are fetched in pages of at most 1,000 rows from each shard, and of a MiB or one row.
-        """
-        low, high, limit = Scan(low, high, limit)._checked()
-        pages = self._ask("page", dict.fromkeys(self._manifest.touched(low, high), (low, high)))
-        rows = (self._rows(number, page, high) for number, page in pages.items())
-        return islice(heapq.merge(*rows), limit)
-
-    def _rows(self, number: int, page: bytes, high: bytes | None) -> Iterator[tuple[bytes, bytes]]:
-        """The rows of a shard from a page on."""
-        rows, more = marshal.loads(page)
-        yield from rows
-        while more:
-            # No key is between the last one and this.
-            page = self._ask("page", {number: (rows[-1][0] + b"\0", high)})[number]
-            rows, more = marshal.loads(page)
-            yield from rows
-
-    def answers(self, queries: Iterable[bytes | Scan]) -> list[Any]:
-        """The answers to queries, in their order: a key's value or None, and the rows of a `Scan`.
-
-        Each shard is asked once, for all that it has to answer. Raises what `get` does, and
-        `ValueError` for a wrong limit.
-        """
-        asked = list(map(_checked, queries))
-        return _answers(self._manifest, asked, lambda calls: self._ask("answers", calls))
+    def _read(self, method: str, calls: Mapping[int, tuple], timeout: float | None) -> Mapping[int, bytes]:
+        self._store._acknowledged()
+        if self not in self._store._snapshots:
+            raise NotProtected()
+        at = {number: (*call, self.lengths[number]) for number, call in calls.items()}
+        return self._store._ask(method, at, Deadline(timeout))

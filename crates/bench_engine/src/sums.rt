@@ -21,8 +21,8 @@ pub(crate) fn with_value(checksum: u64, value: &Option<Bytes>) -> u64 {
 /// A checksum and then the bytes of rows.
 pub(crate) fn with_rows(checksum: u64, rows: &Rows) -> u64 {
     let mut sum = checksum;
-    for (key, value) in rows.as_slice() {
-        sum = with_bytes(with_bytes(sum, key.as_slice()), value.as_slice());
+    for (key, value) in rows.iter() {
+        sum = with_bytes(with_bytes(sum, key), value);
     }
     sum
 }

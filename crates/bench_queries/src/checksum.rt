@@ -20,8 +20,8 @@ pub fn with_answer(checksum: u64, answer: &Answer) -> u64 {
         }
         Answer::Rows(rows) => {
             let mut sum = checksum;
-            for (key, value) in rows.as_slice() {
-                sum = with_bytes(with_bytes(sum, key.as_slice()), value.as_slice());
+            for (key, value) in rows.iter() {
+                sum = with_bytes(with_bytes(sum, key), value);
             }
             sum.wrapping_mul(31).wrapping_add(2)
         }

@@ -7,7 +7,7 @@ use Rattle.uc_bytes.specs.declared.op.Op.TheVariants.{Put, Delete, Merge, Delete
 use Rattle.uc_bytes.specs.declared.op_ref.OpKind.{OpKind}
 use Rattle.uc_bytes.specs.declared.op_ref.OpKind.TheVariants as kinds
 use Rattle.uc_bytes.specs.declared.write.Write.{Write}
-use Rattle.uc_c.specs.Room.{text_bytes}
+use Rattle.uc_rows.specs.RowBytes.{text_bytes}
 
 -- the tag of a kind of operation, as in a write batch (RocksDB, `dbformat.h`)
 abbrev pub tag_of : OpKind → ℕ

@@ -1,24 +1,11 @@
 -- The rows that a scan writes into the room that C gives.
-use Rattle.std.specs.Prelude.{◌≡◌, ◌⊎◌, ℕ, ◌+◌, ◌<◌, ◌≤◌, ℤ, List, ◌++◌, length, take}
-use Rattle.std.specs.List.{flat_map}
+use Rattle.std.specs.Prelude.{◌≡◌, ℕ, ℤ, List, length, take}
+use Rattle.uc_rows.specs.RowBytes.{rows_bytes}
+use Rattle.uc_rows.specs.Fitting.{AreFitting}
 use Rattle.uc_query_read.specs.declared.answer.Answer.{Answer}
 use Rattle.uc_query_read.specs.declared.answer.Answer.TheVariants.{Value, Rows, NotProtected}
 use Rattle.uc_c.specs.declared.status.TheConstants.{OK, NOT_PROTECTED}
-use Rattle.uc_c.specs.Room.{filled, text_bytes}
-
--- a row: its key, and its value
-abbrev pub row_bytes : List ℕ × List ℕ → List ℕ
-row_bytes row = text_bytes row.0 ++ text_bytes row.1
-
--- rows, one behind the other
-abbrev pub rows_bytes : List (List ℕ × List ℕ) → List ℕ
-rows_bytes rows = flat_map row_bytes rows
-
--- The first `count` rows fit the room, and no more do.
-pub record AreFitting (rows : List (List ℕ × List ℕ)) (room count : ℕ) : Type 0 where
-  pub there : count ≤ length rows
-  pub fit : length (rows_bytes (take count rows)) ≤ room
-  pub most : (count ≡ length rows) ⊎ (room < length (rows_bytes (take (count + 1) rows)))
+use Rattle.uc_c.specs.Room.{filled}
 
 -- The rows that fit the room are in it, and their number and the size of all rows are told.
 pub record AreShown (rows : List (List ℕ × List ℕ)) (room room' : List ℕ) (size count : ℕ) : Type 0 where

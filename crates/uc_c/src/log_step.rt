@@ -5,14 +5,14 @@ ghost use Rattle.uc_batch.specs.Rising.{last_of};
 ghost use Rattle.uc_c.specs.LogSteps.{StepsTo};
 ghost use Rattle.uc_c.specs.LogWrites as layout;
 ghost use Rattle.uc_c.specs.LogWrites.{op_bytes, write_bytes};
-ghost use Rattle.uc_c.specs.Room.{text_bytes};
+ghost use Rattle.uc_rows.specs.RowBytes.{text_bytes};
 
 use crate::c_log_place::CLogPlace;
-use crate::room::push_text;
 use std::alloc::{AllocError, Global};
 use uc_batch::{BatchWrites, Ended};
 use uc_bytes::{OpKind, OpRef, WriteRef};
 use uc_logrec::{Next, next_payload};
+use uc_rows::push_text;
 
 /// The writes of a batch, laid out for C.
 #[derive(Drop)]

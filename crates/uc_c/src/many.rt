@@ -10,7 +10,7 @@ use crate::readable::Readable;
 use crate::room::fill;
 use crate::status::{BAD_KEYS, NO_STORE, OK, OUT_OF_MEMORY};
 use std::alloc::{AllocError, Global};
-use uc_engine::Bytes;
+use uc_engine::ValueRef;
 use uc_handle::Handle;
 
 /// The length that is told of a key without a value.
@@ -121,7 +121,7 @@ fn find<R: Readable>(
     let mut left = keys;
     for length in key_lengths {
         let (key, behind) = left.split_at(*length as usize);
-        push_value(&mut lengths, &mut bytes, &source.get(alloc, key)?)?;
+        push_value(&mut lengths, &mut bytes, &source.get_ref(alloc, key)?)?;
         left = behind;
     }
     Ok(Found { lengths, bytes })
@@ -131,15 +131,16 @@ fn find<R: Readable>(
 fn push_value(
     lengths: &mut Vec<u64>,
     bytes: &mut Vec<u8>,
-    value: &Option<Bytes>,
+    value: &Option<ValueRef<'_>>,
 ) -> Result<(), AllocError>
     ensures lengths { OnOk result (lengths.new.items ≡ lengths.old.items ++ length_told value.now ∷ []) }
     ensures bytes { OnOk result (bytes.new.items ≡ bytes.old.items ++ value_bytes value.now) }
 {
     match value {
         Some(value) => {
+            let value = value.as_slice();
             lengths.push(value.len() as u64)?;
-            bytes.extend_from_slice(value.as_slice())
+            bytes.extend_from_slice(value)
         }
         None => {
             lengths.push(NO_VALUE)?;

@@ -1,6 +1,6 @@
 //! [`Readable`]: what is read in the same way.
 use std::alloc::{AllocError, Global};
-use uc_engine::{Answer, Bytes, Engine, EngineView, Query, Rows};
+use uc_engine::{Answer, Bytes, Engine, EngineView, Query, Rows, ValueRef};
 
 /// An engine, or a view of one.
 pub trait Readable {
@@ -11,8 +11,8 @@ pub trait Readable {
     /// What is seen of it.
     ghost viewed: { Self → Viewed };
 
-    /// The value that a key has at the last sequence, if it has one.
-    fn get(&self, alloc: Global, key: &[u8]) -> Result<Option<Bytes>, AllocError>
+    /// The value that a key has at the last sequence, if it has one. One that was put stays where it is.
+    fn get_ref(&self, alloc: Global, key: &[u8]) -> Result<Option<ValueRef<'_>>, AllocError>
         ensures { IfOk result (λ value. value ≡ value_seen (viewed self.now) key.now) };
 
     /// Looks a key up at a sequence. The answer is a value, if the key has one, or `NotProtected` if no snapshot is at
@@ -41,8 +41,8 @@ impl Readable for Engine {
 
     ghost viewed = { viewed_in };
 
-    fn get(&self, alloc: Global, key: &[u8]) -> Result<Option<Bytes>, AllocError> {
-        Engine::get(self, alloc, key)
+    fn get_ref(&self, alloc: Global, key: &[u8]) -> Result<Option<ValueRef<'_>>, AllocError> {
+        Engine::get_ref(self, alloc, key)
     }
 
     fn get_at(&self, alloc: Global, key: &[u8], at: u64) -> Result<Answer, AllocError> {
@@ -67,8 +67,8 @@ impl Readable for Engine {
 impl Readable for EngineView {
     ghost viewed = { λ v. v };
 
-    fn get(&self, alloc: Global, key: &[u8]) -> Result<Option<Bytes>, AllocError> {
-        EngineView::get(self, alloc, key)
+    fn get_ref(&self, alloc: Global, key: &[u8]) -> Result<Option<ValueRef<'_>>, AllocError> {
+        EngineView::get_ref(self, alloc, key)
     }
 
     fn get_at(&self, alloc: Global, key: &[u8], at: u64) -> Result<Answer, AllocError> {

@@ -1,17 +1,18 @@
 //! Look-ups in the store behind a handle, and in what else is [`Readable`].
-ghost use Rattle.std.specs.Prelude.{◌≡◌, ◌⊎◌};
+ghost use Rattle.std.specs.Prelude.{◌≡◌, ◌⊎◌, length};
 ghost use Rattle.uc_query_read.specs.declared.query.Query.TheVariants as queries;
 ghost use Rattle.uc_engine.specs.Engines.{answer_in, last_value};
 ghost use Rattle.uc_engine.specs.EngineViews.{answer_seen, value_seen};
 ghost use Rattle.uc_c.specs.declared.status.TheConstants.{OK, OUT_OF_MEMORY};
 ghost use Rattle.uc_c.specs.Reading.{Found, FoundAt, IsLookedUp};
 ghost use Rattle.uc_c.specs.Replies.{Answers};
+ghost use Rattle.uc_c.specs.Room.{filled};
 
 use crate::readable::Readable;
 use crate::room::fill;
 use crate::status::{NO_STORE, NOT_FOUND, NOT_PROTECTED, OK, OUT_OF_MEMORY};
 use std::alloc::Global;
-use uc_engine::{Answer, Bytes};
+use uc_engine::Answer;
 use uc_handle::Handle;
 
 /// Looks a key up at the last sequence, copies its value into the room, as much of it as there is room for, and says
@@ -72,8 +73,12 @@ pub fn look_up<R: Readable>(
         ⊎ Found result (value_seen (R.viewed source.now) key.now) room.old room.new size.new }
     ensures untold { (result ≡ OK) ⊎ ((room.new ≡ room.old) × (size.new ≡ size.old)) }
 {
-    match source.get(alloc, key) {
-        Ok(value) => tell_value(&value, room, size),
+    match source.get_ref(alloc, key) {
+        Ok(Some(value)) => {
+            tell_value(value.as_slice(), room, size);
+            OK
+        }
+        Ok(None) => NOT_FOUND,
         Err(_) => OUT_OF_MEMORY,
     }
 }
@@ -97,19 +102,13 @@ pub fn look_up_at<R: Readable>(
     }
 }
 
-/// Copies a value, if there is one.
-fn tell_value(value: &Option<Bytes>, room: &mut [u8], size: &mut usize) -> i32
-    ensures found { Found result value.now room.old room.new size.new }
-    ensures untold { (result ≡ OK) ⊎ ((room.new ≡ room.old) × (size.new ≡ size.old)) }
+/// Copies a value, as much of it as there is room for, and says how long it is.
+fn tell_value(value: &[u8], room: &mut [u8], size: &mut usize)
+    ensures room { room.new ≡ filled value.now room.old }
+    ensures size { size.new ≡ length value.now }
 {
-    match value {
-        Some(value) => {
-            fill(room, value.as_slice());
-            *size = value.len();
-            OK
-        }
-        None => NOT_FOUND,
-    }
+    fill(room, value);
+    *size = value.len();
 }
 
 /// Copies the value of an answer, if there is one.
@@ -119,7 +118,11 @@ fn tell(answer: &Answer, room: &mut [u8], size: &mut usize) -> i32
     ensures untold { (result ≡ OK) ⊎ ((room.new ≡ room.old) × (size.new ≡ size.old)) }
 {
     match answer {
-        Answer::Value(value) => tell_value(value, room, size),
+        Answer::Value(Some(value)) => {
+            tell_value(value.as_slice(), room, size);
+            OK
+        }
+        Answer::Value(None) => NOT_FOUND,
         Answer::NotProtected(_) => NOT_PROTECTED,
         Answer::Rows(_) => unreachable!(),
     }

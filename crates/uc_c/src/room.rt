@@ -1,8 +1,6 @@
 //! What is written into the room that C gives.
-ghost use Rattle.std.specs.Prelude.{◌≡◌, ◌++◌, OnOk};
-ghost use Rattle.uc_c.specs.Room.{filled, text_bytes};
-
-use std::alloc::AllocError;
+ghost use Rattle.std.specs.Prelude.{◌≡◌};
+ghost use Rattle.uc_c.specs.Room.{filled};
 
 /// Copies as many of the bytes as there is room for.
 pub fn fill(room: &mut [u8], bytes: &[u8])
@@ -18,12 +16,4 @@ pub fn fill_numbers(room: &mut [u64], numbers: &[u64])
 {
     let count = room.len().min(numbers.len());
     room[..count].copy_from_slice(&numbers[..count]);
-}
-
-/// Writes a text at the end, behind its length.
-pub fn push_text(bytes: &mut Vec<u8>, text: &[u8]) -> Result<(), AllocError>
-    ensures { OnOk result (bytes.new.items ≡ bytes.old.items ++ text_bytes text.now) }
-{
-    bytes.extend_from_slice(&(text.len() as u64).to_le_bytes())?;
-    bytes.extend_from_slice(text)
 }

@@ -1,16 +1,15 @@
 //! Scans of the store behind a handle, and of what else is [`Readable`].
-ghost use Rattle.std.specs.Prelude.{◌≡◌, ◌⊎◌, ◌≤◌, ◌++◌, length, take, Some, None, IfOk, IfSome, OnOk, if◌then◌else◌};
+ghost use Rattle.std.specs.Prelude.{◌≡◌, ◌⊎◌, Some, None, IfOk, if◌then◌else◌};
 ghost use Rattle.uc_query_read.specs.declared.query.Query.TheVariants as queries;
 ghost use Rattle.uc_engine.specs.Engines.{answer_in, last_rows};
 ghost use Rattle.uc_engine.specs.EngineViews.{answer_seen, rows_seen};
 ghost use Rattle.uc_c.specs.declared.status.TheConstants.{OK, OUT_OF_MEMORY};
 ghost use Rattle.uc_c.specs.Compacting.{Settles};
 ghost use Rattle.uc_c.specs.Replies.{Answers, Becomes};
-ghost use Rattle.uc_c.specs.Rows as layout;
-ghost use Rattle.uc_c.specs.Rows.{row_bytes, AreFitting, AreShown, IsScanned, Scanned};
+ghost use Rattle.uc_c.specs.Rows.{AreShown, IsScanned, Scanned};
 
 use crate::readable::Readable;
-use crate::room::{fill, push_text};
+use crate::room::fill;
 use crate::status::{NO_STORE, NOT_PROTECTED, OK, OUT_OF_MEMORY};
 use std::alloc::{AllocError, Global};
 use uc_engine::{Answer, Bytes, Query, Rows};
@@ -18,20 +17,6 @@ use uc_handle::Handle;
 
 /// How many gathered writes a scan sorts: if there are more, they become a run first.
 const MOST_SORTED: usize = 256;
-
-/// The bytes of the two lengths in a row.
-const LENGTHS: usize = 16;
-
-/// The rows that fit a room, and the size of all.
-#[derive(Drop)]
-struct Laid {
-    /// The rows that fit, one behind the other.
-    bytes: Vec<u8>,
-    /// How many these are.
-    count: usize,
-    /// The size of all rows.
-    whole: usize,
-}
 
 /// The end of a scan, if it is bounded.
 fn bound(alloc: Global, high: &[u8], bounded: bool) -> Result<Option<Bytes>, AllocError>
@@ -130,7 +115,10 @@ pub fn scan<R: Readable>(
         ⊎ ((room.new ≡ room.old) × (size.new ≡ size.old) × (count.new ≡ count.old)) }
 {
     match rows_in(alloc, source, low, high, bounded, limit) {
-        Ok(rows) => show_rows(alloc, rows.as_slice(), room, size, count),
+        Ok(rows) => {
+            show_rows(&rows, room, size, count);
+            OK
+        }
         Err(_) => OUT_OF_MEMORY,
     }
 }
@@ -171,7 +159,7 @@ pub fn scan_at<R: Readable>(
         ⊎ ((room.new ≡ room.old) × (size.new ≡ size.old) × (count.new ≡ count.old)) }
 {
     match answer_to(alloc, source, low, high, bounded, at, limit) {
-        Ok(answer) => show(alloc, &answer, room, size, count),
+        Ok(answer) => show(&answer, room, size, count),
         Err(_) => OUT_OF_MEMORY,
     }
 }
@@ -198,105 +186,29 @@ fn answer_to<R: Readable>(
     source.answer(alloc, &query)
 }
 
-/// Writes the rows that fit the room.
-fn show_rows(
-    alloc: Global,
-    rows: &[(Bytes, Bytes)],
-    room: &mut [u8],
-    size: &mut usize,
-    count: &mut u64,
-) -> i32
-    ensures shown { (result ≡ OUT_OF_MEMORY)
-        ⊎ ((result ≡ OK) × AreShown rows.now room.old room.new size.new count.new) }
-    ensures untold { (result ≡ OK)
-        ⊎ ((room.new ≡ room.old) × (size.new ≡ size.old) × (count.new ≡ count.old)) }
+/// Writes the rows that fit the room, and tells how many these are, and the size of all.
+fn show_rows(rows: &Rows, room: &mut [u8], size: &mut usize, count: &mut u64)
+    ensures { AreShown rows.now room.old room.new size.new count.new }
 {
-    match laid_rows(alloc, rows, room.len()) {
-        Ok(laid) => {
-            fill(room, laid.bytes.as_slice());
-            *size = laid.whole;
-            *count = laid.count as u64;
-            OK
-        }
-        Err(_) => OUT_OF_MEMORY,
-    }
+    let (bytes, fit) = rows.fitting(room.len());
+    fill(room, bytes);
+    *size = rows.as_bytes().len();
+    *count = fit as u64;
 }
 
 /// Writes the rows of an answer that fit the room.
-fn show(alloc: Global, answer: &Answer, room: &mut [u8], size: &mut usize, count: &mut u64) -> i32
+fn show(answer: &Answer, room: &mut [u8], size: &mut usize, count: &mut u64) -> i32
     requires { IsScanned answer.now }
-    ensures scanned { (result ≡ OUT_OF_MEMORY)
-        ⊎ Scanned result answer.now room.old room.new size.new count.new }
+    ensures scanned { Scanned result answer.now room.old room.new size.new count.new }
     ensures untold { (result ≡ OK)
         ⊎ ((room.new ≡ room.old) × (size.new ≡ size.old) × (count.new ≡ count.old)) }
 {
     match answer {
-        Answer::Rows(rows) => show_rows(alloc, rows.as_slice(), room, size, count),
+        Answer::Rows(rows) => {
+            show_rows(rows, room, size, count);
+            OK
+        }
         Answer::NotProtected(_) => NOT_PROTECTED,
         Answer::Value(_) => unreachable!(),
     }
-}
-
-/// The rows that fit a room of so many bytes, and the size of all.
-fn laid_rows(alloc: Global, rows: &[(Bytes, Bytes)], room: usize) -> Result<Laid, AllocError>
-    ensures bytes { IfOk result (λ laid. laid.bytes.items ≡ layout.rows_bytes (take laid.count rows.now)) }
-    ensures fitting { IfOk result (λ laid. AreFitting rows.now room laid.count) }
-    ensures whole { IfOk result (λ laid. laid.whole ≡ length (layout.rows_bytes rows.now)) }
-{
-    let (bytes, count) = fitting_bytes(alloc, rows, room)?;
-    let whole = if count == rows.len() {
-        bytes.len()
-    } else {
-        // More than a `usize` holds lies in no memory.
-        let Some(whole) = rows_size(rows) else {
-            return Err(AllocError);
-        };
-        whole
-    };
-    Ok(Laid {
-        bytes,
-        count,
-        whole,
-    })
-}
-
-/// The bytes of the rows that fit a room of so many bytes, and how many rows these are.
-fn fitting_bytes(
-    alloc: Global,
-    rows: &[(Bytes, Bytes)],
-    room: usize,
-) -> Result<(Vec<u8>, usize), AllocError>
-    ensures bytes { IfOk result (λ found. found.0.items ≡ layout.rows_bytes (take found.1 rows.now)) }
-    ensures fitting { IfOk result (λ found. AreFitting rows.now room found.1) }
-{
-    let mut bytes = Vec::new(alloc);
-    for (count, row) in rows.iter().enumerate() {
-        let used = bytes.len();
-        push_row(&mut bytes, row)?;
-        if bytes.len() > room {
-            bytes.truncate(used);
-            return Ok((bytes, count));
-        }
-    }
-    Ok((bytes, rows.len()))
-}
-
-/// The size of all rows, if a `usize` holds it.
-fn rows_size(rows: &[(Bytes, Bytes)]) -> Option<usize>
-    ensures { IfSome result (λ size. size ≡ length (layout.rows_bytes rows.now)) }
-{
-    let mut size: usize = 0;
-    for row in rows {
-        let texts = row.0.len().checked_add(row.1.len())?;
-        size = size.checked_add(texts)?.checked_add(LENGTHS)?;
-    }
-    Some(size)
-}
-
-/// Writes a row at the end.
-fn push_row(bytes: &mut Vec<u8>, row: &(Bytes, Bytes)) -> Result<(), AllocError>
-    ensures { OnOk result (bytes.new.items ≡ bytes.old.items ++ row_bytes row.now) }
-{
-    push_text(bytes, row.0.as_slice())?;
-    push_text(bytes, row.1.as_slice())
 }

@@ -2,3 +2,4 @@ mod Laid
 mod Counted
 mod Parted
 mod Paged
+mod Batched

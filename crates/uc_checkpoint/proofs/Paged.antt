@@ -2,7 +2,7 @@
 use Rattle.std.proofs.Common.{◌≡◌, ℕ, ◌+◌, ◌≤◌, ◌<◌, List, [], ◌∷◌, ◌++◌, length, get_or, take, drop, Option, Some, None, refl, sym, ap, subst, ◌∙◌, arith}
 use Rattle.std.proofs.Math.Seq.{take-append_seam}
 use Rattle.std.proofs.lemmas.List.{take-append-drop, take-take, length-take, length-drop, length-append, take_all, drop_all, drop-drop, get_or-take, get_or-drop}
-use Rattle.uc_query_read.specs.Rising.{KeysRise}
+use Rattle.uc_rows.specs.Rising.{KeysRise}
 use Rattle.uc_checkpoint.specs.HeldCheckpoints.{Parts, Splits, IsPage}
 use Rattle.uc_checkpoint.specs.declared.checkpoint.TheConstants.{MOST_ROWS}
 use Rattle.uc_checkpoint.proofs.Parted.{parted}

@@ -14,7 +14,7 @@ use Rattle.uc_bytes.specs.declared.write.Write.{Write}
 use Rattle.uc_model.proofs.Members.{contains_first, contains_later, contains_cases, contains_nothing}
 use Rattle.uc_oper.specs.Operation.{Operation}
 use Rattle.uc_query_read.specs.Answers.{rows_of, named_keys}
-use Rattle.uc_query_read.specs.Rising.{KeysRise}
+use Rattle.uc_rows.specs.Rising.{KeysRise}
 use Rattle.uc_query_read.specs.Scans.{IsRow, AreFirst, IsScan}
 use Rattle.uc_checkpoint.specs.HeldCheckpoints.{Parts}
 

@@ -1,5 +1,5 @@
 //! [`Checkpoint`]: the rows of a view as a write-ahead log, piece by piece.
-ghost use Rattle.std.specs.Prelude.{◌≡◌, ◌≤◌, ◌<◌, ◌+◌, ◌^◌, ◌++◌, ◌∷◌, [], IfOk, IfErr, MatchOption, OnOk, length, option_map};
+ghost use Rattle.std.specs.Prelude.{◌≡◌, ◌≤◌, ◌<◌, ◌+◌, ◌^◌, ◌++◌, ◌∷◌, [], IfOk, IfErr, MatchOption, OnOk, length, take, option_map};
 ghost use Rattle.uc_batch.specs.Gathering.{FitTogether, numbered_text};
 ghost use Rattle.uc_checkpoint.specs.Checkpoints.{LaysInto, LaysOut, RefusesPiece, all_rows, piece_size, put_of, puts_of, rows_behind, rows_left};
 ghost use Rattle.uc_checkpoint.specs.HeldCheckpoints.{IsNext, IsPage, Parts, RefusesRows, Splits};
@@ -13,7 +13,7 @@ use uc_bytes::{Bytes, MAX_SEQUENCE, OpRef};
 use uc_live::View;
 use uc_logrec::payload_bytes;
 use uc_oper::Operator;
-use uc_query_read::{scan_rows_are_determined, scan_rows_are_first};
+use uc_query_read::{Rows, scan_rows_are_determined, scan_rows_are_first};
 
 /// The most rows of a piece.
 const MOST_ROWS: u64 = 1 << 16;
@@ -49,10 +49,12 @@ impl<O: Operator> Drop for Checkpoint<O> {
     }
 }
 
-/// Rows of a piece, and the key of the row behind them, if there is one.
+/// Rows, the first of which are those of a piece, and the key of the row behind these, if there is one.
 #[derive(Drop)]
 struct Page {
-    rows: Vec<(Bytes, Bytes)>,
+    rows: Rows,
+    /// How many are the piece's.
+    count: usize,
     next: Option<Bytes>,
 }
 
@@ -65,13 +67,12 @@ struct Piece {
 }
 
 /// Adds the put of a row to a batch.
-fn push_row(batch: &mut WriteBatch, row: &(Bytes, Bytes)) -> Result<(), CheckpointError>
+fn push_row(batch: &mut WriteBatch, key: &[u8], value: &[u8]) -> Result<(), CheckpointError>
     requires { length batch.old < MOST_ROWS }
-    ensures ok { OnOk result (batch.new ≡ batch.old ++ put_of row.now ∷ []) }
-    ensures err { IfErr result (λ error. RefusesRows (row.now ∷ []) error) }
+    ensures ok { OnOk result (batch.new ≡ batch.old ++ put_of (key.now, value.now) ∷ []) }
+    ensures err { IfErr result (λ error. RefusesRows ((key.now, value.now) ∷ []) error) }
 {
-    let (key, value) = row;
-    match batch.push(&OpRef::put(key.as_slice(), value.as_slice())) {
+    match batch.push(&OpRef::put(key, value)) {
         Ok(()) => Ok(()),
         Err(PushError::TooLong) => Err(CheckpointError::TooLong),
         Err(PushError::Full) => unreachable!(),
@@ -79,30 +80,34 @@ fn push_row(batch: &mut WriteBatch, row: &(Bytes, Bytes)) -> Result<(), Checkpoi
     }
 }
 
-/// The batch that puts rows.
-fn batch_of(alloc: Global, rows: &[(Bytes, Bytes)]) -> Result<WriteBatch, CheckpointError>
-    requires { length rows.now ≤ MOST_ROWS }
-    ensures ok { IfOk result (λ batch. batch ≡ puts_of rows.now) }
-    ensures err { IfErr result (λ error. RefusesRows rows.now error) }
+/// The batch that puts the first rows.
+fn batch_of(alloc: Global, rows: &Rows, count: usize) -> Result<WriteBatch, CheckpointError>
+    requires { count ≤ MOST_ROWS }
+    ensures ok { IfOk result (λ batch. batch ≡ puts_of (take count rows.now)) }
+    ensures err { IfErr result (λ error. RefusesRows (take count rows.now) error) }
 {
     let mut batch = WriteBatch::new(alloc)?;
-    for row in rows {
-        push_row(&mut batch, row)?;
+    for (key, value) in rows.iter() {
+        if batch.len() as usize >= count {
+            break;
+        }
+        push_row(&mut batch, key, value)?;
     }
     Ok(batch)
 }
 
-/// The first `most` rows, and the key of the row behind them.
-fn split(rows: Vec<(Bytes, Bytes)>, most: u64) -> Page
-    requires { length rows.items ≤ most + 1 }
-    ensures { Splits most rows.items result.rows.items result.next }
+/// The rows, split behind the first `most`.
+fn split(alloc: Global, rows: Rows, most: u64) -> Result<Page, AllocError>
+    requires { length rows ≤ most + 1 }
+    ensures splits { IfOk result (λ page. Splits most rows (take page.count page.rows) page.next) }
+    ensures count { IfOk result (λ page. page.count ≡ length (take page.count page.rows)) }
 {
-    let mut rows = rows;
-    if rows.len() as u64 <= most {
-        return Page { rows, next: None };
-    }
-    let next = rows.pop().map(|(key, _)| key);
-    Page { rows, next }
+    let count = (rows.len() as u64).min(most) as usize;
+    let next = match rows.get(count) {
+        Some((key, _)) => Some(Bytes::from_slice(alloc, key)?),
+        None => None,
+    };
+    Ok(Page { rows, count, next })
 }
 
 /// The bytes of a batch, with a sequence.
@@ -141,20 +146,22 @@ impl<O: Operator> Checkpoint<O> {
 
     /// The next rows, as many as a piece has.
     fn page(&self, alloc: Global, most: u64) -> Result<Page, AllocError>
-        ensures { IfOk result (λ page.
-            IsPage (all_rows O.meaning self.now.seen) self.now.rows (piece_size most) page.rows.items page.next) }
+        ensures page { IfOk result (λ page. IsPage (all_rows O.meaning self.now.seen) self.now.rows (piece_size most)
+            (take page.count page.rows) page.next) }
+        ensures count { IfOk result (λ page. page.count ≡ length (take page.count page.rows)) }
     {
         scan_rows_are_first::<O>();
         scan_rows_are_determined::<O>();
         let Some(next) = &self.next else {
             return Ok(Page {
-                rows: Vec::new(alloc),
+                rows: Rows::new(alloc),
+                count: 0,
                 next: None,
             });
         };
         let most = most.clamp(1, MOST_ROWS);
         let rows = self.view.scan(alloc, next.as_slice(), &None, most + 1)?;
-        Ok(split(rows.into_vec(), most))
+        split(alloc, rows, most)
     }
 
     /// The piece that comes next, if a row is left.
@@ -169,17 +176,21 @@ impl<O: Operator> Checkpoint<O> {
         ensures err { IfErr result (RefusesPiece O.meaning self.now) }
     {
         let page = self.page(alloc, most)?;
-        if page.rows.is_empty() {
+        if page.count == 0 {
             return Ok(None);
         }
-        let batch = batch_of(alloc, &page.rows)?;
-        let count = page.rows.len() as u64;
+        let batch = batch_of(alloc, &page.rows, page.count)?;
+        let count = page.count as u64;
         if count > MAX_SEQUENCE - self.rows {
             return Err(CheckpointError::SequencesSpent);
         }
         let bytes = numbered(alloc, &batch, self.rows + 1)?;
         let text = payload_bytes(alloc, log_length, &bytes)?;
-        let Page { rows: _, next } = page;
+        let Page {
+            rows: _,
+            count: _,
+            next,
+        } = page;
         let rows = self.rows + count;
         Ok(Some(Piece { text, next, rows }))
     }

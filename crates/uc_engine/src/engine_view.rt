@@ -10,7 +10,7 @@ use std::alloc::{AllocError, Global};
 use std::marker::Model;
 use uc_bytes::Bytes;
 use uc_live::{Version, View};
-use uc_oper::{Counter, Maximum};
+use uc_oper::{Counter, Maximum, ValueRef, owned_value};
 use uc_query_read::{Answer, Query, Rows};
 
 /// A view of a store of each operator.
@@ -146,15 +146,24 @@ impl EngineView {
         }
     }
 
-    /// The value that a key has at the last sequence, if it has one.
+    /// The value that a key has at the last sequence, if it has one, in memory of its own.
     pub fn get(&self, alloc: Global, key: &[u8]) -> Result<Option<Bytes>, AllocError>
         ensures { IfOk result (λ value. value ≡ value_seen self.now key.now) }
     {
+        let value = self.get_ref(alloc, key)?;
+        owned_value(alloc, value)
+    }
+
+    /// The value that a key has at the last sequence, if it has one. One that was put, and that nothing is merged into, stays
+    /// where it is.
+    pub fn get_ref(&self, alloc: Global, key: &[u8]) -> Result<Option<ValueRef<'_>>, AllocError>
+        ensures { IfOk result (λ value. value ≡ value_seen self.now key.now) }
+    {
         match &self.view {
-            AnyView::Append(view) => view.get(alloc, key),
-            AnyView::Counter(view) => view.get(alloc, key),
-            AnyView::Maximum(view) => view.get(alloc, key),
-            AnyView::Tail(view) => view.get(alloc, key),
+            AnyView::Append(view) => view.get_ref(alloc, key),
+            AnyView::Counter(view) => view.get_ref(alloc, key),
+            AnyView::Maximum(view) => view.get_ref(alloc, key),
+            AnyView::Tail(view) => view.get_ref(alloc, key),
         }
     }
 

@@ -47,4 +47,5 @@ pub use uc_live::{
     LiveOptions, Options, ReleaseError, RoomError, WriteError, batches_are_walked, flushes_go_in,
     jobs_go_in, recorded_batch_is_recovered,
 };
+pub use uc_oper::ValueRef;
 pub use uc_query_read::{Answer, Query, Rows};

@@ -6,18 +6,28 @@ ghost use Rattle.uc_engine.specs.Engines.{answer_in, last_rows, last_value};
 use crate::engine::{AnyStore, Engine};
 use std::alloc::{AllocError, Global};
 use uc_bytes::Bytes;
+use uc_oper::{ValueRef, owned_value};
 use uc_query_read::{Answer, Query, Rows};
 
 impl Engine {
-    /// The value that a key has at the last sequence, if it has one.
+    /// The value that a key has at the last sequence, if it has one, in memory of its own.
     pub fn get(&self, alloc: Global, key: &[u8]) -> Result<Option<Bytes>, AllocError>
         ensures { IfOk result (λ value. value ≡ last_value self.now key.now) }
     {
+        let value = self.get_ref(alloc, key)?;
+        owned_value(alloc, value)
+    }
+
+    /// The value that a key has at the last sequence, if it has one. One that was put, and that nothing is merged into, stays
+    /// where it is.
+    pub fn get_ref(&self, alloc: Global, key: &[u8]) -> Result<Option<ValueRef<'_>>, AllocError>
+        ensures { IfOk result (λ value. value ≡ last_value self.now key.now) }
+    {
         match &self.store {
-            AnyStore::Append(store) => store.get(alloc, key),
-            AnyStore::Counter(store) => store.get(alloc, key),
-            AnyStore::Maximum(store) => store.get(alloc, key),
-            AnyStore::Tail(store) => store.get(alloc, key),
+            AnyStore::Append(store) => store.get_ref(alloc, key),
+            AnyStore::Counter(store) => store.get_ref(alloc, key),
+            AnyStore::Maximum(store) => store.get_ref(alloc, key),
+            AnyStore::Tail(store) => store.get_ref(alloc, key),
         }
     }
 

@@ -12,9 +12,9 @@ use std::sync::Arc;
 use uc_bytes::Bytes;
 use uc_memtable::FlushableMemtables;
 use uc_model::effect_continues_value;
-use uc_oper::Operator;
+use uc_oper::{Operator, ValueRef};
 use uc_query_read::{Rows, equal_values_give_equal_answers, rows_at, rows_behind, value_behind};
-use uc_run::{Run, flush_keeps_every_effect};
+use uc_run::{Run, SoughtKey, flush_keeps_every_effect};
 use uc_version::Version;
 
 /// The last sequence; 0 if nothing was written.
@@ -28,20 +28,22 @@ pub(crate) fn last_sequence(version: &Version, gathered: &FlushableMemtables) ->
 }
 
 /// The value that a key has at the last sequence, if it has one. It asks the memtables first, and then the runs, each
-/// from the newest on, up to the first that puts or deletes the key.
-pub(crate) fn last_value<O: Operator>(
+/// from the newest on, up to the first that puts or deletes the key. A value that was put, and that nothing is merged into,
+/// stays where it is.
+pub(crate) fn last_value<'a, O: Operator>(
     alloc: Global,
-    version: &Version,
-    gathered: &FlushableMemtables,
+    version: &'a Version,
+    gathered: &'a FlushableMemtables,
     key: &[u8],
-) -> Result<Option<Bytes>, AllocError>
+) -> Result<Option<ValueRef<'a>>, AllocError>
     ensures { IfOk result (λ value. value ≡ value_of O.meaning
         (writes_in version.now ++ gathered.now.shown) key.now (last_of version.now.last gathered.now.shown)) }
 {
     effect_continues_value::<O>();
     let last = last_sequence(version, gathered);
-    let newer = gathered.effect::<O>(alloc, key, last)?;
-    value_behind::<O>(alloc, version, key, last, newer)
+    let key = SoughtKey::new(key);
+    let newer = gathered.effect_of_sought::<O>(alloc, &key, last)?;
+    value_behind::<O>(alloc, version, &key, last, newer)
 }
 
 /// The run of what is gathered. It costs a sort.

@@ -10,13 +10,24 @@ use crate::live_store::LiveStore;
 use std::alloc::{AllocError, Global};
 use uc_bytes::Bytes;
 use uc_model::later_writes_change_nothing;
-use uc_oper::Operator;
+use uc_oper::{Operator, ValueRef, owned_value};
 use uc_query_read::{Answer, Query, Rows, answer_one, equal_values_give_equal_answers, get};
 
 impl<O: Operator> LiveStore<O> {
-    /// The value that a key has at the last sequence, if it has one. It asks the memtables first, and then the runs,
-    /// each from the newest on, up to the first that puts or deletes the key.
+    /// The value that a key has at the last sequence, if it has one, in memory of its own. It is found as
+    /// [`get_ref`](LiveStore::get_ref) does.
     pub fn get(&self, alloc: Global, key: &[u8]) -> Result<Option<Bytes>, AllocError>
+        ensures { IfOk result (λ value.
+            value ≡ value_of O.meaning (lives.writes_of self.now) key.now (lives.last self.now)) }
+    {
+        let value = self.get_ref(alloc, key)?;
+        owned_value(alloc, value)
+    }
+
+    /// The value that a key has at the last sequence, if it has one. It asks the memtables first, and then the runs,
+    /// each from the newest on, up to the first that puts or deletes the key. One that was put, and
+    /// that nothing is merged into, stays where it is.
+    pub fn get_ref(&self, alloc: Global, key: &[u8]) -> Result<Option<ValueRef<'_>>, AllocError>
         ensures { IfOk result (λ value.
             value ≡ value_of O.meaning (lives.writes_of self.now) key.now (lives.last self.now)) }
     {

@@ -15,7 +15,7 @@ use std::sync::Arc;
 use uc_bytes::Bytes;
 use uc_memtable::FlushableMemtables;
 use uc_model::later_writes_change_nothing;
-use uc_oper::Operator;
+use uc_oper::{Operator, ValueRef, owned_value};
 use uc_query_read::{Answer, Query, Rows, answer_one, equal_values_give_equal_answers, get};
 use uc_run::Run;
 use uc_version::Version;
@@ -133,8 +133,19 @@ impl<O: Operator> View<O> {
         let _ = &self.parts;
     }
 
-    /// The value that a key has at the last sequence, if it has one, as [`LiveStore::get`] finds it.
+    /// The value that a key has at the last sequence, if it has one, in memory of its own. It is found as
+    /// [`get_ref`](View::get_ref) does.
     pub fn get(&self, alloc: Global, key: &[u8]) -> Result<Option<Bytes>, AllocError>
+        ensures { IfOk result (λ value.
+            value ≡ value_of O.meaning (views.writes_of self.now) key.now (views.last self.now)) }
+    {
+        let value = self.get_ref(alloc, key)?;
+        owned_value(alloc, value)
+    }
+
+    /// The value that a key has at the last sequence, if it has one, as [`LiveStore::get_ref`] finds it. One that was put,
+    /// and that nothing is merged into, stays where it is.
+    pub fn get_ref(&self, alloc: Global, key: &[u8]) -> Result<Option<ValueRef<'_>>, AllocError>
         ensures { IfOk result (λ value.
             value ≡ value_of O.meaning (views.writes_of self.now) key.now (views.last self.now)) }
     {

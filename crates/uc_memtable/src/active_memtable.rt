@@ -15,8 +15,8 @@ use crate::sight::Sight;
 use std::alloc::{AllocError, Global};
 use std::marker::Model;
 use uc_bytes::WriteRef;
-use uc_oper::{Effect, Operator};
-use uc_run::{Memtable, Run};
+use uc_oper::{Effect, EffectRef, Operator};
+use uc_run::{Memtable, Run, SoughtKey};
 
 /// A memtable that is looked into while it takes writes. A contract sees it as the writes that are shown, and those that
 /// were prepared and wait, in order.
@@ -224,15 +224,30 @@ impl ActiveMemtable {
         Ok(apart)
     }
 
-    /// What the shown writes at or below a sequence together do to a key. It looks at the range deletions, the newest
-    /// first, down to one over the key, and then at the writes of the key above it, down to a put or a delete. Merges
-    /// above that one cost the length of the text that they give.
+    /// As [`effect_of_sought`](ActiveMemtable::effect_of_sought), of a key that it hashes, with a copy of the value that is
+    /// put.
     pub fn effect<O: Operator>(
         &self,
         alloc: Global,
         key: &[u8],
         at: u64,
     ) -> Result<Effect, AllocError>
+        ensures { IfOk result (λ effect. effect ≡ effect_on O.meaning self.now.shown key.now at) }
+    {
+        self.effect_of_sought::<O>(alloc, &SoughtKey::new(key), at)?
+            .into_effect(alloc)
+    }
+
+    /// What the shown writes at or below a sequence together do to a key. It looks at the range deletions, the newest
+    /// first, down to one over the key, and then at the writes of the key above it, down to a put or a delete. Merges
+    /// above that one cost the length of the text that they give. A value that is put, and that nothing is merged into, stays
+    /// where it is.
+    pub fn effect_of_sought<O: Operator>(
+        &self,
+        alloc: Global,
+        key: &SoughtKey<'_>,
+        at: u64,
+    ) -> Result<EffectRef<'_>, AllocError>
         ensures { IfOk result (λ effect. effect ≡ effect_on O.meaning self.now.shown key.now at) }
     {
         let sight = Sight {

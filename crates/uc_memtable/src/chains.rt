@@ -32,9 +32,9 @@ impl Model for Chains {
 
 impl Drop for Chains {
     fn drop(mut self) {
-        make_small(&mut self.heads);
-        make_small(&mut self.labels);
-        make_small(&mut self.before);
+        make_small(&mut self.heads, size_of::<usize>());
+        make_small(&mut self.labels, size_of::<u64>());
+        make_small(&mut self.before, size_of::<usize>());
         let Chains {
             heads: _,
             labels: _,

@@ -14,8 +14,8 @@ use std::alloc::{AllocError, Global};
 use std::marker::Model;
 use uc_bytes::WriteRef;
 use uc_model::effects_of_parts_compose;
-use uc_oper::{Effect, Operator};
-use uc_run::{Memtable, Run};
+use uc_oper::{Effect, EffectRef, Operator};
+use uc_run::{Memtable, Run, SoughtKey};
 
 /// Gathered memtables behind older ones that are set apart, so that another thread flushes them. A contract sees them as
 /// [`GatheredMemtables`] of all their writes, and how many of the shown ones are set apart.
@@ -198,8 +198,7 @@ impl FlushableMemtables {
         self.apart = FrozenMemtables::new(alloc);
     }
 
-    /// What the shown writes at or below a sequence together do to a key. It asks the memtables from the newest on, up
-    /// to the first that puts or deletes the key.
+    /// As [`effect_of_sought`](FlushableMemtables::effect_of_sought), of a key that it hashes, with a copy of the value that is put.
     pub fn effect<O: Operator>(
         &self,
         alloc: Global,
@@ -208,8 +207,22 @@ impl FlushableMemtables {
     ) -> Result<Effect, AllocError>
         ensures { IfOk result (λ effect. effect ≡ effect_on O.meaning self.now.shown key.now at) }
     {
+        self.effect_of_sought::<O>(alloc, &SoughtKey::new(key), at)?
+            .into_effect(alloc)
+    }
+
+    /// What the shown writes at or below a sequence together do to a key. It asks the memtables from the newest on, up
+    /// to the first that puts or deletes the key. A value that is put, and that nothing is merged into, stays where it is.
+    pub fn effect_of_sought<O: Operator>(
+        &self,
+        alloc: Global,
+        key: &SoughtKey<'_>,
+        at: u64,
+    ) -> Result<EffectRef<'_>, AllocError>
+        ensures { IfOk result (λ effect. effect ≡ effect_on O.meaning self.now.shown key.now at) }
+    {
         effects_of_parts_compose::<O>();
-        let newer = self.behind.effect::<O>(alloc, key, at)?;
+        let newer = self.behind.effect_of_sought::<O>(alloc, key, at)?;
         self.apart.effect_before::<O>(alloc, key, at, newer)
     }
 

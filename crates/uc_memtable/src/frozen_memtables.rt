@@ -13,8 +13,8 @@ use crate::joining::{copy_of, effect_before, join_small, push_frozen, push_share
 use std::alloc::{AllocError, Global};
 use std::marker::Model;
 use std::mem;
-use uc_oper::{Effect, Operator};
-use uc_run::Run;
+use uc_oper::{EffectRef, Operator};
+use uc_run::{Run, SoughtKey};
 
 /// Memtables that take no more writes, the oldest first. A contract sees it as all writes that they show, in order.
 ///
@@ -214,15 +214,15 @@ impl FrozenMemtables {
 
     /// What their writes at or below a sequence do to a key, and then a newer effect. It asks the memtables from the
     /// newest on, and stops where the key is put or deleted.
-    pub(crate) fn effect_before<O: Operator>(
-        &self,
+    pub(crate) fn effect_before<'a, O: Operator>(
+        &'a self,
         alloc: Global,
-        key: &[u8],
+        key: &SoughtKey<'_>,
         at: u64,
-        newer: Effect,
-    ) -> Result<Effect, AllocError>
+        newer: EffectRef<'a>,
+    ) -> Result<EffectRef<'a>, AllocError>
         ensures { IfOk result (λ effect.
-            effect ≡ composed O.meaning (effect_on O.meaning self.now key.now at) newer) }
+            effect ≡ composed O.meaning (effect_on O.meaning self.now key.now at) newer.entry) }
     {
         effect_before::<O>(alloc, &self.memtables, key, at, newer)
     }

@@ -13,8 +13,8 @@ use std::alloc::{AllocError, Global};
 use std::marker::Model;
 use uc_bytes::WriteRef;
 use uc_model::effects_of_parts_compose;
-use uc_oper::{Effect, Operator};
-use uc_run::{Memtable, Run};
+use uc_oper::{Effect, EffectRef, Operator};
+use uc_run::{Memtable, Run, SoughtKey};
 
 /// An active memtable, and memtables before it that take no more writes. A contract sees it as an [`ActiveMemtable`] of
 /// all their writes.
@@ -227,9 +227,7 @@ impl GatheredMemtables {
         }
     }
 
-    /// What the shown writes at or below a sequence together do to a key. It asks the active memtable as
-    /// [`ActiveMemtable::effect`] does, and then the frozen ones, from the newest on, up to the first that puts or
-    /// deletes the key.
+    /// As [`effect_of_sought`](GatheredMemtables::effect_of_sought), of a key that it hashes, with a copy of the value that is put.
     pub fn effect<O: Operator>(
         &self,
         alloc: Global,
@@ -238,8 +236,23 @@ impl GatheredMemtables {
     ) -> Result<Effect, AllocError>
         ensures { IfOk result (λ effect. effect ≡ effect_on O.meaning self.now.shown key.now at) }
     {
+        self.effect_of_sought::<O>(alloc, &SoughtKey::new(key), at)?
+            .into_effect(alloc)
+    }
+
+    /// What the shown writes at or below a sequence together do to a key. It asks the active memtable as
+    /// [`ActiveMemtable::effect`] does, and then the frozen ones, from the newest on, up to the first that puts or
+    /// deletes the key. A value that is put, and that nothing is merged into, stays where it is.
+    pub fn effect_of_sought<O: Operator>(
+        &self,
+        alloc: Global,
+        key: &SoughtKey<'_>,
+        at: u64,
+    ) -> Result<EffectRef<'_>, AllocError>
+        ensures { IfOk result (λ effect. effect ≡ effect_on O.meaning self.now.shown key.now at) }
+    {
         effects_of_parts_compose::<O>();
-        let newer = self.active.effect::<O>(alloc, key, at)?;
+        let newer = self.active.effect_of_sought::<O>(alloc, key, at)?;
         self.frozen.effect_before::<O>(alloc, key, at, newer)
     }
 

@@ -10,8 +10,8 @@ use crate::active_memtable::ActiveMemtable;
 use crate::frozen_memtable::FrozenMemtable;
 use std::alloc::{AllocError, Global};
 use uc_model::effects_of_parts_compose;
-use uc_oper::{Effect, Operator, then_is_associative};
-use uc_run::Run;
+use uc_oper::{EffectRef, Operator, then_is_associative};
+use uc_run::{Run, SoughtKey};
 
 /// Freezes a memtable, behind the others. An `Err` hands it back, and changes nothing.
 pub(crate) fn push_frozen(
@@ -127,25 +127,29 @@ pub(crate) fn join_small(
 }
 
 /// What memtables do to a key at a sequence, and then a newer effect. It stops at the newest that sets the key.
-pub(crate) fn effect_before<O: Operator>(
+pub(crate) fn effect_before<'a, O: Operator>(
     alloc: Global,
-    memtables: &[FrozenMemtable],
-    key: &[u8],
+    memtables: &'a [FrozenMemtable],
+    key: &SoughtKey<'_>,
     at: u64,
-    newer: Effect,
-) -> Result<Effect, AllocError>
+    newer: EffectRef<'a>,
+) -> Result<EffectRef<'a>, AllocError>
     ensures { IfOk result (λ effect. effect ≡
-        composed O.meaning (effect_on O.meaning (all_of memtables.now) key.now at) newer) }
+        composed O.meaning (effect_on O.meaning (all_of memtables.now) key.now at) newer.entry) }
 {
     effects_of_parts_compose::<O>();
     then_is_associative::<O>();
     let mut effect = newer;
     for place in (0..memtables.len()).rev() {
-        if let Effect::Set(_) = effect {
+        if effect.is_set() {
             return Ok(effect);
         }
-        let older = memtables[place].memtable().effect::<O>(alloc, key, at)?;
-        effect = older.then::<O>(alloc, effect)?;
+        // It lends no value, so this copies nothing.
+        let newer = effect.into_effect(alloc)?;
+        let older = memtables[place]
+            .memtable()
+            .effect_of_sought::<O>(alloc, key, at)?;
+        effect = older.then::<O>(alloc, newer)?;
     }
     Ok(effect)
 }

@@ -14,12 +14,11 @@ use crate::label::{RANGE_LABEL, is_range};
 use crate::sight::{Bearing, Sight};
 use std::alloc::{AllocError, Global};
 use uc_bytes::{Bytes, OpKind, WriteRef};
-use uc_oper::{Effect, Operator};
-use uc_run::key_hash;
+use uc_oper::{Effect, EffectRef, Operator};
 
 /// The end of the newest range deletion that the lookup sees, or 0 if it sees none. It walks over the range deletions, the
 /// newest first.
-fn newest_range(sight: &Sight<'_>, chains: &Chains) -> usize
+fn newest_range(sight: &Sight<'_, '_>, chains: &Chains) -> usize
     requires { chains.now ≡ map write_label sight.now.writes.now }
     ensures within { result ≤ length sight.now.writes.now }
     ensures above { (place : ℕ) → result ≤ place →
@@ -38,7 +37,7 @@ fn newest_range(sight: &Sight<'_>, chains: &Chains) -> usize
 }
 
 /// Whether the write at a place is a range deletion that the lookup sees.
-fn is_range_seen(sight: &Sight<'_>, place: usize) -> bool
+fn is_range_seen(sight: &Sight<'_, '_>, place: usize) -> bool
     ensures { result ≡ seen_passes deletes_range (seen_by sight.now place) }
 {
     match sight.seen(place) {
@@ -51,7 +50,7 @@ fn is_range_seen(sight: &Sight<'_>, place: usize) -> bool
 /// floor, below which the newest range deletion over the key is. It gives the end of the place where it stops, and notes
 /// the places of the merges above it. An `Err` may note some of them.
 fn walk_to_start(
-    sight: &Sight<'_>,
+    sight: &Sight<'_, '_>,
     chains: &Chains,
     floor: usize,
     merges: &mut Vec<usize>,
@@ -67,7 +66,7 @@ fn walk_to_start(
         effect_below m (seen_by sight.now) (length sight.now.writes.now) ≡
         effect_over m (seen_by sight.now) (effect_before (seen_by sight.now) start) merges.new.items) }
 {
-    let mut end = chains.newest(key_hash(sight.key));
+    let mut end = chains.newest(sight.key.hash());
     while floor < end {
         match seen_bearing(sight, end - 1) {
             Some(Bearing::Merges) => merges.push(end - 1)?,
@@ -80,7 +79,7 @@ fn walk_to_start(
 }
 
 /// The bearing of the write at a place, if the lookup sees it.
-fn seen_bearing(sight: &Sight<'_>, place: usize) -> Option<Bearing>
+fn seen_bearing(sight: &Sight<'_, '_>, place: usize) -> Option<Bearing>
     ensures { result ≡ option_map (λ w. bearing_of w.op) (seen_by sight.now place) }
 {
     let write = sight.seen(place)?;
@@ -111,7 +110,7 @@ fn then_write<O: Operator>(
 fn then_place<O: Operator>(
     alloc: Global,
     effect: Effect,
-    sight: &Sight<'_>,
+    sight: &Sight<'_, '_>,
     place: usize,
 ) -> Result<Effect, AllocError>
     ensures { IfOk result (λ both. both ≡ then_seen O.meaning effect (seen_by sight.now place)) }
@@ -122,18 +121,36 @@ fn then_place<O: Operator>(
     }
 }
 
+/// The effect of a write alone. A value that it puts stays where it is.
+fn effect_alone<'a>(alloc: Global, write: &WriteRef<'a>) -> Result<EffectRef<'a>, AllocError>
+    ensures { IfOk result (λ effect. effect ≡ meaning.effect_of write.now.op) }
+{
+    let (kind, _, second) = write.op().parts();
+    match kind {
+        OpKind::Put => Ok(EffectRef::put(second)),
+        OpKind::Delete | OpKind::DeleteRange => Ok(EffectRef::own(Effect::Set(None))),
+        OpKind::Merge => {
+            let operand = Bytes::from_slice(alloc, second)?;
+            Ok(EffectRef::own(Effect::Fold(operand)))
+        }
+    }
+}
+
 /// The effect of the place before an end alone.
-fn effect_at_start<O: Operator>(
+fn effect_at_start<'a>(
     alloc: Global,
-    sight: &Sight<'_>,
+    sight: &Sight<'a, '_>,
     start: usize,
-) -> Result<Effect, AllocError>
+) -> Result<EffectRef<'a>, AllocError>
     ensures { IfOk result (λ effect. effect ≡ effect_before (seen_by sight.now) start) }
 {
     if start == 0 {
-        return Ok(Effect::Keep);
+        return Ok(EffectRef::own(Effect::Keep));
     }
-    then_place::<O>(alloc, Effect::Keep, sight, start - 1)
+    match sight.seen(start - 1) {
+        Some(write) => effect_alone(alloc, &write),
+        None => Ok(EffectRef::own(Effect::Keep)),
+    }
 }
 
 /// An effect, and then those of places, the newest first. It composes them from the oldest on, so it costs the length of
@@ -141,7 +158,7 @@ fn effect_at_start<O: Operator>(
 fn then_places<O: Operator>(
     alloc: Global,
     before: Effect,
-    sight: &Sight<'_>,
+    sight: &Sight<'_, '_>,
     places: &[usize],
 ) -> Result<Effect, AllocError>
     ensures { IfOk result (λ effect. effect ≡ effect_over O.meaning (seen_by sight.now) before places.now) }
@@ -153,12 +170,30 @@ fn then_places<O: Operator>(
     Ok(effect)
 }
 
-/// What the writes that the lookup may see do to its key.
-pub(crate) fn effect_seen<O: Operator>(
+/// An effect, and then those of places of merges, the newest first. With no merges it costs nothing.
+fn after_merges<'a, O: Operator>(
     alloc: Global,
-    sight: &Sight<'_>,
+    first: EffectRef<'a>,
+    sight: &Sight<'_, '_>,
+    merges: &[usize],
+) -> Result<EffectRef<'a>, AllocError>
+    ensures { IfOk result (λ effect. effect ≡ effect_over O.meaning (seen_by sight.now) first.entry merges.now) }
+{
+    if merges.is_empty() {
+        return Ok(first);
+    }
+    let before = first.into_effect(alloc)?;
+    let effect = then_places::<O>(alloc, before, sight, merges)?;
+    Ok(EffectRef::own(effect))
+}
+
+/// What the writes that the lookup may see do to its key. A value that is put, and that nothing is merged into, stays where it
+/// is.
+pub(crate) fn effect_seen<'a, O: Operator>(
+    alloc: Global,
+    sight: &Sight<'a, '_>,
     chains: &Chains,
-) -> Result<Effect, AllocError>
+) -> Result<EffectRef<'a>, AllocError>
     requires { chains.now ≡ map write_label sight.now.writes.now }
     ensures { IfOk result (λ effect. effect ≡
         effect_on O.meaning (take sight.now.shown sight.now.writes.now) sight.now.key.now sight.now.at) }
@@ -166,6 +201,6 @@ pub(crate) fn effect_seen<O: Operator>(
     let floor = newest_range(sight, chains);
     let mut merges = Vec::new(alloc);
     let start = walk_to_start(sight, chains, floor, &mut merges)?;
-    let first = effect_at_start::<O>(alloc, sight, start)?;
-    then_places::<O>(alloc, first, sight, &merges)
+    let first = effect_at_start(alloc, sight, start)?;
+    after_merges::<O>(alloc, first, sight, &merges)
 }

@@ -3,7 +3,7 @@ ghost use Rattle.std.specs.Prelude.{◌≡◌};
 ghost use Rattle.uc_model.specs.Meaning as meaning;
 
 use uc_bytes::{OpKind, OpRef, WriteRef};
-use uc_run::{Memtable, same_text, text_order};
+use uc_run::{Memtable, SoughtKey, same_text, text_order};
 
 /// How a write bears on the older ones of its key.
 #[derive(Clone, Copy, Debug)]
@@ -16,11 +16,11 @@ pub(crate) enum Bearing {
 
 /// A lookup of a key at a sequence among the first writes of a memtable.
 #[derive(Drop)]
-pub(crate) struct Sight<'a> {
+pub(crate) struct Sight<'a, 'k> {
     pub(crate) writes: &'a Memtable,
     /// How many of the writes it may see.
     pub(crate) shown: usize,
-    pub(crate) key: &'a [u8],
+    pub(crate) key: &'k SoughtKey<'k>,
     pub(crate) at: u64,
 }
 
@@ -35,7 +35,7 @@ fn touches_key(op: &OpRef<'_>, key: &[u8]) -> bool
     }
 }
 
-impl<'a> Sight<'a> {
+impl<'a> Sight<'a, '_> {
     ghost use Rattle.uc_memtable.specs.Sights.{seen_by};
 
     /// The write at a place, if the lookup sees it.
@@ -46,7 +46,7 @@ impl<'a> Sight<'a> {
             return None;
         }
         let write = self.writes.write(place)?;
-        if self.at < write.seq() || !touches_key(write.op(), self.key) {
+        if self.at < write.seq() || !touches_key(write.op(), self.key.key()) {
             return None;
         }
         Some(write)

@@ -5,3 +5,5 @@ pub mod Greatest
 pub mod Tails
 pub mod Merging
 pub mod Composition
+pub mod Lent
+pub mod LentValue

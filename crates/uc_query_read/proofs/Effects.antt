@@ -1,16 +1,30 @@
 -- What runs together do to a key, the newest first.
-use Rattle.std.proofs.Common.{◌≡◌, ℕ, ◌+◌, ◌<◌, List, [], ◌∷◌, ◌++◌, length, map, get_or, take, drop, sym, ap, ◌∙◌, append_assoc}
+use Rattle.std.proofs.Common.{◌≡◌, ℕ, ◌+◌, ◌<◌, true, List, [], ◌∷◌, ◌++◌, length, map, get_or, take, drop, refl, sym, ap, ◌∙◌, append_assoc}
+use Rattle.std.proofs.lemmas.Bool.{false≢true}
 use Rattle.std.proofs.lemmas.List.{append-nil, take_more, take-append-drop}
 use Rattle.std.specs.Prelude.{Option}
 use Rattle.uc_oper.specs.Operation.{Operation}
-use Rattle.uc_oper.specs.Composition.{composed}
+use Rattle.uc_oper.specs.Composition.{composed, applied}
+use Rattle.uc_oper.specs.Lent.{sets}
 use Rattle.uc_oper.specs.declared.effect.Effect.{Effect}
-use Rattle.uc_oper.specs.declared.effect.Effect.TheVariants.{Set}
+use Rattle.uc_oper.specs.declared.effect.Effect.TheVariants.{Keep, Fold, Set}
 use Rattle.uc_bytes.specs.declared.write.Write.{Write}
 use Rattle.uc_model.specs.Meaning.{effect_on}
 use Rattle.uc_run_entry.specs.Run.{Contents}
 use Rattle.uc_run_entry.specs.PlainList.{plain_list}
 use Rattle.uc_compact.specs.Inputs.{writes_of}
+
+-- an effect that sets the value overrides an older one
+pub overrides : (m : Operation) (older newer : Effect) → sets newer ≡ true → composed m older newer ≡ newer
+overrides m older Keep set = absurd (false≢true set)
+overrides m older (Fold operand) set = absurd (false≢true set)
+overrides m older (Set value) set = refl
+
+-- and makes the same of any value
+pub set_applies : (m : Operation) (newer : Effect) (value other : Option (List ℕ)) → sets newer ≡ true → applied m newer value ≡ applied m newer other
+set_applies m Keep value other set = absurd (false≢true set)
+set_applies m (Fold operand) value other set = absurd (false≢true set)
+set_applies m (Set after) value other set = refl
 
 module _ {X : Type 0} (run_of : X → Contents) where
   abbrev writes_in : List X → List Write
@@ -44,6 +58,9 @@ module _ {X : Type 0} (run_of : X → Contents) where
         ∙ sym (with_older runs i r lt is)
 
     -- where the newer runs set the value, the older ones are of no account
-    pub set_stays : (runs : List X) (i : ℕ) (value : Option (List ℕ)) → effect (take i runs) ≡ Set value → effect runs ≡ Set value
-    set_stays runs i value set =
-        ap effect (sym (take-append-drop i runs)) ∙ effect-append (take i runs) (drop i runs) ∙ ap (composed m (effect (drop i runs))) set
+    pub set_stays : (runs : List X) (i : ℕ) (found : Effect) → sets found ≡ true → effect (take i runs) ≡ found → effect runs ≡ found
+    set_stays runs i found set is =
+        ap effect (sym (take-append-drop i runs))
+        ∙ effect-append (take i runs) (drop i runs)
+        ∙ ap (composed m (effect (drop i runs))) is
+        ∙ overrides m (effect (drop i runs)) found set

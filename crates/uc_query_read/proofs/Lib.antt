@@ -6,7 +6,6 @@ pub mod Shown
 pub mod Protection
 pub mod Hiding
 pub mod Skipping
-pub mod RowOrder
 pub mod NamedKeys
 pub mod FirstRows
 pub mod AnswerLaws

@@ -27,7 +27,7 @@ use Rattle.uc_run_entry.proofs.SameSets.{permutation_passes, same_sorted}
 use Rattle.uc_compact.specs.Groups.{keys_of}
 use Rattle.uc_compact.proofs.Lists.{all-front, all-back, all-unmapped}
 use Rattle.uc_query_read.specs.Answers.{is_below, is_in_range, named_keys, rows_of, first_rows}
-use Rattle.uc_query_read.specs.Rising.{KeysRise}
+use Rattle.uc_rows.specs.Rising.{KeysRise}
 use Rattle.uc_query_read.specs.Scans.{IsNamed}
 use Rattle.uc_compact.specs.Inputs.{writes_of, points_of}
 use Rattle.uc_compact.proofs.NestedLists.{all-append, all-map, all-mapped, all-flat_map}

@@ -4,6 +4,5 @@ pub mod HeldWalks
 pub mod HeldWalkers
 pub mod Dead
 pub mod Query
-pub mod Rising
 pub mod Answers
 pub mod Scans

@@ -6,7 +6,7 @@ use Rattle.uc_oper.specs.Operation.{Operation}
 use Rattle.uc_bytes.specs.declared.write.Write.{Write}
 use Rattle.uc_model.specs.Meaning.{Gives, value_of}
 use Rattle.uc_query_read.specs.Answers.{is_in_range}
-use Rattle.uc_query_read.specs.Rising.{KeysRise}
+use Rattle.uc_rows.specs.Rising.{KeysRise}
 
 -- a key that a scan looks at: it is in the range, and some put or merge names it
 abbrev pub IsNamed : List Write → List ℕ → Option (List ℕ) → List ℕ → Type 0

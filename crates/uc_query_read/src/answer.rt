@@ -1,6 +1,6 @@
 //! [`Answer`]: the answer to a query.
-use crate::rows::Rows;
 use uc_bytes::Bytes;
+use uc_rows::Rows;
 
 /// The answer to a query.
 #[derive(Debug, PartialEq, Eq, Drop)]

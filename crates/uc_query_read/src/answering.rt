@@ -11,7 +11,7 @@ ghost use Rattle.uc_version_state.specs.Versions.{contents_of, writes_in};
 ghost use Rattle.uc_version_state.specs.Snapshots.{with_keep};
 
 use crate::answer::Answer;
-use crate::lookup::value_of_runs;
+use crate::lookup::owned_value_of_runs;
 use crate::query::Query;
 use crate::scan::rows_of_runs;
 use std::alloc::{AllocError, Global};
@@ -32,7 +32,7 @@ fn reading<O: Operator>(alloc: Global, runs: &[Placed], query: &Query) -> Result
 {
     match query {
         Query::Get { key, at } => {
-            let value = value_of_runs::<O>(alloc, runs, key.as_slice(), *at)?;
+            let value = owned_value_of_runs::<O>(alloc, runs, key.as_slice(), *at)?;
             Ok(Answer::Value(value))
         }
         Query::Scan {
@@ -99,7 +99,7 @@ pub fn get<O: Operator>(
 {
     version.recall();
     if is_protected(version.keeps(), at) {
-        let value = value_of_runs::<O>(alloc, version.runs(), key, at)?;
+        let value = owned_value_of_runs::<O>(alloc, version.runs(), key, at)?;
         Ok(Answer::Value(value))
     } else {
         Ok(Answer::NotProtected(at))
@@ -115,7 +115,7 @@ pub fn get_last<O: Operator>(
     ensures { IfOk result (λ answer.
         answer ≡ given.Value (value_of O.meaning (writes_in version.now) key.now version.now.last)) }
 {
-    let value = value_of_runs::<O>(alloc, version.runs(), key, version.last())?;
+    let value = owned_value_of_runs::<O>(alloc, version.runs(), key, version.last())?;
     Ok(Answer::Value(value))
 }
 

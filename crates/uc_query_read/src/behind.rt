@@ -9,32 +9,51 @@ ghost use Rattle.uc_query_read.specs.Answers.{named_keys};
 ghost use Rattle.uc_version_state.specs.Versions.{contents_of, writes_in};
 
 use crate::lookup::value_of_runs;
-use crate::rows::Rows;
 use crate::scan::rows_of_runs;
 use std::alloc::{AllocError, Global};
 use std::sync::Arc;
 use uc_bytes::Bytes;
-use uc_oper::{Effect, Operator};
-use uc_run::Run;
+use uc_oper::{Effect, EffectRef, Operator, ValueRef, owned_value};
+use uc_rows::Rows;
+use uc_run::{Run, SoughtKey};
 use uc_version_state::{Placed, Version};
 
 /// The value that a newer effect makes of the one that a key has in a version at a sequence. If the effect sets the key, no run is
-/// looked into.
-pub fn value_behind<O: Operator>(
+/// looked into. A value that was put, and that nothing is merged into, stays where it is.
+pub fn value_behind<'a, O: Operator>(
     alloc: Global,
-    version: &Version,
-    key: &[u8],
+    version: &'a Version,
+    key: &SoughtKey<'_>,
     at: u64,
-    newer: Effect,
-) -> Result<Option<Bytes>, AllocError>
+    newer: EffectRef<'a>,
+) -> Result<Option<ValueRef<'a>>, AllocError>
     ensures { IfOk result (λ value.
-        value ≡ applied O.meaning newer (value_of O.meaning (writes_in version.now) key.now at)) }
+        value ≡ applied O.meaning newer.entry (value_of O.meaning (writes_in version.now) key.now at)) }
 {
-    if let Effect::Set(value) = newer {
-        return Ok(value);
+    if newer.is_set() {
+        return newer.apply::<O>(alloc, None);
     }
     let older = value_of_runs::<O>(alloc, version.runs(), key, at)?;
-    newer.apply::<O>(alloc, older)
+    // It lends no value, so this copies nothing.
+    match newer.into_effect(alloc)? {
+        Effect::Keep => Ok(older),
+        newer => after::<O>(alloc, older, newer),
+    }
+}
+
+/// The value that an effect makes of another.
+fn after<'a, O: Operator>(
+    alloc: Global,
+    older: Option<ValueRef<'_>>,
+    newer: Effect,
+) -> Result<Option<ValueRef<'a>>, AllocError>
+    ensures { IfOk result (λ value. value ≡ applied O.meaning newer older.entry) }
+{
+    let older = owned_value(alloc, older)?;
+    match newer.apply::<O>(alloc, older)? {
+        Some(value) => Ok(Some(ValueRef::own(value))),
+        None => Ok(None),
+    }
 }
 
 /// The rows of a scan of a version at a sequence, whether or not it is protected: the first, at most `limit`, of the keys from `low`

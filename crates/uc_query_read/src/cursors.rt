@@ -11,7 +11,7 @@ use crate::walkers::Walkers;
 use std::alloc::{AllocError, Global};
 use std::marker::Model;
 use uc_bytes::Bytes;
-use uc_oper::Operator;
+use uc_oper::{Operator, ValueRef};
 use uc_version_state::Placed;
 
 /// The place of a walk over the points of runs. A contract sees it as the runs' contents, the newest first, and the
@@ -73,7 +73,7 @@ impl<'a> Cursors<'a> {
         &mut self,
         alloc: Global,
         at: u64,
-    ) -> Result<Option<(&'a [u8], Option<Bytes>)>, AllocError>
+    ) -> Result<Option<(&'a [u8], Option<ValueRef<'a>>)>, AllocError>
         ensures comes { IfOk result (λ row. Comes self.old.keys (option_map (λ r. r.0.now) row) self.new.keys) }
         ensures value { IfOk result (λ row.
             IfSome row (λ r. r.1 ≡ value_of O.meaning (writes_of self.old.runs) r.0.now at)) }

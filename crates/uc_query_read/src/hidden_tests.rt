@@ -2,7 +2,6 @@
 use crate::answer::Answer;
 use crate::plain::answer_writes;
 use crate::query::Query;
-use crate::rows::Rows;
 use crate::scan::rows_of_runs;
 use std::alloc::Global;
 use std::process::Abort;
@@ -11,6 +10,7 @@ use std::test::Fail;
 use uc_batch::Writes;
 use uc_bytes::{Bytes, MAX_SEQUENCE, Op, Write};
 use uc_oper::Append;
+use uc_rows::Rows;
 use uc_run::Memtable;
 use uc_version_state::Placed;
 

@@ -24,7 +24,6 @@ mod laws;
 mod lookup;
 mod plain;
 mod query;
-mod rows;
 mod scan;
 mod walkers;
 
@@ -38,7 +37,7 @@ pub use behind::{rows_at, rows_behind, value_behind};
 pub use laws::{histories_keep_answers, later_events_leave_answers_alone};
 pub use plain::answer_writes;
 pub use query::Query;
-pub use rows::Rows;
+pub use uc_rows::{RowBuffer, RowIter, Rows};
 
 #[cfg(test)]
 mod drawn_tests;

@@ -7,33 +7,49 @@ ghost use Rattle.uc_version_state.specs.Versions.{contents_of};
 use std::alloc::{AllocError, Global};
 use uc_bytes::Bytes;
 use uc_model::{effect_gives_value, effects_of_parts_compose};
-use uc_oper::{Effect, Operator};
+use uc_oper::{Effect, EffectRef, Operator, ValueRef, owned_value};
+use uc_run::SoughtKey;
 use uc_version_state::Placed;
 
 /// What the writes of runs, the newest first, at or below a sequence together do to a key. It stops at the first run
 /// that puts or deletes the key, since older writes are overwritten.
-fn effect_of_runs<O: Operator>(
+fn effect_of_runs<'a, O: Operator>(
     alloc: Global,
-    runs: &[Placed],
-    key: &[u8],
+    runs: &'a [Placed],
+    key: &SoughtKey<'_>,
     at: u64,
-) -> Result<Effect, AllocError>
+) -> Result<EffectRef<'a>, AllocError>
     ensures { IfOk result (λ effect. effect ≡ effect_on O.meaning (writes_of (contents_of runs.now)) key.now at) }
 {
     effects_of_parts_compose::<O>();
     let mut newer = Effect::Keep;
     for placed in runs {
-        let older = placed.run().effect::<O>(alloc, key, at)?;
-        newer = older.then::<O>(alloc, newer)?;
-        if let Effect::Set(_) = newer {
-            return Ok(newer);
+        let older = placed.run().effect_of_sought::<O>(alloc, key, at)?;
+        let both = older.then::<O>(alloc, newer)?;
+        if both.is_set() {
+            return Ok(both);
         }
+        // It lends no value, so this copies nothing.
+        newer = both.into_effect(alloc)?;
     }
-    Ok(newer)
+    Ok(EffectRef::own(newer))
 }
 
-/// The value that a key has in runs, the newest first, at a sequence.
-pub(crate) fn value_of_runs<O: Operator>(
+/// The value that a key has in runs, the newest first, at a sequence. One that was put stays where it is.
+pub(crate) fn value_of_runs<'a, O: Operator>(
+    alloc: Global,
+    runs: &'a [Placed],
+    key: &SoughtKey<'_>,
+    at: u64,
+) -> Result<Option<ValueRef<'a>>, AllocError>
+    ensures { IfOk result (λ value. value ≡ value_of O.meaning (writes_of (contents_of runs.now)) key.now at) }
+{
+    effect_gives_value::<O>();
+    effect_of_runs::<O>(alloc, runs, key, at)?.apply::<O>(alloc, None)
+}
+
+/// As [`value_of_runs`], of a key that it hashes, with a copy of a value that was put.
+pub(crate) fn owned_value_of_runs<O: Operator>(
     alloc: Global,
     runs: &[Placed],
     key: &[u8],
@@ -41,6 +57,6 @@ pub(crate) fn value_of_runs<O: Operator>(
 ) -> Result<Option<Bytes>, AllocError>
     ensures { IfOk result (λ value. value ≡ value_of O.meaning (writes_of (contents_of runs.now)) key.now at) }
 {
-    effect_gives_value::<O>();
-    effect_of_runs::<O>(alloc, runs, key, at)?.apply::<O>(alloc, None)
+    let value = value_of_runs::<O>(alloc, runs, &SoughtKey::new(key), at)?;
+    owned_value(alloc, value)
 }

@@ -4,13 +4,13 @@ ghost use Rattle.uc_query_read.specs.Answers as answers;
 
 use crate::answer::Answer;
 use crate::query::Query;
-use crate::rows::Rows;
 use std::alloc::{AllocError, Global};
 use std::collections::BTreeSet;
 use uc_batch::Writes;
 use uc_bytes::{Bytes, Op, Write};
 use uc_model::value_at;
 use uc_oper::Operator;
+use uc_rows::{RowBuffer, Rows};
 
 /// Whether a key is in the range from `low` to below `high`, if there is one.
 fn is_in_range(key: &Bytes, low: &Bytes, high: &Option<Bytes>) -> bool
@@ -66,16 +66,16 @@ fn first_rows<O: Operator>(
     keys: &[Bytes],
     at: u64,
     limit: u64,
-) -> Result<Vec<(Bytes, Bytes)>, AllocError>
-    ensures { IfOk result (λ rows. rows.items ≡ answers.first_rows O.meaning writes.now at limit keys.now) }
+) -> Result<RowBuffer, AllocError>
+    ensures { IfOk result (λ rows. rows ≡ answers.first_rows O.meaning writes.now at limit keys.now) }
 {
-    let mut rows = Vec::new(alloc);
+    let mut rows = RowBuffer::new(alloc);
     for key in keys {
         if rows.len() as u64 >= limit {
             break;
         }
         if let Some(value) = value_at::<O>(alloc, writes, key.as_slice(), at)? {
-            rows.push((key.clone()?, value))?;
+            rows.push(key.as_slice(), value.as_slice())?;
         }
     }
     Ok(rows)

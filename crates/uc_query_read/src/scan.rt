@@ -8,13 +8,19 @@ ghost use Rattle.uc_query_read.specs.Ahead.{keys_ahead};
 
 use crate::answer_laws::{scan_keys_are_named, scan_keys_rise, scan_rows_are_first};
 use crate::cursors::Cursors;
-use crate::rows::Rows;
 use std::alloc::{AllocError, Global};
 use uc_bytes::Bytes;
 use uc_model::value_is_given;
 use uc_oper::Operator;
+use uc_rows::{RowBuffer, Rows};
 use uc_run::plain_list_is_in_order;
 use uc_version_state::Placed;
+
+/// How many bytes a scan has memory for at first, for each of its rows: as many as a small row takes.
+const ROW_ROOM: usize = 64;
+
+/// For how many rows at most it has memory at first.
+const FEW_ROWS: u64 = 16;
 
 /// The first of the keys of the runs' points in the range that have a value at the sequence, with it. A key without one
 /// doesn't count.
@@ -25,18 +31,18 @@ fn first_rows<O: Operator>(
     high: &Option<Bytes>,
     at: u64,
     limit: u64,
-) -> Result<Vec<(Bytes, Bytes)>, AllocError>
-    ensures { IfOk result (λ rows. rows.items ≡ answers.first_rows O.meaning (writes_of (contents_of runs.now)) at limit
+) -> Result<RowBuffer, AllocError>
+    ensures { IfOk result (λ rows. rows ≡ answers.first_rows O.meaning (writes_of (contents_of runs.now)) at limit
         (keys_ahead (points_of (contents_of runs.now)) low.now false high.now)) }
 {
-    let mut rows = Vec::new(alloc);
+    let mut rows = RowBuffer::with_capacity(alloc, limit.min(FEW_ROWS) as usize * ROW_ROOM)?;
     let mut cursors = Cursors::from(alloc, runs, low, high)?;
     while (rows.len() as u64) < limit {
         let Some((key, value)) = cursors.next::<O>(alloc, at)? else {
             break;
         };
         match value {
-            Some(value) => rows.push((Bytes::from_slice(alloc, key)?, value))?,
+            Some(value) => rows.push(key, value.as_slice())?,
             None => cursors.skip_dead::<O>(at),
         }
     }

@@ -3,7 +3,6 @@ use super::*;
 use crate::answer::Answer;
 use crate::answering::answer_of_runs;
 use crate::query::Query;
-use crate::rows::Rows;
 use crate::scan::rows_of_runs;
 use std::alloc::Global;
 use std::process::Abort;
@@ -11,6 +10,7 @@ use std::sync::Arc;
 use std::test::Fail;
 use uc_bytes::{Bytes, MAX_SEQUENCE, Op, Write};
 use uc_oper::Append;
+use uc_rows::{RowBuffer, Rows};
 use uc_run::{Memtable, Run};
 use uc_version_state::{Placed, Version};
 
@@ -116,11 +116,8 @@ enum Want {
 }
 
 fn rows(alloc: Global, pairs: &[(&[u8], &[u8])]) -> Result<Rows, Fail> {
-    let mut list = Vec::new(alloc);
-    for (key, value) in pairs {
-        list.push((bytes(alloc, key)?, bytes(alloc, value)?))?;
-    }
-    Ok(Rows::of(list).ok_or("the keys don't rise")?)
+    let rows = RowBuffer::of(alloc, pairs)?;
+    Ok(Rows::of(rows).ok_or("the keys don't rise")?)
 }
 
 fn wanted(alloc: Global, want: &Want) -> Result<Answer, Fail> {

@@ -13,9 +13,8 @@ ghost use Rattle.uc_query_read.specs.Walks.{runs_of, standing_at, passed, sought
 use crate::dead_keys::dead_up_to;
 use std::alloc::{AllocError, Global};
 use std::marker::Model;
-use uc_bytes::Bytes;
 use uc_model::{effect_gives_value, effects_of_parts_compose};
-use uc_oper::{Effect, Operator};
+use uc_oper::{Effect, EffectRef, Operator, ValueRef};
 use uc_run::{Cursor, Head, Heads, keys_at_places_are_next, other_keys_are_kept};
 use uc_version_state::Placed;
 
@@ -70,14 +69,14 @@ fn ranges_of(alloc: Global, cursors: &[Cursor<'_>]) -> Result<Vec<bool>, AllocEr
 
 /// What the writes of the cursors' runs at or below a sequence together do to a key. The key's points must be the first
 /// ahead. It stops at the first run that puts or deletes the key, since older writes are overwritten.
-fn effect_of_cursors<O: Operator>(
+fn effect_of_cursors<'a, O: Operator>(
     alloc: Global,
-    cursors: &[Cursor<'_>],
+    cursors: &[Cursor<'a>],
     heads: &Heads<'_>,
     with_ranges: &[bool],
     head: Head<'_>,
     at: u64,
-) -> Result<Effect, AllocError>
+) -> Result<EffectRef<'a>, AllocError>
     requires number { head.number ≡ number_of heads.now.front head.key.now }
     requires stand { AllByRecursion (StandsAt head.key.now false) cursors.now }
     requires of_runs { AllByRecursion IsOfRun cursors.now }
@@ -91,14 +90,16 @@ fn effect_of_cursors<O: Operator>(
     let mut newer = Effect::Keep;
     for place in 0..cursors.len() {
         if heads.is_at(place, head) || with_ranges[place] {
-            let older = cursors[place].effect::<O>(alloc, head.key, at)?;
-            newer = older.then::<O>(alloc, newer)?;
-            if let Effect::Set(_) = newer {
-                return Ok(newer);
+            let older = cursors[place].effect_ref::<O>(alloc, head.key, at)?;
+            let both = older.then::<O>(alloc, newer)?;
+            if both.is_set() {
+                return Ok(both);
             }
+            // It lends no value, so this copies nothing.
+            newer = both.into_effect(alloc)?;
         }
     }
-    Ok(newer)
+    Ok(EffectRef::own(newer))
 }
 
 /// Moves the cursors that are at a key past it. The others are behind it already.
@@ -163,13 +164,13 @@ impl<'a> Walkers<'a> {
     }
 
     /// The value at a sequence of a key whose points are the first ahead. It costs a step for each of the key's points
-    /// up to the last put or delete, and for each run a comparison of numbers.
+    /// up to the last put or delete, and for each run a comparison of numbers. One that was put stays in its run.
     pub(crate) fn value<O: Operator>(
         &self,
         alloc: Global,
         head: Head<'_>,
         at: u64,
-    ) -> Result<Option<Bytes>, AllocError>
+    ) -> Result<Option<ValueRef<'a>>, AllocError>
         requires number { head.number ≡ number_of self.now.front head.key.now }
         requires stand { AllByRecursion (StandsAt head.key.now false) self.now.cursors }
         ensures { IfOk result (λ value.
@@ -184,10 +185,7 @@ impl<'a> Walkers<'a> {
             head,
             at,
         )?;
-        match effect {
-            Effect::Set(value) => Ok(value),
-            other => other.apply::<O>(alloc, None),
-        }
+        effect.apply::<O>(alloc, None)
     }
 
     /// Moves past the points at and below a key that are the first ahead.

@@ -35,3 +35,4 @@ pub mod LeastNumber
 pub mod NextHead
 pub mod Walking
 pub mod Alike
+mod PutFirst

@@ -67,7 +67,7 @@ right_true : (b c : Bool) → (b && c) ≡ true → c ≡ true
 right_true true c e = e
 right_true false c e = absurd (false≢true e)
 
-left_true : (b c : Bool) → (b && c) ≡ true → b ≡ true
+pub left_true : (b c : Bool) → (b && c) ≡ true → b ≡ true
 left_true true c e = refl
 left_true false c e = absurd (false≢true e)
 

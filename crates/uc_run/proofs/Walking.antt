@@ -69,9 +69,6 @@ sum_more f es p sum size more e g h = let all = sum_by_push f es p in omega (ari
 pub slice_front : (n : ℕ) (es : List Entry) → take (n - 0) (drop 0 es) ≡ take n es
 slice_front n es = ap (λ k. take k es) (let e : n - 0 ≡ n = omega arith in e)
 
-pub no_slice : (es : List Entry) → take (0 - 0) (drop 0 es) ≡ []
-no_slice es = refl
-
 -- two slices that follow one another
 pub halves : (es : List Entry) (begin middle end : ℕ) → begin ≤ middle → middle ≤ end → take (middle - begin) (drop begin es) ++ take (end - middle) (drop middle es) ≡ take (end - begin) (drop begin es)
 halves es begin middle end low high =

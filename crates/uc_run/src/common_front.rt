@@ -15,7 +15,7 @@ fn narrowed<'a>(front: Option<&'a [u8]>, key: Option<&'a [u8]>) -> Option<&'a [u
 
 /// What the keys of points in order begin with, if there are points: what the first and the last do.
 fn front_of_points<'a>(points: &PointSlice<'a>) -> Option<&'a [u8]> {
-    let first = points.get(0)?;
+    let first = points.first()?;
     let last = points.get(points.len().saturating_sub(1))?;
     narrowed(Some(first.key()), Some(last.key()))
 }

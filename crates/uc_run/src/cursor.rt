@@ -15,7 +15,7 @@ use crate::near::{end_of_hiding, fragments_ended, fragments_near};
 use crate::run::Run;
 use std::alloc::{AllocError, Global};
 use std::marker::Model;
-use uc_oper::{Effect, Operator};
+use uc_oper::{Effect, EffectRef, Operator};
 use uc_run_entry::plain_list_does_what_is_found;
 use uc_run_points::PointSlice;
 
@@ -53,6 +53,7 @@ impl<'a> Cursor<'a> {
     }
 
     /// What holds of every run: its contents make one. Proof step: does nothing when it runs.
+    #[inline]
     pub fn recall_run(&self)
         ensures { IsRun self.now.run.low self.now.run.high self.now.run.points self.now.run.fragments }
     {
@@ -61,6 +62,7 @@ impl<'a> Cursor<'a> {
 
     /// The key of the first point that isn't passed, without a search. After `seek(low)` on a cursor that isn't past
     /// `low`, it is the least key at or above `low`.
+    #[inline]
     pub fn key(&self) -> Option<&'a [u8]>
         ensures there { option_map (λ key. key.now) result ≡
             option_map (λ p. p.key) (slice_get self.now.run.points self.now.place) }
@@ -68,7 +70,7 @@ impl<'a> Cursor<'a> {
             IsNextKey self.now.run.points low strict (option_map (λ key. key.now) result) }
     {
         self.run.recall();
-        let point = self.ahead.get(0)?;
+        let point = self.ahead.first()?;
         Some(point.key())
     }
 
@@ -88,15 +90,29 @@ impl<'a> Cursor<'a> {
         self.run.found(key, false).len() == self.ahead.len()
     }
 
-    /// What the run's writes at or below a sequence together do to a key, if the cursor is just before the key's
-    /// points. It costs a step for each of the key's points down to the last put or delete at or below the sequence; above
-    /// the sequence, if they are many, a search. A key past the end of the cursor's fragment costs a search too.
+    /// As [`effect_ref`](Cursor::effect_ref), with a copy of the value that it puts.
     pub fn effect<O: Operator>(
         &self,
         alloc: Global,
         key: &[u8],
         at: u64,
     ) -> Result<Effect, AllocError>
+        requires { self.now.place ≡ seek_place self.now.run.points key.now false }
+        ensures { IfOk result (λ effect. effect ≡ effect_on O.meaning (plain_list self.now.run) key.now at) }
+    {
+        self.effect_ref::<O>(alloc, key, at)?.into_effect(alloc)
+    }
+
+    /// What the run's writes at or below a sequence together do to a key, if the cursor is just before the key's
+    /// points. It costs a step for each of the key's points down to the last put or delete at or below the sequence; above
+    /// the sequence, if they are many, a search. A key past the end of the cursor's fragment costs a search too. A value that
+    /// is put stays in the run.
+    pub fn effect_ref<O: Operator>(
+        &self,
+        alloc: Global,
+        key: &[u8],
+        at: u64,
+    ) -> Result<EffectRef<'a>, AllocError>
         requires { self.now.place ≡ seek_place self.now.run.points key.now false }
         ensures { IfOk result (λ effect. effect ≡ effect_on O.meaning (plain_list self.now.run) key.now at) }
     {
@@ -134,6 +150,7 @@ impl<'a> Cursor<'a> {
     }
 
     /// Moves to the first key above `key`, never back: a few points one by one, more by a search by the fences.
+    #[inline]
     pub fn pass(&mut self, key: &[u8])
         ensures { self.new ≡
             record {
@@ -147,6 +164,7 @@ impl<'a> Cursor<'a> {
 
     /// Moves to the first key at or above `low`, never back: a few points one by one, more by a search by the fences.
     /// If the next key is at or above it, that costs one comparison.
+    #[inline]
     pub fn seek(&mut self, low: &[u8])
         ensures { self.new ≡
             record {

@@ -44,8 +44,8 @@ impl Model for Fences {
 
 impl Drop for Fences {
     fn drop(mut self) {
-        make_small(&mut self.keys);
-        make_small(&mut self.prefixes);
+        make_small(&mut self.keys, size_of::<Bytes>());
+        make_small(&mut self.prefixes, size_of::<u64>());
         let Fences {
             keys: _,
             shared: _,
@@ -150,13 +150,12 @@ pub(crate) fn found_by_fences<'a>(
     requires fenced { IsFenced points.now fences.now }
     ensures { result ≡ drop (seek.seek_place points.now low.now strict) points.now }
 {
-    let all = points.as_slice();
-    let count = all.len();
+    let count = points.len();
     let passed = fences_passed(points, fences, low, strict);
     if passed == 0 {
-        return all;
+        return points.as_slice();
     }
-    let (_, mut found) = all.split_at((passed - 1) * BLOCK_POINTS);
+    let mut found = points.slice_from((passed - 1) * BLOCK_POINTS);
     found.pass_while(count, &IsPassed { low, strict });
     found
 }

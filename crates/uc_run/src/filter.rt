@@ -4,6 +4,7 @@ ghost use Rattle.std.specs.Thread.{IsSync};
 ghost use Rattle.uc_run.specs.Filters.{HasBits, Admits, AdmitsAll};
 
 use crate::filter_bits::{BLOCK_WORDS, admit, is_admitted};
+use crate::sought_key::SoughtKey;
 use std::alloc::{AllocError, Global};
 use std::marker::{Model, Sync};
 use std::thread::{Threads, join};
@@ -32,7 +33,7 @@ impl Model for Filter {
 
 impl Drop for Filter {
     fn drop(mut self) {
-        make_small(&mut self.words);
+        make_small(&mut self.words, size_of::<u64>());
         let Filter { words: _ } = self;
     }
 }
@@ -40,7 +41,7 @@ impl Drop for Filter {
 impl Filter {
     /// Whether it admits a key. It admits each key that was added, and few others.
     #[inline]
-    pub(crate) fn admits(&self, key: &[u8]) -> bool
+    pub(crate) fn admits(&self, key: &SoughtKey<'_>) -> bool
         ensures { IsTrue result ↔ Admits self.now key.now }
     {
         is_admitted(&self.words, key)

@@ -4,6 +4,7 @@ ghost use Rattle.uc_run.specs.Filters as filters;
 ghost use Rattle.uc_run.specs.Filters.{HasBits, Admits};
 
 use crate::hashing::key_hash;
+use crate::sought_key::SoughtKey;
 
 /// How many words each block has: one cache line.
 pub(crate) const BLOCK_WORDS: usize = 8;
@@ -87,10 +88,10 @@ fn set_bits(words: &mut [u64], place: usize, bits: u64)
 
 /// Whether the words admit a key.
 #[inline]
-pub(crate) fn is_admitted(words: &[u64], key: &[u8]) -> bool
+pub(crate) fn is_admitted(words: &[u64], key: &SoughtKey<'_>) -> bool
     ensures { IsTrue result ↔ Admits words.now key.now }
 {
-    let probes = probes_of(key_hash(key), words.len());
+    let probes = probes_of(key.hash(), words.len());
     has_bits(words, probes.first, probes.first_bits)
         && has_bits(words, probes.second, probes.second_bits)
 }

@@ -118,7 +118,7 @@ fn points_by_key(alloc: Global, text: &[u8], slots: &[Slot]) -> Result<Points, A
     let mut points = points_in(alloc, text, slots)?;
     sort_by_key(&mut points);
     let packed = pack_ranked(alloc, &points);
-    make_small(&mut points);
+    make_small(&mut points, size_of::<RankedPoint>());
     packed
 }
 

@@ -61,7 +61,7 @@ fn keys_of<'a>(alloc: Global, cursors: &[Cursor<'a>]) -> Result<Vec<Option<&'a [
 fn first_key<'a>(points: &PointSlice<'a>) -> Option<&'a [u8]>
     ensures { option_map (λ key. key.now) result ≡ heads.first_key points.now }
 {
-    match points.get(0) {
+    match points.first() {
         None => None,
         Some(point) => Some(point.key()),
     }

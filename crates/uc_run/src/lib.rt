@@ -39,6 +39,7 @@ mod same;
 mod size;
 mod slot;
 mod slot_totals;
+mod sought_key;
 mod texts;
 
 pub use cursor::Cursor;
@@ -51,6 +52,7 @@ pub use laws::{
 pub use memtable::Memtable;
 pub use run::Run;
 pub use size::op_size;
+pub use sought_key::SoughtKey;
 pub use texts::{same_text, text_order};
 pub use uc_run_entry::{
     Entry, Fragment, Fragments, Range, What, WhatRef, covering_fragment, cut_ranges,

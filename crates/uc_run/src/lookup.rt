@@ -1,5 +1,5 @@
 //! What a lookup of a key finds among points and fragments.
-ghost use Rattle.std.specs.Prelude.{◌≡◌, Bool, not, ◌&&◌, filter, IfOk, nat_le};
+ghost use Rattle.std.specs.Prelude.{◌≡◌, Bool, not, ◌&&◌, filter, IfOk, IfSome, nat_le};
 ghost use Rattle.std.specs.List.{AllByRecursion, flat_map, slice_get};
 ghost use Rattle.std.specs.List.Sorted.{IsStrictlySortedBy, IsPartitionedBy};
 ghost use Rattle.uc_oper.specs.Operation.{Operation};
@@ -9,12 +9,12 @@ ghost use Rattle.uc_run_entry.specs.Run.{covers};
 ghost use Rattle.uc_run_entry.specs.Lookup as lookup;
 ghost use Rattle.uc_run_entry.specs.Overwriting as overwriting;
 ghost use Rattle.uc_run.specs.Places as places;
-ghost use Rattle.uc_run.specs.Found.{before_points};
+ghost use Rattle.uc_run.specs.Found.{before_points, IsPutFirst};
 
 use crate::near::fragments_near;
 use crate::places::{is_on, without_newer};
 use std::alloc::{AllocError, Global};
-use uc_oper::{Effect, Operator};
+use uc_oper::{Effect, EffectRef, Operator};
 use uc_run_entry::{Fragment, WhatRef, covering_fragment};
 use uc_run_points::{PointRef, PointSlice, PointTest};
 
@@ -102,28 +102,53 @@ fn points_effect<O: Operator>(
 }
 
 /// What the points of the key above the sequence, which come first, make of an effect before them. If the newest is a put or
-/// a delete, no other is looked at. An `Err` loses that effect.
-fn effect_above<O: Operator>(
+/// a delete, no other is looked at, and the value of a put stays where it is. An `Err` loses that effect.
+fn effect_above<'a, O: Operator>(
     alloc: Global,
     before: Effect,
-    points: &PointSlice<'_>,
+    points: &PointSlice<'a>,
     key: &[u8],
     above: Option<u64>,
-) -> Result<Effect, AllocError>
+) -> Result<EffectRef<'a>, AllocError>
     requires { IsPartitionedBy (places.is_on key.now above) points.now }
     ensures { IfOk result (λ effect. effect ≡
         lookup.points_effect O.meaning before (filter (places.is_on key.now above) points.now)) }
 {
-    let Some(newest) = points.get(0) else {
-        return Ok(before);
+    let Some(newest) = points.first() else {
+        return Ok(EffectRef::own(before));
     };
     if !is_on(&newest, key, above) {
-        return Ok(before);
+        return Ok(EffectRef::own(before));
     }
-    let what = newest.what();
+    match newest.what() {
+        WhatRef::Put(value) => Ok(EffectRef::put(value)),
+        WhatRef::Delete => Ok(EffectRef::own(Effect::Set(None))),
+        WhatRef::Merge(_) => {
+            let effect = points_effect::<O>(alloc, before, &lasting(points, key, above))?;
+            Ok(EffectRef::own(effect))
+        }
+    }
+}
+
+/// The value that the first point puts, if it is one of the key at or below a sequence, and above another if there is one. Then
+/// no other point is of account: of most keys that are found, no more is read than this.
+#[inline]
+fn value_put<'a>(
+    points: &PointSlice<'a>,
+    key: &[u8],
+    at: u64,
+    above: Option<u64>,
+) -> Option<&'a [u8]>
+    ensures { IfSome result (λ value. IsPutFirst points.now key.now at above value.now) }
+{
+    let point = points.first()?;
+    if !is_on(&point, key, above) {
+        return None;
+    }
+    let (seq, what) = point.seq_and_what();
     match what {
-        WhatRef::Put(_) | WhatRef::Delete => what.after::<O>(alloc, before),
-        WhatRef::Merge(_) => points_effect::<O>(alloc, before, &lasting(points, key, above)),
+        WhatRef::Put(value) if seq <= at => Some(value),
+        _ => None,
     }
 }
 
@@ -154,13 +179,13 @@ fn effect_before(newest: Option<u64>) -> Effect
 
 /// What a lookup of the key at the sequence finds: what the key's points at or below the sequence do above the newest
 /// range deletion over it. That deletion is one of the fragments' sequences.
-pub(crate) fn effect_found<O: Operator>(
+pub(crate) fn effect_found<'a, O: Operator>(
     alloc: Global,
-    points: &PointSlice<'_>,
+    points: &PointSlice<'a>,
     fragments: &[Fragment],
     key: &[u8],
     at: u64,
-) -> Result<Effect, AllocError>
+) -> Result<EffectRef<'a>, AllocError>
     requires sorted { IsStrictlySortedBy entry_cmp points.now }
     requires order { AreInOrder fragments.now }
     requires falling { AllByRecursion (λ f. IsFalling f.seqs) fragments.now }
@@ -169,6 +194,9 @@ pub(crate) fn effect_found<O: Operator>(
         (filter (λ seq. nat_le seq at) (flat_map (λ f. f.seqs) (filter (λ f. covers f key.now) fragments.now)))) }
 {
     let newest = newest_over(fragments, key, at);
+    if let Some(value) = value_put(points, key, at, newest) {
+        return Ok(EffectRef::put(value));
+    }
     let on = without_newer(points, key, at);
     effect_above::<O>(alloc, effect_before(newest), &on, key, newest)
 }

@@ -41,8 +41,8 @@ impl Model for Memtable {
 
 impl Drop for Memtable {
     fn drop(mut self) {
-        make_small(&mut self.text);
-        make_small(&mut self.slots);
+        make_small(&mut self.text, size_of::<u8>());
+        make_small(&mut self.slots, size_of::<Slot>());
         let Memtable {
             text: _,
             slots: _,

@@ -9,6 +9,7 @@ ghost use Rattle.uc_run.specs.Hiding.{hides};
 use uc_run_entry::{Fragment, Seqs, covering_fragment};
 
 /// Whether a fragment ends at or before a key.
+#[inline]
 fn ends_by(fragment: &Fragment, key: &[u8]) -> bool
     ensures { result ≡ cursors.ends_by key.now fragment.now }
 {
@@ -16,6 +17,7 @@ fn ends_by(fragment: &Fragment, key: &[u8]) -> bool
 }
 
 /// The fragments from a place on, if those before it end by the key; otherwise all.
+#[inline]
 fn from_place<'a>(fragments: &'a [Fragment], place: usize, key: &[u8]) -> &'a [Fragment]
     requires order { AreInOrder fragments.now }
     requires falling { AllByRecursion (λ f. IsFalling f.seqs) fragments.now }
@@ -31,6 +33,7 @@ fn from_place<'a>(fragments: &'a [Fragment], place: usize, key: &[u8]) -> &'a [F
 }
 
 /// The first of the fragments alone, if it ends above the key; otherwise all.
+#[inline]
 fn first_or_all<'a>(fragments: &'a [Fragment], key: &[u8]) -> &'a [Fragment]
     requires order { AreInOrder fragments.now }
     requires falling { AllByRecursion (λ f. IsFalling f.seqs) fragments.now }
@@ -50,6 +53,7 @@ fn first_or_all<'a>(fragments: &'a [Fragment], key: &[u8]) -> &'a [Fragment]
 
 /// Some of the fragments, among them the one that covers the key, if one does: only the one at the place if that is
 /// enough.
+#[inline]
 pub(crate) fn fragments_near<'a>(
     fragments: &'a [Fragment],
     place: usize,
@@ -65,6 +69,7 @@ pub(crate) fn fragments_near<'a>(
 }
 
 /// A place among the fragments, moved forward past those that end by the key.
+#[inline]
 pub(crate) fn fragments_ended(fragments: &[Fragment], place: usize, key: &[u8]) -> usize
     ensures { place ≤ result }
 {

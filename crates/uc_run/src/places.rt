@@ -10,6 +10,7 @@ ghost use Rattle.uc_run.specs.Places as places;
 
 use crate::fences::{Fences, found_by_fences};
 use crate::filter::Filter;
+use crate::sought_key::SoughtKey;
 use crate::texts::{same_text, text_order};
 use std::cmp::Ordering;
 use uc_run_points::{PointRef, PointSlice, PointTest, Points};
@@ -82,7 +83,7 @@ pub(crate) fn without_newer<'a>(points: &PointSlice<'a>, key: &[u8], at: u64) ->
     requires { IsStrictlySortedBy entry_cmp points.now }
     ensures { result ≡ drop (count_by (places.is_newer key.now at) points.now) points.now }
 {
-    let mut rest = points.slice(0, points.len());
+    let mut rest = points.again();
     if rest.pass_while(FEW_POINTS, &IsNewer { key, at }) == FEW_POINTS {
         let (_, behind) = points.split_at(count_newer(points, key, at));
         return behind;
@@ -106,7 +107,7 @@ pub(crate) fn points_from<'a>(
     points: &'a Points,
     fences: &Fences,
     key_filter: &Filter,
-    key: &[u8],
+    key: &SoughtKey<'_>,
 ) -> PointSlice<'a>
     requires sorted { IsStrictlySortedBy entry_cmp points.now }
     requires fenced { IsFenced points.now fences.now }
@@ -116,8 +117,8 @@ pub(crate) fn points_from<'a>(
         filter (lookup.is_visible key.now at) result ≡ filter (lookup.is_visible key.now at) points.now }
 {
     if key_filter.admits(key) {
-        found_by_fences(points, fences, key, false)
+        found_by_fences(points, fences, key.key(), false)
     } else {
-        points.as_slice().slice(0, 0)
+        points.none()
     }
 }

@@ -22,10 +22,11 @@ use crate::lookup::effect_found;
 use crate::places::points_from;
 use crate::run_size::size_of;
 use crate::same::same_points;
+use crate::sought_key::SoughtKey;
 use std::alloc::{AllocError, Global};
 use std::marker::{Model, Sync};
 use std::thread::{Threads, join};
-use uc_oper::{Effect, Operator};
+use uc_oper::{Effect, EffectRef, Operator};
 use uc_run_entry::{Entry, Fragment, Fragments, WhatRef, plain_list_does_what_is_found};
 use uc_run_points::{PointSlice, Points, points_of};
 
@@ -192,6 +193,7 @@ impl Run {
     }
 
     /// What holds of every run: its contents make one. Proof step: does nothing when it runs.
+    #[inline]
     pub fn recall(&self)
         ensures { IsRun self.now.low self.now.high self.now.points self.now.fragments }
     {
@@ -199,6 +201,7 @@ impl Run {
     }
 
     /// The points, in order of key, the newest of a key first.
+    #[inline]
     pub fn entries(&self) -> &Points
         ensures { result.now ≡ self.now.points }
     {
@@ -206,6 +209,7 @@ impl Run {
     }
 
     /// The fragments, in order of key.
+    #[inline]
     pub fn fragments(&self) -> &[Fragment]
         ensures { result.now ≡ self.now.fragments }
     {
@@ -245,6 +249,7 @@ impl Run {
     }
 
     /// The points from the first whose key is at or above `low` (above it if `strict`) on.
+    #[inline]
     pub(crate) fn found(&self, low: &[u8], strict: bool) -> PointSlice<'_>
         ensures { result ≡ drop (seek.seek_place self.now.points low.now strict) self.now.points }
     {
@@ -252,6 +257,7 @@ impl Run {
     }
 
     /// The fences of its points.
+    #[inline]
     pub(crate) fn fences(&self) -> &Fences
         ensures { IsFenced self.now.points result.now }
     {
@@ -271,13 +277,11 @@ impl Run {
         ensures { IsNextKey self.now.points low.now strict (option_map (λ key. key.now) result) }
     {
         self.recall();
-        let point = self.found(low, strict).get(0)?;
+        let point = self.found(low, strict).first()?;
         Some(point.key())
     }
 
-    /// What the run's writes at or below a sequence together do to a key. It costs the logarithms of the numbers of
-    /// points and fragments, and a step for each of the key's points from its last put or delete on. For a key without
-    /// points it mostly costs a look at the filter in place of the first logarithm.
+    /// As [`effect_ref`](Run::effect_ref), with a copy of the value that it puts.
     pub fn effect<O: Operator>(
         &self,
         alloc: Global,
@@ -286,9 +290,35 @@ impl Run {
     ) -> Result<Effect, AllocError>
         ensures { IfOk result (λ effect. effect ≡ effect_on O.meaning (plain_list self.now) key.now at) }
     {
+        self.effect_ref::<O>(alloc, key, at)?.into_effect(alloc)
+    }
+
+    /// What the run's writes at or below a sequence together do to a key. It costs the logarithms of the numbers of
+    /// points and fragments, and a step for each of the key's points from its last put or delete on. For a key without
+    /// points it mostly costs a look at the filter in place of the first logarithm. A value that is put stays in the run.
+    pub fn effect_ref<O: Operator>(
+        &self,
+        alloc: Global,
+        key: &[u8],
+        at: u64,
+    ) -> Result<EffectRef<'_>, AllocError>
+        ensures { IfOk result (λ effect. effect ≡ effect_on O.meaning (plain_list self.now) key.now at) }
+    {
+        self.effect_of_sought::<O>(alloc, &SoughtKey::new(key), at)
+    }
+
+    /// As [`effect_ref`](Run::effect_ref), of a key whose hash is known.
+    pub fn effect_of_sought<O: Operator>(
+        &self,
+        alloc: Global,
+        key: &SoughtKey<'_>,
+        at: u64,
+    ) -> Result<EffectRef<'_>, AllocError>
+        ensures { IfOk result (λ effect. effect ≡ effect_on O.meaning (plain_list self.now) key.now at) }
+    {
         plain_list_does_what_is_found::<O>();
         let points = points_from(&self.points, &self.fences, &self.filter, key);
-        effect_found::<O>(alloc, &points, self.fragments.as_slice(), key, at)
+        effect_found::<O>(alloc, &points, self.fragments.as_slice(), key.key(), at)
     }
 
     /// Whether the runs have equal points, fragments and ranges.

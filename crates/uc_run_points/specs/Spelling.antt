@@ -48,6 +48,11 @@ unfoldable pub entries_from : ℕ → List ℕ → List Entry
 entries_from zero bytes = []
 entries_from (suc count) bytes = (entry_from bytes).0 ∷ entries_from count (entry_from bytes).1
 
+-- so many entries, of which the first is read already, and the others are read from the bytes behind it
+unfoldable pub entries_ahead : ℕ → Entry → List ℕ → List Entry
+entries_ahead zero first behind = []
+entries_ahead (suc count) first behind = first ∷ entries_from count behind
+
 -- its parts have a place in their numbers
 pub record Fits (e : Entry) : Type 0 where
   pub key : length e.key < 2 ^ 64

@@ -64,8 +64,22 @@ fn byte_or_zero(bytes: &[u8], place: usize) -> u8
     }
 }
 
-/// The first eight bytes as a number, the lowest first, with zeros for those that aren't there.
+/// The first eight bytes as a number, the lowest first, with zeros for those that aren't there. Most numbers have few.
+#[inline]
 fn low_number(bytes: &[u8]) -> u64
+    ensures { result ≡ from_le_bytes w64 bytes.now }
+{
+    match bytes {
+        [a] => u64::from(*a),
+        [a, b] => u64::from_le_bytes([*a, *b, 0, 0, 0, 0, 0, 0]),
+        [a, b, c] => u64::from_le_bytes([*a, *b, *c, 0, 0, 0, 0, 0]),
+        [a, b, c, d] => u64::from_le_bytes([*a, *b, *c, *d, 0, 0, 0, 0]),
+        _ => wide_number(bytes),
+    }
+}
+
+/// As [`low_number`], for any count of bytes.
+fn wide_number(bytes: &[u8]) -> u64
     ensures { result ≡ from_le_bytes w64 bytes.now }
 {
     u64::from_le_bytes([

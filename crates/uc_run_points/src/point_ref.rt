@@ -36,6 +36,18 @@ impl<'a> Model for PointRef<'a> {
     ghost view = { λ p. entry_of (number_from p.trailer.now).0 p.key.now p.text.now };
 }
 
+/// What a tag says with a text.
+#[inline]
+fn said(tag: u64, text: &[u8]) -> WhatRef<'_>
+    ensures { packed.what_of result ≡ packed.tagged tag text.now }
+{
+    match tag {
+        DELETION => WhatRef::Delete,
+        VALUE => WhatRef::Put(text),
+        _ => WhatRef::Merge(text),
+    }
+}
+
 impl<'a> PointRef<'a> {
     /// The point that two texts make with the trailer at the front of some bytes.
     #[inline]
@@ -43,6 +55,18 @@ impl<'a> PointRef<'a> {
         ensures { result ≡ spelling.entry_of (number_from trailer.now).0 key.now text.now }
     {
         PointRef { key, trailer, text }
+    }
+
+    /// The point again: its texts stay where they are.
+    #[inline]
+    pub(crate) fn again(&self) -> PointRef<'a>
+        ensures { result ≡ self.now }
+    {
+        PointRef {
+            key: self.key,
+            trailer: self.trailer,
+            text: self.text,
+        }
     }
 
     /// The key that it changes.
@@ -67,11 +91,18 @@ impl<'a> PointRef<'a> {
     pub fn what(&self) -> WhatRef<'a>
         ensures { packed.what_of result ≡ self.now.what }
     {
-        match read_number(self.trailer).0 % 4 {
-            DELETION => WhatRef::Delete,
-            VALUE => WhatRef::Put(self.text),
-            _ => WhatRef::Merge(self.text),
-        }
+        said(read_number(self.trailer).0 % 4, self.text)
+    }
+
+    /// Its sequence, and what it says of the key: both for a look at the trailer.
+    #[inline]
+    pub fn seq_and_what(&self) -> (u64, WhatRef<'a>)
+        ensures seq { result.0 ≡ self.now.seq }
+        ensures below { result.0 < 2 ^ 62 }
+        ensures what { packed.what_of result.1 ≡ self.now.what }
+    {
+        let trailer = read_number(self.trailer).0;
+        (trailer / 4, said(trailer % 4, self.text))
     }
 
     /// Whether it overwrites what is older: a put and a delete do, and a merge doesn't.

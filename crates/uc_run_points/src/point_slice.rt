@@ -47,6 +47,43 @@ impl<'a> PointSlice<'a> {
         }
     }
 
+    /// All points from a place on.
+    #[inline]
+    pub(crate) fn from_place(points: &'a Points, place: usize) -> PointSlice<'a>
+        ensures { result ≡ drop place points.now }
+    {
+        let begin = place.min(points.len());
+        PointSlice {
+            points,
+            begin,
+            ahead: points.from(begin),
+        }
+    }
+
+    /// None of the points.
+    #[inline]
+    pub(crate) fn none(points: &'a Points) -> PointSlice<'a>
+        ensures { result ≡ [] }
+    {
+        PointSlice {
+            points,
+            begin: 0,
+            ahead: PointsAhead::none(),
+        }
+    }
+
+    /// The same points again.
+    #[inline]
+    pub fn again(&self) -> PointSlice<'a>
+        ensures { result ≡ self.now }
+    {
+        PointSlice {
+            points: self.points,
+            begin: self.begin,
+            ahead: self.ahead.again(),
+        }
+    }
+
     /// How many points there are.
     #[inline]
     pub fn len(&self) -> usize
@@ -82,12 +119,22 @@ impl<'a> PointSlice<'a> {
         ahead
     }
 
+    /// The first point, if there is one. It is read already.
+    #[inline]
+    pub fn first(&self) -> Option<PointRef<'a>>
+        ensures { result ≡ slice_get self.now 0 }
+    {
+        self.ahead.first()
+    }
+
     /// The point at a place. It costs a step for each point before it in the slice, or in its block if these are fewer.
     #[inline]
     pub fn get(&self, place: usize) -> Option<PointRef<'a>>
         ensures { result ≡ slice_get self.now place }
     {
-        if place < self.ahead.len() {
+        if place == 0 {
+            self.ahead.first()
+        } else if place < self.ahead.len() {
             self.from(place).first()
         } else {
             None

@@ -44,8 +44,8 @@ impl Model for Points {
 
 impl Drop for Points {
     fn drop(mut self) {
-        make_small(&mut self.bytes);
-        make_small(&mut self.starts);
+        make_small(&mut self.bytes, size_of::<u8>());
+        make_small(&mut self.starts, size_of::<usize>());
         let Points {
             bytes: _,
             starts: _,
@@ -123,7 +123,7 @@ fn block_ahead<'a>(bytes: &'a [u8], starts: &[usize], count: usize, block: usize
     ensures { result ≡ drop (block_points * block) (spelling.entries_from count bytes.now) }
 {
     match starts.get(block) {
-        None => PointsAhead::new(&[], 0),
+        None => PointsAhead::none(),
         Some(start) => PointsAhead::new(&bytes[*start..], count - block * BLOCK_POINTS),
     }
 }
@@ -239,7 +239,23 @@ impl Points {
     pub fn get(&self, place: usize) -> Option<PointRef<'_>>
         ensures { result ≡ slice_get self.now place }
     {
-        self.from(place).next()
+        self.from(place).first()
+    }
+
+    /// The points from a place on, as a slice of them. It costs a step for each point before it in its block.
+    #[inline]
+    pub fn slice_from(&self, place: usize) -> PointSlice<'_>
+        ensures { result ≡ drop place self.now }
+    {
+        PointSlice::from_place(self, place)
+    }
+
+    /// None of the points, as a slice of them. It looks at no point.
+    #[inline]
+    pub fn none(&self) -> PointSlice<'_>
+        ensures { result ≡ [] }
+    {
+        PointSlice::none(self)
     }
 
     /// All points, as a slice of them.

@@ -9,30 +9,52 @@ use crate::spelling::read_entry;
 use std::marker::Model;
 
 /// The points that are still ahead of a walk, in their order. A contract sees their list.
+///
+/// The next one is read already, so a second look at it costs nothing.
 #[derive(Debug, Drop)]
 pub struct PointsAhead<'a> {
-    /// The bytes from the next point on.
-    bytes: &'a [u8],
+    /// The next point. If none is ahead, it is of no account.
+    first: PointRef<'a>,
+    /// The bytes behind it.
+    behind: &'a [u8],
+    /// How many points are ahead.
     count: usize,
 }
 
 impl<'a> Model for PointsAhead<'a> {
     ghost use Rattle.std.specs.Prelude.{List};
     ghost use Rattle.uc_run_entry.specs.declared.entry.Entry.{Entry};
-    ghost use Rattle.uc_run_points.specs.Spelling.{entries_from};
+    ghost use Rattle.uc_run_points.specs.Spelling.{entries_ahead};
 
     ghost Value = { List Entry };
 
-    ghost view = { λ a. entries_from a.count a.bytes.now };
+    ghost view = { λ a. entries_ahead a.count a.first a.behind.now };
 }
 
 impl<'a> PointsAhead<'a> {
-    /// So many points, whose bytes begin here.
+    /// So many points, whose bytes begin here. It reads the first.
     #[inline]
     pub(crate) fn new(bytes: &'a [u8], count: usize) -> PointsAhead<'a>
         ensures { result ≡ entries_from count bytes.now }
     {
-        PointsAhead { bytes, count }
+        let (first, behind) = read_entry(bytes);
+        PointsAhead {
+            first,
+            behind,
+            count,
+        }
+    }
+
+    /// No points. It reads nothing.
+    #[inline]
+    pub(crate) fn none() -> PointsAhead<'a>
+        ensures { result ≡ [] }
+    {
+        PointsAhead {
+            first: PointRef::new(&[], &[], &[]),
+            behind: &[],
+            count: 0,
+        }
     }
 
     /// How many points are ahead.
@@ -49,7 +71,8 @@ impl<'a> PointsAhead<'a> {
         ensures { result ≡ self.now }
     {
         PointsAhead {
-            bytes: self.bytes,
+            first: self.first.again(),
+            behind: self.behind,
             count: self.count,
         }
     }
@@ -62,8 +85,22 @@ impl<'a> PointsAhead<'a> {
         if self.count == 0 {
             return None;
         }
-        let (point, _) = read_entry(self.bytes);
-        Some(point)
+        Some(self.first.again())
+    }
+
+    /// Passes over the next point, if there is one, and reads the one behind it.
+    #[inline]
+    fn step(&mut self)
+        ensures { self.new ≡ drop 1 self.old }
+    {
+        if self.count <= 1 {
+            self.count = 0;
+            return;
+        }
+        let (first, behind) = read_entry(self.behind);
+        self.first = first;
+        self.behind = behind;
+        self.count -= 1;
     }
 
     /// The next point, if there is one.
@@ -72,13 +109,9 @@ impl<'a> PointsAhead<'a> {
         ensures next { result ≡ slice_get self.old 0 }
         ensures rest { self.new ≡ drop 1 self.old }
     {
-        if self.count == 0 {
-            return None;
-        }
-        let (point, rest) = read_entry(self.bytes);
-        self.bytes = rest;
-        self.count -= 1;
-        Some(point)
+        let point = self.first();
+        self.step();
+        point
     }
 
     /// Passes over so many points, or all if there are fewer.
@@ -87,7 +120,7 @@ impl<'a> PointsAhead<'a> {
         ensures { self.new ≡ drop count self.old }
     {
         for _ in 0..count {
-            self.next();
+            self.step();
         }
     }
 
@@ -111,9 +144,8 @@ impl<'a> PointsAhead<'a> {
     {
         let most = most.min(self.len());
         for count in 0..most {
-            let mut behind = self.again();
-            match behind.next() {
-                Some(point) if test.passes(&point) => *self = behind,
+            match self.first() {
+                Some(point) if test.passes(&point) => self.step(),
                 _ => return count,
             }
         }

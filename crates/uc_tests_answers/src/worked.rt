@@ -4,7 +4,7 @@ use std::test::Fail;
 use uc_batch::Writes;
 use uc_bytes::{Bytes, OpRef, WriteRef};
 use uc_oper::Operator;
-use uc_query_read::{Answer, Query, Rows};
+use uc_query_read::{Answer, Query, RowBuffer, Rows};
 use uc_share::Opening;
 use uc_tests_compactors::drawn::small_runs;
 
@@ -102,10 +102,7 @@ fn query_of(alloc: Global, asked: Question) -> Result<Query, Fail> {
 
 /// Rows with these keys and values.
 fn rows_of(alloc: Global, pairs: Pairs) -> Result<Answer, Fail> {
-    let mut rows = Vec::new(alloc);
-    for (key, value) in pairs {
-        rows.push((bytes(alloc, key)?, bytes(alloc, value)?))?;
-    }
+    let rows = RowBuffer::of(alloc, pairs)?;
     Ok(Answer::Rows(Rows::of(rows).ok_or("keys don't rise")?))
 }
 

@@ -37,9 +37,9 @@ enum Want {
 }
 
 /// Whether rows are these pairs.
-fn are_pairs(rows: &[(Bytes, Bytes)], want: &[(&[u8], &[u8])]) -> bool {
+fn are_pairs(rows: &Rows, want: &[(&[u8], &[u8])]) -> bool {
     for ((key, value), (want_key, want_value)) in rows.iter().zip(want) {
-        if key.as_slice() != *want_key || value.as_slice() != *want_value {
+        if key != *want_key || value != *want_value {
             return false;
         }
     }
@@ -51,7 +51,7 @@ fn is_wanted(answer: &Answer, want: &Want) -> bool {
     match (answer, want) {
         (Answer::Value(None), Want::Value(None)) => true,
         (Answer::Value(Some(value)), Want::Value(Some(want))) => value.as_slice() == *want,
-        (Answer::Rows(rows), Want::Rows(want)) => are_pairs(rows.as_slice(), want),
+        (Answer::Rows(rows), Want::Rows(want)) => are_pairs(rows, want),
         (Answer::NotProtected(at), Want::NotProtected(want)) => at == want,
         _ => false,
     }
@@ -207,49 +207,6 @@ fn keys_without_value_have_no_row(rt: HostRuntime) -> Result<(), Fail> {
     for scan in &AFTER_DELETIONS {
         wants_scan::<Counter>(&rt, alloc, &writes, &[2, 8], scan)?;
     }
-    Ok(())
-}
-
-/// Pairs, and whether their keys rise.
-static ORDERS: [(&[(&[u8], &[u8])], bool); 5] = [
-    (&[], true),
-    (&[(b"k", b"v")], true),
-    (&[(b"", b"v"), (b"k", b"v"), (b"ka", b"")], true),
-    (&[(b"k", b"v"), (b"k", b"w")], false),
-    (&[(b"a", b"v"), (b"c", b"v"), (b"b", b"v")], false),
-];
-
-/// These keys and values.
-fn pairs(alloc: Global, pairs: &[(&[u8], &[u8])]) -> Result<Vec<(Bytes, Bytes)>, AllocError> {
-    let mut list = Vec::new(alloc);
-    for (key, value) in pairs {
-        let key = Bytes::from_slice(alloc, key)?;
-        list.push((key, Bytes::from_slice(alloc, value)?))?;
-    }
-    Ok(list)
-}
-
-#[test]
-fn rows_rise(rt: HostRuntime) -> Result<(), Fail> {
-    let alloc = rt.alloc();
-    for &(list, rise) in &ORDERS {
-        assert!(rt; Rows::of(pairs(alloc, list)?).is_some() == rise, "{list:?}");
-    }
-    Ok(())
-}
-
-/// One row: the key `k` with this value.
-fn row(alloc: Global, value: &'static [u8]) -> Result<Rows, Fail> {
-    Ok(Rows::of(pairs(alloc, &[(b"k", value)])?).ok_or("one key rises")?)
-}
-
-#[test]
-fn rows_keep_their_pairs(rt: HostRuntime) -> Result<(), Fail> {
-    let alloc = rt.alloc();
-    let rows = row(alloc, b"v")?;
-    assert!(rt; are_pairs(rows.as_slice(), &[(b"k", b"v")]));
-    assert!(rt; rows != row(alloc, b"w")?);
-    assert!(rt; are_pairs(&rows.into_vec(), &[(b"k", b"v")]));
     Ok(())
 }
 

@@ -9,7 +9,7 @@
 //! has four threads with a seat each. `slots.rt` checks what may be asked of a table, and `draws.rt` draws numbers.
 //!
 //! `values.rt` has values by sequence and the keys that a write touches, and `answers.rt` lookups and scans over plain
-//! writes. Their writes are made from plain data in `given.rt`.
+//! writes. Their writes are made from plain data in `given.rt`. `rows.rt` has rows in one buffer.
 #![tactic(auto)]
 
 #[cfg(test)]
@@ -34,6 +34,8 @@ mod given;
 mod lone_seat;
 #[cfg(test)]
 mod operators;
+#[cfg(test)]
+mod rows;
 #[cfg(test)]
 mod slots;
 #[cfg(test)]

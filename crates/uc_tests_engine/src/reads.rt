@@ -2,15 +2,15 @@
 use crate::given::{empty, put};
 use std::alloc::Global;
 use std::test::Fail;
-use uc_engine::{Bytes, Engine, LiveOptions, OperatorKind};
+use uc_engine::{Bytes, Engine, LiveOptions, OperatorKind, Rows};
 
 /// Whether rows are these.
-fn are(rows: &[(Bytes, Bytes)], wanted: &[(&[u8], &[u8])]) -> bool {
+fn are(rows: &Rows, wanted: &[(&[u8], &[u8])]) -> bool {
     if rows.len() != wanted.len() {
         return false;
     }
-    for (row, want) in rows.iter().zip(wanted) {
-        if row.0.as_slice() != want.0 || row.1.as_slice() != want.1 {
+    for ((key, value), want) in rows.iter().zip(wanted) {
+        if key != want.0 || value != want.1 {
             return false;
         }
     }
@@ -38,7 +38,7 @@ fn shows(
         None => None,
     };
     let rows = engine.scan(alloc, range.0, &high, limit)?;
-    Ok(are(rows.as_slice(), wanted))
+    Ok(are(&rows, wanted))
 }
 
 /// Scans with and without an end, and with a limit.

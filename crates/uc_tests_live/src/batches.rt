@@ -76,7 +76,7 @@ fn all_rows(alloc: Global, at: u64) -> Result<Query, Fail> {
 /// Whether an answer has this many rows.
 fn has_rows(answer: &Answer, count: usize) -> bool {
     match answer {
-        Answer::Rows(rows) => rows.as_slice().len() == count,
+        Answer::Rows(rows) => rows.len() == count,
         _ => false,
     }
 }

@@ -28,7 +28,10 @@ const SEQS: [u64; 3] = [1, 255, (1 << 56) - 1];
 
 /// Whether a packed point says what an entry says.
 fn says_the_same(point: &PointRef<'_>, entry: &Entry) -> bool {
+    let (seq, what) = point.seq_and_what();
     point.key() == entry.key.as_slice()
+        && seq == entry.seq
+        && what == WhatRef::of(&entry.what)
         && point.seq() == entry.seq
         && point.what() == WhatRef::of(&entry.what)
 }

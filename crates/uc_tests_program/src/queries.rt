@@ -90,10 +90,10 @@ fn is(rt: &impl Abort, answer: &Answer, want: Want) {
             assert_eq!(rt; value.as_slice(), want);
         }
         (Answer::Rows(rows), Want::Rows(want)) => {
-            assert_eq!(rt; rows.as_slice().len(), want.len());
-            for (row, want) in rows.as_slice().iter().zip(want) {
-                assert_eq!(rt; row.0.as_slice(), want.0);
-                assert_eq!(rt; row.1.as_slice(), want.1);
+            assert_eq!(rt; rows.len(), want.len());
+            for ((key, value), want) in rows.iter().zip(want) {
+                assert_eq!(rt; key, want.0);
+                assert_eq!(rt; value, want.1);
             }
         }
         (Answer::NotProtected(at), Want::NotProtected(want)) => assert_eq!(rt; *at, want),

@@ -1,13 +1,13 @@
 //! Lines of scripts and dumps, written by a plain program of their own.
 use std::alloc::{AllocError, Global};
-use uc_bytes::{Bytes, Op};
+use uc_bytes::Op;
 
 /// A field of bytes.
-pub fn field(alloc: Global, bytes: &Bytes) -> Result<String, AllocError> {
+pub fn field(alloc: Global, bytes: &[u8]) -> Result<String, AllocError> {
     if bytes.is_empty() {
         return Ok(String::from_str(alloc, ".")?);
     }
-    Ok(hex::encode(alloc, bytes.as_slice())?)
+    Ok(hex::encode(alloc, bytes)?)
 }
 
 /// The line of a change.
@@ -18,11 +18,11 @@ pub fn op_line(alloc: Global, op: &Op) -> Result<String, AllocError> {
         Op::Merge(key, operand) => ("merge", key, Some(operand)),
         Op::DeleteRange(begin, end) => ("range", begin, Some(end)),
     };
-    let first = field(alloc, first)?;
+    let first = field(alloc, first.as_slice())?;
     Ok(match second {
         None => format!(in alloc; "{word} {first}\n")?,
         Some(second) => {
-            let second = field(alloc, second)?;
+            let second = field(alloc, second.as_slice())?;
             format!(in alloc; "{word} {first} {second}\n")?
         }
     })

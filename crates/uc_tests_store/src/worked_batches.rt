@@ -7,7 +7,7 @@ use std::thread::Threads;
 use uc_batch::Writes;
 use uc_bytes::{Bytes, OpRef, WriteRef};
 use uc_oper::Append;
-use uc_query_read::{Answer, Query, Rows};
+use uc_query_read::{Answer, Query, RowBuffer, Rows};
 use uc_query_workers::{AskError, answer_plain};
 use uc_version_state::{Options, Version};
 use uc_version_work::open_version;
@@ -129,11 +129,7 @@ fn queries(alloc: Global) -> Result<Vec<Query>, AllocError> {
 }
 
 fn rows_of(alloc: Global, pairs: Pairs) -> Result<Answer, Fail> {
-    let mut rows = Vec::new(alloc);
-    for (key, value) in pairs {
-        let key = bytes(alloc, key)?;
-        rows.push((key, bytes(alloc, value)?))?;
-    }
+    let rows = RowBuffer::of(alloc, pairs)?;
     Ok(Answer::Rows(Rows::of(rows).ok_or("keys don't rise")?))
 }
 

@@ -8,7 +8,7 @@ use std::thread::Threads;
 use uc_batch::Writes;
 use uc_bytes::{Bytes, Op, OpRef, Write};
 use uc_oper::{Append, Counter, Maximum, Operator, Tail};
-use uc_query_read::{Answer, Query, answer_writes};
+use uc_query_read::{Answer, Query, Rows, answer_writes};
 use uc_tests_shared::lines::{field, op_line};
 use uc_tests_shared::options::small;
 use uc_tool_io::Done;
@@ -108,7 +108,7 @@ pub(crate) fn scan(
 /// The field of a scan's end, which may be none.
 fn end_field(alloc: Global, high: &Option<Bytes>) -> Result<String, AllocError> {
     match high {
-        Some(high) => field(alloc, high),
+        Some(high) => field(alloc, high.as_slice()),
         None => String::from_str(alloc, "-"),
     }
 }
@@ -117,7 +117,7 @@ fn end_field(alloc: Global, high: &Option<Bytes>) -> Result<String, AllocError> 
 pub(crate) fn query_line(alloc: Global, query: &Query) -> Result<String, Fail> {
     Ok(match query {
         Query::Get { key, at } => {
-            let key = field(alloc, key)?;
+            let key = field(alloc, key.as_slice())?;
             format!(in alloc; "get {key} {at}\n")?
         }
         Query::Scan {
@@ -126,7 +126,7 @@ pub(crate) fn query_line(alloc: Global, query: &Query) -> Result<String, Fail> {
             at,
             limit,
         } => {
-            let low = field(alloc, low)?;
+            let low = field(alloc, low.as_slice())?;
             let high = end_field(alloc, high)?;
             format!(in alloc; "scan {low} {high} {limit} {at}\n")?
         }
@@ -205,19 +205,19 @@ pub(crate) fn answer_lines(alloc: Global, answer: &Answer) -> Result<String, Fai
     match answer {
         Answer::Value(None) => Ok(String::from_str(alloc, "none\n")?),
         Answer::Value(Some(value)) => {
-            let value = field(alloc, value)?;
+            let value = field(alloc, value.as_slice())?;
             Ok(format!(in alloc; "value {value}\n")?)
         }
         Answer::NotProtected(at) => Ok(format!(in alloc; "not protected {at}\n")?),
-        Answer::Rows(rows) => rows_lines(alloc, rows.as_slice()),
+        Answer::Rows(rows) => rows_lines(alloc, rows),
     }
 }
 
 /// The lines of rows.
-fn rows_lines(alloc: Global, rows: &[(Bytes, Bytes)]) -> Result<String, Fail> {
+fn rows_lines(alloc: Global, rows: &Rows) -> Result<String, Fail> {
     let count = rows.len();
     let mut lines = format!(in alloc; "rows {count}\n")?;
-    for (key, value) in rows {
+    for (key, value) in rows.iter() {
         let key = field(alloc, key)?;
         let value = field(alloc, value)?;
         let line = format!(in alloc; "{key} {value}\n")?;

@@ -11,7 +11,7 @@ loop-length-preserved g c =
     let n = get_or lengths i 0 in
     let before = c.loop-length.invariant in
     let value : List ℕ → Option (List ℕ) = value_seen (g.R.Readable.viewed c.args.source.now) in
-    let found : c.in_ok-get.field-0 ≡ value (take n (drop (sum (take i lengths)) c.args.keys.now)) = c.in_ok-get.ensures ∙ ap value (c.split_at.ensures.front ∙ ap (take n) before.left) in
+    let found : c.in_ok-get_ref.field-0 ≡ value (take n (drop (sum (take i lengths)) c.args.keys.now)) = c.in_ok-get_ref.ensures ∙ ap value (c.split_at.ensures.front ∙ ap (take n) before.left) in
     let more = found_more value lengths i c.args.keys.now c.loop-length-test.true in
     record {
       left = c.split_at.ensures.back ∙ ap (drop n) before.left ∙ sym more.0;

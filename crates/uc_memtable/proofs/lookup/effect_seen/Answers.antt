@@ -16,4 +16,4 @@ returns g c =
     let first : c.in_ok-first.first ≡ effect_before seen start = c.in_ok-first.ensures in
     let noted : c.deref.result.now ≡ merges = search rules in
     let all = ap (λ (e : Effect). effect_over m seen e c.deref.result.now) first ∙ ap (effect_over m seen (effect_before seen start)) noted ∙ sym walked ∙ sym (effect_on-sight m sight) in
-    subst (λ (e : Effect). IfOk c.then_places.result (λ effect. effect ≡ e)) all c.then_places.ensures
+    subst (λ (e : Effect). IfOk c.after_merges.result (λ effect. effect ≡ e)) all c.after_merges.ensures

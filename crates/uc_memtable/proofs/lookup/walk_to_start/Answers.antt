@@ -24,7 +24,7 @@ loop-end-init c =
     let labelled : AreLabelled seen labels = sight-labelled sight labels c.requires.labelled in
     let test : ℕ → Bool = has_label labels label in
     let is : c.newest-end.result ≡ newest_end test (length labels) =
-    c.newest-end.ensures ∙ ap (λ (k : ℕ). newest_end (has_label labels k) (length labels)) c.key_hash.ensures in
+    c.newest-end.ensures ∙ ap (λ (k : ℕ). newest_end (has_label labels k) (length labels)) c.hash.ensures in
     let le : newest_end test (length labels) ≤ length labels = newest_end-le test (length labels) in
     let long : length labels ≡ length sight.writes.now = ap length c.requires.labelled ∙ length-map sight.writes.now write_label in
     record {

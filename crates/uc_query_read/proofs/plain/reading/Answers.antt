@@ -1,6 +1,6 @@
 use Rattle.std.proofs.Common.{◌≡◌, sym, subst, rules}
 use Rattle.uc_query_read.specs.Answers.{named_keys, first_rows}
-use Rattle.uc_query_read.specs.Rising.{KeysRise}
+use Rattle.uc_rows.specs.Rising.{KeysRise}
 use Rattle.uc_query_read.proofs.FirstRows.{rows_first}
 use Rattle.uc_query_read.proofs.plain.reading.Goals as goal
 
@@ -12,5 +12,5 @@ known-requires g c =
     let high = c.in-Scan.high in
     let at = c.in-Scan.at in
     let limit = c.in-Scan.limit in
-    let first : c.in_ok-rows-in-Scan.rows.items ≡ first_rows m ws at limit (named_keys ws low high) = search rules in
+    let first : c.in_ok-rows-in-Scan.rows ≡ first_rows m ws at limit (named_keys ws low high) = search rules in
     subst KeysRise (sym first) (rows_first m ws low high at limit).rise

@@ -10,9 +10,9 @@ pub returns : goal.returns
 returns g c =
     elim c.loop-alloc-test.branch [
       | else-loop-alloc-test w ↦
-          let long : length c.loop-alloc.rows.items ≡ c.args.limit = omega (arith, c.loop-alloc.invariant.few, w.loop-alloc-test.false, c.len.ensures) in
-          sym (take_at c.loop-alloc.rows.items _ c.args.limit long) ∙ c.loop-alloc.invariant.whole
+          let long : length c.loop-alloc.rows ≡ c.args.limit = omega (arith, c.loop-alloc.invariant.few, w.loop-alloc-test.false, c.len.ensures) in
+          sym (take_at c.loop-alloc.rows _ c.args.limit long) ∙ c.loop-alloc.invariant.whole
       | then-loop-alloc-test+in_ok-key+in_default w ↦
-          all_rows g.O.Operator.meaning (writes_of (contents_of c.args.runs.now)) c.args.at c.args.limit c.loop-alloc.rows.items _ c.loop-alloc.cursors.keys w.next.new.self.keys _ c.loop-alloc.invariant.few w.in_ok-key.ensures.comes
+          all_rows g.O.Operator.meaning (writes_of (contents_of c.args.runs.now)) c.args.at c.args.limit c.loop-alloc.rows _ c.loop-alloc.cursors.keys w.next.new.self.keys _ c.loop-alloc.invariant.few w.in_ok-key.ensures.comes
           (ap (option_map (λ r. r.0.now)) w.in_default.is) c.loop-alloc.invariant.whole
     ]

@@ -11,9 +11,9 @@ invariant-loop-alloc g l =
     let m = g.O.Operator.meaning in
     let ws = writes_of (contents_of l.runs) in
     record {
-      few : length l.rows.items ≤ l.limit;
+      few : length l.rows ≤ l.limit;
       runs : l.cursors.runs ≡ contents_of l.runs;
-      whole : take l.limit (l.rows.items ++ rows_of m ws l.at l.cursors.keys) ≡ take l.limit (rows_of m ws l.at (keys_ahead (points_of (contents_of l.runs)) l.low false l.high));
+      whole : take l.limit (l.rows ++ rows_of m ws l.at l.cursors.keys) ≡ take l.limit (rows_of m ws l.at (keys_ahead (points_of (contents_of l.runs)) l.low false l.high));
     }
 
 abbrev pub decreases-loop-alloc : goal.decreases-loop-alloc

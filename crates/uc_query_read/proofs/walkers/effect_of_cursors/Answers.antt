@@ -4,14 +4,14 @@ use Rattle.uc_oper.specs.declared.effect.Effect.TheVariants.{Keep}
 use Rattle.uc_query_read.proofs.Effects.{one_older, set_stays}
 use Rattle.uc_query_read.proofs.Beside.{nowhere, is_other, no_ranges, silent, then_kept}
 use Rattle.uc_query_read.proofs.walkers.effect_of_cursors.Goals as goal
-use Rattle.uc_query_read.proofs.walkers.effect_of_cursors.Goals.{then-is_at+in_ok-older+in_ok-newer+in_default, else-is_at+else-with_ranges-place}
+use Rattle.uc_query_read.proofs.walkers.effect_of_cursors.Goals.{then-is_at+in_ok-older+in_ok-both+else-is_set+in_ok-newer, else-is_at+else-with_ranges-place}
 
-pub returns-in-Set : goal.returns-in-Set
-returns-in-Set g c =
+pub returns-then-is_set : goal.returns-then-is_set
+returns-then-is_set g c =
     let m = g.O.Operator.meaning in
     let parts = c.effects_of_parts_compose.ensures in
-    let made = one_older (λ s. s.run) m parts c.args.head.key.now c.args.at c.args.cursors.now c.loop-place.place c.index-cursors-place.result c.index-cursors-place.result.run c.in_ok-older.older c.loop-place.newer c.in_ok-newer.newer c.loop-place-test.true c.index-cursors-place.is refl c.in_ok-older.ensures c.loop-place.invariant c.in_ok-newer.ensures in
-    c.in-Set.is ∙ sym (set_stays (λ s. s.run) m parts c.args.head.key.now c.args.at c.args.cursors.now (c.loop-place.place + 1) _ (sym made ∙ c.in-Set.is))
+    let made = one_older (λ s. s.run) m parts c.args.head.key.now c.args.at c.args.cursors.now c.loop-place.place c.index-cursors-place.result c.index-cursors-place.result.run c.in_ok-older.older c.loop-place.newer c.in_ok-both.both c.loop-place-test.true c.index-cursors-place.is refl c.in_ok-older.ensures c.loop-place.invariant c.in_ok-both.ensures in
+    sym (set_stays (λ s. s.run) m parts c.args.head.key.now c.args.at c.args.cursors.now (c.loop-place.place + 1) c.in_ok-both.both (c.is_set.ensures.0 c.if-is_set.true) (sym made))
 
 pub loop-place-preserved : goal.loop-place-preserved
 loop-place-preserved g c =
@@ -20,8 +20,8 @@ loop-place-preserved g c =
     let place = c.loop-place.place in
     let older = one_older (λ s. s.run) m c.effects_of_parts_compose.ensures c.args.head.key.now c.args.at cursors place in
     elim c.if-is_at.branch [
-      | then-is_at+in_ok-older+in_ok-newer+in_default w ↦
-          w.newer-is ∙ older w.index-cursors-place.result w.index-cursors-place.result.run w.in_ok-older.older c.loop-place.newer w.in_ok-newer.newer c.loop-place-test.true w.index-cursors-place.is refl w.in_ok-older.ensures c.loop-place.invariant w.in_ok-newer.ensures
+      | then-is_at+in_ok-older+in_ok-both+else-is_set+in_ok-newer w ↦
+          w.newer-is ∙ w.in_ok-newer.ensures ∙ older w.index-cursors-place.result w.index-cursors-place.result.run w.in_ok-older.older c.loop-place.newer w.in_ok-both.both c.loop-place-test.true w.index-cursors-place.is refl w.in_ok-older.ensures c.loop-place.invariant w.in_ok-both.ensures
       | else-is_at+else-with_ranges-place w ↦
           let at = get_or cursors place nowhere in
           let other = is_other c.args.heads.now.keys cursors c.requires.heads place nowhere c.loop-place-test.true c.args.head.key.now c.is_at.result c.is_at.ensures.1 w.if-is_at.false in

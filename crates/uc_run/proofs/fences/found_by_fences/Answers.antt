@@ -20,23 +20,12 @@ returns-then-passed-eq0 c =
     let parted = partitioned (λ p. test p.key) entry_cmp (passed_before c.args.low.now c.args.strict) points c.requires.sorted in
     let none : c.fences_passed-passed.result ≡ 0 = search rules in
     let point = none_passed test points c.args.fences.now parted c.requires.fenced (subst (IsPartitionPoint (λ key. test key ≡ true) (λ key. test key ≡ false) c.args.fences.now) none c.fences_passed-passed.ensures.place) in
-    c.as_slice-all.ensures ∙ ap (λ n. drop n points) (count-front (λ p. test p.key) points 0 (omega arith) point)
+    c.as_slice.ensures ∙ ap (λ n. drop n points) (count-front (λ p. test p.key) points 0 (omega arith) point)
 
 pub overflow_mul-passed : goal.overflow_mul-passed
 overflow_mul-passed c =
     let each : length c.args.fences.now ≡ blocks_of c.args.points.now = c.requires.fenced.each in
-    let long = c.len-count.ensures.count ∙ ap (λ (es : List Entry). length es) c.as_slice-all.ensures in
-    omega (arith, each, c.fences_passed-passed.ensures.bound, long, c.len-count.ensures.bound)
-
-pub split_at-found-requires : goal.split_at-found-requires
-split_at-found-requires c =
-    let points = c.args.points.now in
-    let test = is_passed c.args.low.now c.args.strict in
-    let parted = partitioned (λ p. test p.key) entry_cmp (passed_before c.args.low.now c.args.strict) points c.requires.sorted in
-    let some : 0 < c.fences_passed-passed.result = search rules in
-    let lt = begin_within test points c.args.fences.now parted c.requires.fenced c.fences_passed-passed.result some c.fences_passed-passed.ensures.bound c.fences_passed-passed.ensures.place in
-    let long = ap (λ (es : List Entry). length es) c.as_slice-all.ensures in
-    omega (arith, lt, long)
+    omega (arith, each, c.fences_passed-passed.ensures.bound, c.len-count.ensures.count, c.len-count.ensures.bound)
 
 pub returns : goal.returns
 returns c =
@@ -53,8 +42,8 @@ returns c =
     let bound : end ≤ length points = seek_bound points low strict end refl in
     let point = seek_point points low strict c.requires.sorted end refl in
     let any : Entry = record { key = []; seq = 0; what = Delete } in
-    let from : c.split_at-found.result.1 ≡ drop begin points = c.split_at-found.ensures.back ∙ ap (λ (es : List Entry). drop begin es) c.as_slice-all.ensures in
-    let count = c.len-count.ensures.count ∙ ap (λ (es : List Entry). length es) c.as_slice-all.ensures in
+    let from : c.slice_from-found.result ≡ drop begin points = c.slice_from-found.ensures in
+    let count = c.len-count.ensures.count in
     let n = c.pass_while.result in
     let e = c.pass_while.ensures in
     let le : n ≤ length (drop begin points) = subst (λ (es : List Entry). n ≤ length es) from e.bound in

@@ -10,6 +10,7 @@ use Rattle.uc_run_entry.specs.Run.{covers}
 use Rattle.uc_run.specs.Found.{before_points}
 use Rattle.uc_run.specs.Places.{is_on}
 use Rattle.uc_run.proofs.OnKey.{first_place, found_first, newer_point, found_above, on_first}
+use Rattle.uc_run.proofs.PutFirst.{put_first_does}
 use Rattle.uc_run.proofs.lookup.effect_found.Goals as goal
 
 pub effect_above-requires : goal.effect_above-requires
@@ -20,6 +21,14 @@ effect_above-requires g c =
     let place = first_place key at points in
     subst (IsPartitionedBy (is_on key c.newest_over-newest.result)) (sym c.without_newer-on.ensures)
     (on_first key at points place (found_first key at points) (newer_point key at points c.requires.sorted) c.requires.sorted c.newest_over-newest.result)
+
+pub returns-in-Some : goal.returns-in-Some
+returns-in-Some g c =
+    let at = c.args.at in
+    let key = c.args.key.now in
+    let seqs = filter (λ (seq : ℕ). nat_le seq at) (flat_map (λ (f : Fragment). f.seqs) (filter (λ f. covers f key) c.args.fragments.now)) in
+    c.put.ensures
+    ∙ sym (put_first_does g.O.Operator.meaning key at c.args.points.now seqs c.newest_over-newest.result c.in-Some.value.now c.newest_over-newest.ensures c.in-Some.ensures)
 
 pub returns : goal.returns
 returns g c =

@@ -1,13 +1,11 @@
 use Rattle.std.proofs.Common.{◌≡◌, ◌<◌, ◌≤◌, true, false, List, length, drop, sym, ap, ◌∙◌, subst, arith}
 use Rattle.std.specs.List.{AllWithin, HoldsAt}
-use Rattle.std.proofs.lemmas.List.{take_all}
 use Rattle.uc_run_points.proofs.Searched.{passed_point}
 use Rattle.uc_run_entry.specs.declared.entry.Entry.{Entry}
 use Rattle.uc_run_entry.specs.Order.{entry_cmp}
 use Rattle.uc_run_entry.proofs.Partitions.{partitioned, count-front}
 use Rattle.uc_run.specs.Places.{is_newer}
 use Rattle.uc_run.proofs.Order.{newer_before}
-use Rattle.uc_run.proofs.Walking.{slice_front}
 use Rattle.uc_run.proofs.places.without_newer.Goals as goal
 
 pub returns-then-pass_while-eq-FEW_POINTS : goal.returns-then-pass_while-eq-FEW_POINTS
@@ -21,7 +19,7 @@ returns c =
     let n = c.pass_while.result in
     let e = c.pass_while.ensures in
     let few : n < 16 = omega (arith, e.most, c.if-pass_while-eq-FEW_POINTS.false) in
-    let same : c.slice-rest.result ≡ points = c.slice-rest.ensures ∙ slice_front c.len.result points ∙ take_all c.len.result points (omega (arith, c.len.ensures.count)) in
+    let same : c.again-rest.result ≡ points = c.again-rest.ensures in
     let le = subst (λ (es : List Entry). n ≤ length es) same e.bound in
     let before = subst (λ (es : List Entry). AllWithin (λ p. test p ≡ true) es 0 n) same e.before in
     let there = λ (l : n < length points). subst (λ (es : List Entry). HoldsAt (λ p. test p ≡ false) es n) same (e.there few (subst (λ (es : List Entry). n < length es) (sym same) l)) in

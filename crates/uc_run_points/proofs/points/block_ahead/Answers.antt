@@ -1,7 +1,6 @@
 use Rattle.std.proofs.Common.{rules, ◌≡◌, ℕ, ◌*◌, ◌-◌, ◌<◌, ◌≤◌, List, length, slice_index_or, drop, sym, ap, ◌∙◌, arith}
 use Rattle.std.proofs.lemmas.List.{take_rest}
 use Rattle.uc_run_points.specs.Spelling.{entries_from}
-use Rattle.uc_run_points.proofs.Walked.{none_ahead}
 use Rattle.uc_run_points.proofs.Grown.{none_there, block_before, start_within, block_there}
 use Rattle.uc_run_points.proofs.points.block_ahead.Goals as goal
 
@@ -24,7 +23,7 @@ overflow_sub-count c =
 pub returns-in-None : goal.returns-in-None
 returns-in-None c =
     let past : length c.args.starts.now ≤ c.args.block = search rules in
-    c.new.ensures ∙ none_ahead _ ∙ sym (none_there c.args.count c.args.bytes.now c.args.starts.now c.requires.spelled c.requires.starts c.args.block past)
+    c.none.ensures ∙ sym (none_there c.args.count c.args.bytes.now c.args.starts.now c.requires.spelled c.requires.starts c.args.block past)
 
 pub returns-in-Some : goal.returns-in-Some
 returns-in-Some c =
@@ -33,7 +32,7 @@ returns-in-Some c =
     let at : c.in-Some.start.now ≡ slice_index_or c.args.starts.now c.args.block 0 = search rules in
     let start = c.in-Some.start.now in
     let same : c.args.block * 16 ≡ 16 * c.args.block = omega arith in
-    c.new-in-Some.ensures
+    c.new.ensures
     ∙ ap (λ (xs : List ℕ). entries_from (c.args.count - c.args.block * 16) xs) (take_rest bytes start ∙ ap (λ n. drop n bytes) at)
     ∙ ap (λ n. entries_from (c.args.count - n) (drop (slice_index_or c.args.starts.now c.args.block 0) bytes)) same
     ∙ block_there c.args.count bytes c.args.starts.now c.requires.spelled c.requires.starts c.args.block lt

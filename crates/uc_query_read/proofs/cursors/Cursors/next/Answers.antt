@@ -1,4 +1,4 @@
-use Rattle.std.proofs.Common.{◌≡◌, false, sym, ap, ◌∙◌}
+use Rattle.std.proofs.Common.{sym, ap, ◌∙◌}
 use Rattle.std.specs.Prelude.{option_map}
 use Rattle.uc_query_read.proofs.Standing.{Looks, ends, too_far, stand_before, stand_behind, same_runs, comes}
 use Rattle.uc_query_read.proofs.cursors.Cursors.next.Goals as goal

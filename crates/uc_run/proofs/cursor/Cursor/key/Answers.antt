@@ -13,7 +13,7 @@ pub returns-in_err-point-clause-next : goal.returns-in_err-point-clause-next
 returns-in_err-point-clause-next c low strict at =
     let s = standing c.self.inside in
     let none : slice_get s.run.points s.place ≡ None =
-    sym (ap (λ (es : List Entry). slice_get es 0) c.self.invariant ∙ head_there s.run.points s.place) ∙ sym c.get.ensures ∙ c.in_err-point.was in
+    sym (ap (λ (es : List Entry). slice_get es 0) c.self.invariant ∙ head_there s.run.points s.place) ∙ sym c.first.ensures ∙ c.in_err-point.was in
     let sorted = subst (λ (s : Standing). IsStrictlySortedBy entry_cmp s.run.points) c.self.view_is c.recall.ensures.points_sorted in
     let there =
     ap (option_map (λ key. key.now)) c.from_residual.ensures
@@ -25,7 +25,7 @@ pub returns-clause-there : goal.returns-clause-there
 returns-clause-there c =
     let s = standing c.self.inside in
     let some : slice_get s.run.points s.place ≡ Some c.in_ok-point.point =
-    sym (ap (λ (es : List Entry). slice_get es 0) c.self.invariant ∙ head_there s.run.points s.place) ∙ sym c.get.ensures ∙ c.in_ok-point.was in
+    sym (ap (λ (es : List Entry). slice_get es 0) c.self.invariant ∙ head_there s.run.points s.place) ∙ sym c.first.ensures ∙ c.in_ok-point.was in
     ap (λ key. Some key) c.key.ensures
     ∙ sym (ap (option_map (λ (p : Entry). p.key)) some)
     ∙ ap (λ (s : Standing). option_map (λ p. p.key) (slice_get s.run.points s.place)) c.self.view_is

@@ -4,4 +4,4 @@ use Rattle.uc_run_entry.specs.declared.entry.Entry.{Entry}
 use Rattle.uc_run_points.proofs.points_ahead.PointsAhead.pass.Goals as goal
 
 pub loop-preserved : goal.loop-preserved
-loop-preserved c = c.next.ensures.rest ∙ ap (λ (es : List Entry). drop 1 es) c.loop.invariant ∙ drop-drop 1 c.loop.counter c.args.self.now
+loop-preserved c = c.step.ensures ∙ ap (λ (es : List Entry). drop 1 es) c.loop.invariant ∙ drop-drop 1 c.loop.counter c.args.self.now

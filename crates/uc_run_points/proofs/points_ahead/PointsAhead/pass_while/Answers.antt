@@ -11,9 +11,9 @@ loop-count-preserved g c =
     let count = c.loop-count.count in
     let all = c.args.self.now in
     let point : Entry = c.in-Some.point in
-    let here : c.again-behind.result ≡ drop count all = c.again-behind.ensures ∙ c.loop-count.invariant.ahead in
-    let next : slice_get (drop count all) 0 ≡ Some point = ap (λ (es : List Entry). slice_get es 0) (sym here) ∙ sym c.next.ensures.next ∙ c.in-Some.is in
+    let here = c.loop-count.invariant.ahead in
+    let next : slice_get (drop count all) 0 ≡ Some point = ap (λ (es : List Entry). slice_get es 0) (sym here) ∙ sym c.first.ensures ∙ c.in-Some.is in
     record {
-      ahead = c.next.ensures.rest ∙ ap (λ (es : List Entry). drop 1 es) here ∙ drop-drop 1 count all;
+      ahead = c.step.ensures ∙ ap (λ (es : List Entry). drop 1 es) here ∙ drop-drop 1 count all;
       before = one_more (λ p. test p ≡ true) all count point c.loop-count.invariant.before (first_at all count point next) (sym c.passes.ensures ∙ c.if-passes.true);
     }

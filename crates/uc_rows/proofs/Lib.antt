@@ -1,0 +1,5 @@
+pub mod RowsAgain
+pub mod SameRows
+pub mod RowOrder
+pub mod Passed
+pub mod Fitted

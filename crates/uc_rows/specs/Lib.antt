@@ -1,0 +1,4 @@
+pub mod RowBytes
+pub mod Rising
+pub mod Held
+pub mod Fitting

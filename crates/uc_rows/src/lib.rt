@@ -1,0 +1,20 @@
+//! Rows: keys with their values, as a scan shows them, in one buffer.
+//!
+//! [`RowBuffer`] keeps rows one behind the other, each as the length of its key, the key, the length of its value, and the
+//! value: a row takes no memory of its own. [`Rows`] are those whose keys rise. `specs/RowBytes.antt` says how they are spelled;
+//! read it first, then `row_buffer.rt`.
+//!
+//! An `Err(AllocError)` comes only if an allocation fails.
+//!
+//! Tests: `uc_tests_base`.
+#![tactic(auto)]
+
+mod row_buffer;
+mod row_iter;
+mod rows;
+mod spelling;
+
+pub use row_buffer::RowBuffer;
+pub use row_iter::RowIter;
+pub use rows::Rows;
+pub use spelling::push_text;
