@@ -110,7 +110,7 @@ module _ (key : List ℕ) where
       ∙ length-filter (λ p. is_passed key false p.key) ps
 
   -- it stays
-  passes_nothing : NextKeysLaw → (c : Standing) → IsOfRun c → StandsAt key false c → next_key c ≢ Some key → passed key c ≡ c
+  pub passes_nothing : NextKeysLaw → (c : Standing) → IsOfRun c → StandsAt key false c → next_key c ≢ Some key → passed key c ≡ c
   passes_nothing law c is at other =
       let same : seek_place c.run.points key true ≡ seek_place c.run.points key false = same_place c.run.points (others key c.run.points (next_key c) (next_is law key false c is at) other) in
       let stays : max c.place (seek_place c.run.points key true) ≡ c.place = omega (arith, same, at) in

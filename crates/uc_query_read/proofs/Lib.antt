@@ -11,3 +11,4 @@ pub mod FirstRows
 pub mod AnswerLaws
 pub mod Later
 pub mod Beside
+pub mod Oldest

@@ -1,10 +1,14 @@
 -- The place of a walk over the points of several runs.
-use Rattle.std.specs.Prelude.{◌≡◌, ℕ, ◌≤◌, Bool, true, false, List, Option, length, map, max}
+use Rattle.std.specs.Prelude.{◌≡◌, ◌≢◌, ℕ, ◌-◌, ◌≤◌, ⊤, Bool, true, false, List, Option, Some, None, length, map, max, take}
+use Rattle.std.specs.List.{AllByRecursion}
+use Rattle.std.specs.Ordering.{is_lt}
+use Rattle.uc_bytes.specs.Bytes.{bytes_cmp}
 use Rattle.uc_oper.specs.Operation.{Operation}
 use Rattle.uc_query_read.specs.Answers.{rows_of}
 use Rattle.uc_run_entry.specs.Run.{Contents, IsRun}
 use Rattle.uc_run_entry.specs.Seek.{seek_place}
 use Rattle.uc_run.specs.Cursors.{Standing}
+use Rattle.uc_run.specs.Heads.{NextKeys, next_key, number_of}
 use Rattle.uc_compact.specs.Inputs.{points_of, writes_of}
 use Rattle.uc_query_read.specs.Ahead.{keys_ahead}
 
@@ -13,7 +17,7 @@ pub record Walk : Type 0 where
   pub runs : List Contents
   pub keys : List (List ℕ)
 
--- cursors in runs, the newest first, and the front by which their next keys have numbers
+-- cursors in runs, the newest first, and the front by which the newer ones' next keys have numbers
 pub record Numbered : Type 0 where
   pub front : List ℕ
   pub cursors : List Standing
@@ -50,3 +54,22 @@ passed key c = record { run = c.run; place = max c.place (seek_place c.run.point
 -- past the points below a key, never back
 abbrev pub sought : List ℕ → Standing → Standing
 sought low c = record { run = c.run; place = max c.place (seek_place c.run.points low false) }
+
+-- the cursors of all runs but the oldest
+abbrev pub newer_of : List Standing → List Standing
+newer_of cursors = take (length cursors - 1) cursors
+
+-- the number of a key by a front; with none the key isn't among the next ones
+abbrev pub IsFoundAmong : NextKeys → List ℕ → Option ℕ → Type 0
+IsFoundAmong heads key None = AllByRecursion (λ next. next ≢ Some key) heads.keys
+IsFoundAmong heads key (Some number) = number ≡ number_of heads.front key
+
+-- among the newer cursors' next keys
+abbrev pub IsFound : Numbered → List ℕ → Option ℕ → Type 0
+IsFound w key number = IsFoundAmong (record { front = w.front; keys = map next_key (newer_of w.cursors) }) key number
+
+-- a least key is another with its number; with none it comes before that one, if there is one
+abbrev pub IsFoundBeside : Option (List ℕ × ℕ) → List ℕ → Option ℕ → Type 0
+IsFoundBeside newer key (Some number) = newer ≡ Some (key, number)
+IsFoundBeside None key None = ⊤
+IsFoundBeside (Some head) key None = is_lt (bytes_cmp key head.0) ≡ true

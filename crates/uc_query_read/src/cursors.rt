@@ -79,17 +79,17 @@ impl<'a> Cursors<'a> {
             IfSome row (λ r. r.1 ≡ value_of O.meaning (writes_of self.old.runs) r.0.now at)) }
         ensures runs { self.new.runs ≡ self.old.runs }
     {
-        let Some(head) = self.walkers.least() else {
+        let Some(least) = self.walkers.least() else {
             return Ok(None);
         };
-        if !is_below(head.key, self.high) {
+        if !is_below(least.key, self.high) {
             return Ok(None);
         }
-        let value = self.walkers.value::<O>(alloc, head, at)?;
-        self.walkers.pass(head);
-        self.low = head.key;
+        let value = self.walkers.value::<O>(alloc, least, at)?;
+        self.walkers.pass(least);
+        self.low = least.key;
         self.strict = true;
-        Ok(Some((head.key, value)))
+        Ok(Some((least.key, value)))
     }
 
     /// Passes keys without a value at a sequence: those after the last passed key, as far as a run's range deletion

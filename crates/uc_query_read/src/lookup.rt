@@ -1,6 +1,7 @@
 //! The value of a key in runs.
 ghost use Rattle.std.specs.Prelude.{◌≡◌, IfOk};
 ghost use Rattle.uc_model.specs.Meaning.{effect_on, value_of};
+ghost use Rattle.uc_oper.specs.Composition.{composed};
 ghost use Rattle.uc_compact.specs.Inputs.{writes_of};
 ghost use Rattle.uc_version_state.specs.Versions.{contents_of};
 
@@ -10,6 +11,21 @@ use uc_model::{effect_gives_value, effects_of_parts_compose};
 use uc_oper::{Effect, EffectRef, Operator, ValueRef, owned_value};
 use uc_run::SoughtKey;
 use uc_version_state::Placed;
+
+/// Composes both effects, the older one first. A newer one that keeps the value costs a look at it. An `Err` loses both.
+#[inline]
+pub(crate) fn compose<'a, O: Operator>(
+    alloc: Global,
+    older: EffectRef<'a>,
+    newer: Effect,
+) -> Result<EffectRef<'a>, AllocError>
+    ensures { IfOk result (λ both. both ≡ composed O.meaning older.entry newer) }
+{
+    if let Effect::Keep = newer {
+        return Ok(older);
+    }
+    older.then::<O>(alloc, newer)
+}
 
 /// What the writes of runs, the newest first, at or below a sequence together do to a key. It stops at the first run
 /// that puts or deletes the key, since older writes are overwritten.
@@ -25,7 +41,7 @@ fn effect_of_runs<'a, O: Operator>(
     let mut newer = Effect::Keep;
     for placed in runs {
         let older = placed.run().effect_of_sought::<O>(alloc, key, at)?;
-        let both = older.then::<O>(alloc, newer)?;
+        let both = compose::<O>(alloc, older, newer)?;
         if both.is_set() {
             return Ok(both);
         }

@@ -1,16 +1,17 @@
-//! [`Walkers`]: a cursor in each of several runs.
-ghost use Rattle.std.specs.Prelude.{◌≡◌, ℕ, Bool, List, true, false, map, option_map, IfOk, IfSome};
-ghost use Rattle.std.specs.List.{AllByRecursion};
+//! [`Walkers`]: a cursor in each of several runs; and [`Least`], their least key.
+ghost use Rattle.std.specs.Prelude.{◌≡◌, ◌≢◌, ◌↔◌, ◌<◌, ℕ, Bool, List, Some, true, false, length, map, option_map, IfOk, IfSome, IsTrue};
+ghost use Rattle.std.specs.List.{AllByRecursion, slice_get};
 ghost use Rattle.uc_model.specs.Meaning.{effect_on, value_of};
 ghost use Rattle.uc_run.specs.Cursors.{has_ranges};
-ghost use Rattle.uc_run.specs.Heads.{next_key, number_of};
+ghost use Rattle.uc_run.specs.Heads.{next_key, number_of, lesser_of};
 ghost use Rattle.uc_run.specs.NextKey.{IsNextKey};
 ghost use Rattle.uc_compact.specs.Inputs.{points_of, writes_of};
 ghost use Rattle.uc_version_state.specs.Versions.{contents_of};
 ghost use Rattle.uc_query_read.specs.Dead.{AreDead};
-ghost use Rattle.uc_query_read.specs.Walks.{runs_of, standing_at, passed, sought, StandsAt, IsOfRun};
+ghost use Rattle.uc_query_read.specs.Walks.{runs_of, newer_of, standing_at, passed, sought, StandsAt, IsOfRun, IsFound, IsFoundAmong, IsFoundBeside};
 
 use crate::dead_keys::dead_up_to;
+use crate::lookup::compose;
 use std::alloc::{AllocError, Global};
 use std::marker::Model;
 use uc_model::{effect_gives_value, effects_of_parts_compose};
@@ -18,13 +19,26 @@ use uc_oper::{Effect, EffectRef, Operator, ValueRef};
 use uc_run::{Cursor, Head, Heads, keys_at_places_are_next, other_keys_are_kept};
 use uc_version_state::Placed;
 
+/// The least of the next keys.
+#[derive(Clone, Copy, Debug)]
+pub(crate) struct Least<'a> {
+    /// The key.
+    pub(crate) key: &'a [u8],
+    /// Its number among the newer runs' next keys, unless it is the oldest run's alone.
+    number: Option<u64>,
+}
+
 /// A cursor in each of several runs, the newest first. A contract sees it as the list of them, beside the front by which
-/// their next keys have numbers.
+/// the newer ones' next keys have numbers.
+///
+/// The oldest run is mostly the largest by far: a row that it has alone costs no look at the others.
 #[derive(Debug, Drop)]
 pub(crate) struct Walkers<'a> {
     cursors: Vec<Cursor<'a>>,
-    /// The next key of each: a row touches only the cursors that are at its key.
+    /// The next key of each but the oldest: a row touches only the cursors that are at its key.
     heads: Heads<'a>,
+    /// The least of these keys.
+    newer: Option<Head<'a>>,
     /// Which of the runs have range deletions, which say something of other keys too.
     with_ranges: Vec<bool>,
 }
@@ -67,31 +81,87 @@ fn ranges_of(alloc: Global, cursors: &[Cursor<'_>]) -> Result<Vec<bool>, AllocEr
         .collect(alloc)
 }
 
-/// What the writes of the cursors' runs at or below a sequence together do to a key. The key's points must be the first
-/// ahead. It stops at the first run that puts or deletes the key, since older writes are overwritten.
-fn effect_of_cursors<'a, O: Operator>(
+/// All cursors but the oldest run's.
+#[inline]
+fn newer_of<'c, 'a>(cursors: &'c [Cursor<'a>]) -> &'c [Cursor<'a>]
+    ensures { result.now ≡ newer_of cursors.now }
+{
+    &cursors[..cursors.len().saturating_sub(1)]
+}
+
+/// The lesser of the newer runs' least key and the oldest run's next one.
+#[inline]
+fn least_of<'a>(newer: Option<Head<'a>>, oldest: Option<&'a [u8]>) -> Option<Least<'a>>
+    ensures key { option_map (λ l. l.key.now) result ≡
+        lesser_of (option_map (λ h. h.key.now) newer.entry) (option_map (λ k. k.now) oldest.entry) }
+    ensures number { IfSome result (λ l.
+        IsFoundBeside (option_map (λ h. (h.key.now, h.number)) newer.entry) l.key.now l.number) }
+{
+    match (newer, oldest) {
+        (Some(head), Some(key)) => {
+            if key.cmp(&head.key).is_lt() {
+                Some(Least { key, number: None })
+            } else {
+                Some(Least {
+                    key: head.key,
+                    number: Some(head.number),
+                })
+            }
+        }
+        (Some(head), None) => Some(Least {
+            key: head.key,
+            number: Some(head.number),
+        }),
+        (None, Some(key)) => Some(Least { key, number: None }),
+        (None, None) => None,
+    }
+}
+
+/// Whether the least key is the next one of a newer run. It mostly costs a comparison of numbers.
+#[inline]
+fn is_there(heads: &Heads<'_>, place: usize, least: Least<'_>) -> bool
+    requires within { place < length heads.now.keys }
+    requires found { IsFoundAmong heads.now least.key.now least.number }
+    ensures { IsTrue result ↔ (slice_get heads.now.keys place ≡ Some (Some least.entry.key.now)) }
+{
+    match least.number {
+        Some(number) => heads.is_at(
+            place,
+            Head {
+                key: least.key,
+                number,
+            },
+        ),
+        None => false,
+    }
+}
+
+/// What the writes of the newer cursors' runs at or below a sequence together do to the least key. The key's points must be
+/// the first ahead. It stops at the first run that puts or deletes the key, since older writes are overwritten.
+fn effect_of_newer<'a, O: Operator>(
     alloc: Global,
     cursors: &[Cursor<'a>],
     heads: &Heads<'_>,
     with_ranges: &[bool],
-    head: Head<'_>,
+    least: Least<'_>,
     at: u64,
 ) -> Result<EffectRef<'a>, AllocError>
-    requires number { head.number ≡ number_of heads.now.front head.key.now }
-    requires stand { AllByRecursion (StandsAt head.key.now false) cursors.now }
+    requires found { IsFoundAmong heads.now least.key.now least.number }
+    requires stand { AllByRecursion (StandsAt least.key.now false) cursors.now }
     requires of_runs { AllByRecursion IsOfRun cursors.now }
     requires heads { heads.now.keys ≡ map next_key cursors.now }
     requires ranges { with_ranges.now ≡ map has_ranges cursors.now }
-    ensures { IfOk result (λ effect. effect ≡ effect_on O.meaning (writes_of (runs_of cursors.now)) head.entry.key.now at) }
+    ensures { IfOk result (λ effect. effect ≡
+        effect_on O.meaning (writes_of (runs_of cursors.now)) least.entry.key.now at) }
 {
     effects_of_parts_compose::<O>();
     other_keys_are_kept::<O>();
     keys_at_places_are_next();
     let mut newer = Effect::Keep;
     for place in 0..cursors.len() {
-        if heads.is_at(place, head) || with_ranges[place] {
-            let older = cursors[place].effect_ref::<O>(alloc, head.key, at)?;
-            let both = older.then::<O>(alloc, newer)?;
+        if is_there(heads, place, least) || with_ranges[place] {
+            let older = cursors[place].effect_ref::<O>(alloc, least.key, at)?;
+            let both = compose::<O>(alloc, older, newer)?;
             if both.is_set() {
                 return Ok(both);
             }
@@ -100,6 +170,38 @@ fn effect_of_cursors<'a, O: Operator>(
         }
     }
     Ok(EffectRef::own(newer))
+}
+
+/// What the writes of all cursors' runs at or below a sequence together do to the least key. The key's points must be the
+/// first ahead.
+fn effect_of_all<'a, O: Operator>(
+    alloc: Global,
+    cursors: &[Cursor<'a>],
+    heads: &Heads<'_>,
+    with_ranges: &[bool],
+    least: Least<'_>,
+    at: u64,
+) -> Result<EffectRef<'a>, AllocError>
+    requires found { IsFoundAmong heads.now least.key.now least.number }
+    requires stand { AllByRecursion (StandsAt least.key.now false) cursors.now }
+    requires of_runs { AllByRecursion IsOfRun cursors.now }
+    requires heads { heads.now.keys ≡ map next_key (newer_of cursors.now) }
+    requires ranges { with_ranges.now ≡ map has_ranges cursors.now }
+    ensures { IfOk result (λ effect. effect ≡
+        effect_on O.meaning (writes_of (runs_of cursors.now)) least.entry.key.now at) }
+{
+    effects_of_parts_compose::<O>();
+    let Some(oldest) = cursors.last() else {
+        return Ok(EffectRef::own(Effect::Keep));
+    };
+    let newer = newer_of(cursors);
+    let with_ranges = &with_ranges[..newer.len()];
+    let newer = effect_of_newer::<O>(alloc, newer, heads, with_ranges, least, at)?;
+    if newer.is_set() {
+        return Ok(newer);
+    }
+    let older = oldest.effect_ref::<O>(alloc, least.key, at)?;
+    compose::<O>(alloc, older, newer.into_effect(alloc)?)
 }
 
 /// Moves the cursors that are at a key past it. The others are behind it already.
@@ -121,6 +223,35 @@ fn pass_there<'a>(cursors: &mut [Cursor<'a>], heads: &mut Heads<'a>, head: Head<
     }
 }
 
+/// As [`pass_there`], with the oldest run's cursor, whose next key isn't among the heads.
+fn pass_all<'a>(cursors: &mut [Cursor<'a>], heads: &mut Heads<'a>, head: Head<'_>)
+    requires number { head.number ≡ number_of heads.old.front head.key.now }
+    requires stand { AllByRecursion (StandsAt head.key.now false) cursors.old }
+    requires of_runs { AllByRecursion IsOfRun cursors.old }
+    requires heads { heads.old.keys ≡ map next_key (newer_of cursors.old) }
+    ensures cursors { cursors.new ≡ map (passed head.entry.key.now) cursors.old }
+    ensures heads { heads.new.keys ≡ map next_key (newer_of cursors.new) }
+{
+    if let Some(last) = cursors.len().checked_sub(1) {
+        pass_there(&mut cursors[..last], heads, head);
+        cursors[last].pass(head.key);
+    }
+}
+
+/// Moves the oldest run's cursor past a key at which no other is.
+fn pass_oldest(cursors: &mut [Cursor<'_>], key: &[u8])
+    requires alone { AllByRecursion (λ c. next_key c ≢ Some key.now) (newer_of cursors.old) }
+    requires stand { AllByRecursion (StandsAt key.now false) cursors.old }
+    requires of_runs { AllByRecursion IsOfRun cursors.old }
+    ensures cursors { cursors.new ≡ map (passed key.now) cursors.old }
+    ensures newer { newer_of cursors.new ≡ newer_of cursors.old }
+{
+    keys_at_places_are_next();
+    if let Some(last) = cursors.len().checked_sub(1) {
+        cursors[last].pass(key);
+    }
+}
+
 /// Moves each cursor past the points below a key.
 fn seek_each<'a>(cursors: &mut [Cursor<'a>], heads: &mut Heads<'a>, low: &[u8])
     requires { heads.old.keys ≡ map next_key cursors.old }
@@ -134,6 +265,18 @@ fn seek_each<'a>(cursors: &mut [Cursor<'a>], heads: &mut Heads<'a>, low: &[u8])
     }
 }
 
+/// As [`seek_each`], with the oldest run's cursor, whose next key isn't among the heads.
+fn seek_all<'a>(cursors: &mut [Cursor<'a>], heads: &mut Heads<'a>, low: &[u8])
+    requires { heads.old.keys ≡ map next_key (newer_of cursors.old) }
+    ensures cursors { cursors.new ≡ map (sought low.now) cursors.old }
+    ensures heads { heads.new.keys ≡ map next_key (newer_of cursors.new) }
+{
+    if let Some(last) = cursors.len().checked_sub(1) {
+        seek_each(&mut cursors[..last], heads, low);
+        cursors[last].seek(low);
+    }
+}
+
 impl<'a> Walkers<'a> {
     /// Before the points from `low` on of runs, the newest first. It costs a search in each.
     pub(crate) fn from(
@@ -144,23 +287,26 @@ impl<'a> Walkers<'a> {
         ensures { IfOk result (λ walkers. walkers.cursors ≡ map (standing_at low.now false) (contents_of runs.now)) }
     {
         let cursors = cursors_from(alloc, runs, low)?;
-        let heads = Heads::of_cursors(alloc, &cursors)?;
+        let heads = Heads::of_cursors(alloc, newer_of(&cursors))?;
+        let newer = heads.least();
         let with_ranges = ranges_of(alloc, &cursors)?;
         Ok(Walkers {
             cursors,
             heads,
+            newer,
             with_ranges,
         })
     }
 
-    /// The least of their next keys.
-    pub(crate) fn least(&self) -> Option<Head<'a>>
+    /// The least of their next keys. It costs a comparison of texts.
+    pub(crate) fn least(&self) -> Option<Least<'a>>
         ensures next { (low : List ℕ) (strict : Bool) → AllByRecursion (StandsAt low strict) self.now.cursors →
-            IsNextKey (points_of (runs_of self.now.cursors)) low strict (option_map (λ head. head.key.now) result) }
-        ensures number { IfSome result (λ head. head.number ≡ number_of self.now.front head.key.now) }
+            IsNextKey (points_of (runs_of self.now.cursors)) low strict (option_map (λ least. least.key.now) result) }
+        ensures found { IfSome result (λ least. IsFound self.now least.key.now least.number) }
     {
         keys_at_places_are_next();
-        self.heads.least()
+        let oldest = self.cursors.last()?;
+        least_of(self.newer, oldest.key())
     }
 
     /// The value at a sequence of a key whose points are the first ahead. It costs a step for each of the key's points
@@ -168,40 +314,51 @@ impl<'a> Walkers<'a> {
     pub(crate) fn value<O: Operator>(
         &self,
         alloc: Global,
-        head: Head<'_>,
+        least: Least<'_>,
         at: u64,
     ) -> Result<Option<ValueRef<'a>>, AllocError>
-        requires number { head.number ≡ number_of self.now.front head.key.now }
-        requires stand { AllByRecursion (StandsAt head.key.now false) self.now.cursors }
+        requires found { IsFound self.now least.key.now least.number }
+        requires stand { AllByRecursion (StandsAt least.key.now false) self.now.cursors }
         ensures { IfOk result (λ value.
-            value ≡ value_of O.meaning (writes_of (runs_of self.now.cursors)) head.entry.key.now at) }
+            value ≡ value_of O.meaning (writes_of (runs_of self.now.cursors)) least.entry.key.now at) }
     {
         effect_gives_value::<O>();
-        let effect = effect_of_cursors::<O>(
+        let effect = effect_of_all::<O>(
             alloc,
             &self.cursors,
             &self.heads,
             &self.with_ranges,
-            head,
+            least,
             at,
         )?;
         effect.apply::<O>(alloc, None)
     }
 
     /// Moves past the points at and below a key that are the first ahead.
-    pub(crate) fn pass(&mut self, head: Head<'_>)
-        requires number { head.number ≡ number_of self.old.front head.key.now }
-        requires stand { AllByRecursion (StandsAt head.key.now false) self.old.cursors }
-        ensures { self.new.cursors ≡ map (passed head.entry.key.now) self.old.cursors }
+    pub(crate) fn pass(&mut self, least: Least<'_>)
+        requires found { IsFound self.old least.key.now least.number }
+        requires stand { AllByRecursion (StandsAt least.key.now false) self.old.cursors }
+        ensures { self.new.cursors ≡ map (passed least.entry.key.now) self.old.cursors }
     {
-        pass_there(&mut self.cursors, &mut self.heads, head);
+        match least.number {
+            None => pass_oldest(&mut self.cursors, least.key),
+            Some(number) => {
+                let head = Head {
+                    key: least.key,
+                    number,
+                };
+                pass_all(&mut self.cursors, &mut self.heads, head);
+                self.newer = self.heads.least();
+            }
+        }
     }
 
     /// Moves past the points below a key.
     pub(crate) fn seek(&mut self, low: &[u8])
         ensures { self.new.cursors ≡ map (sought low.now) self.old.cursors }
     {
-        seek_each(&mut self.cursors, &mut self.heads, low);
+        seek_all(&mut self.cursors, &mut self.heads, low);
+        self.newer = self.heads.least();
     }
 
     /// If a run hides a passed key, a bound above it; no key between them has a value.

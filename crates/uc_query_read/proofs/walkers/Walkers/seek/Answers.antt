@@ -1,8 +1,8 @@
-use Rattle.std.proofs.Common.{rules, ◌≡◌, length, map, sym, ap, ◌∙◌, subst, refl}
+use Rattle.std.proofs.Common.{rules, ◌≡◌, length, map, sym, ap, ◌∙◌, subst, refl, List}
 use Rattle.std.specs.List.{AllByRecursion}
-use Rattle.uc_run.specs.Cursors.{has_ranges}
+use Rattle.uc_run.specs.Cursors.{Standing, has_ranges}
 use Rattle.uc_run.specs.Heads.{next_key}
-use Rattle.uc_query_read.specs.Walks.{sought, IsOfRun}
+use Rattle.uc_query_read.specs.Walks.{newer_of, sought, IsOfRun}
 use Rattle.uc_query_read.proofs.Standing.{come_back}
 use Rattle.uc_query_read.proofs.Beside.{moved_of_runs, moved_ranges}
 use Rattle.uc_query_read.proofs.walkers.Walkers.seek.Goals as goal
@@ -12,9 +12,12 @@ invariant_of-self c =
     let w = c.self.inside in
     let moves = sought c.args.low.now in
     let long : length w.cursors.items ≡ w.cursors.len = search rules in
-    let back = come_back moves w.cursors.items c.deref_mut.result.now c.seek_each.new.cursors w.cursors.len long c.deref_mut.ensures.value c.seek_each.ensures.cursors in
+    let back = come_back moves w.cursors.items c.deref_mut.result.now c.seek_all.new.cursors w.cursors.len long c.deref_mut.ensures.value c.seek_all.ensures.cursors in
+    let moved = c.seek_all.ensures.cursors ∙ ap (map moves) c.deref_mut.ensures.value ∙ sym back in
     record {
       of_runs = subst (AllByRecursion IsOfRun) (sym back) (moved_of_runs moves (λ c is. is) w.cursors.items c.self.invariant.of_runs);
-      heads = c.seek_each.ensures.heads ∙ ap (map next_key) (c.seek_each.ensures.cursors ∙ ap (map moves) c.deref_mut.ensures.value ∙ sym back);
+      heads = c.seek_all.ensures.heads ∙ ap (λ (cs : List Standing). map next_key (newer_of cs)) moved;
+      least = c.least-self-inside.ensures.least;
+      number = c.least-self-inside.ensures.number;
       ranges = c.self.invariant.ranges ∙ sym (moved_ranges moves (λ c. refl) w.cursors.items) ∙ ap (map has_ranges) (sym back);
     }
