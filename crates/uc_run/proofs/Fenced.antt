@@ -3,7 +3,7 @@ use Rattle.std.proofs.Common.{◌≡◌, ℕ, ◌-◌, ◌*◌, ◌<◌, ◌≤�
 use Rattle.std.specs.List.{AllWithin, slice_get}
 use Rattle.std.proofs.lemmas.Bool.Decides.{nat_tests}
 use Rattle.std.proofs.lemmas.List.{length_push, get_or_push, get_or_append_left}
-use Rattle.std.proofs.lemmas.Option.{get_or_from_slice_get}
+use Rattle.std.proofs.lemmas.Option.{get_or_from_slice_get, slice_get_within}
 use Rattle.std.specs.List.Sorted.{IsStrictlySortedBy, IsPartitionPoint, IsPartitionedBy}
 use Rattle.std.specs.Ordering.{is_le}
 use Rattle.std.proofs.lemmas.Bool.{false≢true}
@@ -24,6 +24,11 @@ any = record { key = []; seq = 0; what = Delete }
 not_true : (b : Bool) → (b ≡ true → ⊥) → b ≡ false
 not_true true never = absurd (never refl)
 not_true false never = refl
+
+-- all before a point that passes a test do
+pub before_point : (test : List ℕ → Bool) (points : List Entry) → IsPartitionedBy (λ p. test p.key) points → (i : ℕ) (p : Entry) → slice_get points i ≡ Some p → test p.key ≡ true → AllWithin (λ p. test p.key ≡ true) points 0 i
+before_point test points parted i p there passes k d least l =
+    parted k i d (omega (arith, l)) (slice_get_within points i p there) (ap (λ (e : Entry). test e.key) (get_or_from_slice_get points i p d there) ∙ passes)
 
 module _ (test : List ℕ → Bool) (points : List Entry) (fences : List (List ℕ)) (parted : IsPartitionedBy (λ p. test p.key) points) (fenced : IsFenced points fences) where
   -- a fence passes the test where the point does

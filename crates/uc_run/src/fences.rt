@@ -1,5 +1,6 @@
 //! [`Fences`]: the first keys of blocks of points, and searches by them.
-ghost use Rattle.std.specs.Prelude.{◌≡◌, ◌≤◌, true, false, max, length, drop, IfOk};
+ghost use Rattle.std.specs.Prelude.{◌≡◌, ◌<◌, ◌≤◌, true, false, max, length, drop, IfOk};
+ghost use Rattle.std.specs.List.{AllWithin};
 ghost use Rattle.std.specs.List.Sorted.{IsStrictlySortedBy, IsPartitionPoint, IsPartitionedBy};
 ghost use Rattle.uc_run_entry.specs.Order.{entry_cmp};
 ghost use Rattle.uc_run_entry.specs.Seek as seek;
@@ -138,8 +139,26 @@ fn fences_passed(points: &Points, fences: &Fences, low: &[u8], strict: bool) -> 
     begin + keys_passed(&keys[begin..end], low, strict)
 }
 
-/// The points that the search finds, and all behind them. It looks at the points of one block, one by one: the last block
-/// whose fence lies before the search.
+/// A place some steps further on, if a point is there and lies before the search; otherwise the place.
+#[inline]
+fn further(points: &Points, place: usize, steps: usize, low: &[u8], strict: bool) -> usize
+    requires sorted { IsStrictlySortedBy entry_cmp points.now }
+    requires steps { steps ≤ 16 }
+    requires within { place < length points.now }
+    requires before { AllWithin (λ p. seek.is_passed low.now strict p.key ≡ true) points.now 0 place }
+    ensures within { result < length points.now }
+    ensures before { AllWithin (λ p. seek.is_passed low.now strict p.key ≡ true) points.now 0 result }
+{
+    // Proof step: there are fewer than 2 ^ 63.
+    let _ = points.len();
+    match points.get(place + steps) {
+        Some(point) if is_passed(low, strict, point.key()) => place + steps,
+        _ => place,
+    }
+}
+
+/// The points that the search finds, and all behind them. It looks into one block, the last whose fence lies before the search:
+/// at the first points of two of its quarters, and at those of the last quarter that begins before the search, one by one.
 pub(crate) fn found_by_fences<'a>(
     points: &'a Points,
     fences: &Fences,
@@ -155,7 +174,10 @@ pub(crate) fn found_by_fences<'a>(
     if passed == 0 {
         return points.as_slice();
     }
-    let mut found = points.slice_from((passed - 1) * BLOCK_POINTS);
+    let block = (passed - 1) * BLOCK_POINTS;
+    let half = further(points, block, BLOCK_POINTS / 2, low, strict);
+    let quarter = further(points, half, BLOCK_POINTS / 4, low, strict);
+    let mut found = points.slice_from(quarter);
     found.pass_while(count, &IsPassed { low, strict });
     found
 }

@@ -152,9 +152,9 @@ fn value_put<'a>(
     }
 }
 
-/// The sequence of the newest range deletion over the key at or below the sequence. For a key before the first fragment or
-/// behind the last it is a few comparisons, and otherwise a binary search.
-fn newest_over(fragments: &[Fragment], key: &[u8], at: u64) -> Option<u64>
+/// The sequence of the newest range deletion over the key at or below the sequence, among fragments that are there. For a key
+/// before the first fragment or behind the last it is a few comparisons, and otherwise a binary search.
+fn newest_among(fragments: &[Fragment], key: &[u8], at: u64) -> Option<u64>
     requires order { AreInOrder fragments.now }
     requires falling { AllByRecursion (λ f. IsFalling f.seqs) fragments.now }
     ensures { result ≡
@@ -167,7 +167,24 @@ fn newest_over(fragments: &[Fragment], key: &[u8], at: u64) -> Option<u64>
     fragment.seqs.newest_at_or_below(at)
 }
 
+/// The sequence of the newest range deletion over the key at or below the sequence. Most runs have none, and ask nothing.
+#[inline]
+fn newest_over(fragments: &[Fragment], key: &[u8], at: u64) -> Option<u64>
+    requires order { AreInOrder fragments.now }
+    requires falling { AllByRecursion (λ f. IsFalling f.seqs) fragments.now }
+    ensures { result ≡
+        slice_get
+        (filter (λ seq. nat_le seq at)
+        (flat_map (λ f. f.seqs) (filter (λ f. covers f key.now) fragments.now))) 0 }
+{
+    if fragments.is_empty() {
+        return None;
+    }
+    newest_among(fragments, key, at)
+}
+
 /// The effect before all points of a run: none, or that of a range deletion.
+#[inline]
 fn effect_before(newest: Option<u64>) -> Effect
     ensures { result ≡ before_points newest }
 {
@@ -177,8 +194,29 @@ fn effect_before(newest: Option<u64>) -> Effect
     }
 }
 
+/// As [`effect_found`], whatever the first point is.
+fn effect_searched<'a, O: Operator>(
+    alloc: Global,
+    points: &PointSlice<'a>,
+    fragments: &[Fragment],
+    key: &[u8],
+    at: u64,
+) -> Result<EffectRef<'a>, AllocError>
+    requires sorted { IsStrictlySortedBy entry_cmp points.now }
+    requires order { AreInOrder fragments.now }
+    requires falling { AllByRecursion (λ f. IsFalling f.seqs) fragments.now }
+    ensures { IfOk result (λ effect. effect ≡
+        lookup.above_newest O.meaning (filter (lookup.is_visible key.now at) points.now)
+        (filter (λ seq. nat_le seq at) (flat_map (λ f. f.seqs) (filter (λ f. covers f key.now) fragments.now)))) }
+{
+    let newest = newest_over(fragments, key, at);
+    let on = without_newer(points, key, at);
+    effect_above::<O>(alloc, effect_before(newest), &on, key, newest)
+}
+
 /// What a lookup of the key at the sequence finds: what the key's points at or below the sequence do above the newest
 /// range deletion over it. That deletion is one of the fragments' sequences.
+#[inline]
 pub(crate) fn effect_found<'a, O: Operator>(
     alloc: Global,
     points: &PointSlice<'a>,
@@ -194,9 +232,12 @@ pub(crate) fn effect_found<'a, O: Operator>(
         (filter (λ seq. nat_le seq at) (flat_map (λ f. f.seqs) (filter (λ f. covers f key.now) fragments.now)))) }
 {
     let newest = newest_over(fragments, key, at);
+    // None is there where a filter doesn't admit the key.
+    if points.is_empty() {
+        return Ok(EffectRef::own(effect_before(newest)));
+    }
     if let Some(value) = value_put(points, key, at, newest) {
         return Ok(EffectRef::put(value));
     }
-    let on = without_newer(points, key, at);
-    effect_above::<O>(alloc, effect_before(newest), &on, key, newest)
+    effect_searched::<O>(alloc, points, fragments, key, at)
 }

@@ -84,82 +84,82 @@ count_small count bytes spelled =
     let same : length bytes ≡ length (entries_text (entries_from count bytes)) = ap (λ (xs : List ℕ). length xs) spelled.spelled in
     omega (arith, some, same, length-entries_from count bytes)
 
--- ---- the starts of blocks
+-- ---- the starts of quarters
 
 module _ (es : List Entry) (e : Entry) where
   abbrev offset : ℕ
   offset = length (entries_text es)
 
-  same_offset : (block : ℕ) → 16 * block ≤ length es → length (entries_text (take (16 * block) es)) ≡ length (entries_text (take (16 * block) (es ++ e ∷ [])))
-  same_offset block l = ap (λ (xs : List Entry). length (entries_text xs)) (sym (take-append-le (16 * block) es (e ∷ []) l))
+  same_offset : (quarter : ℕ) → 4 * quarter ≤ length es → length (entries_text (take (4 * quarter) es)) ≡ length (entries_text (take (4 * quarter) (es ++ e ∷ [])))
+  same_offset quarter l = ap (λ (xs : List Entry). length (entries_text xs)) (sym (take-append-le (4 * quarter) es (e ∷ []) l))
 
-  pub starts_pushed : (starts : List ℕ) → AreStarts es starts → (b : Bool) → eqb (length es % 16) 0 ≡ b → AreStarts (es ++ e ∷ []) (cond b (starts ++ offset ∷ []) starts)
+  pub starts_pushed : (starts : List ℕ) → AreStarts es starts → (b : Bool) → eqb (length es % 4) 0 ≡ b → AreStarts (es ++ e ∷ []) (cond b (starts ++ offset ∷ []) starts)
   starts_pushed starts are true t =
-      let whole : length es % 16 ≡ 0 = grind (arith, nat_tests) in
+      let whole : length es % 4 ≡ 0 = grind (arith, nat_tests) in
       let more : length (es ++ e ∷ []) ≡ length es + 1 = length_push es e in
       let one : length (starts ++ offset ∷ []) ≡ length starts + 1 = length_push starts offset in
-      let each : length starts ≡ (length es + 15) / 16 = are.each in
-      record { each = omega (arith, each, more, one, whole); offsets = λ block l. by_last block l (ltb block (length starts)) refl }
+      let each : length starts ≡ (length es + 3) / 4 = are.each in
+      record { each = omega (arith, each, more, one, whole); offsets = λ quarter l. by_last quarter l (ltb quarter (length starts)) refl }
     where
-      by_last : (block : ℕ) → block < length (starts ++ offset ∷ []) → (c : Bool) → ltb block (length starts) ≡ c → get_or (starts ++ offset ∷ []) block 0 ≡ length (entries_text (take (16 * block) (es ++ e ∷ [])))
-      by_last block l true u =
-          let lt : block < length starts = grind (arith, nat_tests) in
-          let each : length starts ≡ (length es + 15) / 16 = are.each in
-          get_or_append_left starts (offset ∷ []) 0 block lt ∙ are.offsets block lt ∙ same_offset block (omega (arith, lt, each))
-      by_last block l false u =
-          let ge : length starts ≤ block = grind (arith, nat_tests) in
+      by_last : (quarter : ℕ) → quarter < length (starts ++ offset ∷ []) → (c : Bool) → ltb quarter (length starts) ≡ c → get_or (starts ++ offset ∷ []) quarter 0 ≡ length (entries_text (take (4 * quarter) (es ++ e ∷ [])))
+      by_last quarter l true u =
+          let lt : quarter < length starts = grind (arith, nat_tests) in
+          let each : length starts ≡ (length es + 3) / 4 = are.each in
+          get_or_append_left starts (offset ∷ []) 0 quarter lt ∙ are.offsets quarter lt ∙ same_offset quarter (omega (arith, lt, each))
+      by_last quarter l false u =
+          let ge : length starts ≤ quarter = grind (arith, nat_tests) in
           let one : length (starts ++ offset ∷ []) ≡ length starts + 1 = length_push starts offset in
-          let here : block ≡ length starts = omega (arith, ge, l, one) in
-          let whole : length es % 16 ≡ 0 = grind (arith, nat_tests) in
-          let each : length starts ≡ (length es + 15) / 16 = are.each in
-          let all : 16 * block ≡ length es = omega (arith, here, whole, each) in
-          get_or_push starts offset 0 block (sym here)
-          ∙ ap (λ (xs : List Entry). length (entries_text xs)) (sym (take_at es (e ∷ []) (16 * block) (sym all)))
+          let here : quarter ≡ length starts = omega (arith, ge, l, one) in
+          let whole : length es % 4 ≡ 0 = grind (arith, nat_tests) in
+          let each : length starts ≡ (length es + 3) / 4 = are.each in
+          let all : 4 * quarter ≡ length es = omega (arith, here, whole, each) in
+          get_or_push starts offset 0 quarter (sym here)
+          ∙ ap (λ (xs : List Entry). length (entries_text xs)) (sym (take_at es (e ∷ []) (4 * quarter) (sym all)))
   starts_pushed starts are false t =
-      let part : length es % 16 ≡ 0 → ⊥ = grind (arith, nat_tests) in
+      let part : length es % 4 ≡ 0 → ⊥ = grind (arith, nat_tests) in
       let more : length (es ++ e ∷ []) ≡ length es + 1 = length_push es e in
-      let each : length starts ≡ (length es + 15) / 16 = are.each in
+      let each : length starts ≡ (length es + 3) / 4 = are.each in
       record {
         each = omega (arith, each, more, part);
-        offsets = λ block l. are.offsets block l ∙ same_offset block (omega (arith, l, each));
+        offsets = λ quarter l. are.offsets quarter l ∙ same_offset quarter (omega (arith, l, each));
       }
 
--- ---- from the first entry of a block on
+-- ---- from the first entry of a quarter on
 
-module _ (count : ℕ) (bytes starts : List ℕ) (spelled : AreSpelled count bytes) (are : AreStarts (entries_from count bytes) starts) (block : ℕ) where
+module _ (count : ℕ) (bytes starts : List ℕ) (spelled : AreSpelled count bytes) (are : AreStarts (entries_from count bytes) starts) (quarter : ℕ) where
   abbrev entries : List Entry
   entries = entries_from count bytes
 
   long : length entries ≡ count
   long = length-entries_from count bytes
 
-  pub none_there : length starts ≤ block → drop (16 * block) entries ≡ []
-  none_there le = let each : length starts ≡ (length entries + 15) / 16 = are.each in drop_all (16 * block) entries (omega (arith, le, each))
+  pub none_there : length starts ≤ quarter → drop (4 * quarter) entries ≡ []
+  none_there le = let each : length starts ≡ (length entries + 3) / 4 = are.each in drop_all (4 * quarter) entries (omega (arith, le, each))
 
-  module _ (lt : block < length starts) where
-    pub block_before : 16 * block < count
-    block_before = let each : length starts ≡ (length entries + 15) / 16 = are.each in omega (arith, lt, each, long)
+  module _ (lt : quarter < length starts) where
+    pub quarter_before : 4 * quarter < count
+    quarter_before = let each : length starts ≡ (length entries + 3) / 4 = are.each in omega (arith, lt, each, long)
 
-    at : get_or starts block 0 ≡ length (entries_text (take (16 * block) entries))
-    at = are.offsets block lt
+    at : get_or starts quarter 0 ≡ length (entries_text (take (4 * quarter) entries))
+    at = are.offsets quarter lt
 
-    cut : bytes ≡ entries_text (take (16 * block) entries) ++ entries_text (drop (16 * block) entries)
-    cut = spelled.spelled ∙ text_cut (16 * block) entries
+    cut : bytes ≡ entries_text (take (4 * quarter) entries) ++ entries_text (drop (4 * quarter) entries)
+    cut = spelled.spelled ∙ text_cut (4 * quarter) entries
 
-    pub start_within : get_or starts block 0 ≤ length bytes
+    pub start_within : get_or starts quarter 0 ≤ length bytes
     start_within =
-        let l : length bytes ≡ length (entries_text (take (16 * block) entries)) + length (entries_text (drop (16 * block) entries)) = ap (λ (xs : List ℕ). length xs) cut ∙ length-append (entries_text (take (16 * block) entries)) (entries_text (drop (16 * block) entries)) in
+        let l : length bytes ≡ length (entries_text (take (4 * quarter) entries)) + length (entries_text (drop (4 * quarter) entries)) = ap (λ (xs : List ℕ). length xs) cut ∙ length-append (entries_text (take (4 * quarter) entries)) (entries_text (drop (4 * quarter) entries)) in
         omega (arith, l, at)
 
-    behind : drop (get_or starts block 0) bytes ≡ entries_text (drop (16 * block) entries)
+    behind : drop (get_or starts quarter 0) bytes ≡ entries_text (drop (4 * quarter) entries)
     behind =
-        ap (λ n. drop n bytes) at ∙ ap (drop (length (entries_text (take (16 * block) entries)))) cut
-        ∙ drop_at (entries_text (take (16 * block) entries)) (entries_text (drop (16 * block) entries)) (length (entries_text (take (16 * block) entries))) refl
+        ap (λ n. drop n bytes) at ∙ ap (drop (length (entries_text (take (4 * quarter) entries)))) cut
+        ∙ drop_at (entries_text (take (4 * quarter) entries)) (entries_text (drop (4 * quarter) entries)) (length (entries_text (take (4 * quarter) entries))) refl
 
-    pub block_there : entries_from (count - 16 * block) (drop (get_or starts block 0) bytes) ≡ drop (16 * block) entries
-    block_there =
-        let few : count - 16 * block ≡ length (drop (16 * block) entries) = let l = length-drop (16 * block) entries in omega (arith, l, long) in
-        spelled_by (drop (16 * block) entries) (All-drop Fits (16 * block) entries spelled.fits) (count - 16 * block) few (drop (get_or starts block 0) bytes) behind
+    pub quarter_there : entries_from (count - 4 * quarter) (drop (get_or starts quarter 0) bytes) ≡ drop (4 * quarter) entries
+    quarter_there =
+        let few : count - 4 * quarter ≡ length (drop (4 * quarter) entries) = let l = length-drop (4 * quarter) entries in omega (arith, l, long) in
+        spelled_by (drop (4 * quarter) entries) (All-drop Fits (4 * quarter) entries spelled.fits) (count - 4 * quarter) few (drop (get_or starts quarter 0) bytes) behind
 
 -- ---- fewer
 
@@ -179,21 +179,21 @@ module _ (count : ℕ) (bytes : List ℕ) (spelled : AreSpelled count bytes) (n 
   pub spelled_cut : AreSpelled n (take (length (entries_text (take n whole))) bytes)
   spelled_cut = are_spelled (take n whole) (All-take Fits n whole spelled.fits) n fewer (take (length (entries_text (take n whole))) bytes) front
 
-pub starts_cut : (es : List Entry) (starts : List ℕ) → AreStarts es starts → (n : ℕ) → n ≤ length es → AreStarts (take n es) (take ((n + 15) / 16) starts)
+pub starts_cut : (es : List Entry) (starts : List ℕ) → AreStarts es starts → (n : ℕ) → n ≤ length es → AreStarts (take n es) (take ((n + 3) / 4) starts)
 starts_cut es starts are n le =
-    let each : length starts ≡ (length es + 15) / 16 = are.each in
+    let each : length starts ≡ (length es + 3) / 4 = are.each in
     let few : length (take n es) ≡ n = length-take-le n es le in
-    let kept : length (take ((n + 15) / 16) starts) ≡ (n + 15) / 16 = length-take-le ((n + 15) / 16) starts (omega (arith, each, le)) in
+    let kept : length (take ((n + 3) / 4) starts) ≡ (n + 3) / 4 = length-take-le ((n + 3) / 4) starts (omega (arith, each, le)) in
     record {
       each = omega (arith, few, kept);
-      offsets = λ block l.
-          let lt : block < (n + 15) / 16 = omega (arith, l, kept) in
-          get_or-take ((n + 15) / 16) starts block 0 lt ∙ are.offsets block (omega (arith, lt, each, le))
-          ∙ ap (λ (xs : List Entry). length (entries_text xs)) (sym (take-take (16 * block) n es (omega (arith, lt))));
+      offsets = λ quarter l.
+          let lt : quarter < (n + 3) / 4 = omega (arith, l, kept) in
+          get_or-take ((n + 3) / 4) starts quarter 0 lt ∙ are.offsets quarter (omega (arith, lt, each, le))
+          ∙ ap (λ (xs : List Entry). length (entries_text xs)) (sym (take-take (4 * quarter) n es (omega (arith, lt))));
     }
 
 pub starts_none : AreStarts [] []
-starts_none = record { each = let e : 0 ≡ (0 + 15) / 16 = omega arith in e; offsets = λ block l. absurd (omega (arith, l)) }
+starts_none = record { each = let e : 0 ≡ (0 + 3) / 4 = omega arith in e; offsets = λ quarter l. absurd (omega (arith, l)) }
 
 pub count_grows : (count : ℕ) (bytes : List ℕ) → AreSpelled count bytes → (e : Entry) (grown : List ℕ) → grown ≡ bytes ++ entry_text e → count + 1 ≤ length grown
 count_grows count bytes spelled e grown is =
@@ -233,7 +233,7 @@ module _ (count : ℕ) (bytes : List ℕ) (spelled : AreSpelled count bytes) (k 
       ∙ ap (λ (q : Entry × List ℕ). q.1) (entry_again next (entries_text (drop (k + 1) fs)) (All-from_recursion Fits fs spelled.fits k any inside))
 
   pub starts_more : (before : List Entry) (starts more : List ℕ) (place size here : ℕ) → length before ≡ place → length (entries_text before) ≡ size → here ≡ size + (length bytes - length rest) → AreStarts (before ++ take k fs) starts →
-      more ≡ cond (eqb ((place + k) % 16) 0) (starts ++ here ∷ []) starts → AreStarts (before ++ take (k + 1) fs) more
+      more ≡ cond (eqb ((place + k) % 4) 0) (starts ++ here ∷ []) starts → AreStarts (before ++ take (k + 1) fs) more
   starts_more before starts more place size here many long_text at_here are is_more =
       let so_far = before ++ take k fs in
       let long : length so_far ≡ place + k = let a = length-append before (take k fs) in let t = length-take-le k fs (omega (arith, inside)) in omega (arith, a, t, many) in
@@ -241,10 +241,10 @@ module _ (count : ℕ) (bytes : List ℕ) (spelled : AreSpelled count bytes) (k 
       let e = ap (λ (xs : List ℕ). length xs) (entries_text-append before (take k fs)) ∙ length-append (entries_text before) (entries_text (take k fs)) in
       omega (arith, e, long_text, at_here, cut_there) in
       let one : so_far ++ next ∷ [] ≡ before ++ take (k + 1) fs = append_assoc before (take k fs) (next ∷ []) ∙ ap (λ (xs : List Entry). before ++ xs) (sym (take_more fs k any inside)) in
-      let grown : cond (eqb (length so_far % 16) 0) (starts ++ length (entries_text so_far) ∷ []) starts ≡ more =
-      ap (λ n. cond (eqb (n % 16) 0) (starts ++ length (entries_text so_far) ∷ []) starts) long
-      ∙ ap (λ n. cond (eqb ((place + k) % 16) 0) (starts ++ n ∷ []) starts) to_here ∙ sym is_more in
-      subst (λ (xs : List Entry). AreStarts xs more) one (subst (AreStarts (so_far ++ next ∷ [])) grown (starts_pushed so_far next starts are (eqb (length so_far % 16) 0) refl))
+      let grown : cond (eqb (length so_far % 4) 0) (starts ++ length (entries_text so_far) ∷ []) starts ≡ more =
+      ap (λ n. cond (eqb (n % 4) 0) (starts ++ length (entries_text so_far) ∷ []) starts) long
+      ∙ ap (λ n. cond (eqb ((place + k) % 4) 0) (starts ++ n ∷ []) starts) to_here ∙ sym is_more in
+      subst (λ (xs : List Entry). AreStarts xs more) one (subst (AreStarts (so_far ++ next ∷ [])) grown (starts_pushed so_far next starts are (eqb (length so_far % 4) 0) refl))
 
 -- what is put at the end leaves the front
 pub begins_with : (b : Bool) (xs ys ws zs : List ℕ) → IsPrefix xs ys → zs ≡ cond b (ys ++ ws) ys → IsPrefix xs zs

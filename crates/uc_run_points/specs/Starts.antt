@@ -1,17 +1,17 @@
--- Where blocks of entries begin.
+-- Where quarters of blocks begin.
 use Rattle.std.specs.Prelude.{◌≡◌, ℕ, ◌+◌, ◌-◌, ◌*◌, ◌/◌, ◌<◌, List, length, take, slice_index}
 use Rattle.uc_run_entry.specs.declared.entry.Entry.{Entry}
 use Rattle.uc_run_points.specs.Spelling.{entries_text}
 
--- how many entries each block has; the last may have fewer
-abbrev pub block_points : ℕ
-block_points = 16
+-- how many entries each quarter has; the last may have fewer
+abbrev pub quarter_points : ℕ
+quarter_points = 4
 
--- how many blocks entries fill
-abbrev pub blocks_of : List Entry → ℕ
-blocks_of entries = (length entries + (block_points - 1)) / block_points
+-- how many quarters entries fill
+abbrev pub quarters_of : List Entry → ℕ
+quarters_of entries = (length entries + (quarter_points - 1)) / quarter_points
 
--- for each block the offset of its first entry
+-- for each quarter the offset of its first entry
 pub record AreStarts (entries : List Entry) (starts : List ℕ) : Type 0 where
-  pub each : length starts ≡ blocks_of entries
-  pub offsets : (block : ℕ) → block < length starts → slice_index starts block ≡ length (entries_text (take (block_points * block) entries))
+  pub each : length starts ≡ quarters_of entries
+  pub offsets : (quarter : ℕ) → quarter < length starts → slice_index starts quarter ≡ length (entries_text (take (quarter_points * quarter) entries))

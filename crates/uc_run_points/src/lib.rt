@@ -1,7 +1,7 @@
 //! Points of a run in little memory: their bytes in one arena.
 //!
-//! [`Points`] keeps entries one behind the other, as bytes, in blocks of 16. A contract sees it as the list of the
-//! entries. `specs/Spelling.antt` says how an entry is spelled; read it first, then `points.rt`.
+//! [`Points`] keeps entries one behind the other, as bytes, and the place of each fourth. A contract sees it as the list of
+//! the entries. `specs/Spelling.antt` says how an entry is spelled; read it first, then `points.rt`.
 //!
 //! A [`PointRef`] is one of the points, and a [`PointSlice`] some that are neighbours. Both borrow: the texts stay where
 //! they are. [`PointsAhead`] walks over points, and looks at the bytes of each once.

@@ -5,7 +5,7 @@ ghost use Rattle.std.specs.List.Sorted.{IsPartitionPoint, IsPartitionedBy};
 
 use crate::point_ref::PointRef;
 use crate::point_test::PointTest;
-use crate::points::{BLOCK_POINTS, Points};
+use crate::points::{Points, QUARTER_POINTS};
 use crate::points_ahead::PointsAhead;
 use std::marker::Model;
 
@@ -102,14 +102,14 @@ impl<'a> PointSlice<'a> {
     }
 
     /// The points from a place on. It costs a step for each point before it, from the nearest one whose bytes are at hand:
-    /// that is the first of the slice, or the first of a block.
+    /// that is the first of the slice, or the first of a quarter.
     #[inline]
     fn from(&self, place: usize) -> PointsAhead<'a>
         requires { place ≤ length self.now }
         ensures { result ≡ drop place self.now }
     {
         let all = self.begin + place;
-        if place <= all % BLOCK_POINTS {
+        if place <= all % QUARTER_POINTS {
             let mut ahead = self.ahead.again();
             ahead.pass(place);
             return ahead;
@@ -127,7 +127,7 @@ impl<'a> PointSlice<'a> {
         self.ahead.first()
     }
 
-    /// The point at a place. It costs a step for each point before it in the slice, or in its block if these are fewer.
+    /// The point at a place. It costs a step for each point before it in the slice, or in its quarter if these are fewer.
     #[inline]
     pub fn get(&self, place: usize) -> Option<PointRef<'a>>
         ensures { result ≡ slice_get self.now place }

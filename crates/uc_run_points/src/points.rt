@@ -6,7 +6,7 @@ ghost use Rattle.uc_run_entry.specs.declared.entry.Entry.{Entry as EntryOf};
 ghost use Rattle.uc_run_entry.specs.Packed as packed;
 ghost use Rattle.uc_run_points.specs.Spelling as spelling;
 ghost use Rattle.uc_run_points.specs.Spelling.{AreSpelled, Fits};
-ghost use Rattle.uc_run_points.specs.Starts.{AreStarts, block_points};
+ghost use Rattle.uc_run_points.specs.Starts.{AreStarts, quarter_points};
 
 use crate::freeing::make_small;
 use crate::point_ref::PointRef;
@@ -17,15 +17,15 @@ use std::alloc::{AllocError, Global};
 use std::marker::Model;
 use uc_run_entry::{Entry, WhatRef};
 
-/// How many points each block has; the last may have fewer.
-pub(crate) const BLOCK_POINTS: usize = 16;
+/// Of how many points the first has its place at hand: a quarter of a run's block. The last quarter may have fewer.
+pub(crate) const QUARTER_POINTS: usize = 4;
 
-/// Points in one arena, with the places at which blocks of them begin. A contract sees the list of the entries.
+/// Points in one arena, with the places at which quarters of blocks begin. A contract sees the list of the entries.
 #[derive(Debug)]
 pub struct Points {
     /// The arena: the entries' bytes, one behind the other.
     bytes: Vec<u8>,
-    /// The offset of the first entry of each block.
+    /// The offset of the first entry of each quarter.
     starts: Vec<usize>,
     count: usize,
 }
@@ -77,19 +77,19 @@ fn append_entry(
     Ok(())
 }
 
-/// Pushes the offset of an entry if it is the first of a block. An `Err` pushes nothing.
+/// Pushes the offset of an entry if it is the first of a quarter. An `Err` pushes nothing.
 fn push_start(starts: &mut Vec<usize>, place: usize, offset: usize) -> Result<(), AllocError>
     ensures pushed { OnOk result
-        (starts.new.items ≡ (if place % block_points == 0 then starts.old.items ++ offset ∷ [] else starts.old.items)) }
+        (starts.new.items ≡ (if place % quarter_points == 0 then starts.old.items ++ offset ∷ [] else starts.old.items)) }
     ensures as_it_was { OnErr result (starts.new.items ≡ starts.old.items) }
 {
-    if place % BLOCK_POINTS == 0 {
+    if place % QUARTER_POINTS == 0 {
         starts.push(offset)?;
     }
     Ok(())
 }
 
-/// Pushes the offset of each entry of some bytes that is the first of a block, where so many entries and bytes come before
+/// Pushes the offset of each entry of some bytes that is the first of a quarter, where so many entries and bytes come before
 /// them. It costs a step for each entry. An `Err` may leave some of them pushed.
 fn push_starts(
     starts: &mut Vec<usize>,
@@ -115,16 +115,21 @@ fn push_starts(
     Ok(())
 }
 
-/// The points from the first of a block on.
+/// The points from the first of a quarter on.
 #[inline]
-fn block_ahead<'a>(bytes: &'a [u8], starts: &[usize], count: usize, block: usize) -> PointsAhead<'a>
+fn quarter_ahead<'a>(
+    bytes: &'a [u8],
+    starts: &[usize],
+    count: usize,
+    quarter: usize,
+) -> PointsAhead<'a>
     requires spelled { AreSpelled count bytes.now }
     requires starts { AreStarts (spelling.entries_from count bytes.now) starts.now }
-    ensures { result ≡ drop (block_points * block) (spelling.entries_from count bytes.now) }
+    ensures { result ≡ drop (quarter_points * quarter) (spelling.entries_from count bytes.now) }
 {
-    match starts.get(block) {
+    match starts.get(quarter) {
         None => PointsAhead::none(),
-        Some(start) => PointsAhead::new(&bytes[*start..], count - block * BLOCK_POINTS),
+        Some(start) => PointsAhead::new(&bytes[*start..], count - quarter * QUARTER_POINTS),
     }
 }
 
@@ -179,7 +184,7 @@ impl Points {
         ensures pushed { OnOk result (self.new ≡ self.old ++ points.now) }
         ensures as_it_was { OnErr result (self.new ≡ self.old) }
     {
-        let (offset, blocks) = (self.bytes.len(), self.starts.len());
+        let (offset, quarters) = (self.bytes.len(), self.starts.len());
         self.bytes.extend_from_slice(&points.bytes)?;
         let pushed = push_starts(
             &mut self.starts,
@@ -189,7 +194,7 @@ impl Points {
             points.count,
         );
         if let Err(error) = pushed {
-            self.starts.truncate(blocks);
+            self.starts.truncate(quarters);
             self.bytes.truncate(offset);
             return Err(error);
         }
@@ -204,7 +209,7 @@ impl Points {
         ensures { self.new ≡ take count self.old }
     {
         self.bytes.truncate(size);
-        self.starts.truncate(count.div_ceil(BLOCK_POINTS));
+        self.starts.truncate(count.div_ceil(QUARTER_POINTS));
         self.count = count;
     }
 
@@ -216,13 +221,18 @@ impl Points {
         self.starts.shrink_to_fit();
     }
 
-    /// The points from a place on. It costs a step for each point before it in its block.
+    /// The points from a place on. It costs a step for each point before it in its quarter.
     #[inline]
     pub fn from(&self, place: usize) -> PointsAhead<'_>
         ensures { result ≡ drop place self.now }
     {
-        let mut ahead = block_ahead(&self.bytes, &self.starts, self.count, place / BLOCK_POINTS);
-        ahead.pass(place % BLOCK_POINTS);
+        let mut ahead = quarter_ahead(
+            &self.bytes,
+            &self.starts,
+            self.count,
+            place / QUARTER_POINTS,
+        );
+        ahead.pass(place % QUARTER_POINTS);
         ahead
     }
 
@@ -234,7 +244,7 @@ impl Points {
         PointsAhead::new(&self.bytes, self.count)
     }
 
-    /// The point at a place, if there is one. It costs a step for each point before it in its block.
+    /// The point at a place, if there is one. It costs a step for each point before it in its quarter.
     #[inline]
     pub fn get(&self, place: usize) -> Option<PointRef<'_>>
         ensures { result ≡ slice_get self.now place }
@@ -242,7 +252,7 @@ impl Points {
         self.from(place).first()
     }
 
-    /// The points from a place on, as a slice of them. It costs a step for each point before it in its block.
+    /// The points from a place on, as a slice of them. It costs a step for each point before it in its quarter.
     #[inline]
     pub fn slice_from(&self, place: usize) -> PointSlice<'_>
         ensures { result ≡ drop place self.now }

@@ -21,7 +21,7 @@ loop-number-preserved c =
     let lt = c.loop-number-test.true in
     let is = c.loop-number.invariant.rest in
     let begins : IsPrefix c.args.starts.now.items c.push_start.new.starts.items =
-    begins_with (eqb ((c.args.place + k) % 16) 0) c.args.starts.now.items c.loop-number.starts.items ((c.args.offset + (length bytes - length rest)) ∷ []) c.push_start.new.starts.items c.loop-number.invariant.begins c.in_ok-push_start.ensures.pushed in
+    begins_with (eqb ((c.args.place + k) % 4) 0) c.args.starts.now.items c.loop-number.starts.items ((c.args.offset + (length bytes - length rest)) ∷ []) c.push_start.new.starts.items c.loop-number.invariant.begins c.in_ok-push_start.ensures.pushed in
     record {
       rest = c.read_entry.ensures.rest ∙ rest_after count bytes spelled k lt rest is;
       starts = λ es at text are.

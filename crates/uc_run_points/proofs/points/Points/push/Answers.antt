@@ -26,15 +26,15 @@ invariant_of-self-2 c =
     let grown : c.append_entry.new.bytes.items ≡ bytes ++ entry_text e = c.in_ok-append_entry.ensures.pushed in
     let all : entries_from (count + 1) c.append_entry.new.bytes.items ≡ es ++ e ∷ [] = ap (entries_from (count + 1)) grown ∙ entries_pushed count bytes spelled e fits in
     let offset : c.len-offset.result ≡ length (entries_text es) = search rules in
-    let started : c.push_start.new.starts.items ≡ cond (eqb (length es % 16) 0) (starts ++ length (entries_text es) ∷ []) starts =
+    let started : c.push_start.new.starts.items ≡ cond (eqb (length es % 4) 0) (starts ++ length (entries_text es) ∷ []) starts =
     c.in_default.ensures.pushed
-    ∙ ap (λ n. cond (eqb (count % 16) 0) (starts ++ n ∷ []) starts) offset
-    ∙ ap (λ n. cond (eqb (n % 16) 0) (starts ++ length (entries_text es) ∷ []) starts) (sym (length-entries_from count bytes)) in
+    ∙ ap (λ n. cond (eqb (count % 4) 0) (starts ++ n ∷ []) starts) offset
+    ∙ ap (λ n. cond (eqb (n % 4) 0) (starts ++ length (entries_text es) ∷ []) starts) (sym (length-entries_from count bytes)) in
     record {
       spelled = subst (AreSpelled (count + 1)) (sym grown) (spelled_pushed count bytes spelled e fits);
       starts =
           subst (λ (xs : List Entry). AreStarts xs c.push_start.new.starts.items) (sym all)
-          (subst (AreStarts (es ++ e ∷ [])) (sym started) (starts_pushed es e starts c.self.invariant.starts (eqb (length es % 16) 0) refl));
+          (subst (AreStarts (es ++ e ∷ [])) (sym started) (starts_pushed es e starts c.self.invariant.starts (eqb (length es % 4) 0) refl));
     }
 
 pub returns-clause-pushed : goal.returns-clause-pushed

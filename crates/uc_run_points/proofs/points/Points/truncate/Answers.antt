@@ -7,7 +7,7 @@ use Rattle.uc_run_points.proofs.EntriesAgain.{length-entries_from}
 use Rattle.uc_run_points.proofs.Grown.{entries_cut, spelled_cut, starts_cut}
 use Rattle.uc_run_points.proofs.points.Points.truncate.Goals as goal
 
-ceil : (n : ℕ) → div_ceil n 16 ≡ (n + 15) / 16
+ceil : (n : ℕ) → div_ceil n 4 ≡ (n + 3) / 4
 ceil n = grind arith
 
 pub invariant_of-self : goal.invariant_of-self
@@ -21,8 +21,8 @@ invariant_of-self c =
     let within : n ≤ count = omega (arith, le, long) in
     let size : c.args.size ≡ length (entries_text (take n es)) = c.requires.size ∙ ap (λ (xs : List Entry). length (entries_text (take n xs))) (sym c.self.view_is) in
     let kept : c.truncate.new.self.items ≡ take (length (entries_text (take n es))) bytes = c.truncate.ensures.items ∙ ap (λ k. take k bytes) size in
-    let blocks : c.div_ceil.result ≡ (n + 15) / 16 = c.div_ceil.ensures ∙ ceil n in
-    let starts : c.truncate-2.new.self.items ≡ take ((n + 15) / 16) c.self.inside.starts.items = c.truncate-2.ensures.items ∙ ap (λ k. take k c.self.inside.starts.items) blocks in
+    let quarters : c.div_ceil.result ≡ (n + 3) / 4 = c.div_ceil.ensures ∙ ceil n in
+    let starts : c.truncate-2.new.self.items ≡ take ((n + 3) / 4) c.self.inside.starts.items = c.truncate-2.ensures.items ∙ ap (λ k. take k c.self.inside.starts.items) quarters in
     record {
       spelled = subst (AreSpelled n) (sym kept) (spelled_cut count bytes c.self.invariant.spelled n within);
       starts =

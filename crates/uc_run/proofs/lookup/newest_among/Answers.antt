@@ -4,7 +4,7 @@ use Rattle.uc_run_entry.specs.declared.fragment.Fragment.{Fragment}
 use Rattle.uc_run_entry.specs.Order.{IsFalling}
 use Rattle.uc_run_entry.specs.Run.{covers}
 use Rattle.uc_run_entry.proofs.Points.{all-filtered}
-use Rattle.uc_run.proofs.lookup.newest_over.Goals as goal
+use Rattle.uc_run.proofs.lookup.newest_among.Goals as goal
 
 pub newest_at_or_below-requires : goal.newest_at_or_below-requires
 newest_at_or_below-requires c =
