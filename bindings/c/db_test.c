@@ -316,6 +316,7 @@ static void try_events(void) {
     OK(ucstore_db_stats(told.db, &stats));
     CHECK(stats.batches == 4 && stats.flushes == 4 && stats.checkpoints == 1 && stats.syncs >= 4 && stats.last == 4);
     CHECK(stats.user_bytes == 4 * 24 && stats.logged_bytes == 4 * 31 && stats.base_bytes > 0);
+    CHECK(stats.flush_bytes > 0 && stats.compaction_read >= stats.compaction_written);
     CHECK(stats.size == sizeof stats && stats.sync_p50 <= stats.sync_p99);
     OK(ucstore_db_stats_text(told.db, room, sizeof room, &size));
     CHECK(strlen(room) == size && strstr(room, "write amplification") != NULL);

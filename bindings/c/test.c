@@ -496,6 +496,10 @@ static void check_report(struct moment *of) {
 /* Ends a job, which is kept: its run is installed if there is one, and it wasn't flushed before. */
 static void end_job(size_t one) {
     bool installed = !ran[one], before, taken;
+    struct ucstore_job none = {0};
+    uint64_t bytes = 1;
+    CHECK(ucstore_job_input_bytes(&none, &bytes) == UCSTORE_NO_JOB && bytes == 1);
+    CHECK(ucstore_job_input_bytes(&jobs[one], &bytes) == UCSTORE_OK && (bytes == 0 || bytes > 8));
     CHECK(ucstore_job_end(&store, &jobs[one], &installed) == UCSTORE_OK && jobs[one].at != NULL);
     CHECK(installed ? ran[one] : leaves_flushes || !ran[one]);
     before = taken = installed;

@@ -486,6 +486,11 @@ int32_t ucstore_job_run(struct ucstore_job *job);
  * UCSTORE_NO_JOB, UCSTORE_JOB_ENDED, UCSTORE_NO_STORE, UCSTORE_NOT_OF_STORE: nothing changes. */
 int32_t ucstore_job_end(struct ucstore *store, struct ucstore_job *job, bool *installed);
 
+/* Tells how many bytes the runs have together that a job compacts, as `ucstore_report` counts them: 0 for a flush. So the change
+ * of the store's bytes at the job's end tells how many the run has that was made.
+ * UCSTORE_NO_JOB. */
+int32_t ucstore_job_input_bytes(struct ucstore_job *job, uint64_t *bytes);
+
 /* Frees a job, with the runs and memtables that nothing else shows: 15 ms for a million writes. It touches no store. One
  * that hasn't ended is forgotten: a store that is open never compacts its runs again, and flushes its writes itself.
  * UCSTORE_NO_JOB. */

@@ -148,28 +148,31 @@ struct ucstore_db_options {
 /* What a database holds, and what it did since it was opened. Times are in microseconds. A later library may have more fields
  * behind these. */
 struct ucstore_db_stats {
-    size_t size;           /* sizeof(struct ucstore_db_stats), which the caller writes. */
-    uint64_t uptime;       /* For how long it is open. */
-    uint64_t last;         /* The sequence of the last write. */
-    uint64_t runs;         /* How many runs there are. */
-    uint64_t bytes;        /* The bytes of all runs. */
-    uint64_t gathered;     /* How many writes no run has yet. */
-    uint64_t log_bytes;    /* The bytes of the logs that no checkpoint holds. */
-    uint64_t batches;      /* How many batches were taken. */
-    uint64_t groups;       /* How many records of the log they shared. */
-    uint64_t user_bytes;   /* The bytes of the batches. */
-    uint64_t logged_bytes; /* The bytes that were appended to logs for them. */
-    uint64_t base_bytes;   /* The bytes of the checkpoints that were written. */
-    uint64_t lookups;      /* How many keys were looked up, in it and in its snapshots. */
-    uint64_t syncs;        /* How often a log was synced. */
-    uint64_t sync_p50;     /* The time that half of the last 1,024 syncs kept to. */
-    uint64_t sync_p99;     /* The time that 99 percent of them kept to. */
-    uint64_t stalls;       /* How often writes began to be slowed, or waited for a compaction. */
-    uint64_t slowed;       /* How many groups of writes were slowed. */
-    uint64_t stalled;      /* For how long writes were slowed or waited. */
-    uint64_t flushes;      /* How many runs were made of what was gathered, but for those that the store made itself. */
-    uint64_t compactions;  /* How many compactions there were, but for those that the store made itself. */
-    uint64_t checkpoints;  /* How many checkpoints were made. */
+    size_t size;                 /* sizeof(struct ucstore_db_stats), which the caller writes. */
+    uint64_t uptime;             /* For how long it is open. */
+    uint64_t last;               /* The sequence of the last write. */
+    uint64_t runs;               /* How many runs there are. */
+    uint64_t bytes;              /* The bytes of all runs. */
+    uint64_t gathered;           /* How many writes no run has yet. */
+    uint64_t log_bytes;          /* The bytes of the logs that no checkpoint holds. */
+    uint64_t batches;            /* How many batches were taken. */
+    uint64_t groups;             /* How many records of the log they shared. */
+    uint64_t user_bytes;         /* The bytes of the batches. */
+    uint64_t logged_bytes;       /* The bytes that were appended to logs for them. */
+    uint64_t base_bytes;         /* The bytes of the checkpoints that were written. */
+    uint64_t lookups;            /* How many keys were looked up, in it and in its snapshots. */
+    uint64_t syncs;              /* How often a log was synced. */
+    uint64_t sync_p50;           /* The time that half of the last 1,024 syncs kept to. */
+    uint64_t sync_p99;           /* The time that 99 percent of them kept to. */
+    uint64_t stalls;             /* How often writes began to be slowed, or waited for a compaction. */
+    uint64_t slowed;             /* How many groups of writes were slowed. */
+    uint64_t stalled;            /* For how long writes were slowed or waited. */
+    uint64_t flushes;            /* How many runs were made of what was gathered, but for those that the store made itself. */
+    uint64_t compactions;        /* How many compactions there were, but for those that the store made itself. */
+    uint64_t flush_bytes;        /* The bytes of the runs that flushes made. */
+    uint64_t compaction_read;    /* The bytes of the runs that were compacted. */
+    uint64_t compaction_written; /* The bytes of the runs that compactions made. */
+    uint64_t checkpoints;        /* How many checkpoints were made. */
 };
 
 /* Tells UCSTORE_DB_ABI of the library that is linked. It grows when a function or a status changes its meaning. */

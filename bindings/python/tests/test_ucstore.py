@@ -320,6 +320,8 @@ class Calls(unittest.TestCase):
                 pass
             self.assertEqual(store.report().runs, 8)
             job = store.take_job()
+            # Of each run a key of a byte with a value of a byte, and 8 for the sequence.
+            self.assertEqual(job.input_bytes, 8 * 10)
             worker = threading.Thread(target=job.run)
             worker.start()
             store.put(b"k", b"v")
@@ -327,6 +329,7 @@ class Calls(unittest.TestCase):
             self.assertTrue(job.end())
             self.assertFalse(job.end())
             self.assertRaises(NoJob, job.run)
+            self.assertRaises(NoJob, lambda: job.input_bytes)
             self.assertLess(store.report().runs, 8)
             self.assertEqual(len(list(store)), 9)
             for number in range(8):

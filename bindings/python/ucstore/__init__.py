@@ -409,6 +409,7 @@ _SIGNATURES = {
     "job": (_POINTER, _POINTER, _POINTER),
     "job_run": (_POINTER,),
     "job_end": (_POINTER, _POINTER, _POINTER),
+    "job_input_bytes": (_POINTER, _POINTER),
     "job_close": (_POINTER,),
     "compact": (_POINTER, _POINTER),
     "log_next": (*_TEXT, _POINTER, *_PLACE, _POINTER, _POINTER, _POINTER),
@@ -1118,6 +1119,16 @@ class Job(_Held):
         Raises `NoJob` and `OutOfMemory`. Then the job is as it was.
         """
         self._call(_library.job_run)
+
+    @property
+    def input_bytes(self) -> int:
+        """How many bytes the runs have together that it compacts, as `Report.bytes` counts them: 0 for a flush.
+
+        Raises `NoJob`.
+        """
+        size = ctypes.c_uint64()
+        self._call(_library.job_input_bytes, ctypes.byref(size))
+        return size.value
 
     def end(self) -> bool:
         """Ends the job: if it was run, its run takes the place of what it had. Tells whether it did.

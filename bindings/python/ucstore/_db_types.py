@@ -202,5 +202,11 @@ class DbStats(NamedTuple):
     """How many runs were made of what was gathered, but for those that the store made itself."""
     compactions: int
     """How many compactions there were, but for those that the store made itself."""
+    flush_bytes: int
+    """The bytes of the runs that flushes made."""
+    compaction_read: int
+    """The bytes of the runs that were compacted."""
+    compaction_written: int
+    """The bytes of the runs that compactions made."""
     checkpoints: int
     """How many checkpoints were made."""

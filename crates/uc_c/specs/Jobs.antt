@@ -1,5 +1,5 @@
 -- Jobs that C holds, and what they do to their store.
-use Rattle.std.specs.Prelude.{◌≡◌, ◌⊎◌, ℤ, Bool, true, false, ⊤, Option, Some, None, is_some, MatchOption, IsSomeAnd}
+use Rattle.std.specs.Prelude.{◌≡◌, ◌⊎◌, ℕ, ℤ, Bool, true, false, ⊤, Option, Some, None, is_some, MatchOption, IsSomeAnd}
 use Rattle.uc_version.specs.declared.job_end.JobEnd.{JobEnd}
 use Rattle.uc_version.specs.declared.job_end.JobEnd.TheVariants as ends
 use Rattle.uc_version.specs.declared.job_stage.JobStage.TheVariants as stages
@@ -18,7 +18,7 @@ use Rattle.uc_engine.specs.EngineJobs as engine_jobs
 use Rattle.uc_engine.specs.EngineJobs.{EngineTask}
 use Rattle.uc_engine.specs.TakenJobs as taken_jobs
 use Rattle.uc_c.specs.declared.status.TheConstants.{OK, OUT_OF_MEMORY, NO_STORE, NO_JOB, HAS_JOB, NOT_OF_STORE, JOB_ENDED}
-use Rattle.uc_c.specs.Replies.{IfThere}
+use Rattle.uc_c.specs.Replies.{IfThere, IsRead}
 
 abbrev pub HasEnded : TakenJob → Type 0
 HasEnded job = taken_jobs.stage_of job ≡ stages.Ended
@@ -117,3 +117,7 @@ RunsJob status old new =
     IfThere NO_JOB status old new
     (λ t. ((status ≡ JOB_ENDED) × HasEnded t × (new ≡ old))
     ⊎ (¬ HasEnded t × (((status ≡ OK) × (new ≡ Some (taken_jobs.run t))) ⊎ ((status ≡ OUT_OF_MEMORY) × (new ≡ old)))))
+
+-- the size of what a job compacts is told, if there is one
+abbrev pub TellsSize : ℤ → Option TakenJob → Option TakenJob → ℕ → Type 0
+TellsSize status old new bytes = IsRead NO_JOB status old new (λ t. (status ≡ OK) × (bytes ≡ taken_jobs.input_size t))

@@ -6,7 +6,9 @@ use crate::c_options::COptions;
 use crate::c_report::{CReport, REPORT_SIZE, ucstore_report};
 use crate::compacting::ucstore_flush;
 use crate::job_laws::taken_jobs_are_own;
-use crate::jobs::{ucstore_job, ucstore_job_close, ucstore_job_end, ucstore_job_run};
+use crate::jobs::{
+    ucstore_job, ucstore_job_close, ucstore_job_end, ucstore_job_input_bytes, ucstore_job_run,
+};
 use crate::opening::{ucstore_close, ucstore_create};
 use crate::status::{HAS_JOB, JOB_ENDED, NO_JOB, NO_STORE, OK};
 use crate::tests::{APPEND, usual};
@@ -14,6 +16,9 @@ use crate::writing::ucstore_put;
 use std::alloc::Global;
 use std::process::Abort;
 use uc_handle::{Handle, JobHandle};
+
+/// The bytes of four runs, of each a key of a byte with a value of a byte, and 8 for the sequence.
+const INPUT_BYTES: u64 = 40;
 
 /// A store of four runs, which it doesn't compact itself.
 fn open(rt: &impl Abort, alloc: Global, store: &mut Handle) {
@@ -91,6 +96,14 @@ fn refuse_second(rt: &impl Abort, alloc: Global, store: &mut Handle) {
     assert_eq!(rt; ucstore_job(alloc, store, &mut job, &mut taken), HAS_JOB);
     assert_eq!(rt; ucstore_job(alloc, store, &mut other, &mut taken), OK);
     assert!(rt; !taken);
+    let mut bytes = 0;
+    assert_eq!(rt;
+        ucstore_job_input_bytes(alloc, &mut other, &mut bytes),
+        NO_JOB
+    );
+    assert_eq!(rt; bytes, 0);
+    assert_eq!(rt; ucstore_job_input_bytes(alloc, &mut job, &mut bytes), OK);
+    assert_eq!(rt; bytes, INPUT_BYTES);
     assert_eq!(rt; ucstore_close(alloc, store), OK);
     assert_eq!(rt; ucstore_job_close(alloc, &mut job), OK);
     assert_eq!(rt; ucstore_job_close(alloc, &mut job), NO_JOB);

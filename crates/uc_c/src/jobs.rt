@@ -3,7 +3,7 @@ ghost use Rattle.std.specs.Prelude.{◌≡◌, ◌⊎◌, ◌↔◌, Some, IsTru
 ghost use Rattle.uc_engine.specs.declared.taken_job.TakenJob.TheVariants as kinds;
 ghost use Rattle.uc_c.specs.declared.status.TheConstants.{OK, NO_JOB};
 ghost use Rattle.uc_c.specs.Jobs as jobs;
-ghost use Rattle.uc_c.specs.Jobs.{EndsTaken, IsOwnJob, RunsJob, Takes, TakesJob, TakesNone};
+ghost use Rattle.uc_c.specs.Jobs.{EndsTaken, IsOwnJob, RunsJob, Takes, TakesJob, TakesNone, TellsSize};
 ghost use Rattle.uc_c.specs.Replies.{Closes};
 
 use crate::status::{HAS_JOB, JOB_ENDED, NO_JOB, NO_STORE, NOT_OF_STORE, OK, OUT_OF_MEMORY};
@@ -209,6 +209,25 @@ fn is_installed(end: &JobEnd) -> bool
     ensures { result ≡ jobs.is_installed end.now }
 {
     matches!(end, JobEnd::Installed(_))
+}
+
+/// Tells how many bytes the runs have together that the job compacts, as `ucstore_report` counts them: 0 for a flush. So what the
+/// store's bytes change by when the job ends tells those of the run that was made.
+#[unsafe(no_mangle)]
+pub extern "C" fn ucstore_job_input_bytes(
+    alloc: Global,
+    job: &mut JobHandle,
+    bytes: &mut u64,
+) -> i32
+    ensures tells { TellsSize result job.old.held job.new.held bytes.new }
+    ensures untold { (result ≡ OK) ⊎ (bytes.new ≡ bytes.old) }
+{
+    let Some(held) = job.take(alloc) else {
+        return NO_JOB;
+    };
+    *bytes = held.input_size();
+    job.put(held);
+    OK
 }
 
 /// Frees the job behind the handle, if there is one, with what it had. It touches no store. One that hasn't ended is

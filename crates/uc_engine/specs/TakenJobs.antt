@@ -1,5 +1,6 @@
 -- Jobs of either kind that are taken out of an engine.
-use Rattle.std.specs.Prelude.{◌≡◌, Bool, true, false, Option, Some, None}
+use Rattle.std.specs.Prelude.{◌≡◌, ℕ, Bool, true, false, Option, Some, None}
+use Rattle.uc_version.specs.Jobs as jobs
 use Rattle.uc_version.specs.declared.job_stage.JobStage.{JobStage}
 use Rattle.uc_live.specs.LiveFlushes as flushes
 use Rattle.uc_live.specs.LiveFlushes.{StartsFlush, wants_flush}
@@ -13,6 +14,11 @@ use Rattle.uc_engine.specs.Engines.{Engined}
 abbrev pub stage_of : TakenJob → JobStage
 stage_of (Flush f) = f.stage
 stage_of (Compaction t) = t.task.stage
+
+-- how many bytes the runs have that it compacts; a flush compacts none
+abbrev pub input_size : TakenJob → ℕ
+input_size (Flush f) = 0
+input_size (Compaction t) = jobs.input_size t.task
 
 -- the job after it was run
 abbrev pub run : TakenJob → TakenJob

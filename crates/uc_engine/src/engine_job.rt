@@ -1,7 +1,7 @@
 //! [`EngineJob`]: a compaction that is done away from its engine.
 ghost use Rattle.std.specs.Prelude.{◌≡◌, ◌≢◌, true, false, IfOk, IfSome, OnErr, OnOk};
 ghost use Rattle.uc_version.specs.Claiming.{is_held};
-ghost use Rattle.uc_version.specs.Jobs.{IsOwn};
+ghost use Rattle.uc_version.specs.Jobs.{IsOwn, input_size};
 ghost use Rattle.uc_version.specs.declared.job_stage.JobStage.TheVariants.{Ended};
 ghost use Rattle.uc_live.specs.Lives.{owner_in};
 ghost use Rattle.uc_live.specs.LiveJobs.{EndsJob, StartsJob};
@@ -75,6 +75,18 @@ impl EngineJob {
             AnyJob::Counter(job) => job.stage(),
             AnyJob::Maximum(job) => job.stage(),
             AnyJob::Tail(job) => job.stage(),
+        }
+    }
+
+    /// How many bytes the runs have together that it compacts, with 8 for each sequence, at most 2^64 - 1.
+    pub fn input_size(&self) -> u64
+        ensures { result ≡ input_size self.now.task }
+    {
+        match &self.job {
+            AnyJob::Append(job) => job.input_size(),
+            AnyJob::Counter(job) => job.input_size(),
+            AnyJob::Maximum(job) => job.input_size(),
+            AnyJob::Tail(job) => job.input_size(),
         }
     }
 

@@ -28,6 +28,16 @@ impl TakenJob {
         }
     }
 
+    /// How many bytes the runs have together that it compacts, with 8 for each sequence, at most 2^64 - 1. A flush compacts none.
+    pub fn input_size(&self) -> u64
+        ensures { result ≡ jobs.input_size self.now }
+    {
+        match self {
+            TakenJob::Flush(_) => 0,
+            TakenJob::Compaction(job) => job.input_size(),
+        }
+    }
+
     /// Does it, unless that is done or it has ended. The calling thread does all of it. It touches no engine. An `Err`
     /// changes nothing.
     pub fn run(&mut self, alloc: Global) -> Result<(), AllocError>

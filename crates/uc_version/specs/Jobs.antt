@@ -1,11 +1,11 @@
 -- Jobs: compactions of claimed stretches that are done away from their store.
-use Rattle.std.specs.Prelude.{◌≡◌, ◌≢◌, Option, Some, None}
+use Rattle.std.specs.Prelude.{◌≡◌, ◌≢◌, ℕ, Option, Some, None}
 use Rattle.uc_oper.specs.Operation.{Operation}
 use Rattle.uc_compact.specs.Inputs.{Compaction}
 use Rattle.uc_version_state.specs.declared.stretch.Stretch.{Stretch}
 use Rattle.uc_version_state.specs.Picks.{picked}
 use Rattle.uc_version_state.specs.Versions.{contents_of}
-use Rattle.uc_version_work.specs.Compacting.{compaction_at}
+use Rattle.uc_version_work.specs.Compacting.{compaction_at, size_of_runs}
 use Rattle.uc_version_work.specs.Picking.{candidates_of}
 use Rattle.uc_version.specs.declared.job_end.JobEnd.{JobEnd}
 use Rattle.uc_version.specs.declared.job_end.JobEnd.TheVariants.{Installed, NotRun, Refused}
@@ -20,6 +20,10 @@ pub record Task : Type 0 where
   pub claim : Claim
   pub compaction : Compaction
   pub stage : JobStage
+
+-- how many bytes its runs have together
+abbrev pub input_size : Task → ℕ
+input_size task = size_of_runs task.compaction.inputs
 
 -- a run changes a job that waits for one
 abbrev pub run_stage : JobStage → JobStage

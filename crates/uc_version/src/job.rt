@@ -71,6 +71,14 @@ impl<O: Operator> Job<O> {
         }
     }
 
+    /// How many bytes the runs have together that it compacts, with 8 for each sequence, at most 2^64 - 1. It looks at each run
+    /// once, and at no point.
+    pub fn input_size(&self) -> u64
+        ensures { result ≡ jobs.input_size self.now }
+    {
+        self.asked.input_size()
+    }
+
     /// Compacts its runs by this merger, unless that is done or it has ended. It touches no store. An `Err` changes
     /// nothing.
     pub fn run_by<M: Merger<O>>(&mut self, merger: &M, alloc: Global) -> Result<(), AllocError>

@@ -1,6 +1,8 @@
 -- Compactions of stretches, and their installs in place of claimed runs, whoever claims them.
-use Rattle.std.specs.Prelude.{◌≡◌, ◌+◌, ◌==◌, Some, List, length}
+use Rattle.std.specs.Prelude.{◌≡◌, ℕ, ◌+◌, ◌-◌, ◌^◌, ◌==◌, Some, List, fold, length, min}
 use Rattle.uc_oper.specs.Operation.{Operation}
+use Rattle.uc_run_entry.specs.Run.{Contents}
+use Rattle.uc_run_entry.specs.Size.{size_of}
 use Rattle.uc_compact.specs.Inputs.{Compaction}
 use Rattle.uc_compact.specs.Output.{output_of}
 use Rattle.uc_version_state.specs.declared.stretch.Stretch.{Stretch}
@@ -19,6 +21,10 @@ runs_at v s = part_of s.first s.count v.runs
 -- the compaction of a stretch: under the version's keeps, and with the oldest run if it is the last
 abbrev pub compaction_at : Stored → Stretch → Compaction
 compaction_at v s = record { inputs = contents_of (runs_at v s); keeps = v.keeps; oldest = s.first + s.count == length v.runs }
+
+-- how many bytes runs have together, at most 2^64 - 1
+abbrev pub size_of_runs : List Contents → ℕ
+size_of_runs runs = fold (λ sum run. min (sum + size_of run) (2 ^ 64 - 1)) 0 runs
 
 -- the install of a compaction of claimed runs
 abbrev pub install_for : Operation → List PlacedRun → Compaction → Install

@@ -1,6 +1,7 @@
 //! [`Asked`]: what is asked of a compaction.
-ghost use Rattle.std.specs.Prelude.{◌≡◌, ◌+◌, ◌≤◌, ◌==◌, IfOk, length};
-ghost use Rattle.uc_version_work.specs.Compacting.{compaction_at};
+ghost use Rattle.std.specs.Prelude.{◌≡◌, ◌+◌, ◌≤◌, ◌==◌, IfOk, length, map};
+ghost use Rattle.std.specs.Arc.{arc_value};
+ghost use Rattle.uc_version_work.specs.Compacting.{compaction_at, size_of_runs};
 
 use crate::runs::{shared_runs, stretch_runs};
 use std::alloc::{AllocError, Global};
@@ -40,6 +41,17 @@ fn has_oldest(version: &Version, stretch: Stretch) -> bool
     stretch.first + stretch.count == runs
 }
 
+/// How many bytes runs have together, at most 2^64 - 1.
+fn size_of_runs(runs: &[Arc<Run>]) -> u64
+    ensures { result ≡ size_of_runs (map arc_value runs.now) }
+{
+    let mut size = 0_u64;
+    for run in runs {
+        size = size.saturating_add(run.size());
+    }
+    size
+}
+
 impl Asked {
     /// What is asked of the compaction of a stretch of a version: under the version's keeps, and with the oldest run exactly if
     /// that is the last of the stretch. It copies no run.
@@ -57,6 +69,13 @@ impl Asked {
             keeps,
             oldest,
         })
+    }
+
+    /// How many bytes its runs have together, with 8 for each sequence, at most 2^64 - 1.
+    pub fn input_size(&self) -> u64
+        ensures { result ≡ size_of_runs self.now.inputs }
+    {
+        size_of_runs(&self.inputs)
     }
 
     /// The compaction, by this merger.

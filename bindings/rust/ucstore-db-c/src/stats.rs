@@ -53,6 +53,12 @@ pub struct CStats {
     pub flushes: u64,
     /// How many compactions there were.
     pub compactions: u64,
+    /// The bytes of the runs that flushes made.
+    pub flush_bytes: u64,
+    /// The bytes of the runs that were compacted.
+    pub compaction_read: u64,
+    /// The bytes of the runs that compactions made.
+    pub compaction_written: u64,
     /// How many checkpoints were made.
     pub checkpoints: u64,
 }
@@ -82,6 +88,9 @@ impl From<Stats> for CStats {
             stalled: micros(stats.stalled),
             flushes: stats.flushes,
             compactions: stats.compactions,
+            flush_bytes: stats.flush_bytes,
+            compaction_read: stats.compaction_read,
+            compaction_written: stats.compaction_written,
             checkpoints: stats.checkpoints,
         }
     }

@@ -56,7 +56,8 @@ impl Shared {
         let begun = Instant::now();
         let outcome = taken.job.run();
         let store = lock(&self.store);
-        let before = store.report().gathered;
+        let before = store.report();
+        let read = taken.job.input_bytes();
         let ended = store.end_job(taken.job).expect("a job of this store");
         self.newest.change(&store);
         let report = store.report();
@@ -67,10 +68,14 @@ impl Shared {
         // What it had is freed behind the store's lock.
         drop(ended);
         self.newest.let_go();
-        if report.gathered < before {
+        let written = (read + report.bytes).saturating_sub(before.bytes);
+        if report.gathered < before.gathered {
             self.subtract_gathered(taken.gathered);
+            self.counts.flush_bytes.add(written);
             self.tell_flushed(taken.gathered, begun);
         } else if is_done {
+            self.counts.compaction_read.add(read);
+            self.counts.compaction_written.add(written);
             self.tell_compacted(begun);
         }
         self.events.tell();

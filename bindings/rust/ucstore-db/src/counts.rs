@@ -18,6 +18,11 @@ pub(crate) struct Counts {
     pub(crate) stalled: Count,
     pub(crate) flushes: Count,
     pub(crate) compactions: Count,
+    /// The bytes of the runs that were flushed.
+    pub(crate) flush_bytes: Count,
+    /// The bytes of the runs that were compacted, and of those that came of it.
+    pub(crate) compaction_read: Count,
+    pub(crate) compaction_written: Count,
     pub(crate) checkpoints: Count,
     lookups: Lanes<Count>,
     /// The bytes of the batches that were taken.
@@ -68,6 +73,9 @@ impl Default for Counts {
             stalled: Count::default(),
             flushes: Count::default(),
             compactions: Count::default(),
+            flush_bytes: Count::default(),
+            compaction_read: Count::default(),
+            compaction_written: Count::default(),
             checkpoints: Count::default(),
             lookups: Lanes::default(),
             user_bytes: Count::default(),

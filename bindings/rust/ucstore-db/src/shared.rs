@@ -324,16 +324,19 @@ impl Shared {
     fn flush_gathered(&self) -> Result<(), Error> {
         let begun = Instant::now();
         self.newest.renew(&self.store)?;
-        let (gathered, runs) = self.call(|store| {
-            let gathered = store.report().gathered;
+        let (before, report) = self.call(|store| {
+            let before = store.report();
             store.flush()?;
             self.newest.change(store);
-            Ok((gathered, store.report().runs))
+            Ok((before, store.report()))
         })?;
         self.newest.let_go();
         let bytes = self.gathered.swap(0, Ordering::Relaxed);
-        self.tell_runs(runs);
-        if gathered > 0 {
+        self.tell_runs(report.runs);
+        if before.gathered > 0 {
+            // Where the store compacted before, so that it may flush, it has fewer.
+            let flushed = report.bytes.saturating_sub(before.bytes);
+            self.counts.flush_bytes.add(flushed);
             self.tell_flushed(bytes, begun);
         }
         Ok(())

@@ -49,6 +49,12 @@ pub struct Stats {
     pub flushes: u64,
     /// How many compactions there were, but for those that the store made itself.
     pub compactions: u64,
+    /// The bytes of the runs that flushes made.
+    pub flush_bytes: u64,
+    /// The bytes of the runs that were compacted.
+    pub compaction_read: u64,
+    /// The bytes of the runs that compactions made.
+    pub compaction_written: u64,
     /// How many checkpoints were made.
     pub checkpoints: u64,
     /// Whether nothing can be written any more.
@@ -83,6 +89,9 @@ impl Stats {
             stalled: Duration::from_micros(counts.stalled.get()),
             flushes: counts.flushes.get(),
             compactions: counts.compactions.get(),
+            flush_bytes: counts.flush_bytes.get(),
+            compaction_read: counts.compaction_read.get(),
+            compaction_written: counts.compaction_written.get(),
             checkpoints: counts.checkpoints.get(),
             is_read_only: shared.check().is_err(),
         }
@@ -93,6 +102,15 @@ impl Stats {
         match self.user_bytes {
             0 => 0.0,
             bytes => (self.logged_bytes + self.base_bytes) as f64 / bytes as f64,
+        }
+    }
+
+    /// How many bytes of runs were made, by flushes and compactions, for each byte that was flushed: 0 if nothing was. The more runs may
+    /// be, the lower it is.
+    pub fn run_amplification(&self) -> f64 {
+        match self.flush_bytes {
+            0 => 0.0,
+            bytes => (bytes + self.compaction_written) as f64 / bytes as f64,
         }
     }
 
@@ -130,7 +148,7 @@ impl fmt::Display for Millis {
 
 impl fmt::Display for Stats {
     fn fmt(&self, formatter: &mut fmt::Formatter<'_>) -> fmt::Result {
-        let rows: [(&str, &dyn fmt::Display); 22] = [
+        let rows: [(&str, &dyn fmt::Display); 26] = [
             ("last sequence", &self.last),
             ("runs", &self.runs),
             ("bytes of runs", &Bytes(self.bytes)),
@@ -155,6 +173,13 @@ impl fmt::Display for Stats {
             ("stalled", &Millis(self.stalled)),
             ("flushes", &self.flushes),
             ("compactions", &self.compactions),
+            ("bytes flushed", &Bytes(self.flush_bytes)),
+            ("bytes compacted", &Bytes(self.compaction_read)),
+            ("bytes made by that", &Bytes(self.compaction_written)),
+            (
+                "run amplification",
+                &format!("{:.2}", self.run_amplification()),
+            ),
             ("checkpoints", &self.checkpoints),
         ];
         let seconds = self.uptime.as_secs_f64();
@@ -193,6 +218,9 @@ mod tests {
             user_bytes: 100,
             logged_bytes: 110,
             base_bytes: 40,
+            flush_bytes: 1000,
+            compaction_read: 1 << 20,
+            compaction_written: 2500,
             sync_p99: Duration::from_micros(1234),
             ..Default::default()
         };
@@ -202,6 +230,8 @@ mod tests {
             "batches a group                    3.50",
             "write amplification                1.50",
             "sync, p99                      1.234 ms",
+            "bytes compacted                 1.0 MiB",
+            "run amplification                  3.50",
             "read only                         false",
         ] {
             assert!(text.lines().any(|it| it == line), "{text}");

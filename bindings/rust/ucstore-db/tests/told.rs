@@ -67,6 +67,11 @@ fn flushes_compactions_and_checkpoints_are_told() {
     }
     db.compact().unwrap();
     told.wait_for(|event| matches!(event, Event::Compacted { runs: 1, .. }));
+    // Each run has a key of a byte with a value of a byte, and 8 bytes for the sequence.
+    let stats = db.stats();
+    assert_eq!((stats.flushes, stats.flush_bytes), (4, 40));
+    assert_eq!((stats.compaction_read, stats.compaction_written), (40, 10));
+    assert_eq!(stats.run_amplification(), 1.25);
     db.checkpoint().unwrap();
     let made = told.wait_for(|event| matches!(event, Event::Checkpointed { .. }));
     let Event::Checkpointed { file, bytes, .. } = made else {

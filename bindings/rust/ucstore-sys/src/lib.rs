@@ -385,6 +385,7 @@ extern "C" {
     pub fn ucstore_job_run(job: *mut ucstore_job) -> i32;
     pub fn ucstore_job_end(store: *mut ucstore, job: *mut ucstore_job, installed: *mut bool)
         -> i32;
+    pub fn ucstore_job_input_bytes(job: *mut ucstore_job, bytes: *mut u64) -> i32;
     pub fn ucstore_job_close(job: *mut ucstore_job) -> i32;
 
     pub fn ucstore_compact(store: *mut ucstore, compacted: *mut bool) -> i32;

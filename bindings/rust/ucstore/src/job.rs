@@ -56,6 +56,14 @@ impl Job {
         check(unsafe { sys::ucstore_job_run(self.handle()) })
     }
 
+    /// How many bytes the runs have together that it compacts, as [`Report::bytes`](crate::Report::bytes) counts them: 0 for a
+    /// flush. So the change of a store's bytes at the job's end tells those of the run that was made.
+    pub fn input_bytes(&mut self) -> u64 {
+        let mut bytes = 0;
+        unsafe { sys::ucstore_job_input_bytes(self.handle(), &mut bytes) };
+        bytes
+    }
+
     /// The handle for a call.
     pub(crate) fn handle(&mut self) -> *mut sys::ucstore_job {
         &mut self.handle
