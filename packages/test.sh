@@ -6,8 +6,8 @@
 # - objects: the shared objects have the right names and versions of symbols, no others, and no executable stack or
 #   writable table of addresses; the same tree gives the same packages twice.
 # - debian: a root of Debian 12 without the Rattle kit gets the .deb packages by apt; lintian finds nothing in them.
-# - wheel: the same root gets the wheel in an environment of its own. One of Debian 11, whose glibc is older than the wheel's name
-#   says, refuses it.
+# - wheel: the same root gets the wheel in an environment of its own; it is told how soon the first program reads a value.
+#   One of Debian 11, whose glibc is older than the wheel's name says, refuses it.
 # - tar: both roots unpack the archive anywhere, and C programs are built against it: in Debian 11 those of the store alone,
 #   and the program says which glibc it lacks.
 # - crates: cargo builds a program over the packaged crates, against the archive's library.
@@ -115,8 +115,14 @@ debian() {
 
 wheel() {
     run_in bookworm "
-        python3 -m venv env && env/bin/pip install -q --no-index ./ucstore-*.whl
+        python3 -m venv env
+        begun=\$(date +%s%N)
+        env/bin/pip install -q --no-index ./ucstore-*.whl
+        env/bin/python python/db_first.py
+        echo walk: the first value \$(((\$(date +%s%N) - begun) / 1000000)) ms after pip began
+        rm -r visits
         PYTHON=/work/env/bin/python; $python_works" "the wheel"
+    grep '^walk:' "$work/said"
     run_in bullseye "
         python3 -m venv env
         ! env/bin/pip install -q --no-index ./ucstore-*.whl" "the wheel is installed where its glibc isn't"
