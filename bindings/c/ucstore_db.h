@@ -169,9 +169,9 @@ struct ucstore_db_stats {
     uint64_t stalled;            /* For how long writes were slowed or waited. */
     uint64_t flushes;            /* How many runs were made of what was gathered, but for those that the store made itself. */
     uint64_t compactions;        /* How many compactions there were, but for those that the store made itself. */
-    uint64_t flush_bytes;        /* The bytes of the runs that flushes made. */
-    uint64_t compaction_read;    /* The bytes of the runs that were compacted. */
-    uint64_t compaction_written; /* The bytes of the runs that compactions made. */
+    uint64_t flush_bytes;        /* The bytes of the runs that these flushes made. */
+    uint64_t compaction_read;    /* The bytes of the runs that these compactions read. */
+    uint64_t compaction_written; /* The bytes of the runs that these compactions made. */
     uint64_t checkpoints;        /* How many checkpoints were made. */
 };
 

@@ -203,10 +203,10 @@ class DbStats(NamedTuple):
     compactions: int
     """How many compactions there were, but for those that the store made itself."""
     flush_bytes: int
-    """The bytes of the runs that flushes made."""
+    """The bytes of the runs that these flushes made."""
     compaction_read: int
-    """The bytes of the runs that were compacted."""
+    """The bytes of the runs that these compactions read."""
     compaction_written: int
-    """The bytes of the runs that compactions made."""
+    """The bytes of the runs that these compactions made."""
     checkpoints: int
     """How many checkpoints were made."""

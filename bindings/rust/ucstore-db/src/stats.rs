@@ -49,11 +49,11 @@ pub struct Stats {
     pub flushes: u64,
     /// How many compactions there were, but for those that the store made itself.
     pub compactions: u64,
-    /// The bytes of the runs that flushes made.
+    /// The bytes of the runs that these flushes made.
     pub flush_bytes: u64,
-    /// The bytes of the runs that were compacted.
+    /// The bytes of the runs that these compactions read.
     pub compaction_read: u64,
-    /// The bytes of the runs that compactions made.
+    /// The bytes of the runs that these compactions made.
     pub compaction_written: u64,
     /// How many checkpoints were made.
     pub checkpoints: u64,
