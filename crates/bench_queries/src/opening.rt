@@ -3,7 +3,7 @@ use anyhow::{Result, ensure};
 use std::alloc::{AllocError, Global};
 use uc_batch::Ended;
 use uc_version::{Opener, Options, Version};
-use uc_version_work::{Alone, Recovered, recover};
+use uc_version_open::{Alone, Recovered, recover};
 
 /// Recovers a log, which is freed before anything else is done, and how far it was read.
 fn recovered(alloc: Global, log: Vec<u8>, options: Options) -> Result<Recovered, AllocError> {

@@ -6,7 +6,7 @@ use Rattle.uc_version_state.specs.declared.stretch.Stretch.{Stretch}
 use Rattle.uc_version_state.specs.declared.event.Event.TheVariants.{Installed}
 use Rattle.uc_version_state.specs.Installs.{MayInstall}
 use Rattle.uc_version_state.specs.Picks.{picked}
-use Rattle.uc_version_work.specs.Picking.{candidates_of}
+use Rattle.uc_version_compact.specs.Picking.{candidates_of}
 use Rattle.uc_version.specs.Owners.{Owner, is_busy}
 use Rattle.uc_version.specs.AtOnce.{after_compaction, install_at}
 use Rattle.uc_live.specs.Lives.{Live}

@@ -2,7 +2,7 @@
 use Rattle.std.proofs.Common.{◌≡◌, ℕ, suc, Bool, false, cond, List, [], ◌∷◌, length, map, refl, ap, ◌∙◌}
 use Rattle.uc_version_state.specs.Versions.{PlacedRun}
 use Rattle.uc_version_state.specs.Picks.{unclaimed}
-use Rattle.uc_version_work.specs.Picking.{candidate_of}
+use Rattle.uc_version_compact.specs.Picking.{candidate_of}
 
 -- all of them are at the head
 pub unclaimed_all : (is_claimed : ℕ → Bool) → ((slot : ℕ) → is_claimed slot ≡ false) → (runs : List PlacedRun) → unclaimed (map (candidate_of is_claimed) runs) ≡ length runs

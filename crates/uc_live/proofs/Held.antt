@@ -12,7 +12,7 @@ use Rattle.uc_version_state.specs.declared.stretch.Stretch.{Stretch}
 use Rattle.uc_version_state.specs.Picks.{picked}
 use Rattle.uc_version_state.specs.declared.options.Options.{Options}
 use Rattle.uc_version_state.proofs.Filling.{grows_by}
-use Rattle.uc_version_work.specs.Picking.{candidates_of}
+use Rattle.uc_version_compact.specs.Picking.{candidates_of}
 use Rattle.uc_version.specs.Owners.{Owner, is_busy}
 use Rattle.uc_version.specs.Feeding.{after_feed}
 use Rattle.uc_version.specs.AtOnce.{after_compaction}

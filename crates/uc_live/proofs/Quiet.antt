@@ -11,7 +11,7 @@ use Rattle.uc_version_state.specs.declared.options.Options.{Options}
 use Rattle.uc_version_state.specs.declared.candidate.Candidate.{Candidate}
 use Rattle.uc_version_state.specs.Options as store
 use Rattle.uc_version_state.specs.Picks.{picked, unclaimed as unclaimed_at_head}
-use Rattle.uc_version_work.specs.Picking.{candidate_of, candidates_of}
+use Rattle.uc_version_compact.specs.Picking.{candidate_of, candidates_of}
 use Rattle.uc_version.specs.Owners.{is_busy}
 use Rattle.uc_live.specs.declared.live_options.TheConstants.{GREATEST_STOP}
 use Rattle.uc_live.specs.LiveOptions.{are_good}

@@ -20,8 +20,8 @@ use Rattle.uc_version_state.specs.Snapshots.{kept, released}
 use Rattle.uc_version_state.specs.Picks.{picked}
 use Rattle.uc_version_state.specs.Histories.{MayHappen, after, Known, known_after}
 use Rattle.uc_version.specs.declared.held_stretch.TheConstants.{MOST_CLAIMS}
-use Rattle.uc_version_work.specs.declared.claim_error.ClaimError.{ClaimError}
-use Rattle.uc_version_work.specs.declared.install_error.InstallError.TheVariants.{IdsSpent}
+use Rattle.uc_version_compact.specs.declared.claim_error.ClaimError.{ClaimError}
+use Rattle.uc_version_compact.specs.declared.install_error.InstallError.TheVariants.{IdsSpent}
 use Rattle.uc_version.specs.Owners.{Owner, IsOwner, is_busy}
 use Rattle.uc_version.specs.Picking.{candidates_of}
 use Rattle.uc_version.specs.Claiming.{Claim, free_number, claim_refusal, claim_of, with_claim, is_held, without_claim}

@@ -4,7 +4,7 @@ use Rattle.std.specs.Prelude.{Option, Some, None}
 use Rattle.std.proofs.lemmas.List.{set-set, set-get_or}
 use Rattle.uc_oper.specs.Operation.{Operation}
 use Rattle.uc_version_state.specs.declared.stretch.Stretch.{Stretch}
-use Rattle.uc_version_work.specs.declared.install_error.InstallError.TheVariants.{IdsSpent}
+use Rattle.uc_version_compact.specs.declared.install_error.InstallError.TheVariants.{IdsSpent}
 use Rattle.uc_version.specs.Owners.{Owner}
 use Rattle.uc_version.specs.Claiming.{Claim, claim_refusal}
 use Rattle.uc_version.specs.AtOnce.{after_compaction}

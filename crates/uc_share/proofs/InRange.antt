@@ -7,8 +7,8 @@ use Rattle.uc_version_state.specs.declared.stretch.Stretch.{Stretch}
 use Rattle.uc_version_state.specs.Picks.{picked}
 use Rattle.uc_version_state.specs.Versions.{Stored}
 use Rattle.uc_version_state.specs.declared.event.Event.{Event}
-use Rattle.uc_version_work.specs.Ranges.{range_refusal}
-use Rattle.uc_version_work.proofs.InRange.{in_range}
+use Rattle.uc_version_compact.specs.Ranges.{range_refusal}
+use Rattle.uc_version_compact.proofs.InRange.{in_range}
 use Rattle.uc_claims.specs.Holding.{Holding}
 use Rattle.uc_share.specs.Claims.{Claim, IsClaim, IsClaimRefused, IsLookRefused, claim_error}
 use Rattle.uc_share.specs.declared.held.LookError.{LookError}

@@ -7,7 +7,7 @@ use Rattle.uc_compact.specs.Output.{output_of}
 use Rattle.uc_version_state.specs.Versions.{PlacedRun, Stored, ids_of}
 use Rattle.uc_version_state.specs.Installs.{MayReplace, behind, standing, terms_of}
 use Rattle.uc_version_state.specs.Refusals.{AreInPlace}
-use Rattle.uc_version_work.specs.Compacting.{IsInstallable, install_for}
+use Rattle.uc_version_compact.specs.Compacting.{IsInstallable, install_for}
 use Rattle.uc_version_state.specs.Machine.{IsMadeFor, compaction_for, have_ids, still_stand}
 
 has_ids : (ps : List PlacedRun) (ids : List ℕ) → have_ids ps ids ≡ true → ids_of ps ≡ ids

@@ -6,9 +6,9 @@ use Rattle.uc_version_state.specs.Installs.{terms_of}
 use Rattle.uc_version_state.specs.Refusals.{IsRefused}
 use Rattle.uc_version_state.specs.declared.refusal.Refusal.{Refusal}
 use Rattle.uc_version_state.specs.declared.refusal.Refusal.TheVariants as refusal
-use Rattle.uc_version_work.specs.Compacting.{Fits, IsInstallable, IsNotInstallable, error_of}
-use Rattle.uc_version_work.specs.declared.install_error.InstallError.{InstallError}
-use Rattle.uc_version_work.specs.declared.install_error.InstallError.TheVariants.{WrongInputs, WrongKeeps, Stale, IdsSpent, Memory}
+use Rattle.uc_version_compact.specs.Compacting.{Fits, IsInstallable, IsNotInstallable, error_of}
+use Rattle.uc_version_compact.specs.declared.install_error.InstallError.{InstallError}
+use Rattle.uc_version_compact.specs.declared.install_error.InstallError.TheVariants.{WrongInputs, WrongKeeps, Stale, IdsSpent, Memory}
 use Rattle.uc_share.specs.Installing.{IsOwnRefusal, ShowsRefusal}
 
 not_installable : (v : Stored) (claimed : List PlacedRun) (made : Compaction) (r : Refusal) → made.inputs ≡ contents_of claimed → IsRefused v (ids_of claimed) (terms_of made) r → IsNotInstallable v claimed made (error_of r)

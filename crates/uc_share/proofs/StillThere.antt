@@ -10,7 +10,7 @@ use Rattle.uc_version_state.specs.Installs.{MayInstall, standing, terms_of}
 use Rattle.uc_version_state.specs.Refusals.{AreInPlace, AreReplaceable}
 use Rattle.uc_version_state.specs.Histories.{after}
 use Rattle.uc_version_state.specs.declared.event.Event.{Event}
-use Rattle.uc_version_work.specs.Compacting.{IsInstallable, install_for}
+use Rattle.uc_version_compact.specs.Compacting.{IsInstallable, install_for}
 use Rattle.uc_share.specs.Installing.{MayInstallHere}
 use Rattle.uc_share.specs.Fronts.{Moment}
 use Rattle.uc_share.proofs.Claimed.{part_within}

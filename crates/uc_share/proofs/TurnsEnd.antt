@@ -10,12 +10,12 @@ use Rattle.uc_version_state.specs.declared.options.Options.{Options}
 use Rattle.uc_version_state.specs.declared.stretch.Stretch.{Stretch}
 use Rattle.uc_version_state.specs.Versions.{Stored}
 use Rattle.uc_version_state.specs.Histories.{after}
-use Rattle.uc_version_work.specs.Ranges.{range_refusal}
-use Rattle.uc_version_work.specs.Compacting.{compaction_at}
-use Rattle.uc_version_work.specs.declared.claim_error.ClaimError.{ClaimError}
-use Rattle.uc_version_work.specs.declared.claim_error.ClaimError.TheVariants as refused
-use Rattle.uc_version_work.specs.declared.install_error.InstallError.{InstallError}
-use Rattle.uc_version_work.specs.declared.install_error.InstallError.TheVariants.{Memory}
+use Rattle.uc_version_compact.specs.Ranges.{range_refusal}
+use Rattle.uc_version_compact.specs.Compacting.{compaction_at}
+use Rattle.uc_version_compact.specs.declared.claim_error.ClaimError.{ClaimError}
+use Rattle.uc_version_compact.specs.declared.claim_error.ClaimError.TheVariants as refused
+use Rattle.uc_version_compact.specs.declared.install_error.InstallError.{InstallError}
+use Rattle.uc_version_compact.specs.declared.install_error.InstallError.TheVariants.{Memory}
 use Rattle.uc_share.specs.declared.turn.Turn.{Turn}
 use Rattle.uc_share.specs.declared.turn.Turn.TheVariants.{Late, Installed}
 use Rattle.uc_share.specs.Fronts.{Moment, moment}

@@ -4,10 +4,10 @@ use Rattle.uc_claims.specs.Holding.{Holding}
 use Rattle.uc_version_state.specs.declared.stretch.Stretch.{Stretch}
 use Rattle.uc_version_state.specs.Versions.{PlacedRun, Stored, ids_of, slots_of}
 use Rattle.uc_version_state.specs.Refusals.{AreInPlace}
-use Rattle.uc_version_work.specs.Ranges.{range_refusal}
-use Rattle.uc_version_work.specs.Compacting.{runs_at}
-use Rattle.uc_version_work.specs.declared.claim_error.ClaimError.{ClaimError}
-use Rattle.uc_version_work.specs.declared.claim_error.ClaimError.TheVariants as refused
+use Rattle.uc_version_compact.specs.Ranges.{range_refusal}
+use Rattle.uc_version_compact.specs.Compacting.{runs_at}
+use Rattle.uc_version_compact.specs.declared.claim_error.ClaimError.{ClaimError}
+use Rattle.uc_version_compact.specs.declared.claim_error.ClaimError.TheVariants as refused
 use Rattle.uc_share.specs.declared.held.LookError.{LookError}
 use Rattle.uc_share.specs.declared.held.LookError.TheVariants.{Moved, Memory}
 use Rattle.uc_version_state.specs.declared.event.Event.{Event}

@@ -8,9 +8,9 @@ use Rattle.uc_version_state.specs.Installs.{standing}
 use Rattle.uc_version_state.specs.Histories.{MayHappen}
 use Rattle.uc_version_state.specs.declared.event.Event.{Event}
 use Rattle.uc_version_state.specs.declared.event.Event.TheVariants.{Installed}
-use Rattle.uc_version_work.specs.Compacting.{install_for, IsInstallable, IsNotInstallable}
-use Rattle.uc_version_work.specs.declared.install_error.InstallError.{InstallError}
-use Rattle.uc_version_work.specs.declared.install_error.InstallError.TheVariants.{WrongInputs, WrongKeeps, Stale, IdsSpent, Memory}
+use Rattle.uc_version_compact.specs.Compacting.{install_for, IsInstallable, IsNotInstallable}
+use Rattle.uc_version_compact.specs.declared.install_error.InstallError.{InstallError}
+use Rattle.uc_version_compact.specs.declared.install_error.InstallError.TheVariants.{WrongInputs, WrongKeeps, Stale, IdsSpent, Memory}
 
 -- the event that puts what was compacted in place of claimed runs
 abbrev pub event_of : Operation → List PlacedRun → Compaction → Event

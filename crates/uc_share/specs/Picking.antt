@@ -4,7 +4,7 @@ use Rattle.uc_version_state.specs.declared.options.Options.{Options}
 use Rattle.uc_version_state.specs.declared.stretch.Stretch.{Stretch}
 use Rattle.uc_version_state.specs.Versions.{Stored}
 use Rattle.uc_version_state.specs.Picks.{picked}
-use Rattle.uc_version_work.specs.Picking.{candidates_of}
+use Rattle.uc_version_compact.specs.Picking.{candidates_of}
 
 -- a flag for each slot, by a seat that looks whether it is taken: to a whole seat none is
 abbrev pub AreFlags : Bool → List Bool → Type 0

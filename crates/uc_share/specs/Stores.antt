@@ -6,9 +6,9 @@ use Rattle.uc_version_state.specs.declared.options.Options.{Options}
 use Rattle.uc_version_state.specs.Versions.{Stored}
 use Rattle.uc_version_state.specs.Openings as openings
 use Rattle.uc_version_state.specs.Histories.{History}
-use Rattle.uc_version_work.specs.Refusal.{opening_refusal}
-use Rattle.uc_version_work.specs.declared.open_error.OpenError.{OpenError}
-use Rattle.uc_version_work.specs.declared.open_error.OpenError.TheVariants.{BadCount}
+use Rattle.uc_version_open.specs.Refusal.{opening_refusal}
+use Rattle.uc_version_open.specs.declared.open_error.OpenError.{OpenError}
+use Rattle.uc_version_open.specs.declared.open_error.OpenError.TheVariants.{BadCount}
 
 -- its table of claim words, which its seats carry too, and how it is compacted
 pub record Shared : Type 0 where

@@ -15,7 +15,7 @@ use std::sync::Wait;
 use std::thread::Threads;
 use uc_claims::Seat;
 use uc_oper::Operator;
-use uc_version_work::InstallError;
+use uc_version_compact::InstallError;
 
 /// Who compacts a store: a reader and a seat of it. Contracts see the seat, which is there between turns, and what the reader has
 /// seen of the history.

@@ -8,8 +8,8 @@ ghost use Rattle.uc_version_state.specs.Histories.{MayFollow, after};
 ghost use Rattle.uc_share.specs.Fronts.{after_event};
 ghost use Rattle.uc_share.specs.Claims.{claimed_runs};
 ghost use Rattle.uc_version_state.specs.declared.event.Event.{Event};
-ghost use Rattle.uc_version_work.specs.Compacting.{IsNotInstallable, compaction_at, install_for};
-ghost use Rattle.uc_version_work.specs.declared.install_error.InstallError.{InstallError};
+ghost use Rattle.uc_version_compact.specs.Compacting.{IsNotInstallable, compaction_at, install_for};
+ghost use Rattle.uc_version_compact.specs.declared.install_error.InstallError.{InstallError};
 ghost use Rattle.uc_share.specs.Installing.{event_of, EndsWith, IsOwnRefusal, MayInstallHere, ShowsRefusal};
 
 use crate::front::Front;
@@ -24,8 +24,8 @@ use std::alloc::{AllocError, Global};
 use std::sync::Wait;
 use uc_compact::Compacted;
 use uc_oper::Operator;
+use uc_version_compact::{InstallError, error_of, present_refusal, what_fits_may_be_installed};
 use uc_version_state::{Install, Refusal};
-use uc_version_work::{InstallError, error_of, present_refusal, what_fits_may_be_installed};
 
 /// What was pinned is a beginning of what is shown, since it was shown before. It does nothing: a pin of what isn't shown yet can't
 /// be made, which no clause of a reader's says, so it would wait.

@@ -5,7 +5,7 @@ ghost use Rattle.uc_claims.specs.declared.table.TheConstants.{MOST_SLOTS};
 ghost use Rattle.uc_version_state.specs.Versions.{ids_of};
 ghost use Rattle.uc_version_state.specs.Refusals.{AreInPlace};
 ghost use Rattle.uc_version_state.specs.Histories.{MayFollow, after};
-ghost use Rattle.uc_version_work.specs.Compacting.{compaction_at};
+ghost use Rattle.uc_version_compact.specs.Compacting.{compaction_at};
 ghost use Rattle.uc_share.specs.Claims.{IsClaim, IsLookRefused, claimed_runs};
 
 use crate::name::Name;
@@ -18,8 +18,8 @@ use std::thread::Threads;
 use uc_claims::HeldSlots;
 use uc_compact::Compacted;
 use uc_oper::Operator;
+use uc_version_compact::{compact_stretch, run_ids};
 use uc_version_state::{Placed, Stretch, Version, neighbours_stand_where_their_ids_say};
-use uc_version_work::{compact_stretch, run_ids};
 
 /// Why no claim is made of slots that are taken.
 pub(crate) enum LookError {

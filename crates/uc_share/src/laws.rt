@@ -7,13 +7,13 @@ ghost use Rattle.uc_version_state.specs.declared.stretch.Stretch.{Stretch};
 ghost use Rattle.uc_version_state.specs.Versions.{IsVersion, PlacedRun, Stored, ids_of};
 ghost use Rattle.uc_version_state.specs.Refusals.{AreInPlace};
 ghost use Rattle.uc_version_state.specs.Histories.{MayFollow, after};
-ghost use Rattle.uc_version_work.specs.Compacting.{IsInstallable, IsNotInstallable, compaction_at, install_for, runs_at};
-ghost use Rattle.uc_version_work.specs.declared.install_error.InstallError.{InstallError};
-ghost use Rattle.uc_version_work.specs.declared.install_error.InstallError.TheVariants.{IdsSpent, Stale};
+ghost use Rattle.uc_version_compact.specs.Compacting.{IsInstallable, IsNotInstallable, compaction_at, install_for, runs_at};
+ghost use Rattle.uc_version_compact.specs.declared.install_error.InstallError.{InstallError};
+ghost use Rattle.uc_version_compact.specs.declared.install_error.InstallError.TheVariants.{IdsSpent, Stale};
 ghost use Rattle.uc_version_state.specs.Machine.{IsMadeFor, still_stand};
 
 use uc_oper::Operator;
-use uc_version_work::own_compactions_stay_installable;
+use uc_version_compact::own_compactions_stay_installable;
 
 /// The machine of `uc_version_state`, of which `never_stale` speaks, asks of its steps what this store asks of its own: a look finds
 /// claimed runs in place exactly if the machine's does, and an output that may be installed is one that the machine's compactor

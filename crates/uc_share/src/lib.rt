@@ -71,5 +71,6 @@ pub use store::Store;
 pub use turn::Turn;
 pub use turn_gate::{TurnGate, Ungated};
 pub use uc_claims::Seat;
+pub use uc_version_compact::{ClaimError, InstallError};
+pub use uc_version_open::OpenError;
 pub use uc_version_state::{FeedError, Options, ReleaseError, Stretch, Version};
-pub use uc_version_work::{ClaimError, InstallError, OpenError};

@@ -17,8 +17,8 @@ use std::sync::Wait;
 use uc_batch::Writes;
 use uc_oper::Operator;
 use uc_run::Run;
+use uc_version_open::{Alone, flush_writes};
 use uc_version_state::{FeedError, ReleaseError};
-use uc_version_work::{Alone, flush_writes};
 
 impl<O: Operator, N: Name, W: Wait + Drop> Store<O, N, W> {
     /// Feeds writes: they fill memtables, and each becomes a run before all others, for all readers at once. Returns how many

@@ -4,7 +4,7 @@ ghost use Rattle.std.specs.Arc.{arc_value};
 ghost use Rattle.uc_version_state.specs.Options.{are_good};
 ghost use Rattle.uc_version_state.specs.Openings.{Opening as OpeningOf};
 ghost use Rattle.uc_version_state.specs.Histories.{IsLegal, version_after};
-ghost use Rattle.uc_version_work.specs.declared.open_error.OpenError.TheVariants.{BadCount, Memory};
+ghost use Rattle.uc_version_open.specs.declared.open_error.OpenError.TheVariants.{BadCount, Memory};
 ghost use Rattle.uc_share.specs.Stores as stores;
 ghost use Rattle.uc_share.specs.Stores.{IsNamed, IsOpenedSo, beginning, shared_refusal};
 
@@ -22,8 +22,8 @@ use std::sync::{Arc, Mutex, Wait};
 use uc_batch::Writes;
 use uc_claims::Seat;
 use uc_oper::Operator;
+use uc_version_open::{OpenError, no_refusal_is_leave_to_open, open_version};
 use uc_version_state::{Options, Version};
-use uc_version_work::{OpenError, no_refusal_is_leave_to_open, open_version};
 
 /// The most seats of a store.
 pub const MOST_SEATS: usize = 64;

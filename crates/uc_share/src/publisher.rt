@@ -24,8 +24,8 @@ use uc_batch::Writes;
 use uc_claims::HeldSlots;
 use uc_oper::Operator;
 use uc_run::Run;
+use uc_version_open::version_with_flushed;
 use uc_version_state::{Event, Install, Version};
-use uc_version_work::version_with_flushed;
 
 /// What shows readers the next version. It stands behind the store's lock. It has the store's history, all of which is shown. It
 /// keeps a `Wait` handle, since it waits for readers that still look at a version of before, also when it is dropped. Contracts

@@ -8,9 +8,9 @@ ghost use Rattle.uc_version_state.specs.Options.{are_good};
 ghost use Rattle.uc_version_state.specs.Versions.{contents_of, ids_of};
 ghost use Rattle.uc_version_state.specs.Refusals.{AreInPlace};
 ghost use Rattle.uc_version_state.specs.Histories.{MayFollow, after};
-ghost use Rattle.uc_version_work.specs.Compacting.{compaction_at};
-ghost use Rattle.uc_version_work.specs.Ranges.{range_refusal};
-ghost use Rattle.uc_version_work.specs.declared.claim_error.ClaimError.TheVariants.{Memory};
+ghost use Rattle.uc_version_compact.specs.Compacting.{compaction_at};
+ghost use Rattle.uc_version_compact.specs.Ranges.{range_refusal};
+ghost use Rattle.uc_version_compact.specs.declared.claim_error.ClaimError.TheVariants.{Memory};
 ghost use Rattle.uc_share.specs.Fronts.{moment};
 ghost use Rattle.uc_share.specs.Picking.{AreFlags, IsPick};
 ghost use Rattle.uc_share.specs.Claims as claims;
@@ -31,8 +31,8 @@ use std::sync::{Mutex, Wait};
 use uc_claims::{MOST_SLOTS, Seat};
 use uc_compact::Compacted;
 use uc_oper::Operator;
+use uc_version_compact::{ClaimError, InstallError, are_inputs, install_of, pick};
 use uc_version_state::{Options, Stretch, picks_are_unclaimed_runs};
-use uc_version_work::{ClaimError, InstallError, are_inputs, install_of, pick};
 
 /// A store that threads share by reference: claim words for the slots of its runs, and behind a lock what shows readers the
 /// next version. Contracts see its table of claim words, which its seats carry too, and how it is compacted.

@@ -11,8 +11,8 @@ use crate::words::Words;
 use std::marker::Model;
 use uc_claims::{HeldSlots, Seat};
 use uc_oper::Operator;
+use uc_version_compact::{ClaimError, runs_of, stretch_runs};
 use uc_version_state::{Placed, Stretch};
-use uc_version_work::{ClaimError, runs_of, stretch_runs};
 
 /// The slots of a stretch of a pinned version, taken. Nobody has looked yet whether its runs still stand: a
 /// [`Held`](crate::Held) is made of it by that look alone.

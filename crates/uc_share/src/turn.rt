@@ -3,8 +3,8 @@ ghost use Rattle.std.specs.Prelude.{◌≡◌, ◌≢◌, IfOk, IfErr, OnOk, fol
 ghost use mathlib.Core.List.{IsPrefix};
 ghost use Rattle.uc_claims.specs.Holding.{free_seat};
 ghost use Rattle.uc_version_state.specs.Histories.{MayFollow, after};
-ghost use Rattle.uc_version_work.specs.Compacting.{compaction_at};
-ghost use Rattle.uc_version_work.specs.declared.install_error.InstallError.TheVariants.{Memory};
+ghost use Rattle.uc_version_compact.specs.Compacting.{compaction_at};
+ghost use Rattle.uc_version_compact.specs.declared.install_error.InstallError.TheVariants.{Memory};
 ghost use Rattle.uc_share.specs.Claims.{claimed_runs};
 ghost use Rattle.uc_share.specs.Installing.{event_of, EndsWith, IsOwnRefusal, ShowsRefusal};
 ghost use Rattle.uc_share.specs.Turns as turns;
@@ -21,7 +21,7 @@ use std::sync::Wait;
 use std::thread::Threads;
 use uc_claims::Seat;
 use uc_oper::Operator;
-use uc_version_work::{ClaimError, InstallError};
+use uc_version_compact::{ClaimError, InstallError};
 
 /// What came of a compactor's turn.
 #[derive(Clone, Copy, Debug, PartialEq, Eq)]

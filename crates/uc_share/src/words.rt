@@ -8,8 +8,8 @@ ghost use Rattle.uc_version_state.specs.Versions as versions;
 use std::alloc::{AllocError, Global};
 use std::marker::Model;
 use uc_claims::{Busy, ClaimTable, HeldSlots, MOST_SLOTS, Seat};
+use uc_version_compact::slots_of;
 use uc_version_state::Placed;
-use uc_version_work::slots_of;
 
 /// The claim words of a store, one for each slot of its runs. Its seats are split off as it is made, and none is split or joined
 /// from then on: a seat comes back from slots by giving them, and from nothing else. Contracts see its table.

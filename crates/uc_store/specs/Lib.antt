@@ -1,6 +1,6 @@
 pub use Rattle.uc_batch.specs.Log
 pub use Rattle.uc_version_state.specs.Openings
-pub use Rattle.uc_version_work.specs.Refusal
+pub use Rattle.uc_version_open.specs.Refusal
 pub use Rattle.uc_version.specs.Owners
 pub use Rattle.uc_version_state.specs.Feeds
 pub use Rattle.uc_version_state.specs.Snapshots

@@ -54,4 +54,4 @@ pub use uc_version::{
     Alone, By, ClaimError, CompactError, FeedError, InThreads, InstallError, Merger, Options,
     Owned, OwnedClaim, Placed, ReleaseError, Stretch, Version, Workers,
 };
-pub use uc_version_work::OpenError;
+pub use uc_version_open::OpenError;

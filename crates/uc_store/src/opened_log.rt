@@ -3,15 +3,15 @@ ghost use Rattle.std.specs.Prelude.{◌≡◌, ◌≢◌, None, Some, true, IfOk
 ghost use Rattle.uc_batch.specs.Log.{log_writes};
 ghost use Rattle.uc_version_state.specs.Options.{are_good};
 ghost use Rattle.uc_version_state.specs.Openings.{Opening, opened};
-ghost use Rattle.uc_version_work.specs.Refusal.{opening_refusal};
-ghost use Rattle.uc_version_work.specs.declared.open_error.OpenError.TheVariants.{Memory};
+ghost use Rattle.uc_version_open.specs.Refusal.{opening_refusal};
+ghost use Rattle.uc_version_open.specs.declared.open_error.OpenError.TheVariants.{Memory};
 ghost use Rattle.uc_version.specs.Owners.{unclaimed};
 
 use std::alloc::{AllocError, Global};
 use uc_batch::{Ended, Pieces};
 use uc_oper::Operator;
 use uc_version::{Options, Owned, Version};
-use uc_version_work::{OpenError, Recovered, Workers, recover, recover_pieces};
+use uc_version_open::{OpenError, Recovered, Workers, recover, recover_pieces};
 
 /// A store that was opened from a log, and how far the log could be read.
 #[derive(Drop)]

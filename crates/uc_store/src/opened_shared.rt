@@ -3,7 +3,7 @@ ghost use Rattle.std.specs.Prelude.{◌≡◌, ◌≢◌, None, Some, IfOk, IfEr
 ghost use Rattle.uc_batch.specs.Log.{log_writes};
 ghost use Rattle.uc_version_state.specs.Openings.{Opening as OpeningOf};
 ghost use Rattle.uc_version_state.specs.Histories.{IsLegal, version_after};
-ghost use Rattle.uc_version_work.specs.declared.open_error.OpenError.TheVariants.{Memory};
+ghost use Rattle.uc_version_open.specs.declared.open_error.OpenError.TheVariants.{Memory};
 ghost use Rattle.uc_share.specs.Stores.{IsOpenedSo, beginning, shared_refusal};
 
 use std::alloc::Global;
@@ -11,7 +11,7 @@ use uc_batch::Ended;
 use uc_oper::Operator;
 use uc_share::{Opening, are_counts};
 use uc_version::Options;
-use uc_version_work::{OpenError, Recovered, Workers, no_refusal_is_leave_to_open, recover};
+use uc_version_open::{OpenError, Recovered, Workers, no_refusal_is_leave_to_open, recover};
 
 /// A store for threads that was opened from a log and has no name yet, and how far the log could be read.
 #[derive(Drop)]

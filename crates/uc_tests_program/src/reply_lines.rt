@@ -8,7 +8,7 @@ use uc_tests_reports::worked::{Worked, all};
 use uc_tool_opening::{compacted_line, opening_refusal_line, reply_lines};
 use uc_version::{ClaimError, InstallError};
 use uc_version_state::{FeedError, Stretch};
-use uc_version_work::OpenError;
+use uc_version_open::OpenError;
 
 /// A reply of a test.
 #[derive(Clone, Copy)]

@@ -10,7 +10,7 @@ use uc_oper::Append;
 use uc_query_read::{Answer, Query, RowBuffer, Rows};
 use uc_query_workers::{AskError, answer_plain};
 use uc_version_state::{Options, Version};
-use uc_version_work::open_version;
+use uc_version_open::open_version;
 
 /// A change of a test.
 #[derive(Clone, Copy)]

@@ -5,8 +5,8 @@ use std::test::Fail;
 use uc_batch::Writes;
 use uc_bytes::{MAX_SEQUENCE, OpRef, WriteRef};
 use uc_run::Run;
+use uc_version_open::{Alone, OpenError, Opener, no_refusal_is_leave_to_open, open_version};
 use uc_version_state::{Options, Version};
-use uc_version_work::{Alone, OpenError, Opener, no_refusal_is_leave_to_open, open_version};
 
 /// The outcome of an opening: the number of runs, the id of the newest, and the keeps.
 #[derive(Clone, Copy)]

@@ -5,8 +5,8 @@ use std::test::Fail;
 use uc_batch::{Ended, fits_batch, write_batch};
 use uc_bytes::OpRef;
 use uc_logrec::LogWriter;
+use uc_version_open::{Alone, Recovered, recover};
 use uc_version_state::{Options, Version};
-use uc_version_work::{Alone, Recovered, recover};
 
 /// The batch of one change at a sequence.
 pub(crate) fn batch_of(alloc: Global, seq: u64, change: &OpRef<'_>) -> Result<Vec<u8>, Fail> {

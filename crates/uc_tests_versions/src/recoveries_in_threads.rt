@@ -7,10 +7,10 @@ use std::thread::Threads;
 use uc_batch::{Ended, Pieces, fits_batch, write_batch};
 use uc_bytes::{Op, OpRef, WriteRef};
 use uc_logrec::LogWriter;
-use uc_version_state::{Options, Placed, Version};
-use uc_version_work::{
+use uc_version_open::{
     Alone, InThreads, OpenError, Opener, Recovered, recover, recover_first, recover_pieces,
 };
+use uc_version_state::{Options, Placed, Version};
 
 /// A log of changes of every kind, some bytes of which are cut off its end, and what it opens.
 struct Row {

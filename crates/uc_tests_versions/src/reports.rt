@@ -6,8 +6,8 @@ use uc_batch::Writes;
 use uc_bytes::{OpRef, WriteRef};
 use uc_query::{Field, Figure, Report, report, total_fields};
 use uc_tests_reports::worked::{EMPTY, OVERLAP, THREE_PUTS, Worked, all};
+use uc_version_open::open_version;
 use uc_version_state::{Options, Version};
-use uc_version_work::open_version;
 
 /// A change of a test: a put of a key, or a range deletion.
 #[derive(Clone, Copy)]

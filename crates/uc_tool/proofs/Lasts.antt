@@ -6,7 +6,7 @@ use Rattle.uc_batch.specs.WriteLog.{WriteLog}
 use Rattle.uc_version_state.specs.declared.stretch.Stretch.{Stretch}
 use Rattle.uc_version_state.specs.declared.feed_error.FeedError.{FeedError}
 use Rattle.uc_version_state.specs.Feeds.{feed_refusal}
-use Rattle.uc_version_work.specs.declared.claim_error.ClaimError.{ClaimError}
+use Rattle.uc_version_compact.specs.declared.claim_error.ClaimError.{ClaimError}
 use Rattle.uc_version.specs.Claiming.{Claim, claim_refusal}
 use Rattle.uc_query_read.specs.declared.query.Query.{Query}
 use Rattle.uc_query_read.specs.Answers.{is_protected}

@@ -16,7 +16,7 @@ use Rattle.uc_version.specs.Picking.{candidate_of, candidates_of}
 use Rattle.uc_version.specs.Claiming.{claim_refusal}
 use Rattle.uc_version.specs.Installing.{IdLeft}
 use Rattle.uc_version.specs.AtOnce.{install_at, after_compaction}
-use Rattle.uc_version_work.specs.declared.install_error.InstallError.TheVariants.{IdsSpent}
+use Rattle.uc_version_compact.specs.declared.install_error.InstallError.TheVariants.{IdsSpent}
 use Rattle.uc_query.specs.Turns.{has_id}
 use Rattle.uc_tool_opening.specs.RefusalLines.{install_refusal_line}
 use Rattle.uc_tool_opening.specs.ReplyLines.{compacted_line}

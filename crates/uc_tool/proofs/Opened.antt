@@ -6,7 +6,7 @@ use Rattle.uc_script.specs.declared.call.Call.{Call}
 use Rattle.uc_version_state.specs.declared.options.Options.{Options}
 use Rattle.uc_version_state.specs.Versions.{Stored}
 use Rattle.uc_version_state.specs.Openings.{Opening, opened}
-use Rattle.uc_version_work.specs.Refusal.{opening_refusal}
+use Rattle.uc_version_open.specs.Refusal.{opening_refusal}
 use Rattle.uc_version.specs.Owners.{Owner, unclaimed}
 use Rattle.uc_query.specs.Running.{unnamed}
 use Rattle.uc_tool_io.specs.Line.{numbered_line}

@@ -10,7 +10,7 @@ use Rattle.uc_version_state.specs.declared.options.Options.{Options}
 use Rattle.uc_version_state.specs.Versions.{Stored}
 use Rattle.uc_version_state.specs.Flushes.{memtables}
 use Rattle.uc_version_state.specs.Openings.{Opening, opened}
-use Rattle.uc_version_work.specs.Refusal.{opening_refusal, first_refusal, first_ahead, are_few}
+use Rattle.uc_version_open.specs.Refusal.{opening_refusal, first_refusal, first_ahead, are_few}
 use Rattle.uc_version.specs.Owners.{Owner, unclaimed}
 use Rattle.uc_tool_io.specs.Writing.{AppendsFront}
 use Rattle.uc_tool_io.specs.Output.{joined, Stops, Prints}

@@ -14,8 +14,8 @@ use Rattle.uc_script.specs.declared.part.Source.TheVariants as source
 use Rattle.uc_version_state.specs.declared.options.Options.{Options}
 use Rattle.uc_version_state.specs.Versions.{Stored}
 use Rattle.uc_version_state.specs.Openings.{Opening, opened}
-use Rattle.uc_version_work.specs.Refusal.{opening_refusal}
-use Rattle.uc_version_work.specs.declared.open_error.OpenError.{OpenError}
+use Rattle.uc_version_open.specs.Refusal.{opening_refusal}
+use Rattle.uc_version_open.specs.declared.open_error.OpenError.{OpenError}
 use Rattle.uc_version.specs.Owners.{unclaimed}
 use Rattle.uc_query.specs.Names.{State}
 use Rattle.uc_query.specs.Running.{run_of, unnamed}

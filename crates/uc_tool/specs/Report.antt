@@ -11,13 +11,13 @@ use Rattle.uc_version_state.specs.declared.options.Options.{Options}
 use Rattle.uc_version_state.specs.declared.stretch.Stretch.{Stretch}
 use Rattle.uc_version_state.specs.Versions.{Stored}
 use Rattle.uc_version_state.specs.Openings.{Opening, opened}
-use Rattle.uc_version_work.specs.Refusal.{opening_refusal}
-use Rattle.uc_version_work.specs.declared.open_error.OpenError.{OpenError}
+use Rattle.uc_version_open.specs.Refusal.{opening_refusal}
+use Rattle.uc_version_open.specs.declared.open_error.OpenError.{OpenError}
 use Rattle.uc_query.specs.Reports as reports
 use Rattle.uc_version.specs.Owners.{Owner, is_busy, unclaimed}
 use Rattle.uc_version.specs.Picking.{candidates_of}
 use Rattle.uc_version.specs.AtOnce.{after_compaction}
-use Rattle.uc_version_work.specs.declared.install_error.InstallError.TheVariants.{IdsSpent}
+use Rattle.uc_version_compact.specs.declared.install_error.InstallError.TheVariants.{IdsSpent}
 use Rattle.uc_query.specs.Turns.{has_id}
 use Rattle.uc_tool_opening.specs.RefusalLines.{install_refusal_line}
 use Rattle.uc_tool_opening.specs.ReplyLines.{compacted_line}

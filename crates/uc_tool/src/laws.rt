@@ -5,7 +5,7 @@ ghost use Rattle.uc_batch.specs.Rising.{IsRising};
 ghost use Rattle.uc_version_state.specs.declared.options.Options.{Options};
 ghost use Rattle.uc_version_state.specs.Openings.{opened};
 ghost use Rattle.uc_version_state.specs.Histories.{known_at_first};
-ghost use Rattle.uc_version_work.specs.Refusal.{opening_refusal};
+ghost use Rattle.uc_version_open.specs.Refusal.{opening_refusal};
 ghost use Rattle.uc_version.specs.Owners.{unclaimed};
 ghost use Rattle.uc_version.specs.declared.held_stretch.TheConstants.{MOST_CLAIMS};
 ghost use Rattle.uc_query.specs.Running.{run_of, unnamed};
@@ -20,8 +20,8 @@ ghost use Rattle.uc_tool.specs.Reading.{AnswersReads};
 use uc_oper::Operator;
 use uc_query::asks_are_answered_from_plain_writes;
 use uc_script::a_script_names_no_more_than_it_has;
+use uc_version_open::no_refusal_is_leave_to_open;
 use uc_version_state::opening_gives_a_version;
-use uc_version_work::no_refusal_is_leave_to_open;
 
 /// A script has a name for each claim that a store's owner may hold at once.
 pub fn scripts_name_as_many_claims_as_are_held()

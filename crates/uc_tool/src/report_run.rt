@@ -2,7 +2,7 @@
 
 ghost use Rattle.std.specs.Prelude.{◌≡◌, [], ◌∷◌, List, true, IfOk, OnOk, IfSome};
 ghost use Rattle.uc_batch.specs.Rising.{IsRising};
-ghost use Rattle.uc_version_work.specs.Progress.{progress_of};
+ghost use Rattle.uc_version_open.specs.Progress.{progress_of};
 ghost use Rattle.uc_version_state.specs.Options.{are_good};
 ghost use Rattle.uc_bytes.specs.declared.write.Write.{Write as WriteOf};
 ghost use Rattle.uc_version_state.specs.Openings.{Opening};
@@ -24,8 +24,8 @@ use uc_tool_opening::{
     Outcome, Reason, print_bad_log, print_refused_opening, reason_of_opening, report_lines,
 };
 use uc_version::Owned;
+use uc_version_open::{InThreads, OpenError, Opener, Recovered, recover_pieces};
 use uc_version_state::{Options, Version};
-use uc_version_work::{InThreads, OpenError, Opener, Recovered, recover_pieces};
 
 /// Prints what a version holds.
 fn print_report<W: Write>(

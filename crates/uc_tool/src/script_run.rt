@@ -28,8 +28,8 @@ use uc_tool_opening::{
     reason_of_opening,
 };
 use uc_version::Owned;
+use uc_version_open::OpenError;
 use uc_version_state::{Options, Version};
-use uc_version_work::OpenError;
 
 /// Judges a script, and reads what stands up to its `open`.
 fn judged(alloc: Global, input: &[u8]) -> Result<Preamble, ScriptError>

@@ -8,8 +8,8 @@ use Rattle.uc_version_state.specs.declared.options.Options.{Options}
 use Rattle.uc_version_state.specs.Versions.{Stored}
 use Rattle.uc_version_state.specs.Openings.{Opening, MayOpen, opened}
 use Rattle.uc_version_state.specs.Histories.{History, IsLegal}
-use Rattle.uc_version_work.specs.Refusal.{opening_refusal}
-use Rattle.uc_version_work.specs.declared.open_error.OpenError.{OpenError}
+use Rattle.uc_version_open.specs.Refusal.{opening_refusal}
+use Rattle.uc_version_open.specs.declared.open_error.OpenError.{OpenError}
 use Rattle.uc_query_shared.specs.Given.{ForEachHistory}
 use Rattle.uc_tool_io.specs.Output.{Output, Prints}
 use Rattle.uc_tool_io.specs.declared.run_error.RunError.{RunError}

@@ -11,8 +11,8 @@ use Rattle.uc_script.specs.declared.query.Query.{Query as Asked}
 use Rattle.uc_script.specs.declared.part.Source.TheVariants as source
 use Rattle.uc_version_state.specs.declared.options.Options.{Options}
 use Rattle.uc_version_state.specs.Openings.{Opening, opened}
-use Rattle.uc_version_work.specs.Refusal.{opening_refusal}
-use Rattle.uc_version_work.specs.declared.open_error.OpenError.{OpenError}
+use Rattle.uc_version_open.specs.Refusal.{opening_refusal}
+use Rattle.uc_version_open.specs.declared.open_error.OpenError.{OpenError}
 use Rattle.uc_query_read.specs.Answers.{answer_of}
 use Rattle.uc_tool_io.specs.Output.{Output, refused}
 use Rattle.uc_tool_io.specs.declared.done.Done.TheVariants.{Fine}

@@ -8,7 +8,7 @@ ghost use Rattle.uc_batch.specs.Rising.{IsRising};
 ghost use Rattle.uc_bytes.specs.declared.write.Write.{Write as WriteOf};
 ghost use Rattle.uc_script.specs.Head.{queries_in};
 ghost use Rattle.uc_version_state.specs.Openings.{Opening as OpeningOf};
-ghost use Rattle.uc_version_work.specs.Progress.{progress_of};
+ghost use Rattle.uc_version_open.specs.Progress.{progress_of};
 ghost use Rattle.uc_query_shared.specs.Given.{ForEachHistory};
 ghost use Rattle.uc_tool_io.specs.Output.{Prints, HasWritten};
 ghost use Rattle.uc_tool_opening.specs.Reasons.{IsReason, TellsOpening, opening_cause};
@@ -37,7 +37,7 @@ use uc_tool_opening::{
     Outcome, Reason, print_bad_log, print_fault, print_refused_opening, reason_of_line,
     reason_of_opening,
 };
-use uc_version_work::{InThreads, OpenError, Opener, Recovered, no_refusal_is_leave_to_open};
+use uc_version_open::{InThreads, OpenError, Opener, Recovered, no_refusal_is_leave_to_open};
 
 /// How a run ended, and what was done to the store meanwhile.
 type Asked = (Result<Done, RunError>, Beside);

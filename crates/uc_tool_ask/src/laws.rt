@@ -4,7 +4,7 @@ ghost use Rattle.uc_batch.specs.Log.{log_writes};
 ghost use Rattle.uc_script.specs.Head.{Head, head_of};
 ghost use Rattle.uc_version_state.specs.declared.options.Options.{Options as OptionsOf};
 ghost use Rattle.uc_version_state.specs.Openings.{Opening, opened};
-ghost use Rattle.uc_version_work.specs.Refusal.{opening_refusal};
+ghost use Rattle.uc_version_open.specs.Refusal.{opening_refusal};
 ghost use Rattle.uc_query_read.specs.Answers.{answer_of};
 ghost use Rattle.uc_tool_io.specs.declared.done.Done.TheVariants.{Fine};
 ghost use Rattle.uc_tool_opening.specs.AnswerLines.{answer_lines};

@@ -2,15 +2,15 @@
 ghost use Rattle.std.specs.Prelude.{◌≡◌, ◌-◌, IfOk, drop, length};
 ghost use Rattle.uc_batch.specs.Log.{log_writes};
 ghost use Rattle.uc_batch.specs.Rising.{IsRising};
-ghost use Rattle.uc_version_work.specs.Progress.{progress_of};
+ghost use Rattle.uc_version_open.specs.Progress.{progress_of};
 ghost use Rattle.uc_tool_ask.specs.Ask.{without_last};
 
 use std::alloc::{AllocError, Global};
 use std::marker::Sync;
 use std::thread::Threads;
 use uc_batch::{Pieces, Write};
+use uc_version_open::{InThreads, Recovered, count_writes, recover_first, recover_pieces};
 use uc_version_state::Options;
-use uc_version_work::{InThreads, Recovered, count_writes, recover_first, recover_pieces};
 
 /// A store that is being opened from a log without its last writes, how far the log was read, and these writes. If nothing
 /// comes later it goes once over the log, and lets go of each piece that it has read. Else it makes one piece of the log, and

@@ -2,8 +2,8 @@
 use Rattle.std.specs.Prelude.{nat_lt, ◌||◌, Option, Some, None, if◌then◌else◌}
 use Rattle.uc_version_state.specs.declared.options.Options.{Options}
 use Rattle.uc_version_state.specs.declared.options.TheConstants.{GREATEST_FIRST_ID}
-use Rattle.uc_version_work.specs.declared.open_error.OpenError.{OpenError}
-use Rattle.uc_version_work.specs.declared.open_error.OpenError.TheVariants as opening
+use Rattle.uc_version_open.specs.declared.open_error.OpenError.{OpenError}
+use Rattle.uc_version_open.specs.declared.open_error.OpenError.TheVariants as opening
 use Rattle.uc_tool_opening.specs.declared.opening_fault.OpeningFault.{OpeningFault}
 use Rattle.uc_tool_opening.specs.declared.opening_fault.OpeningFault.TheVariants.{Memtable, Trigger, Least, Widths, FirstId, Ahead, TooManyRuns}
 

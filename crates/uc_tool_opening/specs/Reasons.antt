@@ -6,8 +6,8 @@ use Rattle.uc_batch.specs.declared.ended.Ended.{Ended}
 use Rattle.uc_batch.specs.declared.ended.Ended.TheVariants as ended
 use Rattle.uc_version_state.specs.declared.options.Options.{Options}
 use Rattle.uc_version_state.specs.Openings.{Opening}
-use Rattle.uc_version_work.specs.Refusal.{opening_refusal}
-use Rattle.uc_version_work.specs.declared.open_error.OpenError.{OpenError}
+use Rattle.uc_version_open.specs.Refusal.{opening_refusal}
+use Rattle.uc_version_open.specs.declared.open_error.OpenError.{OpenError}
 use Rattle.uc_script.specs.Explanations.{explanation_of, explanation_text}
 use Rattle.uc_script.specs.declared.part.Source.{Source}
 use Rattle.uc_tool_opening.specs.Faults.{fault_of_opening}

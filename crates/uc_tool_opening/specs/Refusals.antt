@@ -1,8 +1,8 @@
 -- What is printed where no store is opened.
 use Rattle.std.specs.Prelude.{ℕ, List, [], ◌∷◌, codes}
 use Rattle.uc_batch.specs.declared.ended.Ended.{Ended}
-use Rattle.uc_version_work.specs.declared.open_error.OpenError.{OpenError}
-use Rattle.uc_version_work.specs.declared.open_error.OpenError.TheVariants as opening
+use Rattle.uc_version_open.specs.declared.open_error.OpenError.{OpenError}
+use Rattle.uc_version_open.specs.declared.open_error.OpenError.TheVariants as opening
 use Rattle.uc_tool_io.specs.Line.{numbered_line}
 use Rattle.uc_tool_io.specs.LogLines.{ended_line}
 use Rattle.uc_tool_io.specs.Output.{Output}

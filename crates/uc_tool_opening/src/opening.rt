@@ -6,9 +6,9 @@ ghost use Rattle.uc_batch.specs.Batch.{numbered};
 ghost use Rattle.uc_batch.specs.Rising.{IsRising};
 ghost use Rattle.uc_batch.specs.declared.ended.Ended.TheVariants.{Clean};
 ghost use Rattle.uc_version_state.specs.Openings.{Opening, opened};
-ghost use Rattle.uc_version_work.specs.Progress.{progress_of};
-ghost use Rattle.uc_version_work.specs.Refusal.{opening_refusal};
-ghost use Rattle.uc_version_work.specs.declared.open_error.OpenError.TheVariants.{Memory};
+ghost use Rattle.uc_version_open.specs.Progress.{progress_of};
+ghost use Rattle.uc_version_open.specs.Refusal.{opening_refusal};
+ghost use Rattle.uc_version_open.specs.declared.open_error.OpenError.TheVariants.{Memory};
 ghost use Rattle.uc_tool_opening.specs.Opening.{batch_texts, FitsLog};
 
 use std::alloc::{AllocError, Global};
@@ -19,8 +19,8 @@ use uc_batch::{Mode, Pieces, ReadError, Writes, read_writes, write_batch, writte
 use uc_bytes::Op;
 use uc_logrec::{LogWriter, written_log_is_read};
 use uc_script::{Keeps, Ops};
+use uc_version_open::{InThreads, OpenError, Opener, Recovered, recover_pieces};
 use uc_version_state::{Options, Version};
-use uc_version_work::{InThreads, OpenError, Opener, Recovered, recover_pieces};
 
 /// Writes the operations as a log, a batch for each, numbered from `first` on.
 fn write_log(alloc: Global, first: u64, ops: &[Op]) -> Result<Vec<u8>, AllocError>

@@ -6,8 +6,8 @@ ghost use Rattle.uc_tool_opening.specs.Faults as faults;
 
 use thiserror::Error;
 use uc_claims::MOST_SLOTS;
+use uc_version_open::OpenError;
 use uc_version_state::{GREATEST_FIRST_ID, Options};
-use uc_version_work::OpenError;
 
 /// Why a store isn't opened, with the option or the number that stands against it.
 #[derive(Clone, Copy, Debug, PartialEq, Eq, Error)]

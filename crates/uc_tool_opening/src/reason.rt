@@ -8,8 +8,8 @@ use crate::opening_fault::{OpeningFault, fault_of_opening};
 use std::alloc::Global;
 use thiserror::Error;
 use uc_script::{Explanation, Source, explain};
+use uc_version_open::OpenError;
 use uc_version_state::Options;
-use uc_version_work::OpenError;
 
 /// Why a run is refused, for a reader. It prints as one line, beside the fixed line of the run.
 #[derive(Debug, Drop, PartialEq, Eq, Error)]

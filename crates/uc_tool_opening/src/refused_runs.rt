@@ -10,7 +10,7 @@ use std::alloc::{AllocError, Global};
 use std::io::Write;
 use uc_batch::Ended;
 use uc_tool_io::{Done, RunError, ended_line, numbered_line, print_refusal, write_bytes};
-use uc_version_work::OpenError;
+use uc_version_open::OpenError;
 
 /// The line that says why a store isn't opened.
 pub fn opening_refusal_line(alloc: Global, error: OpenError) -> Result<Vec<u8>, AllocError>

@@ -9,14 +9,14 @@ use Rattle.uc_version_state.specs.declared.stretch.Stretch.{Stretch}
 use Rattle.uc_version_state.specs.Versions.{PlacedRun, slots_of, ids_of}
 use Rattle.uc_version_state.specs.Installs.{part_of, newest_id}
 use Rattle.uc_version.specs.declared.held_stretch.HeldStretch.{HeldStretch}
-use Rattle.uc_version_work.specs.declared.claim_error.ClaimError.{ClaimError}
-use Rattle.uc_version_work.specs.declared.claim_error.ClaimError.TheVariants.{Busy}
+use Rattle.uc_version_compact.specs.declared.claim_error.ClaimError.{ClaimError}
+use Rattle.uc_version_compact.specs.declared.claim_error.ClaimError.TheVariants.{Busy}
 use Rattle.uc_version.specs.Owners.{last_id, Owner, IsOwner, slots_held, claimed_slots}
 use Rattle.uc_version.specs.Claiming.{claim_refusal, first_busy, free_number, claim_of}
-use Rattle.uc_version_work.specs.Ranges.{range_refusal}
+use Rattle.uc_version_compact.specs.Ranges.{range_refusal}
 use Rattle.uc_version.proofs.HeldClaims.{free_none}
 use Rattle.uc_version.proofs.Flags.{same_first}
-use Rattle.uc_version_work.proofs.InRange.{range_holds}
+use Rattle.uc_version_compact.proofs.InRange.{range_holds}
 use Rattle.uc_version.proofs.Taking.{number_is_free, same_more, with_one_more}
 
 module _ (o : Owner) (is_owner : IsOwner o) (held : List ℕ) (same : (k : ℕ) → times k held ≡ times k (claimed_slots o)) (s : Stretch)

@@ -11,12 +11,12 @@ use Rattle.uc_version_state.specs.Installs.{Install, MayInstall, IdLeft, replace
 use Rattle.uc_version.specs.declared.held_stretch.HeldStretch.{HeldStretch}
 use Rattle.uc_version.specs.Owners.{Owner, IsOwner}
 use Rattle.uc_version.specs.Claiming.{Claim, claim_refusal, free_number, claim_of, with_claim, without_claim}
-use Rattle.uc_version_work.specs.Compacting.{compaction_at}
+use Rattle.uc_version_compact.specs.Compacting.{compaction_at}
 use Rattle.uc_version.specs.Installing.{stretch_in, stretch_of, compaction_of, MayReplace, moved_up, after_install}
 use Rattle.uc_version.specs.AtOnce.{install_at, after_compaction, IsNotMade, IsNotCompacted}
 use Rattle.uc_version.specs.declared.compact_error.CompactError.{CompactError}
 use Rattle.uc_version.specs.declared.compact_error.CompactError.TheVariants.{NotClaimed, IdsSpent, Memory}
-use Rattle.uc_version_work.proofs.Standing.{part_stands}
+use Rattle.uc_version_compact.proofs.Standing.{part_stands}
 use Rattle.uc_version.proofs.Legal.{is_legal, is_replaced}
 use Rattle.uc_version.proofs.Staying.{range, number, claimed_stays, claim_is_held, own_may, installed_stays}
 

@@ -16,7 +16,7 @@ use Rattle.uc_version.specs.declared.held_stretch.HeldStretch.{HeldStretch}
 use Rattle.uc_version.specs.Owners.{Owner, IsOwner, Stands, slots_held, claimed_slots}
 use Rattle.uc_version.specs.Claiming.{free_number}
 use Rattle.uc_version_state.proofs.Few.{few}
-use Rattle.uc_version_work.proofs.PartSlots.{part_once, part_below, slots_length}
+use Rattle.uc_version_compact.proofs.PartSlots.{part_once, part_below, slots_length}
 
 module _ (v : Stored) where
   -- the slots of claims of which one is another

@@ -11,8 +11,8 @@ use Rattle.uc_version.specs.declared.held_stretch.HeldStretch.{HeldStretch}
 use Rattle.uc_version.specs.Owners.{Owner, runs_held}
 use Rattle.uc_version.specs.Claiming.{Claim}
 use Rattle.uc_version.specs.Installing.{stretch_of, MayReplace, moved_up, after_install, install_of}
-use Rattle.uc_version_work.proofs.Fitting.{may_install}
-use Rattle.uc_version_work.proofs.PartSlots.{part_length}
+use Rattle.uc_version_compact.proofs.Fitting.{may_install}
+use Rattle.uc_version_compact.proofs.PartSlots.{part_length}
 
 module _ (m : Operation) (v : Stored) (is_version : IsVersion v) (h : HeldStretch) (two : 2 ≤ h.count) (within : h.first + h.count ≤ length v.runs)
     (made : Compaction) (stand : Stand made.inputs made.keeps) (may : MayReplace v h made) where

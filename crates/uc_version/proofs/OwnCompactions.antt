@@ -7,9 +7,9 @@ use Rattle.uc_version_state.specs.Versions.{PlacedRun, Stored, IsVersion, ids_of
 use Rattle.uc_version_state.specs.Refusals.{AreInPlace}
 use Rattle.uc_version_state.specs.declared.event.Event.{Event}
 use Rattle.uc_version_state.specs.Histories.{MayFollow, after}
-use Rattle.uc_version_work.specs.declared.install_error.InstallError.{InstallError}
-use Rattle.uc_version_work.specs.declared.install_error.InstallError.TheVariants.{IdsSpent}
-use Rattle.uc_version_work.specs.Compacting.{runs_at, compaction_at, IsInstallable, IsNotInstallable}
+use Rattle.uc_version_compact.specs.declared.install_error.InstallError.{InstallError}
+use Rattle.uc_version_compact.specs.declared.install_error.InstallError.TheVariants.{IdsSpent}
+use Rattle.uc_version_compact.specs.Compacting.{runs_at, compaction_at, IsInstallable, IsNotInstallable}
 use Rattle.uc_version.specs.Owners.{Owner, IsOwner}
 use Rattle.uc_version.specs.Claiming.{Claim, is_held}
 use Rattle.uc_version.specs.Installing.{place_held, stretch_of, claimed_runs, compaction_of, IdLeft, MayReplace, IsRefused}

@@ -9,12 +9,12 @@ use Rattle.uc_version_state.specs.declared.stretch.Stretch.{Stretch}
 use Rattle.uc_version_state.specs.Picks.{are_unclaimed}
 use Rattle.uc_version_state.specs.Versions.{PlacedRun, slots_of}
 use Rattle.uc_version_state.specs.Installs.{part_of}
-use Rattle.uc_version_work.specs.declared.claim_error.ClaimError.{ClaimError}
-use Rattle.uc_version_work.specs.declared.claim_error.ClaimError.TheVariants.{Busy}
+use Rattle.uc_version_compact.specs.declared.claim_error.ClaimError.{ClaimError}
+use Rattle.uc_version_compact.specs.declared.claim_error.ClaimError.TheVariants.{Busy}
 use Rattle.uc_version.specs.Owners.{Owner, claimed_slots, is_busy}
-use Rattle.uc_version_work.specs.Picking.{candidate_of, candidates_of}
+use Rattle.uc_version_compact.specs.Picking.{candidate_of, candidates_of}
 use Rattle.uc_version.specs.Claiming.{first_busy, claim_refusal}
-use Rattle.uc_version_work.proofs.InRange.{in_range}
+use Rattle.uc_version_compact.proofs.InRange.{in_range}
 
 -- no run of it is claimed
 none_busy : (claimed : List ℕ) (runs : List PlacedRun) → are_unclaimed (map (candidate_of (λ slot. list_any (λ s. eqb s slot) claimed)) runs) ≡ true → first_busy claimed (slots_of runs) ≡ None

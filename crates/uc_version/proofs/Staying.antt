@@ -19,18 +19,18 @@ use Rattle.uc_version_state.specs.Installs.{Install, MayInstall, NothingBelow, t
 use Rattle.uc_version_state.specs.Refusals.{AreInPlace}
 use Rattle.uc_version_state.proofs.Found.{standing_is, behind_is}
 use Rattle.uc_version.specs.declared.held_stretch.HeldStretch.{HeldStretch}
-use Rattle.uc_version_work.specs.declared.claim_error.ClaimError.{ClaimError}
-use Rattle.uc_version_work.specs.declared.claim_error.ClaimError.TheVariants.{Busy}
-use Rattle.uc_version_work.specs.declared.install_error.InstallError.{InstallError}
-use Rattle.uc_version_work.specs.declared.install_error.InstallError.TheVariants.{WrongInputs, WrongKeeps, Stale, IdsSpent, Memory}
+use Rattle.uc_version_compact.specs.declared.claim_error.ClaimError.{ClaimError}
+use Rattle.uc_version_compact.specs.declared.claim_error.ClaimError.TheVariants.{Busy}
+use Rattle.uc_version_compact.specs.declared.install_error.InstallError.{InstallError}
+use Rattle.uc_version_compact.specs.declared.install_error.InstallError.TheVariants.{WrongInputs, WrongKeeps, Stale, IdsSpent, Memory}
 use Rattle.uc_version.specs.Owners.{Owner, IsOwner, runs_held, claimed_slots}
 use Rattle.uc_version.specs.Claiming.{Claim, first_busy, claim_refusal, free_number, claim_of, with_claim, has_ids, is_held, without_claim}
-use Rattle.uc_version_work.specs.Ranges.{range_refusal}
-use Rattle.uc_version_work.specs.Compacting.{Fits, IsNotInstallable}
+use Rattle.uc_version_compact.specs.Ranges.{range_refusal}
+use Rattle.uc_version_compact.specs.Compacting.{Fits, IsNotInstallable}
 use Rattle.uc_version.specs.Installing.{stretch_in, stretch_of, compaction_of, IdLeft, MayReplace, IsRefused, after_install, install_of}
 use Rattle.uc_version.proofs.HeldClaims.{free_none}
-use Rattle.uc_version_work.proofs.InRange.{range_holds}
-use Rattle.uc_version_work.proofs.OwnKeeps.{none_unknown}
+use Rattle.uc_version_compact.proofs.InRange.{range_holds}
+use Rattle.uc_version_compact.proofs.OwnKeeps.{none_unknown}
 use Rattle.uc_version.proofs.Taking.{number_is_free, with_one_more, with_one_less, held_stands}
 use Rattle.uc_version.proofs.Moving.{owner_after}
 use Rattle.uc_version.proofs.Legal.{is_legal, is_replaced}

@@ -14,7 +14,7 @@ use Rattle.uc_version.specs.declared.held_stretch.HeldStretch.{HeldStretch}
 use Rattle.uc_version.specs.Owners.{Owner, IsOwner, NotesItsRuns, Stands, runs_held, slots_held, claimed_slots}
 use Rattle.uc_version.specs.Claiming.{Claim, free_number, has_ids, is_held}
 use Rattle.uc_version.specs.Installing.{stretch_in, stretch_of}
-use Rattle.uc_version_work.proofs.PartSlots.{part_once}
+use Rattle.uc_version_compact.proofs.PartSlots.{part_once}
 use Rattle.uc_version.proofs.HeldClaims.{times-set, all-set, all_at, held_below, none_held, claimed_once, number_free}
 
 -- a slot list holds all of another

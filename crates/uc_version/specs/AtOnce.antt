@@ -8,7 +8,7 @@ use Rattle.uc_version.specs.declared.compact_error.CompactError.{CompactError}
 use Rattle.uc_version.specs.declared.compact_error.CompactError.TheVariants.{NotClaimed, IdsSpent, Memory}
 use Rattle.uc_version.specs.Owners.{Owner}
 use Rattle.uc_version.specs.Claiming.{claim_refusal}
-use Rattle.uc_version_work.specs.Compacting.{runs_at, compaction_at, install_for}
+use Rattle.uc_version_compact.specs.Compacting.{runs_at, compaction_at, install_for}
 use Rattle.uc_version.specs.Installing.{moved_up}
 
 -- the install of a compacted stretch: its runs by their ids, the version's keeps, whether the last of its runs is the

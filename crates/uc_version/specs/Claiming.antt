@@ -5,10 +5,10 @@ use Rattle.std.specs.Option.{option_or}
 use Rattle.uc_version_state.specs.declared.stretch.Stretch.{Stretch}
 use Rattle.uc_version_state.specs.Versions.{ids_of, slots_of}
 use Rattle.uc_version_state.specs.Installs.{part_of, newest_id}
-use Rattle.uc_version_work.specs.Ranges.{range_refusal}
+use Rattle.uc_version_compact.specs.Ranges.{range_refusal}
 use Rattle.uc_version.specs.declared.held_stretch.HeldStretch.{HeldStretch}
-use Rattle.uc_version_work.specs.declared.claim_error.ClaimError.{ClaimError}
-use Rattle.uc_version_work.specs.declared.claim_error.ClaimError.TheVariants.{Busy}
+use Rattle.uc_version_compact.specs.declared.claim_error.ClaimError.{ClaimError}
+use Rattle.uc_version_compact.specs.declared.claim_error.ClaimError.TheVariants.{Busy}
 use Rattle.uc_version.specs.Owners.{Owner, claimed_slots, last_id}
 
 -- a claim as its holder has it: its number, and the ids of the newest and the oldest run of its stretch

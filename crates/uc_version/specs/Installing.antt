@@ -8,11 +8,11 @@ use Rattle.uc_version_state.specs.Versions.{PlacedRun, Stored}
 use Rattle.uc_version_state.specs.Installs as installs
 use Rattle.uc_version_state.specs.Installs.{Install, replaced}
 use Rattle.uc_version.specs.declared.held_stretch.HeldStretch.{HeldStretch}
-use Rattle.uc_version_work.specs.declared.install_error.InstallError.{InstallError}
-use Rattle.uc_version_work.specs.declared.install_error.InstallError.TheVariants.{Stale}
+use Rattle.uc_version_compact.specs.declared.install_error.InstallError.{InstallError}
+use Rattle.uc_version_compact.specs.declared.install_error.InstallError.TheVariants.{Stale}
 use Rattle.uc_version.specs.Owners.{Owner, runs_held}
 use Rattle.uc_version.specs.Claiming.{Claim, held_by, without_claim}
-use Rattle.uc_version_work.specs.Compacting.{compaction_at, install_for, IsInstallable, IsNotInstallable}
+use Rattle.uc_version_compact.specs.Compacting.{compaction_at, install_for, IsInstallable, IsNotInstallable}
 
 -- the stretch of a claim
 abbrev pub stretch_in : Option HeldStretch → HeldStretch

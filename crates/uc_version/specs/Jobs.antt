@@ -5,8 +5,8 @@ use Rattle.uc_compact.specs.Inputs.{Compaction}
 use Rattle.uc_version_state.specs.declared.stretch.Stretch.{Stretch}
 use Rattle.uc_version_state.specs.Picks.{picked}
 use Rattle.uc_version_state.specs.Versions.{contents_of}
-use Rattle.uc_version_work.specs.Compacting.{compaction_at, size_of_runs}
-use Rattle.uc_version_work.specs.Picking.{candidates_of}
+use Rattle.uc_version_compact.specs.Compacting.{compaction_at, size_of_runs}
+use Rattle.uc_version_compact.specs.Picking.{candidates_of}
 use Rattle.uc_version.specs.declared.job_end.JobEnd.{JobEnd}
 use Rattle.uc_version.specs.declared.job_end.JobEnd.TheVariants.{Installed, NotRun, Refused}
 use Rattle.uc_version.specs.declared.job_stage.JobStage.{JobStage}

@@ -1,6 +1,6 @@
-pub use Rattle.uc_version_work.specs.Compacting
-pub use Rattle.uc_version_work.specs.Picking
-pub use Rattle.uc_version_work.specs.Ranges
+pub use Rattle.uc_version_compact.specs.Compacting
+pub use Rattle.uc_version_compact.specs.Picking
+pub use Rattle.uc_version_compact.specs.Ranges
 pub mod Owners
 pub mod Claiming
 pub mod Installing

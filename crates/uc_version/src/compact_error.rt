@@ -4,7 +4,7 @@ ghost use Rattle.uc_version.specs.declared.compact_error.CompactError.TheVariant
 
 use std::alloc::AllocError;
 use thiserror::Error;
-use uc_version_work::ClaimError;
+use uc_version_compact::ClaimError;
 
 /// Why a stretch isn't compacted at once.
 #[derive(Clone, Copy, Debug, PartialEq, Eq, Error)]

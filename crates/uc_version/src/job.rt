@@ -15,7 +15,7 @@ use std::marker::Model;
 use std::mem;
 use uc_compact::{Compacted, Merger};
 use uc_oper::Operator;
-use uc_version_work::Asked;
+use uc_version_compact::Asked;
 
 /// How far a job is, with what was made of its runs.
 #[derive(Drop)]

@@ -1,6 +1,6 @@
 //! [`JobEnd`]: what came of a job.
 
-use uc_version_work::InstallError;
+use uc_version_compact::InstallError;
 
 /// What came of a job that was ended.
 #[derive(Clone, Copy, Debug, PartialEq, Eq)]

@@ -10,21 +10,21 @@ ghost use Rattle.uc_version_state.specs.Feeds.{MayFeed};
 ghost use Rattle.uc_version_state.specs.declared.event.Event.{Event};
 ghost use Rattle.uc_version_state.specs.Histories.{MayFollow, after};
 ghost use Rattle.uc_version.specs.Owners.{Owner, IsOwner, is_busy, last_id};
-ghost use Rattle.uc_version_work.specs.Picking.{candidates_of};
+ghost use Rattle.uc_version_compact.specs.Picking.{candidates_of};
 ghost use Rattle.uc_version.specs.Claiming.{Claim, is_held, claim_refusal, claim_of, with_claim, without_claim};
 ghost use Rattle.uc_version.specs.Installing.{stretch_of, claimed_runs, compaction_of, IdLeft, MayReplace};
 ghost use Rattle.uc_version.specs.Installing.{IsRefused, after_install, install_of};
 ghost use Rattle.uc_version.specs.AtOnce.{install_at, after_compaction};
 ghost use Rattle.uc_version.specs.Feeding.{after_feed, after_keep, after_release};
 ghost use Rattle.uc_version.specs.Jobs.{IsOwn, task_of};
-ghost use Rattle.uc_version_work.specs.declared.install_error.InstallError.{InstallError};
-ghost use Rattle.uc_version_work.specs.declared.install_error.InstallError.TheVariants.{IdsSpent};
+ghost use Rattle.uc_version_compact.specs.declared.install_error.InstallError.{InstallError};
+ghost use Rattle.uc_version_compact.specs.declared.install_error.InstallError.TheVariants.{IdsSpent};
 
 use uc_oper::Operator;
+use uc_version_compact::own_compactions_stay_installable;
 use uc_version_state::{
     feeds_and_keeps_give_versions, install_gives_a_version, picks_are_unclaimed_runs,
 };
-use uc_version_work::own_compactions_stay_installable;
 
 /// An install for a held claim is an event that may happen to the version, and leaves the version after it.
 pub fn installs_are_events<O: Operator>()

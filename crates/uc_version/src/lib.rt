@@ -2,9 +2,9 @@
 //!
 //! An [`Owned`] has a version, and the claims of those who compact stretches of its runs. Read `specs/Owners.antt`
 //! first, then `specs/Claiming.antt`, `specs/Installing.antt` and `owned.rt`; and `specs/AtOnce.antt` with
-//! `at_once.rt`, `specs/Feeding.antt` with `live.rt`, `memtable_feed.rt` and `run_feed.rt`; and `specs/Jobs.antt` with `job.rt`. Compactions of any version's runs, and their installs, are in
-//! `uc_version_work`, whoever claims them; versions are in `uc_version_state`. This crate re-exports the public items
-//! of both.
+//! `at_once.rt`, `specs/Feeding.antt` with `live.rt`, `memtable_feed.rt` and `run_feed.rt`; and `specs/Jobs.antt` with `job.rt`.
+//! Compactions of any version's runs, and their installs, are in `uc_version_compact`, whoever claims them. Openings and what is
+//! fed are in `uc_version_open`, and versions in `uc_version_state`. This crate re-exports the public items of all three.
 //!
 //! An `Err(AllocError)`, or a variant `Memory`, comes only if an allocation fails.
 //!
@@ -43,11 +43,12 @@ pub use owned::Owned;
 pub use owned_claim::OwnedClaim;
 pub use uc_claims::MOST_SLOTS;
 pub use uc_compact::{Alone, By, Merger};
+pub use uc_version_compact::{
+    ClaimError, InstallError, are_inputs, compact_stretch, compact_stretch_by, error_of,
+    install_of, install_refusal, own_refusal, pick, present_refusal, run_ids, runs_of, slots_of,
+    stretch_runs, what_fits_may_be_installed,
+};
+pub use uc_version_open::{InThreads, OpenError, Opener, Workers, open_version};
 pub use uc_version_state::{
     Candidate, Event, FeedError, Install, Options, Placed, Refusal, ReleaseError, Stretch, Version,
-};
-pub use uc_version_work::{
-    ClaimError, InThreads, InstallError, OpenError, Opener, Workers, are_inputs, compact_stretch,
-    compact_stretch_by, error_of, install_of, install_refusal, open_version, own_refusal, pick,
-    present_refusal, run_ids, runs_of, slots_of, stretch_runs, what_fits_may_be_installed,
 };

@@ -12,10 +12,10 @@ use std::alloc::{AllocError, Global};
 use uc_batch::Writes;
 use uc_bytes::Write;
 use uc_oper::Operator;
+use uc_version_open::{Alone, Workers, fed_version};
 use uc_version_state::{
     FeedError, ReleaseError, Version, feeds_and_keeps_give_versions, no_refusal_is_leave_to_feed,
 };
-use uc_version_work::{Alone, Workers, fed_version};
 
 impl<O: Operator> Owned<O> {
     /// Shows the version after writes were fed. Returns how many runs there are more.

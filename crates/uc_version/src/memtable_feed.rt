@@ -13,11 +13,11 @@ use std::alloc::Global;
 use uc_claims::MOST_SLOTS;
 use uc_oper::Operator;
 use uc_run::Memtable;
+use uc_version_open::version_with_memtable;
 use uc_version_state::{
     FeedError, Version, feeds_and_keeps_give_versions, no_refusal_is_leave_to_feed,
     small_writes_fill_one_memtable,
 };
-use uc_version_work::version_with_memtable;
 
 /// Why a version doesn't take one run more, if it doesn't.
 pub(crate) fn run_refusal(version: &Version) -> Option<FeedError>

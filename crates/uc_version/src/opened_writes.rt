@@ -1,16 +1,16 @@
 //! [`open_plain`]: a store opened from a list of writes.
 ghost use Rattle.std.specs.Prelude.{◌≡◌, ◌≢◌, None, Some, IfOk, IfErr};
 ghost use Rattle.uc_version_state.specs.Openings.{Opening, opened};
-ghost use Rattle.uc_version_work.specs.Refusal.{opening_refusal};
-ghost use Rattle.uc_version_work.specs.declared.open_error.OpenError.TheVariants.{Memory};
+ghost use Rattle.uc_version_open.specs.Refusal.{opening_refusal};
+ghost use Rattle.uc_version_open.specs.declared.open_error.OpenError.TheVariants.{Memory};
 ghost use Rattle.uc_version.specs.Owners.{unclaimed};
 
 use crate::owned::Owned;
 use std::alloc::Global;
 use uc_batch::Writes;
 use uc_oper::Operator;
+use uc_version_open::{OpenError, open_version};
 use uc_version_state::Options;
-use uc_version_work::{OpenError, open_version};
 
 /// A store of these writes, which keeps these sequences and the last one. Each write is inserted into a memtable, which
 /// is flushed to a run as soon as it has `memtable` bytes, and at the end (RocksDB wiki, "MemTable"). An `Err` names

@@ -5,7 +5,7 @@ ghost use Rattle.uc_version_state.specs.Picks.{picked};
 ghost use Rattle.uc_version_state.specs.Options.{are_good};
 ghost use Rattle.uc_version_state.specs.Versions.{contents_of};
 ghost use Rattle.uc_version.specs.Owners.{IsOwner, is_busy, unclaimed};
-ghost use Rattle.uc_version_work.specs.Picking.{candidates_of};
+ghost use Rattle.uc_version_compact.specs.Picking.{candidates_of};
 ghost use Rattle.uc_version.specs.Claiming as claiming;
 ghost use Rattle.uc_version.specs.Installing as installing;
 
@@ -20,11 +20,11 @@ use std::thread::Threads;
 use uc_claims::{ClaimTable, HeldSlots, MOST_SLOTS};
 use uc_compact::{Compacted, Merger};
 use uc_oper::Operator;
-use uc_version_state::{Options, Stretch, Version, install_gives_a_version};
-use uc_version_work::{
+use uc_version_compact::{
     ClaimError, InstallError, compact_stretch, compact_stretch_by, install_refusal, own_refusal,
     pick, runs_of,
 };
+use uc_version_state::{Options, Stretch, Version, install_gives_a_version};
 
 /// A store with one owner: a version, and the claims of stretches of its runs.
 pub struct Owned<O: Operator> {

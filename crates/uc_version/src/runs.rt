@@ -6,8 +6,8 @@ ghost use Rattle.uc_version.specs.Owners as owners;
 ghost use Rattle.uc_version.specs.Owners.{runs_held};
 
 use crate::held_stretch::HeldStretch;
+use uc_version_compact::stretch_runs;
 use uc_version_state::{Placed, Version};
-use uc_version_work::stretch_runs;
 
 /// The id of the newest of some runs; 0 if there is none.
 pub(crate) fn newest_id(runs: &[Placed]) -> u64

@@ -6,11 +6,11 @@ ghost use Rattle.uc_claims.specs.Holding.{AreDistinct, NoneHeld, without};
 ghost use Rattle.uc_claims.specs.declared.table.TheConstants.{MOST_SLOTS};
 ghost use Rattle.uc_version_state.specs.Versions as versions;
 ghost use Rattle.uc_version.specs.Claiming.{first_busy};
-ghost use Rattle.uc_version_work.specs.declared.claim_error.ClaimError.TheVariants.{Busy};
+ghost use Rattle.uc_version_compact.specs.declared.claim_error.ClaimError.TheVariants.{Busy};
 
 use uc_claims::{ClaimTable, HeldSlots, MOST_SLOTS};
+use uc_version_compact::{ClaimError, slots_of};
 use uc_version_state::Placed;
-use uc_version_work::{ClaimError, slots_of};
 
 /// Takes the slots of the runs, the newest first, or none of them if one is taken: the first such one is named.
 pub(crate) fn claim_slots(

@@ -4,7 +4,7 @@ use Rattle.uc_compact.specs.Inputs.{Compaction}
 use Rattle.uc_version_state.specs.Versions.{Stored}
 use Rattle.uc_version_state.specs.Histories.{after}
 use Rattle.uc_version_state.specs.declared.event.Event.{Event}
-use Rattle.uc_version_work.specs.Compacting.{IsNotInstallable}
+use Rattle.uc_version_compact.specs.Compacting.{IsNotInstallable}
 use Rattle.uc_share.specs.Fronts.{Moment, after_event}
 use Rattle.uc_share.specs.Claims.{claimed_runs}
 use Rattle.uc_share.specs.Installing.{ShowsRefusal, event_of}

@@ -2,7 +2,7 @@ use Rattle.std.proofs.Common.{◌≡◌, ◌++◌, List, fold, sym, subst}
 use Rattle.uc_version_state.specs.Versions.{Stored}
 use Rattle.uc_version_state.specs.Histories.{MayFollow, after}
 use Rattle.uc_version_state.specs.declared.event.Event.{Event}
-use Rattle.uc_version_work.specs.Compacting.{IsNotInstallable, compaction_at, runs_at}
+use Rattle.uc_version_compact.specs.Compacting.{IsNotInstallable, compaction_at, runs_at}
 use Rattle.uc_share.proofs.Behind.{after_joined, follow_rest}
 use Rattle.uc_share.proofs.laws.own_compactions_are_refused_for_two_reasons.Goals as goal
 

@@ -2,7 +2,7 @@ use Rattle.std.proofs.Common.{◌≡◌, None, ◌∙◌, sym}
 use Rattle.uc_batch.specs.Log.{log_writes}
 use Rattle.uc_batch.specs.Rising.{IsRising}
 use Rattle.uc_version_state.specs.Openings.{Opening, opened}
-use Rattle.uc_version_work.specs.Refusal.{opening_refusal}
+use Rattle.uc_version_open.specs.Refusal.{opening_refusal}
 use Rattle.uc_store.proofs.opened_shared.open_shared.Goals as goal
 
 pub returns-in-Ok-clause-legal : goal.returns-in-Ok-clause-legal

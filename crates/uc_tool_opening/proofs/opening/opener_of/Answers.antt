@@ -2,7 +2,7 @@ use Rattle.std.proofs.Common.{ap, ◌∙◌, subst}
 use Rattle.uc_batch.specs.Log.{log_writes}
 use Rattle.uc_batch.specs.Rising.{IsRising}
 use Rattle.uc_batch.specs.WriteLog.{WriteLog}
-use Rattle.uc_version_work.specs.Progress.{progress_of}
+use Rattle.uc_version_open.specs.Progress.{progress_of}
 use Rattle.uc_tool_opening.proofs.LogAgain.{log_again}
 use Rattle.uc_tool_opening.proofs.opening.opener_of.Goals as goal
 

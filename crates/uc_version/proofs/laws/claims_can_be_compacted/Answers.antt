@@ -1,5 +1,5 @@
 use Rattle.uc_version.specs.Installing.{stretch_of}
-use Rattle.uc_version_work.proofs.Standing.{part_stands}
+use Rattle.uc_version_compact.proofs.Standing.{part_stands}
 use Rattle.uc_version.proofs.Taking.{held_stands}
 use Rattle.uc_version.proofs.Staying.{own_may, only_ids}
 use Rattle.uc_version.proofs.laws.claims_can_be_compacted.Goals as goal

@@ -1,5 +1,5 @@
 use Rattle.uc_version.specs.Owners.{is_busy}
-use Rattle.uc_version_work.specs.Picking.{candidates_of}
+use Rattle.uc_version_compact.specs.Picking.{candidates_of}
 use Rattle.uc_version.proofs.PickedClaims.{can_be_claimed}
 use Rattle.uc_version.proofs.laws.picks_can_be_claimed.Goals as goal
 

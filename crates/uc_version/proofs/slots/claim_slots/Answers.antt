@@ -1,7 +1,7 @@
 use Rattle.std.proofs.Common.{List, ℕ, ap, subst}
 use Rattle.std.specs.Prelude.{option_map}
 use Rattle.uc_claims.specs.Holding.{NoneHeld, IsFirstHeld}
-use Rattle.uc_version_work.specs.declared.claim_error.ClaimError.TheVariants.{Busy}
+use Rattle.uc_version_compact.specs.declared.claim_error.ClaimError.TheVariants.{Busy}
 use Rattle.uc_version.proofs.HeldClaims.{none_held}
 use Rattle.uc_version.proofs.Flags.{none_busy, first_is}
 use Rattle.uc_version.proofs.slots.claim_slots.Goals as goal

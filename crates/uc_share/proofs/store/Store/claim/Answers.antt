@@ -1,6 +1,6 @@
 use Rattle.std.proofs.Common.{fold, sym, subst}
 use Rattle.uc_version_state.specs.Histories.{after}
-use Rattle.uc_version_work.specs.declared.claim_error.ClaimError.{ClaimError}
+use Rattle.uc_version_compact.specs.declared.claim_error.ClaimError.{ClaimError}
 use Rattle.uc_share.specs.Claims.{Claim, IsClaimRefused, claim_error}
 use Rattle.uc_share.proofs.InRange.{look_refused}
 use Rattle.uc_share.proofs.store.Store.claim.Goals as goal

@@ -2,7 +2,7 @@ use Rattle.std.proofs.Common.{◌≡◌, ◌∙◌, ℕ, Bool, ap, false, length
 use Rattle.std.proofs.lemmas.List.{length-map}
 use Rattle.uc_version_state.specs.Picks.{picked}
 use Rattle.uc_version_state.specs.Versions.{Stored}
-use Rattle.uc_version_work.specs.Picking.{candidate_of, candidates_of}
+use Rattle.uc_version_compact.specs.Picking.{candidate_of, candidates_of}
 use Rattle.uc_share.proofs.InRange.{pick_in_range}
 use Rattle.uc_share.specs.Stores.{Shared}
 use Rattle.uc_share.proofs.store.Store.pick.Goals as goal

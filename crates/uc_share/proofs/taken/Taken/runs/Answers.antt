@@ -1,8 +1,8 @@
 use Rattle.std.proofs.Common.{◌≤◌, ◌∙◌, List, length, ap, sym, subst}
 use Rattle.uc_claims.specs.declared.table.TheConstants.{MOST_SLOTS}
 use Rattle.uc_version_state.specs.Versions.{PlacedRun, Stored, IsVersion}
-use Rattle.uc_version_work.specs.Compacting.{runs_at}
-use Rattle.uc_version_work.proofs.Few.{few_part}
+use Rattle.uc_version_compact.specs.Compacting.{runs_at}
+use Rattle.uc_version_compact.proofs.Few.{few_part}
 use Rattle.uc_share.proofs.taken.Taken.runs.Goals as goal
 
 pub returns-clause-few : goal.returns-clause-few

@@ -4,8 +4,8 @@ use Rattle.uc_claims.specs.Holding.{AreDistinct}
 use Rattle.uc_claims.specs.declared.table.TheConstants.{MOST_SLOTS}
 use Rattle.uc_version_state.specs.Versions.{PlacedRun, Stored, IsVersion, slots_of}
 use Rattle.uc_version_state.specs.Installs.{part_of}
-use Rattle.uc_version_work.proofs.Few.{few_part}
-use Rattle.uc_version_work.proofs.PartSlots.{part_below, part_distinct}
+use Rattle.uc_version_compact.proofs.Few.{few_part}
+use Rattle.uc_version_compact.proofs.PartSlots.{part_below, part_distinct}
 use Rattle.uc_share.proofs.taken.Taken.take.Goals as goal
 
 pub take-requires-clause-few : goal.take-requires-clause-few

@@ -7,8 +7,8 @@ use Rattle.uc_version_state.specs.Versions.{PlacedRun, slots_of}
 use Rattle.uc_version.specs.Owners.{claimed_slots}
 use Rattle.uc_version.specs.Claiming.{Claim, held_by}
 use Rattle.uc_version.specs.HeldOwners.{owner, IsOwned}
-use Rattle.uc_version_work.proofs.Few.{few_part}
-use Rattle.uc_version_work.proofs.PartSlots.{part_distinct}
+use Rattle.uc_version_compact.proofs.Few.{few_part}
+use Rattle.uc_version_compact.proofs.PartSlots.{part_distinct}
 use Rattle.uc_version.proofs.Taking.{all_held, same_less, with_one_less}
 use Rattle.uc_version.proofs.owned.Owned.abandon.Goals as goal
 

@@ -8,8 +8,8 @@ use Rattle.uc_version_state.specs.Installs.{part_of}
 use Rattle.uc_version.specs.Owners.{Owner}
 use Rattle.uc_version.specs.Claiming.{claim_refusal, claim_of, with_claim}
 use Rattle.uc_version.specs.HeldOwners.{owner, IsOwned}
-use Rattle.uc_version_work.proofs.Few.{few_part}
-use Rattle.uc_version_work.proofs.PartSlots.{part_below, part_distinct}
+use Rattle.uc_version_compact.proofs.Few.{few_part}
+use Rattle.uc_version_compact.proofs.PartSlots.{part_below, part_distinct}
 use Rattle.uc_version.proofs.ClaimMade.{refused, allowed, claim_is, number_below, owner_after, slots_after}
 use Rattle.uc_version.proofs.owned.Owned.claim.Goals as goal
 

@@ -5,10 +5,10 @@ use Rattle.uc_claims.specs.declared.table.TheConstants.{MOST_SLOTS}
 use Rattle.uc_version_state.specs.Versions.{PlacedRun, contents_of}
 use Rattle.uc_version.specs.declared.held_stretch.HeldStretch.{HeldStretch}
 use Rattle.uc_version.specs.Owners.{Owner, runs_held}
-use Rattle.uc_version_work.specs.Compacting.{IsInstallable, IsNotInstallable}
+use Rattle.uc_version_compact.specs.Compacting.{IsInstallable, IsNotInstallable}
 use Rattle.uc_version.specs.Installing.{stretch_in, stretch_of, MayReplace, IsRefused}
 use Rattle.uc_version.specs.HeldOwners.{owner}
-use Rattle.uc_version_work.proofs.Few.{few_part}
+use Rattle.uc_version_compact.proofs.Few.{few_part}
 use Rattle.uc_version.proofs.Taking.{stands}
 use Rattle.uc_version.proofs.Staying.{never_stale}
 use Rattle.uc_version.proofs.owned.Owned.own_refusal_of.Goals as goal

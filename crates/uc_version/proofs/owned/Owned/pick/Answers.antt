@@ -5,10 +5,10 @@ use Rattle.uc_compact.proofs.NestedLists.{all-map}
 use Rattle.uc_version_state.specs.Picks.{picked}
 use Rattle.uc_version_state.specs.Versions.{slots_of}
 use Rattle.uc_version.specs.Owners.{Owner, is_busy, claimed_slots}
-use Rattle.uc_version_work.specs.Picking.{candidates_of}
+use Rattle.uc_version_compact.specs.Picking.{candidates_of}
 use Rattle.uc_version.specs.HeldOwners.{owner}
 use Rattle.uc_version.proofs.Flags.{same_any}
-use Rattle.uc_version_work.proofs.BySlots.{same_candidates}
+use Rattle.uc_version_compact.proofs.BySlots.{same_candidates}
 use Rattle.uc_version.proofs.owned.Owned.pick.Goals as goal
 
 pub returns : goal.returns

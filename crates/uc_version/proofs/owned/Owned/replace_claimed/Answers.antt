@@ -12,8 +12,8 @@ use Rattle.uc_version.specs.Owners.{Owner, claimed_slots}
 use Rattle.uc_version.specs.Claiming.{Claim, held_by}
 use Rattle.uc_version.specs.Installing.{stretch_in, stretch_of, MayReplace, after_install, install_of}
 use Rattle.uc_version.specs.HeldOwners.{owner, IsOwned}
-use Rattle.uc_version_work.proofs.Few.{few_part}
-use Rattle.uc_version_work.proofs.PartSlots.{part_distinct}
+use Rattle.uc_version_compact.proofs.Few.{few_part}
+use Rattle.uc_version_compact.proofs.PartSlots.{part_distinct}
 use Rattle.uc_version.proofs.Taking.{all_held, stands}
 use Rattle.uc_version.proofs.Legal.{is_legal, is_replaced, install_is}
 use Rattle.uc_version.proofs.Moving.{after, slots_after, owner_after}

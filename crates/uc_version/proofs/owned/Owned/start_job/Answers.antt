@@ -1,8 +1,8 @@
 use Rattle.std.proofs.Common.{◌+◌, ◌≤◌, length, sym, subst}
 use Rattle.uc_version_state.specs.Versions.{Stored, slots_of}
 use Rattle.uc_version_state.specs.Installs.{part_of}
-use Rattle.uc_version_work.specs.Ranges.{range_refusal}
-use Rattle.uc_version_work.proofs.InRange.{range_holds}
+use Rattle.uc_version_compact.specs.Ranges.{range_refusal}
+use Rattle.uc_version_compact.proofs.InRange.{range_holds}
 use Rattle.uc_version.specs.Owners.{claimed_slots}
 use Rattle.uc_version.specs.Claiming.{first_busy}
 use Rattle.uc_version.proofs.Staying.{fine_parts}

@@ -1,0 +1,11 @@
+pub mod Few
+pub mod PartSlots
+pub mod BySlots
+pub mod Inputs
+pub mod InRange
+pub mod Standing
+pub mod Fitting
+pub mod OwnKeeps
+pub mod KeepsSince
+pub mod StandingLast
+pub mod InstallableLater

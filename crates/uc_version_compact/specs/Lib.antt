@@ -1,0 +1,4 @@
+pub mod Compacting
+pub mod Picking
+pub mod Ranges
+pub mod Asked

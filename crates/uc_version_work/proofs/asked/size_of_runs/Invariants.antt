@@ -1,7 +1,0 @@
-use Rattle.std.proofs.Common.{◌≡◌, map, take}
-use Rattle.std.specs.Arc.{arc_value}
-use Rattle.uc_version_work.specs.Compacting.{size_of_runs}
-use Rattle.uc_version_work.proofs.asked.size_of_runs.Given as goal
-
-abbrev pub invariant-loop-run : goal.invariant-loop-run
-invariant-loop-run l = l.size ≡ size_of_runs (map arc_value (take l.run-index l.runs))
