@@ -6,6 +6,7 @@ ghost use Rattle.uc_live.specs.Writing.{Prepares};
 ghost use Rattle.uc_live.specs.declared.room_error.RoomError.TheVariants.{RunsClaimed};
 ghost use Rattle.uc_engine.specs.Engines.{meaning_of};
 
+use crate::each_operator::with_each;
 use crate::engine::{AnyStore, Engine};
 use std::alloc::Global;
 use uc_live::RoomError;
@@ -18,12 +19,7 @@ impl Engine {
         ensures all { OnOk result (self.new.live.gathered ≡ []) }
         ensures err { IfErr result (λ error. HasNoRoom error self.new.live) }
     {
-        match &mut self.store {
-            AnyStore::Append(store) => store.flush(alloc),
-            AnyStore::Counter(store) => store.flush(alloc),
-            AnyStore::Maximum(store) => store.flush(alloc),
-            AnyStore::Tail(store) => store.flush(alloc),
-        }
+        with_each!(AnyStore, &mut self.store, store => store.flush(alloc))
     }
 
     /// Compacts the stretch of runs that is picked next, if there is one, as `LiveStore::compact_once` does. Returns
@@ -36,12 +32,7 @@ impl Engine {
         ensures goes_on { IfOk result (λ _. GoesOn (meaning_of self.old.kind) self.old.live self.new.live []) }
         ensures never { IfErr result (λ error. error ≢ RunsClaimed) }
     {
-        match &mut self.store {
-            AnyStore::Append(store) => store.compact_once(alloc),
-            AnyStore::Counter(store) => store.compact_once(alloc),
-            AnyStore::Maximum(store) => store.compact_once(alloc),
-            AnyStore::Tail(store) => store.compact_once(alloc),
-        }
+        with_each!(AnyStore, &mut self.store, store => store.compact_once(alloc))
     }
 
     /// Flushes if more than so many writes are gathered and no batch is prepared, as `LiveStore::settle` does.
@@ -49,11 +40,6 @@ impl Engine {
         ensures kind { self.new.kind ≡ self.old.kind }
         ensures prepares { Prepares (meaning_of self.old.kind) self.old.live self.new.live self.old.live.prepared }
     {
-        match &mut self.store {
-            AnyStore::Append(store) => store.settle(alloc, most),
-            AnyStore::Counter(store) => store.settle(alloc, most),
-            AnyStore::Maximum(store) => store.settle(alloc, most),
-            AnyStore::Tail(store) => store.settle(alloc, most),
-        }
+        with_each!(AnyStore, &mut self.store, store => store.settle(alloc, most))
     }
 }

@@ -5,6 +5,7 @@ ghost use Rattle.uc_version.specs.Owners.{IsOwner};
 ghost use Rattle.uc_live.specs.Lives as lives;
 ghost use Rattle.uc_live.specs.Lives.{owner_in};
 
+use crate::each_operator::{kind_of, with_each};
 use crate::operator_kind::{LastBytes, OperatorKind, Texts};
 use std::marker::Model;
 use uc_live::{LiveStore, Version};
@@ -50,60 +51,35 @@ impl Engine {
         ensures owner { IsOwner (owner_in self.now.live) }
         ensures rising { IsRising self.now.live.version.last self.now.live.gathered }
     {
-        match &self.store {
-            AnyStore::Append(store) => store.recall(),
-            AnyStore::Counter(store) => store.recall(),
-            AnyStore::Maximum(store) => store.recall(),
-            AnyStore::Tail(store) => store.recall(),
-        }
+        with_each!(AnyStore, &self.store, store => store.recall())
     }
 
     /// Which operator merges.
     pub fn kind(&self) -> OperatorKind
         ensures { result ≡ self.now.kind }
     {
-        match &self.store {
-            AnyStore::Append(_) => OperatorKind::Append,
-            AnyStore::Counter(_) => OperatorKind::Counter,
-            AnyStore::Maximum(_) => OperatorKind::Maximum,
-            AnyStore::Tail(_) => OperatorKind::Tail,
-        }
+        kind_of!(AnyStore, &self.store)
     }
 
     /// What its runs hold.
     pub(crate) fn version(&self) -> &Version
         ensures { result.now ≡ self.now.live.version }
     {
-        match &self.store {
-            AnyStore::Append(store) => store.version(),
-            AnyStore::Counter(store) => store.version(),
-            AnyStore::Maximum(store) => store.version(),
-            AnyStore::Tail(store) => store.version(),
-        }
+        with_each!(AnyStore, &self.store, store => store.version())
     }
 
     /// The last sequence; 0 if nothing was written.
     pub fn last(&self) -> u64
         ensures { result ≡ lives.last self.now.live }
     {
-        match &self.store {
-            AnyStore::Append(store) => store.last(),
-            AnyStore::Counter(store) => store.last(),
-            AnyStore::Maximum(store) => store.last(),
-            AnyStore::Tail(store) => store.last(),
-        }
+        with_each!(AnyStore, &self.store, store => store.last())
     }
 
     /// How many writes are gathered.
     pub fn gathered(&self) -> usize
         ensures { result ≡ length self.now.live.gathered }
     {
-        match &self.store {
-            AnyStore::Append(store) => store.gathered(),
-            AnyStore::Counter(store) => store.gathered(),
-            AnyStore::Maximum(store) => store.gathered(),
-            AnyStore::Tail(store) => store.gathered(),
-        }
+        with_each!(AnyStore, &self.store, store => store.gathered())
     }
 
     /// The sequences that snapshots protect, which rise, each once.

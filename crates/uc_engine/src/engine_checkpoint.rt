@@ -4,6 +4,7 @@ ghost use Rattle.uc_checkpoint.specs.Checkpoints.{LaysInto, RefusesPiece};
 ghost use Rattle.uc_engine.specs.EngineCheckpoints.{begun};
 ghost use Rattle.uc_engine.specs.Engines.{meaning_of};
 
+use crate::each_operator::{map_each, with_each};
 use crate::engine_view::{AnyView, EngineView};
 use crate::operator_kind::{LastBytes, Texts};
 use std::alloc::{AllocError, Global};
@@ -52,12 +53,8 @@ impl EngineView {
     pub fn checkpoint(&self, alloc: Global) -> Result<EngineCheckpoint, AllocError>
         ensures { IfOk result (λ checkpoint. checkpoint ≡ begun self.now) }
     {
-        let checkpoint = match &self.view {
-            AnyView::Append(view) => AnyCheckpoint::Append(Checkpoint::of(alloc, view.again()?)?),
-            AnyView::Counter(view) => AnyCheckpoint::Counter(Checkpoint::of(alloc, view.again()?)?),
-            AnyView::Maximum(view) => AnyCheckpoint::Maximum(Checkpoint::of(alloc, view.again()?)?),
-            AnyView::Tail(view) => AnyCheckpoint::Tail(Checkpoint::of(alloc, view.again()?)?),
-        };
+        let checkpoint =
+            map_each!(AnyView => AnyCheckpoint, &self.view, view => Checkpoint::of(alloc, view.again()?)?);
         Ok(EngineCheckpoint { checkpoint })
     }
 }
@@ -67,12 +64,7 @@ impl EngineCheckpoint {
     pub fn rows(&self) -> u64
         ensures { result ≡ self.now.progress.rows }
     {
-        match &self.checkpoint {
-            AnyCheckpoint::Append(checkpoint) => checkpoint.rows(),
-            AnyCheckpoint::Counter(checkpoint) => checkpoint.rows(),
-            AnyCheckpoint::Maximum(checkpoint) => checkpoint.rows(),
-            AnyCheckpoint::Tail(checkpoint) => checkpoint.rows(),
-        }
+        with_each!(AnyCheckpoint, &self.checkpoint, checkpoint => checkpoint.rows())
     }
 
     /// Lays the next rows out in the room, as `Checkpoint::next_into` does: the bytes that a log of `log_length` bytes gets
@@ -91,17 +83,8 @@ impl EngineCheckpoint {
         ensures err { IfErr result (λ error.
             RefusesPiece (meaning_of self.old.kind) self.old.progress error × (room.new ≡ room.old) × (self.new ≡ self.old)) }
     {
-        match &mut self.checkpoint {
-            AnyCheckpoint::Append(checkpoint) => checkpoint.next_into(
-                alloc, log_length, most, room,
-            ),
-            AnyCheckpoint::Counter(checkpoint) => checkpoint.next_into(
-                alloc, log_length, most, room,
-            ),
-            AnyCheckpoint::Maximum(checkpoint) => checkpoint.next_into(
-                alloc, log_length, most, room,
-            ),
-            AnyCheckpoint::Tail(checkpoint) => checkpoint.next_into(alloc, log_length, most, room),
-        }
+        with_each!(AnyCheckpoint, &mut self.checkpoint, checkpoint => {
+            checkpoint.next_into(alloc, log_length, most, room)
+        })
     }
 }

@@ -4,6 +4,7 @@ ghost use Rattle.uc_version.specs.declared.job_stage.JobStage.TheVariants.{Ended
 ghost use Rattle.uc_live.specs.LiveFlushes as flushes;
 ghost use Rattle.uc_live.specs.LiveFlushes.{EndsFlush, IsOwnFlush, StartsFlush, wants_flush};
 
+use crate::each_operator::with_each;
 use crate::engine::{AnyStore, Engine};
 use std::alloc::{AllocError, Global};
 use uc_live::{FlushEnd, FlushJob};
@@ -16,24 +17,14 @@ impl Engine {
         ensures ok { IfOk result (λ job. StartsFlush (wants_flush self.old.live) job self.old.live self.new.live) }
         ensures err { OnErr result (self.new ≡ self.old) }
     {
-        match &mut self.store {
-            AnyStore::Append(store) => store.start_flush(alloc),
-            AnyStore::Counter(store) => store.start_flush(alloc),
-            AnyStore::Maximum(store) => store.start_flush(alloc),
-            AnyStore::Tail(store) => store.start_flush(alloc),
-        }
+        with_each!(AnyStore, &mut self.store, store => store.start_flush(alloc))
     }
 
     /// Whether a flush job is out of this engine, as `LiveStore::has_flush_out` says it.
     pub fn has_flush_out(&self, job: &FlushJob) -> bool
         ensures { result ≡ flushes.has_flush_out self.now.live job.now }
     {
-        match &self.store {
-            AnyStore::Append(store) => store.has_flush_out(job),
-            AnyStore::Counter(store) => store.has_flush_out(job),
-            AnyStore::Maximum(store) => store.has_flush_out(job),
-            AnyStore::Tail(store) => store.has_flush_out(job),
-        }
+        with_each!(AnyStore, &self.store, store => store.has_flush_out(job))
     }
 
     /// Ends a flush job that was taken out of this engine, as `LiveStore::end_flush` does: installs its run, if it was
@@ -45,11 +36,6 @@ impl Engine {
         ensures ended { EndsFlush job.old self.old.live self.new.live result }
         ensures kept { job.new ≡ flushes.ended job.old }
     {
-        match &mut self.store {
-            AnyStore::Append(store) => store.end_flush(alloc, job),
-            AnyStore::Counter(store) => store.end_flush(alloc, job),
-            AnyStore::Maximum(store) => store.end_flush(alloc, job),
-            AnyStore::Tail(store) => store.end_flush(alloc, job),
-        }
+        with_each!(AnyStore, &mut self.store, store => store.end_flush(alloc, job))
     }
 }

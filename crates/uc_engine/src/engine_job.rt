@@ -9,6 +9,7 @@ ghost use Rattle.uc_engine.specs.EngineJobs.{ended, run, task_in};
 ghost use Rattle.uc_engine.specs.Engines.{meaning_of};
 ghost use Rattle.uc_engine.specs.HeldEngineJobs.{kind_of, task_of};
 
+use crate::each_operator::{kind_of, map_each, with_each};
 use crate::engine::{AnyStore, Engine};
 use crate::operator_kind::{LastBytes, OperatorKind, Texts};
 use std::alloc::{AllocError, Global};
@@ -58,36 +59,21 @@ impl EngineJob {
     pub fn kind(&self) -> OperatorKind
         ensures { result ≡ self.now.kind }
     {
-        match &self.job {
-            AnyJob::Append(_) => OperatorKind::Append,
-            AnyJob::Counter(_) => OperatorKind::Counter,
-            AnyJob::Maximum(_) => OperatorKind::Maximum,
-            AnyJob::Tail(_) => OperatorKind::Tail,
-        }
+        kind_of!(AnyJob, &self.job)
     }
 
     /// How far it is.
     pub fn stage(&self) -> JobStage
         ensures { result ≡ self.now.task.stage }
     {
-        match &self.job {
-            AnyJob::Append(job) => job.stage(),
-            AnyJob::Counter(job) => job.stage(),
-            AnyJob::Maximum(job) => job.stage(),
-            AnyJob::Tail(job) => job.stage(),
-        }
+        with_each!(AnyJob, &self.job, job => job.stage())
     }
 
     /// How many bytes the runs have together that it compacts, with 8 for each sequence, at most 2^64 - 1.
     pub fn input_size(&self) -> u64
         ensures { result ≡ input_size self.now.task }
     {
-        match &self.job {
-            AnyJob::Append(job) => job.input_size(),
-            AnyJob::Counter(job) => job.input_size(),
-            AnyJob::Maximum(job) => job.input_size(),
-            AnyJob::Tail(job) => job.input_size(),
-        }
+        with_each!(AnyJob, &self.job, job => job.input_size())
     }
 
     /// Compacts its runs, unless that is done or it has ended. The calling thread does all of it. It touches no engine.
@@ -96,12 +82,7 @@ impl EngineJob {
         ensures ok { OnOk result (self.new ≡ run self.old) }
         ensures err { OnErr result (self.new ≡ self.old) }
     {
-        match &mut self.job {
-            AnyJob::Append(job) => job.run_by(&Alone, alloc),
-            AnyJob::Counter(job) => job.run_by(&Alone, alloc),
-            AnyJob::Maximum(job) => job.run_by(&Alone, alloc),
-            AnyJob::Tail(job) => job.run_by(&Alone, alloc),
-        }
+        with_each!(AnyJob, &mut self.job, job => job.run_by(&Alone, alloc))
     }
 }
 
@@ -114,24 +95,12 @@ impl Engine {
         ensures alike { IfOk result (λ job. IfSome job (λ j. j.kind ≡ self.old.kind)) }
         ensures err { OnErr result (self.new ≡ self.old) }
     {
-        let job = match &mut self.store {
-            AnyStore::Append(store) => match store.start_job(alloc)? {
-                Some(job) => AnyJob::Append(job),
+        let job = map_each!(AnyStore => AnyJob, &mut self.store, store => {
+            match store.start_job(alloc)? {
+                Some(job) => job,
                 None => return Ok(None),
-            },
-            AnyStore::Counter(store) => match store.start_job(alloc)? {
-                Some(job) => AnyJob::Counter(job),
-                None => return Ok(None),
-            },
-            AnyStore::Maximum(store) => match store.start_job(alloc)? {
-                Some(job) => AnyJob::Maximum(job),
-                None => return Ok(None),
-            },
-            AnyStore::Tail(store) => match store.start_job(alloc)? {
-                Some(job) => AnyJob::Tail(job),
-                None => return Ok(None),
-            },
-        };
+            }
+        });
         Ok(Some(EngineJob { job }))
     }
 

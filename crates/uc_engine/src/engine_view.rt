@@ -4,6 +4,7 @@ ghost use Rattle.uc_query_read.specs.declared.query.Query.TheVariants as queries
 ghost use Rattle.uc_live.specs.Views as views;
 ghost use Rattle.uc_engine.specs.EngineViews.{answer_seen, rows_seen, value_seen, viewed_in};
 
+use crate::each_operator::{kind_of, map_each, with_each};
 use crate::engine::{AnyStore, Engine};
 use crate::operator_kind::{LastBytes, OperatorKind, Texts};
 use std::alloc::{AllocError, Global};
@@ -55,12 +56,7 @@ impl Engine {
         ensures view { IfOk result (λ view. view ≡ viewed_in self.old) }
         ensures same { self.new ≡ self.old }
     {
-        let view = match &mut self.store {
-            AnyStore::Append(store) => AnyView::Append(store.view(alloc)?),
-            AnyStore::Counter(store) => AnyView::Counter(store.view(alloc)?),
-            AnyStore::Maximum(store) => AnyView::Maximum(store.view(alloc)?),
-            AnyStore::Tail(store) => AnyView::Tail(store.view(alloc)?),
-        };
+        let view = map_each!(AnyStore => AnyView, &mut self.store, store => store.view(alloc)?);
         Ok(EngineView { view })
     }
 }
@@ -70,12 +66,7 @@ impl EngineView {
     pub fn again(&self) -> Result<EngineView, AllocError>
         ensures { IfOk result (λ again. again ≡ self.now) }
     {
-        let view = match &self.view {
-            AnyView::Append(view) => AnyView::Append(view.again()?),
-            AnyView::Counter(view) => AnyView::Counter(view.again()?),
-            AnyView::Maximum(view) => AnyView::Maximum(view.again()?),
-            AnyView::Tail(view) => AnyView::Tail(view.again()?),
-        };
+        let view = map_each!(AnyView => AnyView, &self.view, view => view.again()?);
         Ok(EngineView { view })
     }
 
@@ -83,48 +74,28 @@ impl EngineView {
     pub fn kind(&self) -> OperatorKind
         ensures { result ≡ self.now.kind }
     {
-        match &self.view {
-            AnyView::Append(_) => OperatorKind::Append,
-            AnyView::Counter(_) => OperatorKind::Counter,
-            AnyView::Maximum(_) => OperatorKind::Maximum,
-            AnyView::Tail(_) => OperatorKind::Tail,
-        }
+        kind_of!(AnyView, &self.view)
     }
 
     /// What its runs hold.
     pub(crate) fn version(&self) -> &Version
         ensures { result.now ≡ self.now.seen.version }
     {
-        match &self.view {
-            AnyView::Append(view) => view.version(),
-            AnyView::Counter(view) => view.version(),
-            AnyView::Maximum(view) => view.version(),
-            AnyView::Tail(view) => view.version(),
-        }
+        with_each!(AnyView, &self.view, view => view.version())
     }
 
     /// The last sequence; 0 if nothing was written.
     pub fn last(&self) -> u64
         ensures { result ≡ views.last self.now.seen }
     {
-        match &self.view {
-            AnyView::Append(view) => view.last(),
-            AnyView::Counter(view) => view.last(),
-            AnyView::Maximum(view) => view.last(),
-            AnyView::Tail(view) => view.last(),
-        }
+        with_each!(AnyView, &self.view, view => view.last())
     }
 
     /// How many writes are gathered.
     pub fn gathered(&self) -> usize
         ensures { result ≡ length self.now.seen.gathered }
     {
-        match &self.view {
-            AnyView::Append(view) => view.gathered(),
-            AnyView::Counter(view) => view.gathered(),
-            AnyView::Maximum(view) => view.gathered(),
-            AnyView::Tail(view) => view.gathered(),
-        }
+        with_each!(AnyView, &self.view, view => view.gathered())
     }
 
     /// The sequences that snapshots protected, which rise, each once.
@@ -138,12 +109,7 @@ impl EngineView {
     pub fn sort(&mut self, alloc: Global) -> Result<(), AllocError>
         ensures { self.new ≡ self.old }
     {
-        match &mut self.view {
-            AnyView::Append(view) => view.sort(alloc),
-            AnyView::Counter(view) => view.sort(alloc),
-            AnyView::Maximum(view) => view.sort(alloc),
-            AnyView::Tail(view) => view.sort(alloc),
-        }
+        with_each!(AnyView, &mut self.view, view => view.sort(alloc))
     }
 
     /// The value that a key has at the last sequence, if it has one, in memory of its own.
@@ -159,12 +125,7 @@ impl EngineView {
     pub fn get_ref(&self, alloc: Global, key: &[u8]) -> Result<Option<ValueRef<'_>>, AllocError>
         ensures { IfOk result (λ value. value ≡ value_seen self.now key.now) }
     {
-        match &self.view {
-            AnyView::Append(view) => view.get_ref(alloc, key),
-            AnyView::Counter(view) => view.get_ref(alloc, key),
-            AnyView::Maximum(view) => view.get_ref(alloc, key),
-            AnyView::Tail(view) => view.get_ref(alloc, key),
-        }
+        with_each!(AnyView, &self.view, view => view.get_ref(alloc, key))
     }
 
     /// Looks a key up at a sequence. The answer is a value, if the key has one, or `NotProtected` if no snapshot was at
@@ -172,12 +133,7 @@ impl EngineView {
     pub fn get_at(&self, alloc: Global, key: &[u8], at: u64) -> Result<Answer, AllocError>
         ensures { IfOk result (λ answer. answer ≡ answer_seen self.now (queries.Get key.now at)) }
     {
-        match &self.view {
-            AnyView::Append(view) => view.get_at(alloc, key, at),
-            AnyView::Counter(view) => view.get_at(alloc, key, at),
-            AnyView::Maximum(view) => view.get_at(alloc, key, at),
-            AnyView::Tail(view) => view.get_at(alloc, key, at),
-        }
+        with_each!(AnyView, &self.view, view => view.get_at(alloc, key, at))
     }
 
     /// The first rows, at most `limit`, of the keys from `low` to below `high`, or to the last one if `high` is `None`,
@@ -191,23 +147,13 @@ impl EngineView {
     ) -> Result<Rows, AllocError>
         ensures { IfOk result (λ rows. rows ≡ rows_seen self.now low.now high.now limit) }
     {
-        match &self.view {
-            AnyView::Append(view) => view.scan(alloc, low, high, limit),
-            AnyView::Counter(view) => view.scan(alloc, low, high, limit),
-            AnyView::Maximum(view) => view.scan(alloc, low, high, limit),
-            AnyView::Tail(view) => view.scan(alloc, low, high, limit),
-        }
+        with_each!(AnyView, &self.view, view => view.scan(alloc, low, high, limit))
     }
 
     /// The answer to a query at a snapshot, or `NotProtected` if no snapshot was at its sequence.
     pub fn answer(&self, alloc: Global, query: &Query) -> Result<Answer, AllocError>
         ensures { IfOk result (λ answer. answer ≡ answer_seen self.now query.now) }
     {
-        match &self.view {
-            AnyView::Append(view) => view.answer(alloc, query),
-            AnyView::Counter(view) => view.answer(alloc, query),
-            AnyView::Maximum(view) => view.answer(alloc, query),
-            AnyView::Tail(view) => view.answer(alloc, query),
-        }
+        with_each!(AnyView, &self.view, view => view.answer(alloc, query))
     }
 }

@@ -1,8 +1,8 @@
 //! A live store whose merge operator is a value, for callers that can name no type: exports to C, and what is built on
 //! them.
 //!
-//! An [`Engine`] is a [`LiveStore`](uc_live::LiveStore) of one of the operators, and which that is. Each method is a
-//! match over the operators, and does what the store's method of the same name does. It starts no thread. An
+//! An [`Engine`] is a [`LiveStore`](uc_live::LiveStore) of one of the operators, and which that is. Each method does
+//! what the store's method of the same name does (`each_operator.rt`). It starts no thread. An
 //! [`EngineView`] is a [`View`](uc_live::View) in the same way, an [`EngineJob`] a [`Job`](uc_live::Job), and an
 //! [`EngineCheckpoint`] a [`Checkpoint`](uc_checkpoint::Checkpoint). A [`TakenJob`] is an [`EngineJob`] or a [`FlushJob`].
 //!
@@ -10,14 +10,13 @@
 //! `snapshots.rt`, `compacting.rt`, `engine_job.rt`, `engine_flush.rt`, `taken_job.rt`, `engine_view.rt` and
 //! `engine_checkpoint.rt`.
 //!
-//! Tests: `uc_tests_engine`.
-//!
 //! An `Err(AllocError)`, or a variant `Memory`, comes only if an allocation fails.
 //!
 //! Tests: `uc_tests_engine`.
 #![tactic(auto)]
 
 mod compacting;
+mod each_operator;
 mod engine;
 mod engine_checkpoint;
 mod engine_flush;

@@ -3,6 +3,7 @@ ghost use Rattle.std.specs.Prelude.{◌≡◌, IfOk};
 ghost use Rattle.uc_query_read.specs.declared.query.Query.TheVariants as queries;
 ghost use Rattle.uc_engine.specs.Engines.{answer_in, last_rows, last_value};
 
+use crate::each_operator::with_each;
 use crate::engine::{AnyStore, Engine};
 use std::alloc::{AllocError, Global};
 use uc_bytes::Bytes;
@@ -23,12 +24,7 @@ impl Engine {
     pub fn get_ref(&self, alloc: Global, key: &[u8]) -> Result<Option<ValueRef<'_>>, AllocError>
         ensures { IfOk result (λ value. value ≡ last_value self.now key.now) }
     {
-        match &self.store {
-            AnyStore::Append(store) => store.get_ref(alloc, key),
-            AnyStore::Counter(store) => store.get_ref(alloc, key),
-            AnyStore::Maximum(store) => store.get_ref(alloc, key),
-            AnyStore::Tail(store) => store.get_ref(alloc, key),
-        }
+        with_each!(AnyStore, &self.store, store => store.get_ref(alloc, key))
     }
 
     /// Looks a key up at a sequence. The answer is a value, if the key has one, or `NotProtected` if no snapshot is at
@@ -36,12 +32,7 @@ impl Engine {
     pub fn get_at(&self, alloc: Global, key: &[u8], at: u64) -> Result<Answer, AllocError>
         ensures { IfOk result (λ answer. answer ≡ answer_in self.now (queries.Get key.now at)) }
     {
-        match &self.store {
-            AnyStore::Append(store) => store.get_at(alloc, key, at),
-            AnyStore::Counter(store) => store.get_at(alloc, key, at),
-            AnyStore::Maximum(store) => store.get_at(alloc, key, at),
-            AnyStore::Tail(store) => store.get_at(alloc, key, at),
-        }
+        with_each!(AnyStore, &self.store, store => store.get_at(alloc, key, at))
     }
 
     /// The first rows, at most `limit`, of the keys from `low` to below `high`, or to the last one if `high` is `None`,
@@ -55,23 +46,13 @@ impl Engine {
     ) -> Result<Rows, AllocError>
         ensures { IfOk result (λ rows. rows ≡ last_rows self.now low.now high.now limit) }
     {
-        match &self.store {
-            AnyStore::Append(store) => store.scan(alloc, low, high, limit),
-            AnyStore::Counter(store) => store.scan(alloc, low, high, limit),
-            AnyStore::Maximum(store) => store.scan(alloc, low, high, limit),
-            AnyStore::Tail(store) => store.scan(alloc, low, high, limit),
-        }
+        with_each!(AnyStore, &self.store, store => store.scan(alloc, low, high, limit))
     }
 
     /// The answer to a query at a snapshot, or `NotProtected` if no snapshot is at its sequence.
     pub fn answer(&self, alloc: Global, query: &Query) -> Result<Answer, AllocError>
         ensures { IfOk result (λ answer. answer ≡ answer_in self.now query.now) }
     {
-        match &self.store {
-            AnyStore::Append(store) => store.answer(alloc, query),
-            AnyStore::Counter(store) => store.answer(alloc, query),
-            AnyStore::Maximum(store) => store.answer(alloc, query),
-            AnyStore::Tail(store) => store.answer(alloc, query),
-        }
+        with_each!(AnyStore, &self.store, store => store.answer(alloc, query))
     }
 }

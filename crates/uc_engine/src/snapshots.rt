@@ -6,6 +6,7 @@ ghost use Rattle.uc_live.specs.Snapshots.{TakesSnapshot, without_snapshot};
 ghost use Rattle.uc_live.specs.Writing.{Prepares};
 ghost use Rattle.uc_engine.specs.Engines.{meaning_of, with_live};
 
+use crate::each_operator::with_each;
 use crate::engine::{AnyStore, Engine};
 use std::alloc::Global;
 use uc_live::{ReleaseError, RoomError};
@@ -18,12 +19,7 @@ impl Engine {
         ensures err { IfErr result (λ error. HasNoRoom error self.new.live
             × Prepares (meaning_of self.old.kind) self.old.live self.new.live []) }
     {
-        match &mut self.store {
-            AnyStore::Append(store) => store.snapshot(alloc),
-            AnyStore::Counter(store) => store.snapshot(alloc),
-            AnyStore::Maximum(store) => store.snapshot(alloc),
-            AnyStore::Tail(store) => store.snapshot(alloc),
-        }
+        with_each!(AnyStore, &mut self.store, store => store.snapshot(alloc))
     }
 
     /// Releases a snapshot that was taken at the sequence. It is refused if there is none.
@@ -33,11 +29,6 @@ impl Engine {
         ensures err { IfErr result (λ error.
             (error ≡ NotKept seq) × ¬ Contains self.old.live.snapshots seq × (self.new ≡ self.old)) }
     {
-        match &mut self.store {
-            AnyStore::Append(store) => store.release(seq),
-            AnyStore::Counter(store) => store.release(seq),
-            AnyStore::Maximum(store) => store.release(seq),
-            AnyStore::Tail(store) => store.release(seq),
-        }
+        with_each!(AnyStore, &mut self.store, store => store.release(seq))
     }
 }

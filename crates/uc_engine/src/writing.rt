@@ -5,6 +5,7 @@ ghost use Rattle.uc_live.specs.Recording.{IsRecorded};
 ghost use Rattle.uc_live.specs.Writing.{IsBatchPrepared, IsBatchWritten, IsWritten, Prepares, Refuses, RefusesBatch, next_batch};
 ghost use Rattle.uc_engine.specs.Engines.{meaning_of, with_live};
 
+use crate::each_operator::with_each;
 use crate::engine::{AnyStore, Engine};
 use std::alloc::Global;
 use uc_bytes::OpRef;
@@ -19,12 +20,7 @@ impl Engine {
         ensures err { IfErr result (λ error. Refuses op.entry self.old.live self.new.live error
             × Prepares (meaning_of self.old.kind) self.old.live self.new.live []) }
     {
-        match &mut self.store {
-            AnyStore::Append(store) => store.write(alloc, op),
-            AnyStore::Counter(store) => store.write(alloc, op),
-            AnyStore::Maximum(store) => store.write(alloc, op),
-            AnyStore::Tail(store) => store.write(alloc, op),
-        }
+        with_each!(AnyStore, &mut self.store, store => store.write(alloc, op))
     }
 
     /// Writes a batch, given as bytes. It is refused as `LiveStore::prepare_batch` says, and no read changes then.
@@ -34,12 +30,7 @@ impl Engine {
         ensures err { IfErr result (λ error. RefusesBatch (next_batch (lives.last self.old.live) batch.now) self.new.live error
             × Prepares (meaning_of self.old.kind) self.old.live self.new.live []) }
     {
-        match &mut self.store {
-            AnyStore::Append(store) => store.write_batch(alloc, batch),
-            AnyStore::Counter(store) => store.write_batch(alloc, batch),
-            AnyStore::Maximum(store) => store.write_batch(alloc, batch),
-            AnyStore::Tail(store) => store.write_batch(alloc, batch),
-        }
+        with_each!(AnyStore, &mut self.store, store => store.write_batch(alloc, batch))
     }
 
     /// Prepares a batch, and returns the bytes that make it durable at the end of a log of `length` bytes, as
@@ -56,35 +47,20 @@ impl Engine {
         ensures err { IfErr result (λ error. RefusesBatch (next_batch (lives.last self.old.live) batch.now) self.new.live error
             × Prepares (meaning_of self.old.kind) self.old.live self.new.live []) }
     {
-        match &mut self.store {
-            AnyStore::Append(store) => store.prepare_recorded(alloc, length, batch),
-            AnyStore::Counter(store) => store.prepare_recorded(alloc, length, batch),
-            AnyStore::Maximum(store) => store.prepare_recorded(alloc, length, batch),
-            AnyStore::Tail(store) => store.prepare_recorded(alloc, length, batch),
-        }
+        with_each!(AnyStore, &mut self.store, store => store.prepare_recorded(alloc, length, batch))
     }
 
     /// Takes what is prepared. It takes no memory, and can't fail.
     pub fn commit(&mut self)
         ensures { self.new ≡ with_live (lives.committed self.old.live) self.old }
     {
-        match &mut self.store {
-            AnyStore::Append(store) => store.commit(),
-            AnyStore::Counter(store) => store.commit(),
-            AnyStore::Maximum(store) => store.commit(),
-            AnyStore::Tail(store) => store.commit(),
-        }
+        with_each!(AnyStore, &mut self.store, store => store.commit())
     }
 
     /// Gives up what is prepared.
     pub fn give_up(&mut self)
         ensures { self.new ≡ with_live (lives.unprepared self.old.live) self.old }
     {
-        match &mut self.store {
-            AnyStore::Append(store) => store.give_up(),
-            AnyStore::Counter(store) => store.give_up(),
-            AnyStore::Maximum(store) => store.give_up(),
-            AnyStore::Tail(store) => store.give_up(),
-        }
+        with_each!(AnyStore, &mut self.store, store => store.give_up())
     }
 }

@@ -2,7 +2,6 @@ pub mod Cuts
 pub mod Leaving
 pub mod Faults
 pub mod First
-pub mod HexPairs
 pub mod LineEnds
 pub mod HeadFaults
 pub mod HeadWhole

@@ -1,5 +1,5 @@
 -- What is printed is read again.
-use Rattle.std.proofs.Common.{◌≡◌, ℕ, ◌+◌, ◌/◌, ◌%◌, ◌<◌, ◌≤◌, ◌^◌, true, false, ◌&&◌, eqb, ltb, List, [], ◌∷◌, ◌++◌, length, get_or, Some, None, Ok, refl, sym, ap, ◌∙◌, arith, inl, inr, length-append}
+use Rattle.std.proofs.Common.{◌≡◌, ℕ, ◌+◌, ◌/◌, ◌%◌, ◌<◌, ◌≤◌, ◌^◌, true, false, ◌&&◌, eqb, ltb, List, [], ◌∷◌, ◌++◌, length, codes, get_or, Some, None, Ok, refl, sym, ap, ◌∙◌, arith, inl, inr, length-append}
 use Rattle.std.specs.Prelude.{All}
 use Rattle.std.specs.Char.{is_ascii_digit}
 use Rattle.std.specs.Fmt.{decimal}
@@ -9,9 +9,9 @@ use Rattle.std.proofs.lemmas.Bool.{cases_lt, and_right, and_from, and_parts, lt-
 use Rattle.std.proofs.lemmas.Fmt.{decimal_by_steps, decimal_is_IsNumeral}
 use Rattle.std.proofs.lemmas.List.{get_or_past, get_or_append_left}
 use Rattle.std.proofs.lemmas.List.Folds.{list_all-append}
-use Rattle.hex.specs.Hex.{IsBytes, encode_with, decode_of}
+use Rattle.hex.specs.Hex.{IsBytes, encode_with, decode_of, encode_lower}
 use Rattle.hex.proofs.HexLemmas.{decode_of-encode_lower}
-use Rattle.uc_script.specs.Texts.{is_numeral, number_of, text_of, hex_text}
+use Rattle.uc_script.specs.Texts.{is_numeral, number_of, text_of}
 
 -- ---- bytes
 
@@ -27,10 +27,13 @@ text_of-long : (a b : ℕ) (rest bytes : List ℕ) → decode_of (a ∷ b ∷ re
 unfolding text_of
 text_of-long a b rest bytes h = rw (and_right (eqb a 46) false refl, h) refl
 
-pub text_of-hex_text : (bytes : List ℕ) → All (λ byte. byte < 256) bytes → text_of (hex_text bytes) ≡ Some bytes
+pub text_of-digits : (byte : ℕ) (rest : List ℕ) → All (λ b. b < 256) (byte ∷ rest) → text_of (encode_lower (byte ∷ rest)) ≡ Some (byte ∷ rest)
 unfolding text_of encode_with
-text_of-hex_text [] h = refl
-text_of-hex_text (byte ∷ rest) h = text_of-long _ _ _ (byte ∷ rest) (decode_of-encode_lower (byte ∷ rest) (is_bytes (byte ∷ rest) h))
+text_of-digits byte rest h = text_of-long _ _ _ (byte ∷ rest) (decode_of-encode_lower (byte ∷ rest) (is_bytes (byte ∷ rest) h))
+
+pub text_of-dot : text_of (codes ".") ≡ Some []
+unfolding text_of
+text_of-dot = refl
 
 -- ---- numbers
 

@@ -1,11 +1,11 @@
--- What a field says, and how bytes and numbers are printed.
+-- What a field says.
 use Rattle.std.specs.Prelude.{ℕ, ◌^◌, nat_lt, ◌==◌, ◌&&◌, not, Bool, false, List, [], ◌∷◌, codes, Option, Some, None, option_and_then, if◌then◌else◌}
 use Rattle.std.specs.Char.{is_ascii_digit}
 use Rattle.std.specs.Option.{option_map}
 use Rattle.std.specs.Result.{result_ok}
 use Rattle.std.specs.List.{list_all}
 use Rattle.std.specs.Str.Parse.{digits_value}
-use Rattle.hex.specs.Hex.{decode_of, encode_lower}
+use Rattle.hex.specs.Hex.{decode_of}
 use Rattle.uc_script.specs.Lines.{says}
 use Rattle.uc_script.specs.declared.call.TheConstants.{NAMES}
 use Rattle.uc_script.specs.declared.seq.Seq.{Seq}
@@ -43,8 +43,3 @@ seq_of field = if says field (codes "last") then Some Last else option_map Numbe
 -- Where a scan ends: a key, or `-` for nowhere.
 unfoldable pub high_of : List ℕ → Option (Option (List ℕ))
 high_of field = if says field (codes "-") then Some None else option_map Some (text_of field)
-
--- How bytes are printed.
-abbrev pub hex_text : List ℕ → List ℕ
-hex_text [] = codes "."
-hex_text (byte ∷ rest) = encode_lower (byte ∷ rest)

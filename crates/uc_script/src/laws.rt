@@ -1,8 +1,9 @@
 //! What the definitions of this crate mean, as laws. Each is a contract; its function is a proof step that does nothing
 //! when it runs.
 
-ghost use Rattle.std.specs.Prelude.{◌≡◌, ℕ, ◌<◌, ◌^◌, ◌++◌, List, length, Ok, Some, Result, All};
+ghost use Rattle.std.specs.Prelude.{◌≡◌, ℕ, ◌<◌, ◌^◌, ◌++◌, ◌∷◌, [], List, codes, length, Ok, Some, Result, All};
 ghost use Rattle.std.specs.Fmt.{decimal};
+ghost use Rattle.hex.specs.Hex.{encode_lower};
 ghost use Rattle.uc_script.specs.Cases.{ComesTo};
 ghost use Rattle.uc_script.specs.Fed.{all_ops};
 ghost use Rattle.uc_script.specs.Head.{Head, head_of};
@@ -11,7 +12,7 @@ ghost use Rattle.uc_script.specs.Lines.{lines_of};
 ghost use Rattle.uc_script.specs.Names.{NameIsGood};
 ghost use Rattle.uc_script.specs.Script.{script_of};
 ghost use Rattle.uc_script.specs.Short.{AreNoLonger};
-ghost use Rattle.uc_script.specs.Texts.{number_of, text_of, hex_text};
+ghost use Rattle.uc_script.specs.Texts.{number_of, text_of};
 ghost use Rattle.uc_script.specs.declared.script.Script.{Script};
 
 /// A script is setup lines, one `open`, and lines of which each change has a `feed` behind it, and asks what they name in
@@ -51,10 +52,11 @@ pub fn names_are_in_range()
         → All NameIsGood script.calls }
 {}
 
-/// Reading what is printed for bytes returns these bytes.
-pub fn printed_bytes_are_read()
-    ensures { (bytes : List ℕ) → All (λ byte. byte < 256) bytes
-        → text_of (hex_text bytes) ≡ Some bytes }
+/// Reading the digits of bytes returns these bytes, and reading `.` returns none.
+pub fn digits_are_read()
+    ensures some { (byte : ℕ) (rest : List ℕ) → All (λ b. b < 256) (byte ∷ rest)
+        → text_of (encode_lower (byte ∷ rest)) ≡ Some (byte ∷ rest) }
+    ensures none { text_of (codes ".") ≡ Some [] }
 {}
 
 /// Reading what is printed for a number returns this number.

@@ -32,7 +32,6 @@ mod call;
 mod call_line;
 mod call_reader;
 mod change_line;
-mod digits;
 mod error;
 mod explanation;
 mod fault;
@@ -59,7 +58,6 @@ mod word;
 
 pub use call::{Call, NAMES};
 pub use call_reader::CallReader;
-pub use digits::{push_hex, push_number};
 pub use error::ScriptError;
 pub use explanation::Explanation;
 pub use fault::LineFault;
@@ -69,7 +67,7 @@ pub use field_kind::FieldKind;
 pub use head::{Head, read_head};
 pub use laws::{
     a_head_is_its_lines, a_script_is_its_lines, a_script_names_no_more_than_it_has,
-    names_are_in_range, printed_bytes_are_read, printed_numbers_are_read,
+    digits_are_read, names_are_in_range, printed_numbers_are_read,
     what_follows_a_head_changes_nothing,
 };
 pub use lines::{is_skipped, next_field, next_line};

@@ -5,7 +5,8 @@ use crate::script_ways::{self, push_begin, push_script};
 use crate::texts::text_of;
 use std::alloc::{AllocError, Global};
 use testkit_data::{Case, CaseError, Interpreter};
-use uc_script::{MOST_SHOWN, push_hex, push_number, shortened};
+use uc_script::{MOST_SHOWN, shortened};
+use uc_tool_io::{push_hex, push_number};
 
 /// What plays the files: `data/README.md` has its commands.
 #[derive(Drop)]

@@ -1,3 +1,4 @@
+pub mod HexPairs
 pub mod Known
 pub mod Printing
 pub mod Parts

@@ -7,6 +7,7 @@ pub mod Ending
 pub mod Status
 pub mod OperatorName
 pub mod Refusal
+pub mod Digits
 pub mod Line
 pub mod LogLines
 pub mod Dump

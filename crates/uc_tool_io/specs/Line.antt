@@ -2,7 +2,7 @@
 use Rattle.std.specs.Prelude.{ℕ, List, [], ◌∷◌, ◌++◌}
 use Rattle.std.specs.List.{flat_map}
 use Rattle.std.specs.Fmt.{decimal}
-use Rattle.uc_script.specs.Texts.{hex_text}
+use Rattle.uc_tool_io.specs.Digits.{hex_text}
 
 -- words, and a number behind them
 abbrev pub field : List ℕ × ℕ → List ℕ

@@ -12,7 +12,7 @@ use Rattle.uc_batch.specs.declared.ended.Ended.{Ended}
 use Rattle.uc_batch.specs.declared.ended.Ended.TheVariants as ended
 use Rattle.uc_batch.specs.declared.error.BatchError.{BatchError}
 use Rattle.uc_batch.specs.declared.error.BatchError.TheVariants as batch
-use Rattle.uc_script.specs.Texts.{hex_text}
+use Rattle.uc_tool_io.specs.Digits.{hex_text}
 use Rattle.uc_tool_io.specs.Line.{numbered_line}
 
 -- what a kind of change is called

@@ -25,9 +25,10 @@
 //!
 //! It stands on the formats alone, and not on the store, so that what prints logs doesn't wait for it.
 //!
-//! Tests: `uc_tests_formats`, `uc_tests_program`, `uc_tests_tool`.
+//! Tests: `uc_tests_formats`, `uc_tests_scripts`, `uc_tests_program`, `uc_tests_tool`.
 #![tactic(auto)]
 
+mod digits;
 mod done;
 mod dump_run;
 mod ending;
@@ -42,6 +43,7 @@ mod refused_run;
 mod run_error;
 mod whole_run;
 
+pub use digits::{push_hex, push_number};
 pub use done::Done;
 pub use dump_run::dump;
 pub use ending::{finish, finish_without_input};

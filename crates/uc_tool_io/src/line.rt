@@ -4,8 +4,8 @@ ghost use Rattle.std.specs.Prelude.{◌≡◌, ◌++◌, map, IfOk, OnOk};
 ghost use Rattle.std.specs.Fmt.{decimal};
 ghost use Rattle.uc_tool_io.specs.Line as lines;
 
+use crate::digits::{push_hex, push_number};
 use std::alloc::{AllocError, Global};
-use uc_script::{push_hex, push_number};
 
 /// Appends words and a number.
 pub fn push_counted(out: &mut Vec<u8>, words: &[u8], number: u64) -> Result<(), AllocError>

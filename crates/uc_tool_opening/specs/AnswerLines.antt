@@ -1,7 +1,7 @@
 -- The lines of answers.
 use Rattle.std.specs.Prelude.{ℕ, List, [], ◌∷◌, ◌++◌, length, codes, Some, None}
 use Rattle.std.specs.List.{flat_map}
-use Rattle.uc_script.specs.Texts.{hex_text}
+use Rattle.uc_tool_io.specs.Digits.{hex_text}
 use Rattle.uc_query_read.specs.declared.answer.Answer.{Answer}
 use Rattle.uc_query_read.specs.declared.answer.Answer.TheVariants.{Value, Rows, NotProtected}
 use Rattle.uc_tool_io.specs.Line.{numbered_line, text_line}

@@ -7,8 +7,7 @@ ghost use Rattle.uc_tool_opening.specs.AnswerLines.{row_line};
 
 use std::alloc::AllocError;
 use uc_query_read::{Answer, Rows};
-use uc_script::push_hex;
-use uc_tool_io::{push_numbered_line, push_text_line};
+use uc_tool_io::{push_hex, push_numbered_line, push_text_line};
 
 /// Appends a key and its value, as a line.
 fn push_row(out: &mut Vec<u8>, key: &[u8], value: &[u8]) -> Result<(), AllocError>

@@ -24,6 +24,7 @@
 
 mod answers;
 mod asked;
+mod laws;
 mod opening;
 mod opening_fault;
 mod outcome;
@@ -35,6 +36,7 @@ mod reports;
 
 pub use answers::push_answer_lines;
 pub use asked::{query_of, seq_at};
+pub use laws::printed_bytes_are_read;
 pub use opening::{open_ops, writes_by_log};
 pub use opening_fault::{OpeningFault, fault_of_opening, option_fault};
 pub use outcome::Outcome;

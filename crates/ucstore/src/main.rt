@@ -25,6 +25,20 @@ const COMMA: u8 = b',';
 /// How many bytes `--operator tail` keeps.
 const KEPT: usize = 4;
 
+/// Runs it with the operator that the words name.
+macro_rules! run_with_operator {
+    ($matches:expr, $run:ident::<_, R, W>($($given:expr),*)) => {
+        match uc_command::operator_name($matches) {
+            Some(OperatorName::Counter) => $run::<Counter, R, W>($($given),*),
+            Some(OperatorName::Append) => $run::<Append<COMMA>, R, W>($($given),*),
+            Some(OperatorName::Maximum) => $run::<Maximum, R, W>($($given),*),
+            Some(OperatorName::Tail) => $run::<Tail<KEPT>, R, W>($($given),*),
+            // The parser lets no other name through.
+            None => return Outcome::without_reason(Done::Refused),
+        }
+    };
+}
+
 /// Plays a script under the operator that the words name.
 fn play_script<R: Read, W: Write>(
     rt: &(impl Threads + Sync),
@@ -34,16 +48,10 @@ fn play_script<R: Read, W: Write>(
     writer: &mut W,
 ) -> Outcome {
     let options = uc_command::options(matches);
-    match uc_command::operator_name(matches) {
-        Some(OperatorName::Counter) => play::<Counter, R, W>(rt, alloc, reader, writer, &options),
-        Some(OperatorName::Append) => play::<Append<COMMA>, R, W>(
-            rt, alloc, reader, writer, &options,
-        ),
-        Some(OperatorName::Maximum) => play::<Maximum, R, W>(rt, alloc, reader, writer, &options),
-        Some(OperatorName::Tail) => play::<Tail<KEPT>, R, W>(rt, alloc, reader, writer, &options),
-        // The parser lets no other name through.
-        None => Outcome::without_reason(Done::Refused),
-    }
+    run_with_operator!(
+        matches,
+        play::<_, R, W>(rt, alloc, reader, writer, &options)
+    )
 }
 
 /// Says on standard error how many of the writes that come later weren't fed, if any weren't.
@@ -74,22 +82,12 @@ fn ask_log<R: Read, W: Write>(
     if !is_plan(workers, piece, compactors) {
         return Outcome::without_reason(Done::Refused);
     }
-    let (outcome, beside) = match uc_command::operator_name(matches) {
-        Some(OperatorName::Counter) => ask::<Counter, R, W>(
-            rt, alloc, reader, writer, &options, workers, piece, compactors, later,
-        ),
-        Some(OperatorName::Append) => ask::<Append<COMMA>, R, W>(
-            rt, alloc, reader, writer, &options, workers, piece, compactors, later,
-        ),
-        Some(OperatorName::Maximum) => ask::<Maximum, R, W>(
-            rt, alloc, reader, writer, &options, workers, piece, compactors, later,
-        ),
-        Some(OperatorName::Tail) => ask::<Tail<KEPT>, R, W>(
-            rt, alloc, reader, writer, &options, workers, piece, compactors, later,
-        ),
-        // The parser lets no other name through.
-        None => return Outcome::without_reason(Done::Refused),
-    };
+    let (outcome, beside) = run_with_operator!(
+        matches,
+        ask::<_, R, W>(
+            rt, alloc, reader, writer, &options, workers, piece, compactors, later
+        )
+    );
     tell_left(rt, beside.left);
     outcome
 }
@@ -103,22 +101,10 @@ fn report<R: Read, W: Write>(
     writer: &mut W,
 ) -> Outcome {
     let options = uc_command::options(matches);
-    match uc_command::operator_name(matches) {
-        Some(OperatorName::Counter) => {
-            report_log::<Counter, R, W>(rt, alloc, reader, writer, &options)
-        }
-        Some(OperatorName::Append) => report_log::<Append<COMMA>, R, W>(
-            rt, alloc, reader, writer, &options,
-        ),
-        Some(OperatorName::Maximum) => {
-            report_log::<Maximum, R, W>(rt, alloc, reader, writer, &options)
-        }
-        Some(OperatorName::Tail) => {
-            report_log::<Tail<KEPT>, R, W>(rt, alloc, reader, writer, &options)
-        }
-        // The parser lets no other name through.
-        None => Outcome::without_reason(Done::Refused),
-    }
+    run_with_operator!(
+        matches,
+        report_log::<_, R, W>(rt, alloc, reader, writer, &options)
+    )
 }
 
 /// Prints why the words don't name a run, or the help that they ask for, which may fail as any text may.

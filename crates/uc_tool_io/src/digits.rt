@@ -3,7 +3,7 @@
 ghost use Rattle.std.specs.Prelude.{◌≡◌, ◌++◌, ◌*◌, [], ◌∷◌, length, OnOk, OnErr};
 ghost use Rattle.std.specs.Fmt.{decimal};
 ghost use Rattle.hex.specs.Hex.{encode_lower};
-ghost use Rattle.uc_script.specs.Texts.{hex_text};
+ghost use Rattle.uc_tool_io.specs.Digits.{hex_text};
 
 use itoa::Buffer;
 use std::alloc::AllocError;

@@ -2,7 +2,7 @@
 use Rattle.std.proofs.Common.{◌≡◌, ℕ, ◌+◌, ◌*◌, ◌<◌, Bool, true, ◌&&◌, List, [], ◌∷◌, get_or, eqb, refl, ap₂}
 use Rattle.std.proofs.lemmas.Bool.{agree_below, agree_below_at, eqb-true, and_parts}
 use Rattle.hex.specs.Hex.{encode_with, encode_lower}
-use Rattle.uc_script.specs.declared.digits.TheConstants.{PAIRS}
+use Rattle.uc_tool_io.specs.declared.digits.TheConstants.{PAIRS}
 
 -- the digits that stand at a byte's place
 abbrev pub pair : ℕ → List ℕ

@@ -2,7 +2,7 @@ use Rattle.std.proofs.Common.{◌≡◌, ◌/◌, ◌%◌, ℕ, [], ◌∷◌, �
 use Rattle.std.proofs.lemmas.List.{length-set}
 use Rattle.hex.specs.Hex.{encode_with, encode_lower, lower_digits}
 use Rattle.hex.proofs.Pairs.{encode_step, encode_done}
-use Rattle.uc_script.proofs.digits.write_pairs.Goals as goal
+use Rattle.uc_tool_io.proofs.digits.write_pairs.Goals as goal
 
 -- the first digit of a byte, and the second
 first_digit : (byte : ℕ) → slice_index_or (encode_lower (byte ∷ [])) 0 0 ≡ slice_index lower_digits (byte / 16)
