@@ -61,7 +61,9 @@ impl<O: Operator> LiveStore<O> {
         claims_keep_their_runs::<O>();
         match feed_gathered(&mut self.owned, alloc, &self.active) {
             Ok(()) => {
-                self.active = FlushableMemtables::new(alloc);
+                // One batch may be larger than a memtable. What holds that isn't kept.
+                let most = self.options.store.memtable.saturating_mul(2);
+                self.active.clear(alloc, most);
                 self.leaving = None;
                 Ok(())
             }

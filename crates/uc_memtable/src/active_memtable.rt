@@ -198,6 +198,23 @@ impl ActiveMemtable {
         self.all_ranges = self.ranges;
     }
 
+    /// Forgets all writes. Their memory is kept for the next ones, unless they have more than `most` bytes.
+    pub fn clear(&mut self, alloc: Global, most: u64)
+        ensures { self.new ≡ record { shown = []; waiting = [] } }
+    {
+        if self.writes.size() > most {
+            *self = ActiveMemtable::new(alloc);
+        } else {
+            self.writes.truncate(0);
+            self.chains.truncate(0);
+            self.all_ranges = 0;
+            self.shown = 0;
+            self.size = 0;
+            self.last = 0;
+            self.ranges = 0;
+        }
+    }
+
     /// Takes and shows copies of the writes that another memtable shows, which lie behind all of these. It costs a copy
     /// of the texts. An `Err` changes nothing.
     pub(crate) fn take_shown(&mut self, other: &ActiveMemtable) -> Result<(), AllocError>

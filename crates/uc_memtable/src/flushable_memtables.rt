@@ -164,6 +164,14 @@ impl FlushableMemtables {
         self.behind.give_up();
     }
 
+    /// Forgets all writes, and keeps their memory as [`ActiveMemtable::clear`] does, but for those that are set apart or frozen.
+    pub fn clear(&mut self, alloc: Global, most: u64)
+        ensures { self.new ≡ record { shown = []; waiting = []; apart = 0 } }
+    {
+        self.apart = FrozenMemtables::new(alloc);
+        self.behind.clear(alloc, most);
+    }
+
     /// A share of what is shown, for other threads, as [`GatheredMemtables::share`] gives it. No write changes here.
     pub fn share(&mut self, alloc: Global) -> Result<FlushableMemtables, AllocError>
         ensures shared { IfOk result (λ shared. (shared.shown ≡ self.old.shown) × (shared.waiting ≡ [])) }

@@ -181,6 +181,14 @@ impl GatheredMemtables {
         self.active.give_up();
     }
 
+    /// Forgets all writes, and keeps their memory as [`ActiveMemtable::clear`] does, but for those that are frozen.
+    pub fn clear(&mut self, alloc: Global, most: u64)
+        ensures { self.new ≡ record { shown = []; waiting = [] } }
+    {
+        self.frozen = FrozenMemtables::new(alloc);
+        self.active.clear(alloc, most);
+    }
+
     /// A share of what is shown, for other threads: it shows the same from now on, whatever is written here. Nothing
     /// waits in it.
     ///
