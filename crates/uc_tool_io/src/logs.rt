@@ -5,12 +5,12 @@ ghost use Rattle.std.specs.Fmt.{decimal};
 ghost use Rattle.uc_tool_io.specs.LogLines as lines;
 ghost use Rattle.uc_tool_io.specs.LogLines.{op_text, write_line, batch_words};
 
+use crate::digits::{push_hex, push_number};
 use crate::line::{numbered_line, push_counted};
 use std::alloc::{AllocError, Global};
 use uc_batch::{BatchError, Ended};
 use uc_bytes::{OpKind, OpRef, WriteRef};
 use uc_logrec::LogFault;
-use uc_script::{push_hex, push_number};
 
 /// What a kind of change is called, with a space before and after it.
 fn op_words(kind: OpKind) -> &'static [u8]
