@@ -168,7 +168,7 @@ impl FlushableMemtables {
     pub fn clear(&mut self, alloc: Global, most: u64)
         ensures { self.new ≡ record { shown = []; waiting = []; apart = 0 } }
     {
-        self.apart = FrozenMemtables::new(alloc);
+        self.apart.clear(alloc);
         self.behind.clear(alloc, most);
     }
 

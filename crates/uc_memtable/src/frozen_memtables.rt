@@ -68,6 +68,13 @@ impl FrozenMemtables {
         }
     }
 
+    /// Drops all of them. It frees none that is shared.
+    pub(crate) fn clear(&mut self, alloc: Global)
+        ensures { self.new ≡ [] }
+    {
+        *self = FrozenMemtables::new(alloc);
+    }
+
     /// Whether they show no write.
     pub(crate) fn is_empty(&self) -> bool
         ensures { IsTrue result ↔ (self.now ≡ []) }

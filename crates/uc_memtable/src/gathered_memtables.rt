@@ -185,7 +185,7 @@ impl GatheredMemtables {
     pub fn clear(&mut self, alloc: Global, most: u64)
         ensures { self.new ≡ record { shown = []; waiting = [] } }
     {
-        self.frozen = FrozenMemtables::new(alloc);
+        self.frozen.clear(alloc);
         self.active.clear(alloc, most);
     }
 
