@@ -12,12 +12,14 @@ use Rattle.std.proofs.lemmas.List.{length-drop, take-append-drop, take-take, tak
 use Rattle.std.proofs.lemmas.List.Elements.{All-map, All-more, All-weaker}
 use Rattle.std.proofs.lemmas.List.Sorted.{IsPermutation-map, All-permutation}
 use Rattle.uc_bytes.specs.Bytes.{bytes_cmp}
+use Rattle.uc_bytes.specs.declared.op_ref.OpKind.TheVariants.{Put}
 use Rattle.uc_run_entry.specs.declared.entry.Entry.{Entry}
 use Rattle.uc_run_entry.specs.Order.{entry_cmp}
+use Rattle.uc_run.specs.declared.slot.Slot.{Slot}
 use Rattle.uc_run.specs.Points.{HaveOwnSeqs}
 use Rattle.uc_run.specs.Flush.{by_key}
 use Rattle.uc_run.specs.Prefixes.{prefix_of, AreBytes}
-use Rattle.uc_run.specs.Ranks.{rest_length, untold, behind_cmp, ranked_cmp, points_of, ranked_at, HasFront, HaveBytes, HaveFront}
+use Rattle.uc_run.specs.Ranks.{rest_length, untold, behind_cmp, ranked_cmp, entry_in, point_in, points_of, ranked_at, HasFront, HaveBytes, HaveFront}
 use Rattle.uc_run.proofs.ByKey.{sorted_is_by_key}
 use Rattle.uc_run.proofs.Fronts.{behind_front}
 use Rattle.uc_run.proofs.PrefixOrder.{bytes_behind, less_is, greater_is, lower_prefix, higher_prefix, equal_prefix}
@@ -27,9 +29,9 @@ pub record IsRanked (shared : ℕ) (r : ℕ × Entry) : Type 0 where
   pub prefix : r.0 ≡ prefix_of (drop shared r.1.key)
   pub bytes : AreBytes (drop shared r.1.key)
 
-pub record AreRanked (shared : ℕ) (points : List Entry) (ranked : List (ℕ × Entry)) : Type 0 where
-  pub listed : points_of ranked ≡ points
-  pub each : All (IsRanked shared) ranked
+pub record AreRanked (text : List ℕ) (shared : ℕ) (points : List Entry) (ranked : List (ℕ × Slot)) : Type 0 where
+  pub listed : points_of text ranked ≡ points
+  pub each : All (λ (r : ℕ × Slot). IsRanked shared (point_in text r)) ranked
 
 pub ranked_total : (shared : ℕ) → IsTotalOrder (ranked_cmp shared)
 ranked_total shared =
@@ -132,53 +134,60 @@ ranked_as_points shared first r s h k p q = by_prefix shared first r.1 s.1 h k p
 
 -- ---- ranked points in order
 
-module _ (shared : ℕ) (first : List ℕ) (points : List Entry) (front : HaveFront shared first points) (ranked : List (ℕ × Entry)) (held : AreRanked shared points ranked) where
-  abbrev Good : ℕ × Entry → Type 0
-  Good r = HasFront shared first r.1.key × IsRanked shared r
+spare : ℕ × Slot
+spare = (0, record { seq = 0; kind = Put; start = 0; first = 0; second = 0 })
 
-  fronts : All (λ (r : ℕ × Entry). HasFront shared first r.1.key) ranked
+module _ (text : List ℕ) where
+  abbrev entry : ℕ × Slot → Entry
+  entry r = entry_in text r.1
+
+module _ (text : List ℕ) (shared : ℕ) (first : List ℕ) (points : List Entry) (front : HaveFront shared first points) (ranked : List (ℕ × Slot)) (held : AreRanked text shared points ranked) where
+  abbrev Good : ℕ × Slot → Type 0
+  Good r = HasFront shared first (entry text r).key × IsRanked shared (point_in text r)
+
+  fronts : All (λ (r : ℕ × Slot). HasFront shared first (entry text r).key) ranked
   fronts i d l =
       subst (λ (p : Entry). HasFront shared first p.key)
-      (ap (λ (ps : List Entry). get_or ps i d.1) (sym held.listed) ∙ get_or-map (λ (r : ℕ × Entry). r.1) ranked i d d.1 l)
-      (front i d.1 (subst (λ (n : ℕ). i < n) (sym (length-map ranked (λ (r : ℕ × Entry). r.1)) ∙ ap length held.listed) l))
+      (ap (λ (ps : List Entry). get_or ps i (entry text d)) (sym held.listed) ∙ get_or-map (entry text) ranked i d (entry text d) l)
+      (front i (entry text d) (subst (λ (n : ℕ). i < n) (sym (length-map ranked (entry text)) ∙ ap length held.listed) l))
 
-  pub ranked_is_by_key : HaveOwnSeqs points → (sorted : List (ℕ × Entry)) → IsPermutation ranked sorted → IsSortedBy (λ r s. is_lt (ranked_cmp shared r s)) sorted → points_of sorted ≡ by_key points
+  pub ranked_is_by_key : HaveOwnSeqs points → (sorted : List (ℕ × Slot)) → IsPermutation ranked sorted → IsSortedBy (λ r s. is_lt (ranked_cmp shared (point_in text r) (point_in text s))) sorted → points_of text sorted ≡ by_key points
   ranked_is_by_key own sorted moved order =
       let good : All Good sorted = All-permutation Good ranked sorted moved (λ i d l. (fronts i d l, held.each i d l)) in
-      let in_order : IsSortedBy (λ p q. is_lt (entry_cmp p q)) (points_of sorted) = each good in
-      sorted_is_by_key points (points_of sorted) own
-      (subst (λ (ps : List Entry). IsPermutation ps (points_of sorted)) held.listed (IsPermutation-map (λ (r : ℕ × Entry). r.1) ranked sorted moved)) in_order
+      let in_order : IsSortedBy (λ p q. is_lt (entry_cmp p q)) (points_of text sorted) = each good in
+      sorted_is_by_key points (points_of text sorted) own
+      (subst (λ (ps : List Entry). IsPermutation ps (points_of text sorted)) held.listed (IsPermutation-map (entry text) ranked sorted moved)) in_order
     where
-      each : All Good sorted → IsSortedBy (λ p q. is_lt (entry_cmp p q)) (points_of sorted)
+      each : All Good sorted → IsSortedBy (λ p q. is_lt (entry_cmp p q)) (points_of text sorted)
       each good k d le l =
-          let e : ℕ × Entry = (0, d) in
-          let next : k + 1 < length sorted = subst (λ (n : ℕ). k + 1 < n) (length-map sorted (λ (r : ℕ × Entry). r.1)) l in
+          let e : ℕ × Slot = spare in
+          let next : k + 1 < length sorted = subst (λ (n : ℕ). k + 1 < n) (length-map sorted (entry text)) l in
           let this : k < length sorted = omega (arith, next) in
-          ap (λ (p : Entry). is_lt (entry_cmp p (get_or (points_of sorted) k d))) (get_or-map (λ (r : ℕ × Entry). r.1) sorted (k + 1) e d next)
-          ∙ ap (λ (p : Entry). is_lt (entry_cmp (get_or sorted (k + 1) e).1 p)) (get_or-map (λ (r : ℕ × Entry). r.1) sorted k e d this)
-          ∙ ap is_lt (sym (ranked_as_points shared first (get_or sorted (k + 1) e) (get_or sorted k e) (good (k + 1) e next).0 (good k e this).0 (good (k + 1) e next).1 (good k e this).1))
+          ap (λ (p : Entry). is_lt (entry_cmp p (get_or (points_of text sorted) k d))) (get_or-map (entry text) sorted (k + 1) e d next)
+          ∙ ap (λ (p : Entry). is_lt (entry_cmp (entry text (get_or sorted (k + 1) e)) p)) (get_or-map (entry text) sorted k e d this)
+          ∙ ap is_lt (sym (ranked_as_points shared first (point_in text (get_or sorted (k + 1) e)) (point_in text (get_or sorted k e)) (good (k + 1) e next).0 (good k e this).0 (good (k + 1) e next).1 (good k e this).1))
           ∙ order k e (omega arith) next
 
-module _ (shared : ℕ) where
-  same_points : (rs : List (ℕ × Entry)) → points_of (map (ranked_at shared) rs) ≡ points_of rs
+module _ (text : List ℕ) (shared : ℕ) where
+  same_points : (rs : List (ℕ × Slot)) → points_of text (map (ranked_at text shared) rs) ≡ points_of text rs
   same_points [] = refl
-  same_points (r ∷ rs) = ap (λ (ps : List Entry). r.1 ∷ ps) (same_points rs)
+  same_points (r ∷ rs) = ap (λ (ps : List Entry). entry text r ∷ ps) (same_points rs)
 
-  pub are_ranked : (rs : List (ℕ × Entry)) → HaveBytes (points_of rs) → AreRanked shared (points_of rs) (map (ranked_at shared) rs)
+  pub are_ranked : (rs : List (ℕ × Slot)) → HaveBytes (points_of text rs) → AreRanked text shared (points_of text rs) (map (ranked_at text shared) rs)
   are_ranked rs bytes = record {
     listed = same_points rs;
-    each = All-map (IsRanked shared) (ranked_at shared) rs (λ i d l.
-        let key : ℕ → List ℕ = λ n. (get_or rs n d).1.key in
-        let here : AreBytes (key i) = subst (λ (p : Entry). AreBytes p.key) (get_or-map (λ (r : ℕ × Entry). r.1) rs i d d.1 l) (bytes i d.1 (subst (λ (n : ℕ). i < n) (sym (length-map rs (λ (r : ℕ × Entry). r.1))) l)) in
+    each = All-map (λ (r : ℕ × Slot). IsRanked shared (point_in text r)) (ranked_at text shared) rs (λ i d l.
+        let key : ℕ → List ℕ = λ n. (entry text (get_or rs n d)).key in
+        let here : AreBytes (key i) = subst (λ (p : Entry). AreBytes p.key) (get_or-map (entry text) rs i d (entry text d) l) (bytes i (entry text d) (subst (λ (n : ℕ). i < n) (sym (length-map rs (entry text))) l)) in
         record { prefix = refl; bytes = bytes_behind shared (key i) here });
   }
 
 -- a vector whose points were lent, sorted by key and came back
-pub back_by_key : (points : List Entry) (held lent sorted tail now : List (ℕ × Entry)) (len : ℕ) → points_of held ≡ points → length held ≡ len → lent ≡ held → points_of sorted ≡ by_key (points_of lent) → length sorted ≡ length lent → now ≡ take len (sorted ++ tail) → points_of now ≡ by_key points
-back_by_key points held lent sorted tail now len are long same order kept back =
-    ap points_of (back ∙ take_at sorted tail len (kept ∙ ap length same ∙ long))
+pub back_by_key : (text : List ℕ) (points : List Entry) (held lent sorted tail now : List (ℕ × Slot)) (len : ℕ) → points_of text held ≡ points → length held ≡ len → lent ≡ held → points_of text sorted ≡ by_key (points_of text lent) → length sorted ≡ length lent → now ≡ take len (sorted ++ tail) → points_of text now ≡ by_key points
+back_by_key text points held lent sorted tail now len are long same order kept back =
+    ap (points_of text) (back ∙ take_at sorted tail len (kept ∙ ap length same ∙ long))
     ∙ order
-    ∙ ap by_key (ap points_of same ∙ are)
+    ∙ ap by_key (ap (points_of text) same ∙ are)
 
 -- ---- what all keys share
 
@@ -218,20 +227,20 @@ shorter less shared first key le h = record {
 pub of_first : (less shared : ℕ) (first key : List ℕ) → less ≤ shared → HasFront less (take shared first) key → HasFront less first key
 of_first less shared first key le h = record { long = h.long; same = h.same ∙ take-take less shared first le }
 
-module _ (less shared : ℕ) (first : List ℕ) (rs : List (ℕ × Entry)) (i : ℕ) (r : ℕ × Entry) (le : less ≤ shared) (l : i < length rs) (r_is : r ≡ get_or rs i r) where
-  point_is : get_or (points_of rs) i r.1 ≡ r.1
-  point_is = get_or-map (λ (r : ℕ × Entry). r.1) rs i r r.1 l ∙ ap (λ (s : ℕ × Entry). s.1) (sym r_is)
+module _ (text : List ℕ) (less shared : ℕ) (first : List ℕ) (rs : List (ℕ × Slot)) (i : ℕ) (r : ℕ × Slot) (le : less ≤ shared) (l : i < length rs) (r_is : r ≡ get_or rs i r) where
+  point_is : get_or (points_of text rs) i (entry text r) ≡ entry text r
+  point_is = get_or-map (entry text) rs i r (entry text r) l ∙ ap (entry text) (sym r_is)
 
-  there : i < length (points_of rs)
-  there = subst (λ (n : ℕ). i < n) (sym (length-map rs (λ (r : ℕ × Entry). r.1))) l
+  there : i < length (points_of text rs)
+  there = subst (λ (n : ℕ). i < n) (sym (length-map rs (entry text))) l
 
-  pub fronts_more : HasFront less (take shared first) r.1.key → HaveFront shared first (take i (points_of rs)) → HaveFront less first (take (i + 1) (points_of rs))
+  pub fronts_more : HasFront less (take shared first) (entry text r).key → HaveFront shared first (take i (points_of text rs)) → HaveFront less first (take (i + 1) (points_of text rs))
   fronts_more here so_far =
-      All-more (λ (q : Entry). HasFront less first q.key) (points_of rs) i r.1 there
-      (All-weaker (λ (q : Entry). HasFront shared first q.key) (λ (q : Entry). HasFront less first q.key) (λ q h. shorter less shared first q.key le h) (take i (points_of rs)) so_far)
-      (subst (λ (q : Entry). HasFront less first q.key) (sym point_is) (of_first less shared first r.1.key le here))
+      All-more (λ (q : Entry). HasFront less first q.key) (points_of text rs) i (entry text r) there
+      (All-weaker (λ (q : Entry). HasFront shared first q.key) (λ (q : Entry). HasFront less first q.key) (λ q h. shorter less shared first q.key le h) (take i (points_of text rs)) so_far)
+      (subst (λ (q : Entry). HasFront less first q.key) (sym point_is) (of_first less shared first (entry text r).key le here))
 
-  pub bytes_more : AreBytes r.1.key → HaveBytes (take i (points_of rs)) → HaveBytes (take (i + 1) (points_of rs))
+  pub bytes_more : AreBytes (entry text r).key → HaveBytes (take i (points_of text rs)) → HaveBytes (take (i + 1) (points_of text rs))
   bytes_more here so_far =
-      All-more (λ (q : Entry). AreBytes q.key) (points_of rs) i r.1 there so_far
+      All-more (λ (q : Entry). AreBytes q.key) (points_of text rs) i (entry text r) there so_far
       (subst (λ (q : Entry). AreBytes q.key) (sym point_is) here)

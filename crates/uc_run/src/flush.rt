@@ -8,7 +8,6 @@ ghost use Rattle.uc_run.specs.Points.{HaveOwnSeqs};
 ghost use Rattle.uc_run.specs.Ranks.{points_of};
 ghost use Rattle.uc_run.specs.Flush as flush;
 
-use crate::entry_ref::EntryRef;
 use crate::laws::flushed_writes_are_a_run;
 use crate::ranked_point::{RankedPoint, pack_ranked, sort_by_key};
 use crate::run::Run;
@@ -16,7 +15,7 @@ use crate::slot::Slot;
 use crate::slot_totals::last_seq;
 use std::alloc::{AllocError, Global};
 use uc_bytes::{OpKind, OpRef, WriteRef};
-use uc_run_entry::{Range, WhatRef, cut_ranges};
+use uc_run_entry::{Range, cut_ranges};
 use uc_run_points::{Points, make_small};
 
 /// The texts of a slot in the arena.
@@ -44,20 +43,6 @@ pub(crate) fn write_at<'a>(text: &'a [u8], slot: &Slot) -> WriteRef<'a>
     WriteRef::new(slot.seq, op)
 }
 
-/// The point that a slot's write is, if it changes one key.
-fn point_at<'a>(text: &'a [u8], slot: &Slot) -> Option<EntryRef<'a>>
-    requires { LiesWithin (length text.now) slot.now }
-    ensures { result ≡ flush.point_of slot.now.seq (slot_write text.now slot.now).op }
-{
-    let (first, second) = texts_at(text, slot);
-    match slot.kind {
-        OpKind::Put => Some(EntryRef::new(first, slot.seq, WhatRef::Put(second))),
-        OpKind::Delete => Some(EntryRef::new(first, slot.seq, WhatRef::Delete)),
-        OpKind::Merge => Some(EntryRef::new(first, slot.seq, WhatRef::Merge(second))),
-        OpKind::DeleteRange => None,
-    }
-}
-
 /// The range that a slot's write deletes, if it is a range deletion.
 fn range_at<'a>(text: &'a [u8], slot: &Slot) -> Option<Range<'a>>
     requires { LiesWithin (length text.now) slot.now }
@@ -71,18 +56,14 @@ fn range_at<'a>(text: &'a [u8], slot: &Slot) -> Option<Range<'a>>
 }
 
 /// The points among the slots' writes, in their order. An `Err` loses them.
-fn points_in<'a>(
-    alloc: Global,
-    text: &'a [u8],
-    slots: &[Slot],
-) -> Result<Vec<RankedPoint<'a>>, AllocError>
-    requires { LieWithin text.now slots.now }
-    ensures { IfOk result (λ points. points_of points.items ≡ flush.points_in (slot_writes text.now slots.now)) }
+fn points_in<'a>(alloc: Global, slots: &'a [Slot]) -> Result<Vec<RankedPoint<'a>>, AllocError>
+    ensures { IfOk result (λ points.
+        (text : List ℕ) → points_of text points.items ≡ flush.points_in (slot_writes text slots.now)) }
 {
     let mut points = Vec::with_capacity(alloc, slots.len())?;
     for slot in slots {
-        if let Some(point) = point_at(text, slot) {
-            points.push(RankedPoint::new(point))?;
+        if let Some(point) = RankedPoint::of(slot) {
+            points.push(point)?;
         }
     }
     Ok(points)
@@ -109,15 +90,14 @@ fn ranges_in<'a>(
 /// The points among the slots' writes, by key, the newest of a key first. The texts are copied in this order. An `Err`
 /// loses them.
 fn points_by_key(alloc: Global, text: &[u8], slots: &[Slot]) -> Result<Points, AllocError>
-    requires within { LieWithin text.now slots.now }
     requires own { HaveOwnSeqs (flush.points_in (slot_writes text.now slots.now)) }
     requires below { AllByRecursion (λ p. p.seq < 2 ^ 56)
         (flush.by_key (flush.points_in (slot_writes text.now slots.now))) }
     ensures { IfOk result (λ points. points ≡ flush.by_key (flush.points_in (slot_writes text.now slots.now))) }
 {
-    let mut points = points_in(alloc, text, slots)?;
-    sort_by_key(&mut points);
-    let packed = pack_ranked(alloc, &points);
+    let mut points = points_in(alloc, slots)?;
+    sort_by_key(text, &mut points);
+    let packed = pack_ranked(alloc, text, &points);
     make_small(&mut points, size_of::<RankedPoint>());
     packed
 }

@@ -18,7 +18,6 @@
 
 mod common_front;
 mod cursor;
-mod entry_ref;
 mod fences;
 mod filter;
 mod filter_bits;
