@@ -1,6 +1,6 @@
--- Points beside the prefixes of their keys.
-use Rattle.std.specs.Prelude.{◌≡◌, ℕ, ◌+◌, ◌-◌, ◌≤◌, nat_le, min, if◌then◌else◌, List, [], ◌∷◌, length, map, take, drop}
-use Rattle.std.specs.List.{All}
+-- Ranks: numbers that order points by their keys.
+use Rattle.std.specs.Prelude.{◌≡◌, ℕ, ◌+◌, ◌*◌, ◌/◌, ◌%◌, ◌^◌, ◌≤◌, List, [], ◌∷◌, Option, Some, None, length, map, take, drop}
+use Rattle.std.specs.List.{All, slice_get}
 use Rattle.std.specs.declared.cmp.Ordering.{Ordering}
 use Rattle.std.specs.Ordering.{nat_cmp, ordering_then}
 use Rattle.uc_bytes.specs.Bytes.{bytes_cmp}
@@ -12,49 +12,56 @@ use Rattle.uc_run_entry.specs.declared.entry.What.TheVariants as what
 use Rattle.uc_run.specs.declared.slot.Slot.{Slot}
 use Rattle.uc_run.specs.Prefixes.{prefix_of, AreBytes}
 
--- what a slot of this kind says of its key; a range deletion is no point, and counts as a deletion here
+-- what a write of this kind says of its key; a range deletion is no point, and counts as a deletion here
 abbrev pub what_in : OpKind → List ℕ → What
 what_in Put second = what.Put second
 what_in Delete second = what.Delete
 what_in Merge second = what.Merge second
 what_in DeleteRange second = what.Delete
 
--- the key of a slot's point: its first text, as far as the arena has it
-abbrev pub key_in : List ℕ → Slot → List ℕ
-key_in text s = take s.first (drop s.start text)
-
--- the text behind it
-abbrev pub second_in : List ℕ → Slot → List ℕ
-second_in text s = take s.second (drop (s.start + s.first) text)
-
--- the point of a slot
+-- the point of a slot: its first text is the key
 abbrev pub entry_in : List ℕ → Slot → Entry
-entry_in text s = record { key = key_in text s; seq = s.seq; what = what_in s.kind (second_in text s) }
+entry_in text s = record { key = take s.first (drop s.start text); seq = s.seq; what = what_in s.kind (take s.second (drop (s.start + s.first) text)) }
 
--- how many bytes a key has behind those that all share, or 9 if there are more than eight
-abbrev pub rest_length : ℕ → Entry → ℕ
-rest_length shared p = min (length p.key - shared) 9
+-- the point of a slot, if there is one
+abbrev pub entry_or : List ℕ → Option Slot → Entry
+entry_or text None = record { key = []; seq = 0; what = what.Delete }
+entry_or text (Some s) = entry_in text s
 
--- the text that a prefix doesn't tell: none if the key has at most eight bytes behind those that all share
-abbrev pub untold : ℕ → Entry → List ℕ
-untold shared p = if nat_le (length p.key - shared) 8 then [] else p.key
+-- how many places ranks tell apart, if their last bits tell the place
+abbrev pub room : ℕ → ℕ
+room bits = 2 ^ (bits % 64)
 
--- points of one prefix: by length, then by text, the newest of a key first
+-- the first bits of the prefix, behind which the place stands
+abbrev pub high_in : ℕ → ℕ → ℕ
+high_in bits rank = rank / room bits
+
+abbrev pub place_in : ℕ → ℕ → ℕ
+place_in bits rank = rank % room bits
+
+-- the rank of a place, by the first bits of a prefix
+abbrev pub rank_of : ℕ → ℕ → ℕ → ℕ
+rank_of bits prefix place = high_in bits prefix * room bits + place_in bits place
+
+-- the point of a rank: that of the slot at its place
+abbrev pub entry_at : List ℕ → List Slot → ℕ → ℕ → Entry
+entry_at text slots bits rank = entry_or text (slice_get slots (place_in bits rank))
+
+abbrev pub points_of : List ℕ → List Slot → ℕ → List ℕ → List Entry
+points_of text slots bits ranks = map (entry_at text slots bits) ranks
+
+-- a rank by the prefix of its point's key after the first bytes
+abbrev pub ranked_at : List ℕ → List Slot → ℕ → ℕ → ℕ → ℕ
+ranked_at text slots shared bits rank = rank_of bits (prefix_of (drop shared (entry_at text slots bits rank).key)) rank
+
+-- points by what is behind the first bytes of their keys, the newest of a key first
 abbrev pub behind_cmp : ℕ → Entry → Entry → Ordering
-behind_cmp shared p q =
-    ordering_then (nat_cmp (rest_length shared p) (rest_length shared q)) (ordering_then (bytes_cmp (untold shared p) (untold shared q)) (nat_cmp q.seq p.seq))
+behind_cmp shared p q = ordering_then (bytes_cmp (drop shared p.key) (drop shared q.key)) (nat_cmp q.seq p.seq)
 
--- by prefix, then as points of one prefix
-abbrev pub ranked_cmp : ℕ → ℕ × Entry → ℕ × Entry → Ordering
-ranked_cmp shared r s = ordering_then (nat_cmp r.0 s.0) (behind_cmp shared r.1 s.1)
-
--- a slot beside a number, as its point beside that number
-abbrev pub point_in : List ℕ → ℕ × Slot → ℕ × Entry
-point_in text r = (r.0, entry_in text r.1)
-
--- the points of ranked slots
-abbrev pub points_of : List ℕ → List (ℕ × Slot) → List Entry
-points_of text ranked = map (λ r. entry_in text r.1) ranked
+-- ranks by the first bits of the prefixes, then as their points
+abbrev pub rank_cmp : List ℕ → List Slot → ℕ → ℕ → ℕ → ℕ → Ordering
+rank_cmp text slots shared bits rank other =
+    ordering_then (nat_cmp (high_in bits rank) (high_in bits other)) (behind_cmp shared (entry_at text slots bits rank) (entry_at text slots bits other))
 
 abbrev pub first_key : List Entry → List ℕ
 first_key [] = []
@@ -67,10 +74,6 @@ pub record HasFront (shared : ℕ) (first key : List ℕ) : Type 0 where
 
 abbrev pub HaveFront : ℕ → List ℕ → List Entry → Type 0
 HaveFront shared first points = All (λ p. HasFront shared first p.key) points
-
--- a slot beside the prefix of its key after the first bytes
-abbrev pub ranked_at : List ℕ → ℕ → ℕ × Slot → ℕ × Slot
-ranked_at text shared r = (prefix_of (drop shared (key_in text r.1)), r.1)
 
 abbrev pub HaveBytes : List Entry → Type 0
 HaveBytes points = All (λ p. AreBytes p.key) points

@@ -5,11 +5,10 @@ ghost use Rattle.uc_bytes.specs.Borrowed.{op_of};
 ghost use Rattle.uc_batch.specs.Rising.{IsRising};
 ghost use Rattle.uc_run.specs.Slots.{slot_write, slot_writes, LiesWithin, LieWithin};
 ghost use Rattle.uc_run.specs.Points.{HaveOwnSeqs};
-ghost use Rattle.uc_run.specs.Ranks.{points_of};
 ghost use Rattle.uc_run.specs.Flush as flush;
 
 use crate::laws::flushed_writes_are_a_run;
-use crate::ranked_point::{RankedPoint, pack_ranked, sort_by_key};
+use crate::ranks::{Ranked, pack_ranked, place_bits, places_of_points, sort_by_key};
 use crate::run::Run;
 use crate::slot::Slot;
 use crate::slot_totals::last_seq;
@@ -55,20 +54,6 @@ fn range_at<'a>(text: &'a [u8], slot: &Slot) -> Option<Range<'a>>
     }
 }
 
-/// The points among the slots' writes, in their order. An `Err` loses them.
-fn points_in<'a>(alloc: Global, slots: &'a [Slot]) -> Result<Vec<RankedPoint<'a>>, AllocError>
-    ensures { IfOk result (λ points.
-        (text : List ℕ) → points_of text points.items ≡ flush.points_in (slot_writes text slots.now)) }
-{
-    let mut points = Vec::with_capacity(alloc, slots.len())?;
-    for slot in slots {
-        if let Some(point) = RankedPoint::of(slot) {
-            points.push(point)?;
-        }
-    }
-    Ok(points)
-}
-
 /// The range deletions among the slots' writes, in their order. An `Err` loses them.
 fn ranges_in<'a>(
     alloc: Global,
@@ -95,10 +80,12 @@ fn points_by_key(alloc: Global, text: &[u8], slots: &[Slot]) -> Result<Points, A
         (flush.by_key (flush.points_in (slot_writes text.now slots.now))) }
     ensures { IfOk result (λ points. points ≡ flush.by_key (flush.points_in (slot_writes text.now slots.now))) }
 {
-    let mut points = points_in(alloc, slots)?;
-    sort_by_key(text, &mut points);
-    let packed = pack_ranked(alloc, text, &points);
-    make_small(&mut points, size_of::<RankedPoint>());
+    let bits = place_bits(slots.len());
+    let mut ranks = places_of_points(alloc, slots, bits)?;
+    let ranked = Ranked { text, slots, bits };
+    sort_by_key(&ranked, &mut ranks);
+    let packed = pack_ranked(alloc, &ranked, &ranks);
+    make_small(&mut ranks, size_of::<u64>());
     packed
 }
 

@@ -1,8 +1,11 @@
 //! [`Slot`]: where a write's texts lie in the arena.
-ghost use Rattle.std.specs.Prelude.{◌≡◌, take, drop};
-ghost use Rattle.uc_run_entry.specs.Packed.{what_of};
-ghost use Rattle.uc_run.specs.Ranks.{key_in, second_in, what_in};
+ghost use Rattle.std.specs.Prelude.{◌≡◌, ℕ, List, Some, None, if◌then◌else◌};
+ghost use Rattle.uc_run.specs.Flush.{point_of};
+ghost use Rattle.uc_run.specs.Ranks.{entry_in};
+ghost use Rattle.uc_run.specs.Slots.{slot_write};
 
+use crate::entry_ref::EntryRef;
+use crate::texts::split_front;
 use uc_bytes::OpKind;
 use uc_run_entry::WhatRef;
 
@@ -19,39 +22,32 @@ pub(crate) struct Slot {
     pub(crate) second: usize,
 }
 
-/// So many bytes at the front, and those behind them; all and none if there are fewer.
-#[inline]
-pub(crate) fn split_front(text: &[u8], count: usize) -> (&[u8], &[u8])
-    ensures front { result.0.now ≡ take count text.now }
-    ensures rest { result.1.now ≡ drop count text.now }
-{
-    text.split_at(count.min(text.len()))
-}
-
 impl Slot {
-    /// The key, as far as the arena has it. Nothing is required of the slot, since a sort calls its order on any two.
+    /// Whether the write changes one key.
     #[inline]
-    pub(crate) fn key_in<'t>(&self, text: &'t [u8]) -> &'t [u8]
-        ensures { result.now ≡ key_in text.now self.now }
+    pub(crate) fn is_point(&self) -> bool
+        ensures { (text : List ℕ) →
+            point_of self.now.seq (slot_write text self.now).op ≡ (if result then Some (entry_in text self.now) else None) }
     {
-        let (_, behind) = split_front(text, self.start);
-        let (key, _) = split_front(behind, self.first);
-        key
+        match self.kind {
+            OpKind::DeleteRange => false,
+            OpKind::Put | OpKind::Delete | OpKind::Merge => true,
+        }
     }
 
-    /// The key, and what a point of the slot says of it, as far as the arena has the texts.
+    /// The write's point, as far as the arena has its texts. Nothing is required of the slot, since a sort asks for the
+    /// order of any two.
     #[inline]
-    pub(crate) fn point_in<'t>(&self, text: &'t [u8]) -> (&'t [u8], WhatRef<'t>)
-        ensures key { result.0.now ≡ key_in text.now self.now }
-        ensures what { what_of result.1 ≡ what_in self.now.kind (second_in text.now self.now) }
+    pub(crate) fn point_in<'t>(&self, text: &'t [u8]) -> EntryRef<'t>
+        ensures { result ≡ entry_in text.now self.now }
     {
         let (_, behind) = split_front(text, self.start);
         let (key, behind) = split_front(behind, self.first);
         let (second, _) = split_front(behind, self.second);
         match self.kind {
-            OpKind::Put => (key, WhatRef::Put(second)),
-            OpKind::Merge => (key, WhatRef::Merge(second)),
-            OpKind::Delete | OpKind::DeleteRange => (key, WhatRef::Delete),
+            OpKind::Put => EntryRef::new(key, self.seq, WhatRef::Put(second)),
+            OpKind::Merge => EntryRef::new(key, self.seq, WhatRef::Merge(second)),
+            OpKind::Delete | OpKind::DeleteRange => EntryRef::new(key, self.seq, WhatRef::Delete),
         }
     }
 }
