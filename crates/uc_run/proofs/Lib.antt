@@ -17,6 +17,7 @@ pub mod SameText
 pub mod Fronts
 pub mod Decided
 pub mod RankOrder
+pub mod Ties
 pub mod LeastKey
 pub mod Passing
 pub mod NearPlace

@@ -1,6 +1,6 @@
 -- Ranks stand as the points by their keys.
 use Rattle.std.proofs.Common.{◌≡◌, Option, Some, None, ◌⊎◌, inl, inr, bit_or, ℕ, suc, ◌+◌, ◌-◌, ◌*◌, ◌/◌, ◌%◌, ◌^◌, ◌<◌, ◌≤◌, Bool, true, false, cond, eqb, List, [], ◌∷◌, ◌++◌, length, get_or, map, take, drop, refl, sym, ap, ◌∙◌, subst, arith}
-use Rattle.std.specs.List.{All, common_prefix_len}
+use Rattle.std.specs.List.{All, AllByRecursion, common_prefix_len}
 use Rattle.std.specs.List.Sorted.{IsPermutation, IsSortedBy}
 use Rattle.std.specs.Cmp.{IsTotalOrder}
 use Rattle.std.specs.declared.cmp.Ordering.{Ordering}
@@ -29,7 +29,7 @@ use Rattle.uc_run.specs.Ranks.{room, high_in, place_in, rank_of, behind_cmp, ran
 use Rattle.uc_run.specs.Slots.{slot_write, slot_writes}
 use Rattle.uc_run.proofs.ByKey.{sorted_is_by_key}
 use Rattle.uc_run.proofs.Fronts.{behind_front}
-use Rattle.uc_run.proofs.PrefixOrder.{bytes_behind, lower_prefix, higher_prefix}
+use Rattle.uc_run.proofs.PrefixOrder.{bytes_behind, greater_is, lower_prefix, higher_prefix}
 use Rattle.uc_run.proofs.Slots.{part_pushed, part_missing}
 
 -- ---- a rank has its parts
@@ -82,6 +82,19 @@ pub rank_total : (text : List ℕ) (slots : List Slot) (shared bits : ℕ) → I
 rank_total text slots shared bits =
     then_total (on_total (high_in bits) nat_cmp_total)
     (then_total (on_total (λ (r : ℕ). drop shared (entry_at text slots bits r).key) nat_list_cmp_total) (back_total (on_total (λ (r : ℕ). (entry_at text slots bits r).seq) nat_cmp_total)))
+
+-- what has the lower first bits is below
+pub below_by_first : (text : List ℕ) (slots : List Slot) (shared bits r s : ℕ) → high_in bits r < high_in bits s → is_lt (rank_cmp text slots shared bits s r) ≡ false
+below_by_first text slots shared bits r s lt =
+    ap (λ o. is_lt (ordering_then o (behind_cmp shared (entry_at text slots bits s) (entry_at text slots bits r)))) (greater_is (high_in bits s) (high_in bits r) lt)
+
+-- the first bits rise with the numbers
+pub first_rise : (bits a b : ℕ) → a ≤ b → high_in bits a ≤ high_in bits b
+first_rise bits a b le = by (cases_lt (high_in bits b) (high_in bits a))
+  where
+    by : (high_in bits b < high_in bits a) ⊎ (high_in bits a ≤ high_in bits b) → high_in bits a ≤ high_in bits b
+    by (inl lt) = let back : b < a = higher_by_first bits b a lt in absurd (omega (arith, back, le))
+    by (inr up) = up
 
 -- The first bits of a rank are those of the prefix of a point's key after the first bytes.
 pub record IsRanked (shared bits high : ℕ) (p : Entry) : Type 0 where
@@ -215,6 +228,15 @@ module _ (text : List ℕ) (slots : List Slot) (bits i : ℕ) (d : Slot) (fits :
   pub place_missing : (b : Bool) (before : List ℕ) → b ≡ false → Told b → points_of text slots bits before ≡ points_in (slot_writes text (take i slots)) → points_of text slots bits before ≡ points_in (slot_writes text (take (i + 1) slots))
   place_missing b before failed told known =
       part_missing part text slots i d (part (slot_write text slot)) (points_of text slots bits before) l refl (told ∙ ap (λ t. cond t (Some (entry_in text slot)) None) failed) known
+
+-- what holds of all points holds of those in front and of those behind them
+pub all_front : (P : Entry → Type 0) (ps qs : List Entry) → AllByRecursion P (ps ++ qs) → AllByRecursion P ps
+all_front P [] qs h = tt
+all_front P (p ∷ ps) qs h = (h.0, all_front P ps qs h.1)
+
+pub all_behind : (P : Entry → Type 0) (ps qs : List Entry) → AllByRecursion P (ps ++ qs) → AllByRecursion P qs
+all_behind P [] qs h = h
+all_behind P (p ∷ ps) qs h = all_behind P ps qs h.1
 
 -- ---- what all keys share
 

@@ -3,14 +3,14 @@
 //! The last bits of a rank are the place of the point's slot, as many as the places need. Those before them are the first bits
 //! of the key's prefix, after the bytes that all keys share. Most ranks differ there, and a sort looks at slots and texts only
 //! where two don't.
-ghost use Rattle.std.specs.Prelude.{◌≡◌, ◌<◌, ◌≤◌, ◌^◌, ◌%◌, ℕ, List, length, map, IfOk};
+ghost use Rattle.std.specs.Prelude.{◌≡◌, ◌≢◌, ◌<◌, ◌≤◌, ◌^◌, ◌%◌, ℕ, List, length, map, slice_index, ◌++◌, IfOk, OnOk};
 ghost use Rattle.std.specs.List.{AllByRecursion};
-ghost use Rattle.std.specs.List.Sorted.{IsPermutation, IsSortedBy};
+ghost use Rattle.std.specs.List.Sorted.{IsNonDecreasing, IsPermutation, IsSortedBy};
 ghost use Rattle.std.specs.Ordering.{is_lt};
 ghost use Rattle.uc_run.specs.Flush as flush;
 ghost use Rattle.uc_run.specs.Points.{HaveOwnSeqs};
 ghost use Rattle.uc_run.specs.Prefixes.{AreBytes};
-ghost use Rattle.uc_run.specs.Ranks as ranks;
+ghost use Rattle.uc_run.specs.Ranks as of_rank;
 ghost use Rattle.uc_run.specs.Ranks.{behind_cmp, entry_at, first_key, points_of, rank_cmp, ranked_at, HasFront, HaveBytes, HaveFront};
 ghost use Rattle.uc_run.specs.Slots.{slot_writes};
 
@@ -22,6 +22,9 @@ use std::alloc::{AllocError, Global};
 use std::cmp::Ordering;
 use uc_run_entry::WhatRef;
 use uc_run_points::Points;
+
+/// The slots of how many points are looked at before the points are packed.
+const POINTS_AT_ONCE: usize = 64;
 
 /// The slots whose points are ranked, and the arena with their texts.
 #[derive(Clone, Copy)]
@@ -35,7 +38,7 @@ pub(crate) struct Ranked<'a> {
 /// How many bits a place among so many slots takes.
 pub(crate) fn place_bits(count: usize) -> u32
     requires { count < 2 ^ 63 }
-    ensures { count ≤ ranks.room result }
+    ensures { count ≤ of_rank.room result }
 {
     usize::BITS - count.leading_zeros()
 }
@@ -43,7 +46,7 @@ pub(crate) fn place_bits(count: usize) -> u32
 /// The first bits of the prefix.
 #[inline]
 fn high_in(rank: u64, bits: u32) -> u64
-    ensures { result ≡ ranks.high_in bits rank }
+    ensures { result ≡ of_rank.high_in bits rank }
 {
     rank >> (bits % 64)
 }
@@ -51,7 +54,7 @@ fn high_in(rank: u64, bits: u32) -> u64
 /// The place of the slot.
 #[inline]
 fn place_in(rank: u64, bits: u32) -> u64
-    ensures { result ≡ ranks.place_in bits rank }
+    ensures { result ≡ of_rank.place_in bits rank }
 {
     rank % (1 << (bits % 64))
 }
@@ -59,7 +62,7 @@ fn place_in(rank: u64, bits: u32) -> u64
 /// The rank of a place, by the first bits of a prefix.
 #[inline]
 fn rank_of(prefix: u64, place: u64, bits: u32) -> u64
-    ensures { result ≡ ranks.rank_of bits prefix place }
+    ensures { result ≡ of_rank.rank_of bits prefix place }
 {
     (high_in(prefix, bits) << (bits % 64)) | place_in(place, bits)
 }
@@ -129,7 +132,7 @@ pub(crate) fn places_of_points(
     slots: &[Slot],
     bits: u32,
 ) -> Result<Vec<u64>, AllocError>
-    requires { length slots.now ≤ ranks.room bits }
+    requires { length slots.now ≤ of_rank.room bits }
     ensures { IfOk result (λ places.
         (text : List ℕ) → points_of text slots.now bits places.items ≡ flush.points_in (slot_writes text slots.now)) }
 {
@@ -175,14 +178,63 @@ fn rank_each(ranked: &Ranked<'_>, ranks: &mut [u64], shared: usize)
     }
 }
 
-/// Sorts ranks.
+/// How many ranks at the front have the first bits of the first one.
+#[inline]
+fn tied(ranks: &[u64], bits: u32) -> usize
+    requires { 0 < length ranks.now }
+    ensures some { 0 < result }
+    ensures within { result ≤ length ranks.now }
+    ensures same { (k : ℕ) → k < result →
+        of_rank.high_in bits (slice_index ranks.now k) ≡ of_rank.high_in bits (slice_index ranks.now 0) }
+    ensures next { result < length ranks.now →
+        of_rank.high_in bits (slice_index ranks.now result) ≢ of_rank.high_in bits (slice_index ranks.now 0) }
+{
+    let high = high_in(ranks[0], bits);
+    for place in 1..ranks.len() {
+        if high_in(ranks[place], bits) != high {
+            return place;
+        }
+    }
+    ranks.len()
+}
+
+/// Sorts ranks whose first bits are the same, as their points.
+fn sort_tied(ranked: &Ranked<'_>, ranks: &mut [u64], shared: usize)
+    ensures permutation { IsPermutation ranks.old ranks.new }
+    ensures sorted { IsSortedBy
+        (λ r s. is_lt (rank_cmp ranked.now.text.now ranked.now.slots.now shared ranked.now.bits r s))
+        ranks.new }
+{
+    if ranks.len() > 1 {
+        ranks.sort_unstable_by(|rank, other| ranked.order(*rank, *other, shared));
+    }
+}
+
+/// Sorts ranks that are in the order of numbers: only those that are tied with others move.
+fn sort_ties(ranked: &Ranked<'_>, ranks: &mut [u64], shared: usize)
+    requires { IsNonDecreasing ranks.old }
+    ensures permutation { IsPermutation ranks.old ranks.new }
+    ensures sorted { IsSortedBy
+        (λ r s. is_lt (rank_cmp ranked.now.text.now ranked.now.slots.now shared ranked.now.bits r s))
+        ranks.new }
+{
+    let mut start = 0;
+    while start < ranks.len() {
+        let end = start + tied(&ranks[start..], ranked.bits);
+        sort_tied(ranked, &mut ranks[start..end], shared);
+        start = end;
+    }
+}
+
+/// Sorts ranks. Numbers are sorted faster than points are compared, so ties come last.
 fn sort_ranks(ranked: &Ranked<'_>, ranks: &mut [u64], shared: usize)
     ensures permutation { IsPermutation ranks.old ranks.new }
     ensures sorted { IsSortedBy
         (λ r s. is_lt (rank_cmp ranked.now.text.now ranked.now.slots.now shared ranked.now.bits r s))
         ranks.new }
 {
-    ranks.sort_unstable_by(|rank, other| ranked.order(*rank, *other, shared));
+    ranks.sort_unstable();
+    sort_ties(ranked, ranks, shared);
 }
 
 /// Ranks points by key, and sorts them, the newest of a key first.
@@ -197,7 +249,35 @@ pub(crate) fn sort_by_key(ranked: &Ranked<'_>, ranks: &mut [u64])
     sort_ranks(ranked, ranks, shared);
 }
 
-/// The points of ranks, packed, with copies of their texts. An `Err` loses them.
+/// Puts the points of ranks in place of others. An `Err` leaves some of them.
+fn put_points<'a>(
+    ranked: &Ranked<'a>,
+    ranks: &[u64],
+    points: &mut Vec<EntryRef<'a>>,
+) -> Result<(), AllocError>
+    ensures { OnOk result
+        (points.new.items ≡ points_of ranked.now.text.now ranked.now.slots.now ranked.now.bits ranks.now) }
+{
+    points.clear();
+    for rank in ranks {
+        points.push(ranked.point(*rank))?;
+    }
+    Ok(())
+}
+
+/// Pushes points, with copies of their texts. An `Err` leaves some of them.
+fn push_points(packed: &mut Points, points: &[EntryRef<'_>]) -> Result<(), AllocError>
+    requires { AllByRecursion (λ p. p.seq < 2 ^ 56) points.now }
+    ensures { OnOk result (packed.new ≡ packed.old ++ points.now) }
+{
+    for point in points {
+        point.push_to(packed)?;
+    }
+    Ok(())
+}
+
+/// The points of ranks, packed, with copies of their texts. An `Err` loses them. The slots lie anywhere: those of many
+/// ranks are looked at in one loop, in which the processor waits for several at a time.
 pub(crate) fn pack_ranked(
     alloc: Global,
     ranked: &Ranked<'_>,
@@ -210,8 +290,13 @@ pub(crate) fn pack_ranked(
         packed ≡ points_of ranked.now.text.now ranked.now.slots.now ranked.now.bits ranks.now) }
 {
     let mut packed = Points::new(alloc);
-    for rank in ranks {
-        ranked.point(*rank).push_to(&mut packed)?;
+    let mut points = Vec::with_capacity(alloc, POINTS_AT_ONCE)?;
+    let mut rest = ranks;
+    while !rest.is_empty() {
+        let (next, behind) = rest.split_at(POINTS_AT_ONCE.min(rest.len()));
+        put_points(ranked, next, &mut points)?;
+        push_points(&mut packed, &points)?;
+        rest = behind;
     }
     Ok(packed)
 }

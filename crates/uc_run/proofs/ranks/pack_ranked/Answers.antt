@@ -1,17 +1,35 @@
-use Rattle.std.proofs.Common.{◌<◌, ◌^◌, ◌∙◌, ℕ, get_or, length, sym, subst}
-use Rattle.std.proofs.lemmas.List.{get_or-map, length-map}
-use Rattle.std.proofs.lemmas.List.Elements.{All-from_recursion}
+use Rattle.std.proofs.Common.{◌≡◌, ◌<◌, ◌^◌, ◌++◌, ◌∙◌, ℕ, List, ap, sym, subst, append_assoc}
+use Rattle.std.specs.List.{AllByRecursion}
+use Rattle.std.proofs.lemmas.List.{map-append}
 use Rattle.uc_run_entry.specs.declared.entry.Entry.{Entry}
 use Rattle.uc_run.specs.Ranks.{entry_at, points_of}
+use Rattle.uc_run.proofs.RankOrder.{all_front, all_behind}
 use Rattle.uc_run.proofs.ranks.pack_ranked.Goals as goal
 
-pub push_to-requires : goal.push_to-requires
-push_to-requires c =
+pub push_points-requires : goal.push_points-requires
+push_points-requires c =
     let ranked = c.args.ranked.now in
-    let ranks = c.args.ranks.now in
-    let i = c.loop-rank.rank-index in
-    let entry = entry_at ranked.text.now ranked.slots.now ranked.bits in
-    let points = points_of ranked.text.now ranked.slots.now ranked.bits ranks in
-    let p = entry (get_or ranks i 0) in
-    let below = All-from_recursion (λ (q : Entry). q.seq < 2 ^ 56) points c.requires i p (subst (λ (n : ℕ). i < n) (sym (length-map ranks entry)) c.loop-rank-test.true) in
-    subst (λ (q : Entry). q.seq < 2 ^ 56) (get_or-map entry ranks i 0 p c.loop-rank-test.true ∙ sym c.point.ensures) below
+    let points = points_of ranked.text.now ranked.slots.now ranked.bits in
+    let next = c.split_at.result.0.now in
+    let behind = c.split_at.result.1.now in
+    let parts = ap points c.split_at.ensures.by_index.0 ∙ map-append (entry_at ranked.text.now ranked.slots.now ranked.bits) next behind in
+    let both = subst (AllByRecursion (λ (p : Entry). p.seq < 2 ^ 56)) parts c.loop-rest.invariant.below in
+    subst (AllByRecursion (λ (p : Entry). p.seq < 2 ^ 56)) (sym (c.deref.ensures.value ∙ c.in_ok-put_points.ensures)) (all_front (λ (p : Entry). p.seq < 2 ^ 56) (points next) (points behind) both)
+
+pub loop-rest-preserved : goal.loop-rest-preserved
+loop-rest-preserved c =
+    let ranked = c.args.ranked.now in
+    let points = points_of ranked.text.now ranked.slots.now ranked.bits in
+    let next = c.split_at.result.0.now in
+    let behind = c.split_at.result.1.now in
+    let packed = c.loop-rest.packed in
+    let parts = ap points c.split_at.ensures.by_index.0 ∙ map-append (entry_at ranked.text.now ranked.slots.now ranked.bits) next behind in
+    let both = subst (AllByRecursion (λ (p : Entry). p.seq < 2 ^ 56)) parts c.loop-rest.invariant.below in
+    record {
+      all =
+          ap (λ (ps : List Entry). ps ++ points behind) (c.in_ok-push_points.ensures ∙ ap (λ (ps : List Entry). packed ++ ps) (c.deref.ensures.value ∙ c.in_ok-put_points.ensures))
+          ∙ append_assoc packed (points next) (points behind)
+          ∙ ap (λ (ps : List Entry). packed ++ ps) (sym parts)
+          ∙ c.loop-rest.invariant.all;
+      below = all_behind (λ (p : Entry). p.seq < 2 ^ 56) (points next) (points behind) both;
+    }

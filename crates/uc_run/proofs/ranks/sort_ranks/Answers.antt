@@ -1,16 +1,8 @@
-use Rattle.std.proofs.Common.{rules}
-use Rattle.std.specs.Ordering.{is_lt}
-use Rattle.std.proofs.lemmas.Fn.{always_returns_same}
-use Rattle.std.proofs.lemmas.List.Sorted.{ranks_by}
-use Rattle.uc_run.specs.Ranks.{rank_cmp}
-use Rattle.uc_run.proofs.RankOrder.{rank_total}
+use Rattle.std.proofs.lemmas.List.Sorted.{IsNonDecreasingBy-from_sort, IsPermutation-trans}
 use Rattle.uc_run.proofs.ranks.sort_ranks.Goals as goal
 
-pub returns : goal.returns
-returns c =
-    let ranked = c.args.ranked.now in
-    let cmp = rank_cmp ranked.text.now ranked.slots.now c.args.shared ranked.bits in
-    record {
-      permutation = c.sort_unstable_by.ensures.permutation;
-      sorted = c.sort_unstable_by.ensures.sorted (λ r s. is_lt (cmp r s)) (ranks_by (rank_total ranked.text.now ranked.slots.now c.args.shared ranked.bits) (λ r. r)) (always_returns_same _ _ _ (λ a r f called. search rules));
-    }
+pub sort_ties-requires : goal.sort_ties-requires
+sort_ties-requires c = IsNonDecreasingBy-from_sort (λ n. n) c.sort_unstable.new.self c.sort_unstable.ensures.sorted
+
+pub returns-clause-permutation : goal.returns-clause-permutation
+returns-clause-permutation c = IsPermutation-trans c.args.ranks.now c.sort_unstable.new.self c.sort_ties.new.ranks c.sort_unstable.ensures.permutation c.sort_ties.ensures.permutation
