@@ -25,7 +25,7 @@ use Rattle.uc_run.specs.declared.slot.Slot.{Slot}
 use Rattle.uc_run.specs.Points.{HaveOwnSeqs}
 use Rattle.uc_run.specs.Flush.{by_key, point_of, points_in}
 use Rattle.uc_run.specs.Prefixes.{prefix_of, AreBytes}
-use Rattle.uc_run.specs.Ranks.{room, high_in, place_in, rank_of, behind_cmp, rank_cmp, entry_in, entry_or, entry_at, points_of, ranked_at, HasFront, HaveBytes, HaveFront}
+use Rattle.uc_run.specs.Ranks.{room, high_in, low_in, rank_of, behind_cmp, rank_cmp, entry_in, entry_or, entry_at, points_of, ranked_at, HasFront, HaveBytes, HaveFront}
 use Rattle.uc_run.specs.Slots.{slot_write, slot_writes}
 use Rattle.uc_run.proofs.ByKey.{sorted_is_by_key}
 use Rattle.uc_run.proofs.Fronts.{behind_front}
@@ -37,17 +37,17 @@ use Rattle.uc_run.proofs.Slots.{part_pushed, part_missing}
 room_some : (bits : ℕ) → 0 < room bits
 room_some bits = pow_pos (bits % 64)
 
-high_of_rank : (bits prefix place : ℕ) → high_in bits (rank_of bits prefix place) ≡ high_in bits prefix
-high_of_rank bits prefix place = shr_high (high_in bits prefix) (bits % 64) (place_in bits place) (mod_below place (room bits) (room_some bits))
+high_of_rank : (bits prefix number : ℕ) → high_in bits (rank_of bits prefix number) ≡ high_in bits prefix
+high_of_rank bits prefix number = shr_high (high_in bits prefix) (bits % 64) (low_in bits number) (mod_below number (room bits) (room_some bits))
 
-place_of_rank : (bits prefix place : ℕ) → place_in bits (rank_of bits prefix place) ≡ place_in bits place
-place_of_rank bits prefix place = mod_low (high_in bits prefix) (bits % 64) (place_in bits place) (mod_below place (room bits) (room_some bits))
+low_of_rank : (bits prefix number : ℕ) → low_in bits (rank_of bits prefix number) ≡ low_in bits number
+low_of_rank bits prefix number = mod_low (high_in bits prefix) (bits % 64) (low_in bits number) (mod_below number (room bits) (room_some bits))
 
 -- how a rank is put together
-pub rank_parts : (bits prefix place : ℕ) → prefix < 2 ^ 64 → bit_or (high_in bits prefix * room bits % 2 ^ 64) (place_in bits place) ≡ rank_of bits prefix place
-rank_parts bits prefix place fits =
+pub rank_parts : (bits prefix number : ℕ) → prefix < 2 ^ 64 → bit_or (high_in bits prefix * room bits % 2 ^ 64) (low_in bits number) ≡ rank_of bits prefix number
+rank_parts bits prefix number fits =
     let below : high_in bits prefix * room bits < 2 ^ 64 = omega (arith, shr_split prefix (bits % 64), fits) in
-    ap (λ n. bit_or n (place_in bits place)) (mod-eq_of_lt below) ∙ or_shifted (high_in bits prefix) (bits % 64) (place_in bits place) (mod_below place (room bits) (room_some bits))
+    ap (λ n. bit_or n (low_in bits number)) (mod-eq_of_lt below) ∙ or_shifted (high_in bits prefix) (bits % 64) (low_in bits number) (mod_below number (room bits) (room_some bits))
 
 -- the bits of a number have room for the places below it
 pub bits_suffice : (count : ℕ) → count < 2 ^ 63 → count ≤ room (64 - count_leading_zeros 64 count)
@@ -73,7 +73,7 @@ higher_by_first : (bits a b : ℕ) → high_in bits a < high_in bits b → a < b
 higher_by_first bits a b lt =
     let below : high_in bits a * room bits ≤ a = omega (arith, shr_split a (bits % 64)) in
     let up : suc (high_in bits a) * room bits ≤ high_in bits b * room bits = mul-le-mul_right (room bits) lt in
-    let rest : place_in bits a < room bits = mod_below a (room bits) (room_some bits) in
+    let rest : low_in bits a < room bits = mod_below a (room bits) (room_some bits) in
     omega (arith, shr_split a (bits % 64), shr_split b (bits % 64), up, rest, suc-mul (high_in bits a) (room bits))
 
 -- ---- ranks stand as points
@@ -171,9 +171,9 @@ module _ (text : List ℕ) (slots : List Slot) (bits shared : ℕ) (first : List
           ∙ order k 0 (omega arith) next
 
 module _ (text : List ℕ) (slots : List Slot) (bits shared : ℕ) where
-  -- a rank tells the place that it had before
+  -- a rank tells the number that it had before
   same_point : (r : ℕ) → entry_at text slots bits (ranked_at text slots shared bits r) ≡ entry_at text slots bits r
-  same_point r = ap (λ (n : ℕ). entry_or text (slice_get slots n)) (place_of_rank bits (prefix_of (drop shared (entry_at text slots bits r).key)) r)
+  same_point r = ap (λ (n : ℕ). entry_or text (slice_get slots (length slots - 1 - n))) (low_of_rank bits (prefix_of (drop shared (entry_at text slots bits r).key)) r)
 
   same_points : (rs : List ℕ) → points_of text slots bits (map (ranked_at text slots shared bits) rs) ≡ points_of text slots bits rs
   same_points [] = refl
@@ -199,12 +199,13 @@ back_by_key text slots bits points held lent sorted tail now len are long same o
     ∙ order
     ∙ ap by_key (ap (points_of text slots bits) same ∙ are)
 
--- the place of a slot gives its point
-pub point_there : (text : List ℕ) (slots : List Slot) (bits place : ℕ) (s : Slot) → length slots ≤ room bits → place < length slots → s ≡ get_or slots place s → entry_at text slots bits place ≡ entry_in text s
+-- the number of a slot gives its point
+pub point_there : (text : List ℕ) (slots : List Slot) (bits place : ℕ) (s : Slot) → length slots ≤ room bits → place < length slots → s ≡ get_or slots place s → entry_at text slots bits (length slots - 1 - place) ≡ entry_in text s
 point_there text slots bits place s fits l is =
-    let small : place < room bits = omega (arith, fits, l) in
-    let same : place_in bits place ≡ place = mod-eq_of_lt small in
-    ap (λ (n : ℕ). entry_or text (slice_get slots n)) same ∙ ap (entry_or text) (slice_get_read slots (length slots) place s refl l is)
+    let number : ℕ = length slots - 1 - place in
+    let small : number < room bits = omega (arith, fits, l) in
+    let back : length slots - 1 - low_in bits number ≡ place = ap (λ n. length slots - 1 - n) (mod-eq_of_lt small) ∙ omega (arith, l) in
+    ap (λ (n : ℕ). entry_or text (slice_get slots n)) back ∙ ap (entry_or text) (slice_get_read slots (length slots) place s refl l is)
 
 -- a loop over places, seen by the points of the slots so far
 module _ (text : List ℕ) (slots : List Slot) (bits i : ℕ) (d : Slot) (fits : length slots ≤ room bits) (l : i < length slots) where
@@ -217,16 +218,16 @@ module _ (text : List ℕ) (slots : List Slot) (bits i : ℕ) (d : Slot) (fits :
   abbrev Told : Bool → Type 0
   Told b = part (slot_write text slot) ≡ cond b (Some (entry_in text slot)) None
 
-  pub place_pushed : (b : Bool) (before after : List ℕ) → b ≡ true → Told b → points_of text slots bits before ≡ points_in (slot_writes text (take i slots)) → after ≡ before ++ i ∷ [] → points_of text slots bits after ≡ points_in (slot_writes text (take (i + 1) slots))
-  place_pushed b before after passed told known pushed =
+  pub number_pushed : (b : Bool) (before after : List ℕ) → b ≡ true → Told b → points_of text slots bits before ≡ points_in (slot_writes text (take i slots)) → after ≡ before ++ (length slots - 1 - i) ∷ [] → points_of text slots bits after ≡ points_in (slot_writes text (take (i + 1) slots))
+  number_pushed b before after passed told known pushed =
       let some : part (slot_write text slot) ≡ Some (entry_in text slot) = told ∙ ap (λ t. cond t (Some (entry_in text slot)) None) passed in
       part_pushed part text slots i d (part (slot_write text slot)) (entry_in text slot) (points_of text slots bits before) (points_of text slots bits after) l refl some known
       (ap (points_of text slots bits) pushed
-      ∙ map-append (entry_at text slots bits) before (i ∷ [])
+      ∙ map-append (entry_at text slots bits) before ((length slots - 1 - i) ∷ [])
       ∙ ap (λ p. points_of text slots bits before ++ p ∷ []) (point_there text slots bits i slot fits l (get_or_default slots i d slot l)))
 
-  pub place_missing : (b : Bool) (before : List ℕ) → b ≡ false → Told b → points_of text slots bits before ≡ points_in (slot_writes text (take i slots)) → points_of text slots bits before ≡ points_in (slot_writes text (take (i + 1) slots))
-  place_missing b before failed told known =
+  pub number_missing : (b : Bool) (before : List ℕ) → b ≡ false → Told b → points_of text slots bits before ≡ points_in (slot_writes text (take i slots)) → points_of text slots bits before ≡ points_in (slot_writes text (take (i + 1) slots))
+  number_missing b before failed told known =
       part_missing part text slots i d (part (slot_write text slot)) (points_of text slots bits before) l refl (told ∙ ap (λ t. cond t (Some (entry_in text slot)) None) failed) known
 
 -- what holds of all points holds of those in front and of those behind them

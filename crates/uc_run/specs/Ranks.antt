@@ -1,5 +1,5 @@
 -- Ranks: numbers that order points by their keys.
-use Rattle.std.specs.Prelude.{◌≡◌, ℕ, ◌+◌, ◌*◌, ◌/◌, ◌%◌, ◌^◌, ◌≤◌, List, [], ◌∷◌, Option, Some, None, length, map, take, drop}
+use Rattle.std.specs.Prelude.{◌≡◌, ℕ, ◌+◌, ◌-◌, ◌*◌, ◌/◌, ◌%◌, ◌^◌, ◌≤◌, List, [], ◌∷◌, Option, Some, None, length, map, take, drop}
 use Rattle.std.specs.List.{All, slice_get}
 use Rattle.std.specs.declared.cmp.Ordering.{Ordering}
 use Rattle.std.specs.Ordering.{nat_cmp, ordering_then}
@@ -28,24 +28,28 @@ abbrev pub entry_or : List ℕ → Option Slot → Entry
 entry_or text None = record { key = []; seq = 0; what = what.Delete }
 entry_or text (Some s) = entry_in text s
 
--- how many places ranks tell apart, if their last bits tell the place
+-- how many numbers of slots ranks tell apart, if their last bits tell the number
 abbrev pub room : ℕ → ℕ
 room bits = 2 ^ (bits % 64)
 
--- the first bits of the prefix, behind which the place stands
+-- the first bits of the prefix, behind which the number of the slot stands
 abbrev pub high_in : ℕ → ℕ → ℕ
 high_in bits rank = rank / room bits
 
-abbrev pub place_in : ℕ → ℕ → ℕ
-place_in bits rank = rank % room bits
+abbrev pub low_in : ℕ → ℕ → ℕ
+low_in bits rank = rank % room bits
 
--- the rank of a place, by the first bits of a prefix
+-- the rank of a slot's number, by the first bits of a prefix
 abbrev pub rank_of : ℕ → ℕ → ℕ → ℕ
-rank_of bits prefix place = high_in bits prefix * room bits + place_in bits place
+rank_of bits prefix number = high_in bits prefix * room bits + low_in bits number
 
--- the point of a rank: that of the slot at its place
+-- the place of the slot with a number: the last one has the number 0
+abbrev pub place_in : ℕ → ℕ → ℕ → ℕ
+place_in count bits rank = count - 1 - low_in bits rank
+
+-- the point of a rank's slot
 abbrev pub entry_at : List ℕ → List Slot → ℕ → ℕ → Entry
-entry_at text slots bits rank = entry_or text (slice_get slots (place_in bits rank))
+entry_at text slots bits rank = entry_or text (slice_get slots (place_in (length slots) bits rank))
 
 abbrev pub points_of : List ℕ → List Slot → ℕ → List ℕ → List Entry
 points_of text slots bits ranks = map (entry_at text slots bits) ranks

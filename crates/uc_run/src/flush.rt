@@ -8,7 +8,7 @@ ghost use Rattle.uc_run.specs.Points.{HaveOwnSeqs};
 ghost use Rattle.uc_run.specs.Flush as flush;
 
 use crate::laws::flushed_writes_are_a_run;
-use crate::ranks::{Ranked, pack_ranked, place_bits, places_of_points, sort_by_key};
+use crate::ranks::{Ranked, bits_below, numbers_of_points, pack_ranked, sort_by_key};
 use crate::run::Run;
 use crate::slot::Slot;
 use crate::slot_totals::last_seq;
@@ -80,8 +80,8 @@ fn points_by_key(alloc: Global, text: &[u8], slots: &[Slot]) -> Result<Points, A
         (flush.by_key (flush.points_in (slot_writes text.now slots.now))) }
     ensures { IfOk result (λ points. points ≡ flush.by_key (flush.points_in (slot_writes text.now slots.now))) }
 {
-    let bits = place_bits(slots.len());
-    let mut ranks = places_of_points(alloc, slots, bits)?;
+    let bits = bits_below(slots.len());
+    let mut ranks = numbers_of_points(alloc, slots, bits)?;
     let ranked = Ranked { text, slots, bits };
     sort_by_key(&ranked, &mut ranks);
     let packed = pack_ranked(alloc, &ranked, &ranks);

@@ -1,8 +1,8 @@
 //! Ranks: numbers that order a memtable's points by their keys, so that a sort moves numbers.
 //!
-//! The last bits of a rank are the place of the point's slot, as many as the places need. Those before them are the first bits
-//! of the key's prefix, after the bytes that all keys share. Most ranks differ there, and a sort looks at slots and texts only
-//! where two don't.
+//! The last bits of a rank are the number of the point's slot, as many as the numbers need. The last slot has the number 0, so
+//! the newest point of a key has its lowest rank. Those before them are the first bits of the key's prefix, after the bytes
+//! that all keys share. Most ranks differ there, and slots and texts are looked at only where two don't.
 ghost use Rattle.std.specs.Prelude.{◌≡◌, ◌≢◌, ◌<◌, ◌≤◌, ◌^◌, ◌%◌, ℕ, List, length, map, slice_index, ◌++◌, IfOk, OnOk};
 ghost use Rattle.std.specs.List.{AllByRecursion};
 ghost use Rattle.std.specs.List.Sorted.{IsNonDecreasing, IsPermutation, IsSortedBy};
@@ -31,12 +31,12 @@ const POINTS_AT_ONCE: usize = 64;
 pub(crate) struct Ranked<'a> {
     pub(crate) text: &'a [u8],
     pub(crate) slots: &'a [Slot],
-    /// How many bits of a rank tell the place.
+    /// How many bits of a rank tell the number of the slot.
     pub(crate) bits: u32,
 }
 
-/// How many bits a place among so many slots takes.
-pub(crate) fn place_bits(count: usize) -> u32
+/// How many bits a number below this takes.
+pub(crate) fn bits_below(count: usize) -> u32
     requires { count < 2 ^ 63 }
     ensures { count ≤ of_rank.room result }
 {
@@ -51,20 +51,20 @@ fn high_in(rank: u64, bits: u32) -> u64
     rank >> (bits % 64)
 }
 
-/// The place of the slot.
+/// The number of the slot.
 #[inline]
-fn place_in(rank: u64, bits: u32) -> u64
-    ensures { result ≡ of_rank.place_in bits rank }
+fn low_in(rank: u64, bits: u32) -> u64
+    ensures { result ≡ of_rank.low_in bits rank }
 {
     rank % (1 << (bits % 64))
 }
 
-/// The rank of a place, by the first bits of a prefix.
+/// The rank of a slot's number, by the first bits of a prefix.
 #[inline]
-fn rank_of(prefix: u64, place: u64, bits: u32) -> u64
-    ensures { result ≡ of_rank.rank_of bits prefix place }
+fn rank_of(prefix: u64, number: u64, bits: u32) -> u64
+    ensures { result ≡ of_rank.rank_of bits prefix number }
 {
-    (high_in(prefix, bits) << (bits % 64)) | place_in(place, bits)
+    (high_in(prefix, bits) << (bits % 64)) | low_in(number, bits)
 }
 
 impl<'a> Ranked<'a> {
@@ -73,13 +73,15 @@ impl<'a> Ranked<'a> {
     fn point(&self, rank: u64) -> EntryRef<'a>
         ensures { result ≡ entry_at self.now.text.now self.now.slots.now self.now.bits rank }
     {
-        match self.slots.get(place_in(rank, self.bits) as usize) {
+        let last = self.slots.len().saturating_sub(1);
+        let place = last.saturating_sub(low_in(rank, self.bits) as usize);
+        match self.slots.get(place) {
             Some(slot) => slot.point_in(self.text),
             None => EntryRef::new(&[], 0, WhatRef::Delete),
         }
     }
 
-    /// The rank of the same place, by the prefix of its key after the bytes that all keys share.
+    /// The rank of the same slot, by the prefix of its key after the bytes that all keys share.
     #[inline]
     fn ranked(&self, rank: u64, shared: usize) -> u64
         ensures { result ≡ ranked_at self.now.text.now self.now.slots.now shared self.now.bits rank }
@@ -126,23 +128,23 @@ pub(crate) fn begins_with(front: &[u8], key: &[u8]) -> usize
     common_prefix_len(front, key)
 }
 
-/// The places of the points among the slots, as ranks that tell nothing of the keys. An `Err` loses them.
-pub(crate) fn places_of_points(
+/// The numbers of the slots that are points, as ranks that tell nothing of the keys. An `Err` loses them.
+pub(crate) fn numbers_of_points(
     alloc: Global,
     slots: &[Slot],
     bits: u32,
 ) -> Result<Vec<u64>, AllocError>
     requires { length slots.now ≤ of_rank.room bits }
-    ensures { IfOk result (λ places.
-        (text : List ℕ) → points_of text slots.now bits places.items ≡ flush.points_in (slot_writes text slots.now)) }
+    ensures { IfOk result (λ numbers.
+        (text : List ℕ) → points_of text slots.now bits numbers.items ≡ flush.points_in (slot_writes text slots.now)) }
 {
-    let mut places = Vec::with_capacity(alloc, slots.len())?;
+    let mut numbers = Vec::with_capacity(alloc, slots.len())?;
     for place in 0..slots.len() {
         if slots[place].is_point() {
-            places.push(place as u64)?;
+            numbers.push((slots.len() - 1 - place) as u64)?;
         }
     }
-    Ok(places)
+    Ok(numbers)
 }
 
 /// How many bytes at their front the keys of some points have in common with a key.
