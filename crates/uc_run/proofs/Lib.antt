@@ -16,7 +16,8 @@ pub mod TextOrder
 pub mod SameText
 pub mod Fronts
 pub mod Decided
-pub mod RankedOrder
+pub mod RankOrder
+pub mod Ties
 pub mod LeastKey
 pub mod Passing
 pub mod NearPlace

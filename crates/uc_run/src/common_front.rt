@@ -1,6 +1,6 @@
 //! What keys begin with: the bytes that they have in common at their front.
 use crate::cursor::Cursor;
-use crate::ranked_point::begins_with;
+use crate::ranks::begins_with;
 use crate::run::Run;
 use uc_run_points::PointSlice;
 

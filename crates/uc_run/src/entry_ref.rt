@@ -1,18 +1,17 @@
 //! [`EntryRef`]: a point with borrowed texts.
 ghost use Rattle.std.specs.Prelude.{◌≡◌, ◌<◌, ◌^◌, ◌++◌, ◌∷◌, [], OnOk};
 ghost use Rattle.std.specs.Ordering.{nat_cmp};
-ghost use Rattle.uc_run_entry.specs.Order.{entry_cmp};
 ghost use Rattle.uc_run_entry.specs.Packed as packed;
 ghost use Rattle.uc_run.specs.Ranks.{behind_cmp};
 
-use crate::prefixes::PREFIX_BYTES;
+use crate::texts::{split_front, text_order};
 use std::alloc::AllocError;
 use std::cmp::Ordering;
 use std::marker::Model;
 use uc_run_entry::WhatRef;
 use uc_run_points::Points;
 
-/// A point with borrowed texts, so moves are cheap. A contract sees it as the `Entry`.
+/// A point with borrowed texts. A contract sees it as the `Entry`.
 #[derive(Debug, Drop)]
 pub(crate) struct EntryRef<'a> {
     key: &'a [u8],
@@ -46,27 +45,14 @@ impl<'a> EntryRef<'a> {
         self.key
     }
 
-    /// Its order to another: by key, the newest of a key first.
-    #[inline]
-    pub(crate) fn order(&self, other: &EntryRef<'_>) -> Ordering
-        ensures { result ≡ entry_cmp self.now other.now }
-    {
-        self.key.cmp(&other.key).then(self.newest_first(other))
-    }
-
-    /// Its order to another whose key has the same front of shared bytes and the same prefix behind it. A key that ends
-    /// within the prefix is told from others by its length.
+    /// Its order to another whose key has the same front of shared bytes: by what is behind it, the newest of a key first.
     #[inline]
     pub(crate) fn order_behind(&self, other: &EntryRef<'_>, shared: usize) -> Ordering
         ensures { result ≡ behind_cmp shared self.now other.now }
     {
-        let rest = self.key.len().saturating_sub(shared);
-        let other_rest = other.key.len().saturating_sub(shared);
-        if rest.min(other_rest) <= PREFIX_BYTES {
-            rest.cmp(&other_rest).then(self.newest_first(other))
-        } else {
-            self.order(other)
-        }
+        let (_, rest) = split_front(self.key, shared);
+        let (_, other_rest) = split_front(other.key, shared);
+        text_order(rest, other_rest).then(self.newest_first(other))
     }
 
     /// Its order to another of the same key.

@@ -5,18 +5,16 @@ ghost use Rattle.uc_bytes.specs.Borrowed.{op_of};
 ghost use Rattle.uc_batch.specs.Rising.{IsRising};
 ghost use Rattle.uc_run.specs.Slots.{slot_write, slot_writes, LiesWithin, LieWithin};
 ghost use Rattle.uc_run.specs.Points.{HaveOwnSeqs};
-ghost use Rattle.uc_run.specs.Ranks.{points_of};
 ghost use Rattle.uc_run.specs.Flush as flush;
 
-use crate::entry_ref::EntryRef;
 use crate::laws::flushed_writes_are_a_run;
-use crate::ranked_point::{RankedPoint, pack_ranked, sort_by_key};
+use crate::ranks::{Ranked, bits_below, numbers_of_points, pack_ranked, sort_by_key};
 use crate::run::Run;
 use crate::slot::Slot;
 use crate::slot_totals::last_seq;
 use std::alloc::{AllocError, Global};
 use uc_bytes::{OpKind, OpRef, WriteRef};
-use uc_run_entry::{Range, WhatRef, cut_ranges};
+use uc_run_entry::{Range, cut_ranges};
 use uc_run_points::{Points, make_small};
 
 /// The texts of a slot in the arena.
@@ -44,20 +42,6 @@ pub(crate) fn write_at<'a>(text: &'a [u8], slot: &Slot) -> WriteRef<'a>
     WriteRef::new(slot.seq, op)
 }
 
-/// The point that a slot's write is, if it changes one key.
-fn point_at<'a>(text: &'a [u8], slot: &Slot) -> Option<EntryRef<'a>>
-    requires { LiesWithin (length text.now) slot.now }
-    ensures { result ≡ flush.point_of slot.now.seq (slot_write text.now slot.now).op }
-{
-    let (first, second) = texts_at(text, slot);
-    match slot.kind {
-        OpKind::Put => Some(EntryRef::new(first, slot.seq, WhatRef::Put(second))),
-        OpKind::Delete => Some(EntryRef::new(first, slot.seq, WhatRef::Delete)),
-        OpKind::Merge => Some(EntryRef::new(first, slot.seq, WhatRef::Merge(second))),
-        OpKind::DeleteRange => None,
-    }
-}
-
 /// The range that a slot's write deletes, if it is a range deletion.
 fn range_at<'a>(text: &'a [u8], slot: &Slot) -> Option<Range<'a>>
     requires { LiesWithin (length text.now) slot.now }
@@ -68,24 +52,6 @@ fn range_at<'a>(text: &'a [u8], slot: &Slot) -> Option<Range<'a>>
         OpKind::DeleteRange => Some(Range::new(first, second, slot.seq)),
         OpKind::Put | OpKind::Delete | OpKind::Merge => None,
     }
-}
-
-/// The points among the slots' writes, in their order. An `Err` loses them.
-fn points_in<'a>(
-    alloc: Global,
-    text: &'a [u8],
-    slots: &[Slot],
-) -> Result<Vec<RankedPoint<'a>>, AllocError>
-    requires { LieWithin text.now slots.now }
-    ensures { IfOk result (λ points. points_of points.items ≡ flush.points_in (slot_writes text.now slots.now)) }
-{
-    let mut points = Vec::with_capacity(alloc, slots.len())?;
-    for slot in slots {
-        if let Some(point) = point_at(text, slot) {
-            points.push(RankedPoint::new(point))?;
-        }
-    }
-    Ok(points)
 }
 
 /// The range deletions among the slots' writes, in their order. An `Err` loses them.
@@ -109,16 +75,17 @@ fn ranges_in<'a>(
 /// The points among the slots' writes, by key, the newest of a key first. The texts are copied in this order. An `Err`
 /// loses them.
 fn points_by_key(alloc: Global, text: &[u8], slots: &[Slot]) -> Result<Points, AllocError>
-    requires within { LieWithin text.now slots.now }
     requires own { HaveOwnSeqs (flush.points_in (slot_writes text.now slots.now)) }
     requires below { AllByRecursion (λ p. p.seq < 2 ^ 56)
         (flush.by_key (flush.points_in (slot_writes text.now slots.now))) }
     ensures { IfOk result (λ points. points ≡ flush.by_key (flush.points_in (slot_writes text.now slots.now))) }
 {
-    let mut points = points_in(alloc, text, slots)?;
-    sort_by_key(&mut points);
-    let packed = pack_ranked(alloc, &points);
-    make_small(&mut points, size_of::<RankedPoint>());
+    let bits = bits_below(slots.len());
+    let mut ranks = numbers_of_points(alloc, slots, bits)?;
+    let ranked = Ranked { text, slots, bits };
+    sort_by_key(&ranked, &mut ranks);
+    let packed = pack_ranked(alloc, &ranked, &ranks);
+    make_small(&mut ranks, size_of::<u64>());
     packed
 }
 

@@ -2,7 +2,7 @@
 //!
 //! A [`Memtable`] keeps the texts of its writes one after the other in one arena, and a small slot for each write. A
 //! contract sees it as the list of the writes that were inserted. [`Memtable::flush`] makes a [`Run`] of it. Read
-//! `specs/Flush.antt` and `memtable.rt`, then `ranked_point.rt`, which sorts the points.
+//! `specs/Flush.antt` and `memtable.rt`, then `ranks.rt`, which sorts the points.
 //!
 //! A [`Run`] is immutable. It keeps its points, packed, in blocks of 16 in order of key, and a Bloom filter of their keys
 //! (`filter.rt`). A contract sees it as its contents (`uc_run_entry`'s `specs/Run.antt`); only the contracts of
@@ -32,7 +32,7 @@ mod near;
 mod number_blocks;
 mod places;
 mod prefixes;
-mod ranked_point;
+mod ranks;
 mod run;
 mod run_size;
 mod same;

@@ -1,5 +1,5 @@
-//! The order of texts, eight bytes at a time.
-ghost use Rattle.std.specs.Prelude.{◌≡◌};
+//! Texts: their order, eight bytes at a time, and their fronts.
+ghost use Rattle.std.specs.Prelude.{◌≡◌, take, drop};
 ghost use Rattle.uc_bytes.specs.Bytes.{bytes_cmp, same_bytes};
 
 use crate::prefixes::{PREFIX_BYTES, prefix_of};
@@ -39,4 +39,13 @@ pub fn same_text(text: &[u8], other: &[u8]) -> bool
         rest = &rest[PREFIX_BYTES..];
         other_rest = &other_rest[PREFIX_BYTES..];
     }
+}
+
+/// So many bytes at the front, and those behind them; all and none if there are fewer.
+#[inline]
+pub(crate) fn split_front(text: &[u8], count: usize) -> (&[u8], &[u8])
+    ensures front { result.0.now ≡ take count text.now }
+    ensures rest { result.1.now ≡ drop count text.now }
+{
+    text.split_at(count.min(text.len()))
 }

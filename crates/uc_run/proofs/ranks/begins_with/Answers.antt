@@ -2,8 +2,8 @@ use Rattle.std.proofs.Common.{◌≡◌, ◌≤◌, ◌∙◌, ℕ, length, min,
 use Rattle.std.specs.Cmp.Lexicographic.{same_text}
 use Rattle.std.proofs.lemmas.List.{take_all}
 use Rattle.uc_run.specs.Ranks.{HasFront}
-use Rattle.uc_run.proofs.RankedOrder.{common_front, common_bound}
-use Rattle.uc_run.proofs.ranked_point.begins_with.Goals as goal
+use Rattle.uc_run.proofs.RankOrder.{common_front, common_bound}
+use Rattle.uc_run.proofs.ranks.begins_with.Goals as goal
 
 pub returns-then-same_text-clause-front : goal.returns-then-same_text-clause-front
 returns-then-same_text-clause-front c =
