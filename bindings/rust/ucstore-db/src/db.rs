@@ -3,6 +3,7 @@
 use crate::disk_folder::DiskFolder;
 use crate::error::Error;
 use crate::folder::Folder;
+use crate::holder::Holder;
 use crate::options::Options;
 use crate::shared::Shared;
 use crate::snapshot::{Rows, Snapshot};
@@ -13,7 +14,7 @@ use std::fmt;
 use std::mem::MaybeUninit;
 use std::path::Path;
 use std::sync::Arc;
-use ucstore::{Batch, View};
+use ucstore::Batch;
 
 /// How many bytes a thread keeps for its next operation at most.
 const MOST_KEPT: usize = 64 << 10;
@@ -142,7 +143,7 @@ impl Db {
     /// [`Error::Store`] if memory is refused, as for each read.
     pub fn get(&self, key: impl AsRef<[u8]>) -> Result<Option<Vec<u8>>, Error> {
         let key = key.as_ref();
-        self.look_up(|view| view.get(key))
+        self.look_up(|holder| holder.get(key))
     }
 
     /// Puts the value under a key into a vector, instead of what that has, and tells whether there is one. The vector is empty
@@ -165,7 +166,7 @@ impl Db {
     /// Those of [`get`](Db::get).
     pub fn get_into(&self, key: impl AsRef<[u8]>, value: &mut Vec<u8>) -> Result<bool, Error> {
         let key = key.as_ref();
-        self.look_up(|view| view.get_into(key, value))
+        self.look_up(|holder| holder.get_into(key, value))
     }
 
     /// Copies the value under a key into a room, as much of it as there is room for. Returns the size of all of it, if there is
@@ -180,7 +181,7 @@ impl Db {
         room: &mut [MaybeUninit<u8>],
     ) -> Result<Option<usize>, Error> {
         let key = key.as_ref();
-        self.look_up(|view| view.get_to_room(key, room))
+        self.look_up(|holder| holder.get_to_room(key, room))
     }
 
     /// For each key its value, if there is one, at one moment. The keys come in any order.
@@ -303,7 +304,7 @@ impl Db {
     /// Looks a key up.
     fn look_up<T>(
         &self,
-        read: impl FnOnce(&View) -> Result<T, ucstore::Error>,
+        read: impl FnOnce(Holder<'_>) -> Result<T, ucstore::Error>,
     ) -> Result<T, Error> {
         let shared = self.shared();
         shared.counts.add_lookups(1);

@@ -59,6 +59,7 @@ mod event;
 mod folder;
 mod front;
 mod group;
+mod holder;
 mod lanes;
 mod log;
 mod name;

@@ -2,12 +2,13 @@
 
 use crate::error::Error;
 use crate::front::Front;
-use crate::lanes::Lanes;
+use crate::holder::Holder;
+use crate::lanes::{own_place, Lanes};
 use crate::padded::Padded;
 use crate::patience::Patience;
 use crate::shown::{renewed, Shown};
 use crate::{lock, try_lock};
-use std::sync::atomic::{fence, AtomicBool, AtomicU64, Ordering};
+use std::sync::atomic::{fence, AtomicBool, AtomicU64, AtomicUsize, Ordering};
 use std::sync::{Mutex, MutexGuard};
 use ucstore::{Store, View};
 
@@ -15,7 +16,8 @@ use ucstore::{Store, View};
 ///
 /// A read needs the groups that were taken before it began, and no more: so those who wait for a view together share it.
 /// A thread looks keys up in the view of a slot, which is locked for it alone, and renews that from the shown one. The writer of the
-/// next group shows the next one if this one was used. Else the first reader behind it does.
+/// next group shows the next one if this one was used. Else the first reader behind it does. A thread that has written the last group
+/// itself looks keys up in the store, if that is free: so it makes no view behind each of its writes.
 ///
 /// There are 26 views at most: those of 16 slots, one for scans, the shown one, and eight before it.
 /// A view holds the memtables and runs that the store had. Who changes the runs lets go of all views before that, whether anyone
@@ -36,11 +38,14 @@ pub(crate) struct Newest {
     shown: Padded<Mutex<Front>>,
     /// Whether the shown view was used.
     is_used: Padded<AtomicBool>,
+    /// The place of the thread that wrote the last group.
+    writer: Padded<AtomicUsize>,
 }
 
 impl Newest {
     /// Tells that the store has taken a group, before it is unlocked. It waits for no reader: one of these shows the view if it can't.
     pub(crate) fn raise(&self, store: &Store) {
+        self.writer.0.store(own_place(), Ordering::Relaxed);
         self.tell(store, || Patience::Short.look(|| try_lock(&self.shown.0)));
     }
 
@@ -49,20 +54,27 @@ impl Newest {
         self.tell(store, || Some(lock(&self.shown.0)));
     }
 
-    /// Reads in a view that has each group that was taken before the call.
+    /// Reads what has each group that was taken before the call: a view, or the store itself.
     pub(crate) fn read<T>(
         &self,
         store: &Mutex<Store>,
-        read: impl FnOnce(&View) -> Result<T, ucstore::Error>,
+        read: impl FnOnce(Holder<'_>) -> Result<T, ucstore::Error>,
     ) -> Result<T, Error> {
         let least = self.taken();
         let slots = self.slots.own_and_next().into_iter();
         let mut free = slots.filter_map(|slot| Some((slot, try_lock(slot)?)));
         let Some((slot, mut held)) = free.next() else {
-            return Ok(read(&self.shown(least, store)?.view)?);
+            return Ok(read(Holder::View(&self.shown(least, store)?.view))?);
         };
+        let is_old = held.as_ref().is_none_or(|shown| shown.taken < least);
+        if is_old && self.writer.0.load(Ordering::Relaxed) == own_place() {
+            if let Some(store) = try_lock(store) {
+                drop(held);
+                return Ok(read(Holder::Store(&store))?);
+            }
+        }
         let shown = renewed(&mut held, least, || self.shown(least, store))?;
-        let (value, taken) = (read(&shown.view), shown.taken);
+        let (value, taken) = (read(Holder::View(&shown.view)), shown.taken);
         drop(held);
         self.end_use(slot, taken);
         Ok(value?)
@@ -215,14 +227,20 @@ mod tests {
         Shared::open(None, &Options::default()).unwrap()
     }
 
-    fn put(shared: &Shared, number: u64) {
+    fn put_own(shared: &Shared, number: u64) {
         let mut batch = Batch::new();
         batch.put("k", number.to_le_bytes()).unwrap();
         shared.write(batch.bytes(), false).unwrap();
     }
 
+    /// Puts as a thread that reads nothing.
+    fn put(shared: &Shared, number: u64) {
+        put_own(shared, number);
+        shared.newest.writer.0.store(usize::MAX, Ordering::Relaxed);
+    }
+
     fn get(shared: &Shared) -> u64 {
-        let value = shared.read(|view| view.get("k")).unwrap();
+        let value = shared.read(|holder| holder.get(b"k")).unwrap();
         value.map_or(0, |text| u64::from_le_bytes(text.try_into().unwrap()))
     }
 
@@ -251,6 +269,27 @@ mod tests {
         assert!(!shared.newest.is_shown());
         assert_eq!(get(&shared), 1);
         assert!(shared.newest.is_shown());
+    }
+
+    #[test]
+    fn a_thread_reads_what_it_wrote_last_in_the_store() {
+        let shared = in_memory();
+        for number in 1..5 {
+            put_own(&shared, number);
+            assert_eq!(get(&shared), number);
+            assert_eq!(shared.newest.held(), []);
+        }
+        // The store isn't free, or another thread has written since.
+        put_own(&shared, 5);
+        let view = shared.view().unwrap();
+        let store = lock(&shared.store);
+        assert_eq!(get(&shared), 5);
+        drop(store);
+        put_own(&shared, 6);
+        put(&shared, 7);
+        assert_eq!(get(&shared), 7);
+        assert!(shared.newest.is_shown());
+        assert_eq!(view.last(), 5);
     }
 
     #[test]

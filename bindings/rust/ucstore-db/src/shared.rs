@@ -5,6 +5,7 @@ use crate::error::Error;
 use crate::event::{Event, Events};
 use crate::folder::Folder;
 use crate::group::{Group, Groups, Role};
+use crate::holder::Holder;
 use crate::lock;
 use crate::log::Log;
 use crate::newest::Newest;
@@ -280,7 +281,7 @@ impl Shared {
     /// Reads what has each write that was acknowledged before.
     pub(crate) fn read<T>(
         &self,
-        read: impl FnOnce(&View) -> Result<T, ucstore::Error>,
+        read: impl FnOnce(Holder<'_>) -> Result<T, ucstore::Error>,
     ) -> Result<T, Error> {
         self.newest.read(&self.store, read)
     }

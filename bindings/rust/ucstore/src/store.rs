@@ -14,6 +14,7 @@ use crate::sys;
 use crate::view::View;
 use std::cell::UnsafeCell;
 use std::fmt;
+use std::mem::MaybeUninit;
 use std::ptr;
 use std::sync::atomic::{AtomicU64, Ordering};
 
@@ -266,6 +267,30 @@ impl Store {
     /// [`Error::OutOfMemory`].
     pub fn get(&self, key: impl AsRef<[u8]>) -> Result<Option<Vec<u8>>, Error> {
         self.reads().get(key.as_ref())
+    }
+
+    /// Puts the value under a key into a vector, instead of what that has, and tells whether there is one. The vector is empty
+    /// without one, and its memory is used again.
+    ///
+    /// # Errors
+    ///
+    /// [`Error::OutOfMemory`].
+    pub fn get_into(&self, key: impl AsRef<[u8]>, value: &mut Vec<u8>) -> Result<bool, Error> {
+        self.reads().get_into(key.as_ref(), value)
+    }
+
+    /// Copies the value under a key into a room, as much of it as there is room for. Returns the size of all of it, if there is
+    /// one: what of the room is below it has values then.
+    ///
+    /// # Errors
+    ///
+    /// [`Error::OutOfMemory`].
+    pub fn get_to_room(
+        &self,
+        key: impl AsRef<[u8]>,
+        room: &mut [MaybeUninit<u8>],
+    ) -> Result<Option<usize>, Error> {
+        self.reads().get_to_room(key.as_ref(), room)
     }
 
     /// For each key its value, if there is one. The keys come in any order.

@@ -1,0 +1,41 @@
+//! [`Holder`]: what a key is looked up in.
+
+use std::mem::MaybeUninit;
+use ucstore::{Error, Store, View};
+
+/// What a key is looked up in.
+pub(crate) enum Holder<'a> {
+    View(&'a View),
+    /// The store itself, which is locked meanwhile.
+    Store(&'a Store),
+}
+
+impl Holder<'_> {
+    /// The value under a key, if there is one.
+    pub(crate) fn get(&self, key: &[u8]) -> Result<Option<Vec<u8>>, Error> {
+        match self {
+            Holder::View(view) => view.get(key),
+            Holder::Store(store) => store.get(key),
+        }
+    }
+
+    /// Puts the value under a key into a vector, and tells whether there is one.
+    pub(crate) fn get_into(&self, key: &[u8], value: &mut Vec<u8>) -> Result<bool, Error> {
+        match self {
+            Holder::View(view) => view.get_into(key, value),
+            Holder::Store(store) => store.get_into(key, value),
+        }
+    }
+
+    /// Copies the value under a key into a room, and returns the size of all of it, if there is one.
+    pub(crate) fn get_to_room(
+        &self,
+        key: &[u8],
+        room: &mut [MaybeUninit<u8>],
+    ) -> Result<Option<usize>, Error> {
+        match self {
+            Holder::View(view) => view.get_to_room(key, room),
+            Holder::Store(store) => store.get_to_room(key, room),
+        }
+    }
+}
