@@ -1,4 +1,3 @@
-use Rattle.std.proofs.Common.{ℕ}
 use Rattle.uc_run.proofs.RankOrder.{number_pushed, number_missing}
 use Rattle.uc_run.proofs.ranks.numbers_of_points.Goals as goal
 use Rattle.uc_run.proofs.ranks.numbers_of_points.Goals.{then-is_point+in_ok-push, else-is_point}

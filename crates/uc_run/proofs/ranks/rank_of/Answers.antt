@@ -1,5 +1,5 @@
 use Rattle.std.proofs.Common.{◌%◌, ◌*◌, ◌^◌, ap, bit_or, ◌∙◌}
-use Rattle.uc_run.specs.Ranks.{high_in, low_in, room}
+use Rattle.uc_run.specs.Ranks.{high_in, room}
 use Rattle.uc_run.proofs.RankOrder.{rank_parts}
 use Rattle.uc_run.proofs.ranks.rank_of.Goals as goal
 
