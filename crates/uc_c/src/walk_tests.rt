@@ -1,12 +1,11 @@
 //! Walks over a log, and places that no walk leads to.
 
-use crate::c_ended::CLEAN;
+use crate::c_ended::{CEnded, CLEAN};
 use crate::c_log_place::CLogPlace;
 use crate::logs::ucstore_log_next;
 use crate::status::{BAD_PLACE, LOG_ENDS, OK, ROOM};
 use crate::tests::{LOG, untold};
 use std::alloc::Global;
-use std::process::Abort;
 
 /// The writes of the log as a walk lays them out.
 static WRITES: [u8; 53] = [
@@ -14,77 +13,92 @@ static WRITES: [u8; 53] = [
     0, 0, 0, 0, 0, 0, 1, 0, 0, 0, 0, 0, 0, 0, b'b', 0, 0, 0, 0, 0, 0, 0, 0,
 ];
 
+/// What a step of a walk over the log tells.
+#[derive(PartialEq, Eq, Debug, Drop)]
+struct Told {
+    status: i32,
+    size: usize,
+    count: u64,
+    ended: CEnded,
+}
+
+/// Takes a step of a walk over the log.
+fn step(alloc: Global, place: &mut CLogPlace, room: &mut [u8]) -> Told {
+    let (mut size, mut count, mut ended) = (7, 7, untold());
+    let status = ucstore_log_next(alloc, &LOG, place, room, &mut size, &mut count, &mut ended);
+    Told {
+        status,
+        size,
+        count,
+        ended,
+    }
+}
+
+/// What a step tells that isn't taken.
+fn refused(status: i32, size: usize) -> Told {
+    Told {
+        status,
+        size,
+        count: 7,
+        ended: untold(),
+    }
+}
+
+/// The place behind so many bytes and batches, of which the last sequence is this.
+fn place_at(offset: u64, last: u64, batches: u64) -> CLogPlace {
+    CLogPlace {
+        offset,
+        last,
+        batches,
+    }
+}
+
+/// Walks on with too little room.
+fn needs_room(alloc: Global, place: &mut CLogPlace) -> bool {
+    let told = step(alloc, place, &mut [0; 52]);
+    told == refused(ROOM, 53) && place.offset == 0
+}
+
+/// Walks over the batch.
+fn shows_batch(alloc: Global, place: &mut CLogPlace) -> bool {
+    let mut room = [0; 53];
+    let told = step(alloc, place, &mut room);
+    let wanted = Told {
+        status: OK,
+        size: 53,
+        count: 2,
+        ended: untold(),
+    };
+    told == wanted && room == WRITES && *place == place_at(27, 2, 1)
+}
+
+/// Walks up to the end.
+fn ends(alloc: Global, place: &mut CLogPlace) -> bool {
+    let told = step(alloc, place, &mut []);
+    told.status == LOG_ENDS && told.ended.kind == CLEAN && place.offset == 27
+}
+
 /// A walk over the log of a batch: too little room, then enough, then the end.
 #[test]
 fn a_walk(rt: HostRuntime) {
     let alloc = rt.alloc();
-    let mut place = CLogPlace {
-        offset: 0,
-        last: 0,
-        batches: 0,
-    };
-    let (mut room, mut size, mut count, mut ended) = ([0; 53], 7, 7, untold());
-    assert_eq!(rt;
-        ucstore_log_next(
-            alloc,
-            &LOG,
-            &mut place,
-            &mut room[..52],
-            &mut size,
-            &mut count,
-            &mut ended
-        ),
-        ROOM
-    );
-    assert!(rt; place.offset == 0 && size == 53 && count == 7);
-    assert_eq!(rt;
-        ucstore_log_next(
-            alloc, &LOG, &mut place, &mut room, &mut size, &mut count, &mut ended
-        ),
-        OK
-    );
-    assert!(rt; place.offset == 27 && place.last == 2 && place.batches == 1);
-    assert!(rt; room == WRITES && size == 53 && count == 2 && ended == untold());
-    assert_eq!(rt;
-        ucstore_log_next(
-            alloc, &LOG, &mut place, &mut room, &mut size, &mut count, &mut ended
-        ),
-        LOG_ENDS
-    );
-    assert!(rt; place.offset == 27 && ended.kind == CLEAN);
+    let mut place = place_at(0, 0, 0);
+    let steps = [
+        needs_room(alloc, &mut place),
+        shows_batch(alloc, &mut place),
+        ends(alloc, &mut place),
+    ];
+    assert_eq!(rt; steps, [true; 3]);
 }
 
-/// No walk leads to the place.
-fn refuse_place(rt: &impl Abort, alloc: Global, mut place: CLogPlace) {
-    let (mut size, mut count, mut ended) = (7, 7, untold());
-    assert_eq!(rt;
-        ucstore_log_next(
-            alloc,
-            &LOG,
-            &mut place,
-            &mut [],
-            &mut size,
-            &mut count,
-            &mut ended
-        ),
-        BAD_PLACE
-    );
-    assert!(rt; size == 7 && count == 7 && ended == untold());
+/// Whether no walk leads to the place.
+fn refuses_place(alloc: Global, mut place: CLogPlace) -> bool {
+    step(alloc, &mut place, &mut []) == refused(BAD_PLACE, 7)
 }
 
 /// Places with more batches than bytes before them, and past the log.
 #[test]
 fn no_walk(rt: HostRuntime) {
-    let crowded = CLogPlace {
-        offset: 0,
-        last: 0,
-        batches: 1,
-    };
-    refuse_place(&rt, rt.alloc(), crowded);
-    let past = CLogPlace {
-        offset: 28,
-        last: 0,
-        batches: 0,
-    };
-    refuse_place(&rt, rt.alloc(), past);
+    assert!(rt; refuses_place(rt.alloc(), place_at(0, 0, 1)));
+    assert!(rt; refuses_place(rt.alloc(), place_at(28, 0, 0)));
 }

@@ -6,6 +6,9 @@
 //! claimed and installed in any order, beside the plain program of `plain.rt`, and `workers.rt` batches of queries. Worked
 //! by hand are claims, installs and picks (`owners.rt`), lists of calls (`calls.rt`) and a batch of queries
 //! (`worked_batches.rt`); `stores.rt` opens the stores of the first two.
+//!
+//! Single queries go over runs that nothing compacts: of five changes (`reads.rt`), of keys that range deletions hide
+//! (`hidden_keys.rt`), and of drawn writes at every sequence (`drawn_reads.rt`).
 #![tactic(auto)]
 
 #[cfg(test)]
@@ -13,11 +16,17 @@ mod calls;
 #[cfg(test)]
 mod compactions;
 #[cfg(test)]
+mod drawn_reads;
+#[cfg(test)]
+mod hidden_keys;
+#[cfg(test)]
 mod owned_stores;
 #[cfg(test)]
 mod owners;
 #[cfg(test)]
 mod plain;
+#[cfg(test)]
+mod reads;
 #[cfg(test)]
 mod stores;
 #[cfg(test)]
