@@ -1,14 +1,13 @@
 //! Stretches that are compacted at once.
-use crate::stores::{Commas, MERGED, Store, claimed, given_back, has_runs, merges, opened};
+use crate::stores::{
+    Change, MERGED, Store, claimed, has_runs, has_value, is_given_back, opened, opened_copies,
+};
 use std::alloc::Global;
 use std::marker::Sync;
-use std::process::Abort;
 use std::test::Fail;
 use std::thread::Threads;
-use uc_bytes::Bytes;
-use uc_query::{Answer, Query, answer_one};
-use uc_version::{Alone, ClaimError, CompactError, MOST_SLOTS, Stretch};
-use uc_version_state::{GREATEST_FIRST_ID, Version};
+use uc_version::{Alone, ClaimError, CompactError, MOST_SLOTS, Stretch, Version};
+use uc_version_state::GREATEST_FIRST_ID;
 
 /// What is claimed before, a stretch that is compacted at once, the outcome, and the runs then, by their ids and slots.
 #[derive(Clone, Copy)]
@@ -80,24 +79,24 @@ fn rows() -> &'static [Row] {
     &ROWS
 }
 
-/// Compacts a row's stretch at once, and checks the outcome.
-fn compacts(rt: &(impl Threads + Abort + Sync), alloc: Global, store: &mut Store, row: &Row) {
+/// Whether a row's stretch, compacted at once, comes to what it should.
+fn compacts(rt: &(impl Threads + Sync), alloc: Global, store: &mut Store, row: &Row) -> bool {
     let outcome = store.compact_now(rt, alloc, row.stretch);
-    assert_eq!(rt; outcome, row.outcome);
-    assert!(rt; has_runs(store, row.runs));
+    outcome == row.outcome && has_runs(store, row.runs)
 }
 
-/// Compacts a row's stretch while this one is claimed; the claim is still held then.
+/// The same while a stretch is claimed; the claim is still held then.
 fn compacts_beside(
-    rt: &(impl Threads + Abort + Sync),
+    rt: &(impl Threads + Sync),
     alloc: Global,
     store: &mut Store,
     held: Stretch,
     row: &Row,
-) -> Result<(), Fail> {
-    let claim = claimed(store, held)?;
-    compacts(rt, alloc, store, row);
-    given_back(store, claim)
+) -> bool {
+    match claimed(store, held) {
+        Some(claim) => compacts(rt, alloc, store, row) && is_given_back(store, claim),
+        None => false,
+    }
 }
 
 /// Whether no run is claimed.
@@ -110,29 +109,13 @@ fn is_free(store: &Store) -> bool {
     true
 }
 
-/// Compacts a row's stretch with what the row claims. No run is claimed then.
-fn compacts_row(
-    rt: &(impl Threads + Abort + Sync),
-    alloc: Global,
-    store: &mut Store,
-    row: &Row,
-) -> Result<(), Fail> {
-    match row.held {
+/// Whether a row's stretch comes to what it should beside what the row claims. No run is claimed then.
+fn compacts_row(rt: &(impl Threads + Sync), alloc: Global, store: &mut Store, row: &Row) -> bool {
+    let right = match row.held {
         None => compacts(rt, alloc, store, row),
-        Some(held) => compacts_beside(rt, alloc, store, held, row)?,
-    }
-    assert!(rt; is_free(store));
-    Ok(())
-}
-
-#[test]
-fn stretches_are_compacted_at_once(rt: HostRuntime) -> Result<(), Fail> {
-    let alloc = rt.alloc();
-    let changes = merges(alloc, 4)?;
-    for row in rows() {
-        compacts_row(&rt, alloc, &mut opened(alloc, &changes, &[], 1)?, row)?;
-    }
-    Ok(())
+        Some(held) => compacts_beside(rt, alloc, store, held, row),
+    };
+    right && is_free(store)
 }
 
 /// The two newest runs, which become run 4.
@@ -154,65 +137,85 @@ fn newest_is_merged(version: &Version) -> bool {
     }
 }
 
-/// Whether an answer is this value.
-fn is_value(answer: &Answer, wanted: &[u8]) -> bool {
-    match answer {
-        Answer::Value(Some(value)) => value.as_slice() == wanted,
-        _ => false,
+/// Whether the two newest runs are merged at once, and read then.
+fn reads_merged(rt: &(impl Threads + Sync), alloc: Global, store: &mut Store) -> bool {
+    compacts(rt, alloc, store, &NEWEST)
+        && newest_is_merged(store.version())
+        && has_value(alloc, store, 3, b"a,b,c")
+}
+
+/// Whether the two newest runs are merged at once by this thread alone.
+fn merges_alone(alloc: Global, store: &mut Store) -> bool {
+    let outcome = store.compact_now_by(&Alone, alloc, NEWEST.stretch);
+    outcome == NEWEST.outcome && has_runs(store, NEWEST.runs) && newest_is_merged(store.version())
+}
+
+/// Whether nothing is compacted at once in a store that has no id left. A stretch that can't be claimed is refused first.
+fn ids_are_spent(rt: &(impl Threads + Sync), alloc: Global, store: &mut Store) -> bool {
+    let spent = store.compact_now(rt, alloc, Stretch { first: 0, count: 2 });
+    let narrow = store.compact_now(rt, alloc, Stretch { first: 0, count: 1 });
+    spent == Err(CompactError::IdsSpent)
+        && narrow == Err(CompactError::NotClaimed(ClaimError::TooNarrow))
+        && is_free(store)
+        && store.version().runs().len() == MOST_SLOTS
+}
+
+/// What is tried with a store.
+#[derive(Clone, Copy)]
+enum Tried {
+    /// Of four merges.
+    Row(&'static Row),
+    /// Of a put and two merges.
+    ReadsMerged,
+    /// Of a put and two merges.
+    MergesAlone,
+    /// Of as many merges as a store has slots, whose last run has the last id.
+    IdsAreSpent,
+}
+
+/// A store to try it with.
+fn opened_for(alloc: Global, tried: Tried) -> Option<Store> {
+    let merge = Change::Merge(b"v");
+    match tried {
+        Tried::Row(_) => opened_copies(alloc, merge, 4, 1),
+        Tried::ReadsMerged | Tried::MergesAlone => opened(alloc, &MERGED, &[]),
+        Tried::IdsAreSpent => opened_copies(alloc, merge, MOST_SLOTS, GREATEST_FIRST_ID),
     }
 }
 
-/// Whether the key has this value at 3.
-fn has_value(alloc: Global, version: &Version, wanted: &[u8]) -> Result<bool, Fail> {
-    let key = Bytes::from_slice(alloc, b"k")?;
-    let answer = answer_one::<Commas>(alloc, version, &Query::Get { key, at: 3 })?;
-    Ok(is_value(&answer, wanted))
+/// Whether it comes to what it should.
+fn comes_right(rt: &(impl Threads + Sync), alloc: Global, tried: Tried) -> bool {
+    let Some(mut store) = opened_for(alloc, tried) else {
+        return false;
+    };
+    match tried {
+        Tried::Row(row) => compacts_row(rt, alloc, &mut store, row),
+        Tried::ReadsMerged => reads_merged(rt, alloc, &mut store),
+        Tried::MergesAlone => merges_alone(alloc, &mut store),
+        Tried::IdsAreSpent => ids_are_spent(rt, alloc, &mut store),
+    }
 }
 
 #[test]
-fn what_was_merged_is_read(rt: HostRuntime) -> Result<(), Fail> {
-    let alloc = rt.alloc();
-    let mut store = opened(alloc, &MERGED, &[], 1)?;
-    compacts(&rt, alloc, &mut store, &NEWEST);
-    assert!(rt; newest_is_merged(store.version()));
-    assert!(rt; has_value(alloc, store.version(), b"a,b,c")?);
-    Ok(())
-}
-
-/// Compacts the two newest runs by this thread alone, and checks the outcome.
-fn compacts_alone(rt: &impl Abort, alloc: Global, store: &mut Store) {
-    let outcome = store.compact_now_by(&Alone, alloc, NEWEST.stretch);
-    assert_eq!(rt; outcome, NEWEST.outcome);
-    assert!(rt; has_runs(store, NEWEST.runs));
+fn stretches_are_compacted_at_once(rt: HostRuntime) {
+    for row in rows() {
+        assert!(rt; comes_right(&rt, rt.alloc(), Tried::Row(row)));
+    }
 }
 
 #[test]
-fn one_thread_merges_alone(rt: HostRuntime) -> Result<(), Fail> {
-    let alloc = rt.alloc();
-    let mut store = opened(alloc, &MERGED, &[], 1)?;
-    compacts_alone(&rt, alloc, &mut store);
-    assert!(rt; newest_is_merged(store.version()));
-    Ok(())
-}
-
-/// Compacts at once in a store that has no id left. A stretch that can't be claimed is refused first.
-fn wants_ids_spent(rt: &(impl Threads + Abort + Sync), alloc: Global, store: &mut Store) {
-    let newest = Stretch { first: 0, count: 2 };
-    let spent = store.compact_now(rt, alloc, newest);
-    assert_eq!(rt; spent, Err(CompactError::IdsSpent));
-    let lone = Stretch { first: 0, count: 1 };
-    let error = CompactError::NotClaimed(ClaimError::TooNarrow);
-    assert_eq!(rt; store.compact_now(rt, alloc, lone), Err(error));
-    assert!(rt; is_free(store));
-    assert_eq!(rt; store.version().runs().len(), MOST_SLOTS);
+fn what_was_merged_is_read(rt: HostRuntime) {
+    assert!(rt; comes_right(&rt, rt.alloc(), Tried::ReadsMerged));
 }
 
 #[test]
-fn nothing_is_compacted_without_an_id(rt: HostRuntime) -> Result<(), Fail> {
-    let alloc = rt.alloc();
-    let mut store = opened(alloc, &merges(alloc, MOST_SLOTS)?, &[], GREATEST_FIRST_ID)?;
-    wants_ids_spent(&rt, alloc, &mut store);
-    Ok(())
+fn one_thread_merges_alone(rt: HostRuntime) {
+    assert!(rt; comes_right(&rt, rt.alloc(), Tried::MergesAlone));
+}
+
+#[test]
+fn nothing_is_compacted_without_an_id(rt: HostRuntime) {
+    assert!(rt; comes_right(&rt, rt.alloc(), Tried::IdsAreSpent));
 }
 
 /// Errors and their texts.

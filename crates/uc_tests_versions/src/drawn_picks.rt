@@ -1,7 +1,6 @@
 //! Random picks compared with a plain slow program.
-use crate::picks::wants_pick;
-use std::alloc::{AllocError, Global};
-use std::test::Fail;
+use crate::picks::is_picked;
+use std::alloc::Global;
 use uc_version_state::{Candidate, Options, Stretch};
 
 /// The next random number below `sides`.
@@ -19,6 +18,16 @@ fn sum_of(candidates: &[Candidate]) -> u128 {
         sum = sum.saturating_add(u128::from(candidate.size));
     }
     sum
+}
+
+/// Whether none of some runs is claimed.
+fn are_free(candidates: &[Candidate]) -> bool {
+    for candidate in candidates {
+        if candidate.claimed {
+            return false;
+        }
+    }
+    true
 }
 
 /// Whether some runs may be collected together.
@@ -55,7 +64,7 @@ fn slow_number(options: &Options, candidates: &[Candidate]) -> Option<Stretch> {
         let rest = &candidates[first..];
         for fewer in 0..rest.len() {
             let count = rest.len() - fewer;
-            if 0 < more && 2 <= count && rest[..count].iter().all(|candidate| !candidate.claimed) {
+            if 0 < more && 2 <= count && are_free(&rest[..count]) {
                 let most = more.saturating_add(1).min(options.greatest as usize);
                 return Some(Stretch {
                     first,
@@ -73,8 +82,7 @@ fn slow_whole(options: &Options, candidates: &[Candidate]) -> Option<Stretch> {
     let size = u128::from(oldest.size);
     let newer = sum_of(candidates).saturating_sub(size);
     let is_amplified = size.saturating_mul(u128::from(options.percent)) < newer.saturating_mul(100);
-    let are_free = candidates.iter().all(|candidate| !candidate.claimed);
-    (2 <= candidates.len() && are_free && is_amplified).then_some(Stretch {
+    (2 <= candidates.len() && are_free(candidates) && is_amplified).then_some(Stretch {
         first: 0,
         count: candidates.len(),
     })
@@ -104,28 +112,32 @@ fn drawn_options(state: &mut u64) -> Options {
 }
 
 /// `count` drawn candidates.
-fn drawn_candidates(
-    alloc: Global,
-    state: &mut u64,
-    count: u64,
-) -> Result<Vec<Candidate>, AllocError> {
+fn drawn_candidates(alloc: Global, state: &mut u64, count: u64) -> Option<Vec<Candidate>> {
     let mut candidates = Vec::new(alloc);
     for _ in 0..count {
-        candidates.push(Candidate {
-            size: next_random(state, 60),
-            claimed: next_random(state, 6) == 0,
-        })?;
+        let size = next_random(state, 60);
+        let claimed = next_random(state, 6) == 0;
+        candidates.push(Candidate { size, claimed }).ok()?;
     }
-    Ok(candidates)
+    Some(candidates)
+}
+
+/// Whether the pick of so many drawn candidates is that of the slow program.
+fn is_picked_alike(alloc: Global, state: &mut u64, count: u64) -> bool {
+    let options = drawn_options(state);
+    match drawn_candidates(alloc, state, count) {
+        Some(candidates) => is_picked(&options, &candidates, slow_pick(&options, &candidates)),
+        None => false,
+    }
 }
 
 #[test]
-fn random_picks_are_those_of_a_slow_program(rt: HostRuntime) -> Result<(), Fail> {
+fn random_picks_are_those_of_a_slow_program(rt: HostRuntime) {
     let mut state = 1;
     for round in 0..300 {
-        let options = drawn_options(&mut state);
-        let candidates = drawn_candidates(rt.alloc(), &mut state, round % 9)?;
-        wants_pick(&rt, &options, &candidates, slow_pick(&options, &candidates));
+        assert!(rt;
+            is_picked_alike(rt.alloc(), &mut state, round % 9),
+            "{round}"
+        );
     }
-    Ok(())
 }

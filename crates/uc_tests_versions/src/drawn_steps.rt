@@ -1,7 +1,6 @@
 //! Drawn steps of several compactors, with feeds, keeps and releases in between.
 use crate::machine::{COMPACTORS, Happened, Machine, Order, Phase};
 use crate::step_runs::MOST;
-use std::test::Fail;
 
 /// How many stores there are, and how many steps each makes.
 const STORES: u32 = 2_000;
@@ -71,6 +70,11 @@ impl Counts {
             Happened::Released => one_more(&mut self.releases),
             _ => {}
         }
+    }
+
+    /// Whether all steps were made, and nothing was wrong.
+    fn are_lawful(&self) -> bool {
+        self.steps == 100_000 && self.displaced == 0 && self.miscounted == 0
     }
 
     /// Whether compactors did much of what they may do.
@@ -155,24 +159,18 @@ fn run_stores(order: Order) -> Counts {
 }
 
 #[test]
-fn no_checked_compactor_is_displaced(rt: HostRuntime) -> Result<(), Fail> {
+fn no_checked_compactor_is_displaced(rt: HostRuntime) {
     let counts = run_stores(Order::Lawful);
-    assert!(rt; counts.steps == 100_000);
-    assert!(rt; counts.displaced == 0);
-    assert!(rt; counts.miscounted == 0);
-    assert!(rt; counts.are_busy());
-    assert!(rt; counts.are_live());
-    Ok(())
+    assert!(rt; counts.are_lawful());
+    assert!(rt; counts.are_busy() && counts.are_live());
 }
 
 #[test]
-fn who_looks_first_is_displaced(rt: HostRuntime) -> Result<(), Fail> {
+fn who_looks_first_is_displaced(rt: HostRuntime) {
     assert!(rt; run_stores(Order::LooksFirst).displaced > 0);
-    Ok(())
 }
 
 #[test]
-fn who_gives_first_is_displaced(rt: HostRuntime) -> Result<(), Fail> {
+fn who_gives_first_is_displaced(rt: HostRuntime) {
     assert!(rt; run_stores(Order::GivesFirst).displaced > 0);
-    Ok(())
 }

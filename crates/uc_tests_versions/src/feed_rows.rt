@@ -1,10 +1,8 @@
 //! Feeds of a row of merges, by the calling thread and in threads, worked by hand.
-use crate::feeds::{feed, is_at};
-use crate::stores::{Store, merges, numbered, opened};
+use crate::feeds::is_at;
+use crate::stores::{Change, Store, copies, opened_copies};
 use std::alloc::Global;
 use std::marker::Sync;
-use std::process::Abort;
-use std::test::Fail;
 use std::thread::Threads;
 use uc_version::{FeedError, InThreads};
 use uc_version_state::GREATEST_FIRST_ID;
@@ -66,57 +64,48 @@ fn last_of(row: &Row) -> u64 {
     }
 }
 
-/// Feeds a row's writes, and checks what came of it.
-fn feeds_row(rt: &impl Abort, alloc: Global, store: &mut Store, row: &Row) -> Result<(), Fail> {
-    let (_, first_id, first, count, wanted, after) = *row;
-    let outcome = feed(alloc, store, first, count)?;
-    assert_eq!(rt; outcome, wanted);
-    assert!(rt;
-        is_at(
-            store,
-            after,
-            last_of(row),
-            first_id.wrapping_add(after as u64)
-        )
-    );
-    Ok(())
+/// Whether a row's feed came to what it should in a store.
+fn came_right(store: &Store, row: &Row, outcome: Result<u64, FeedError>) -> bool {
+    let (_, first_id, _, _, wanted, after) = *row;
+    let next_id = first_id.wrapping_add(after as u64);
+    outcome == wanted && is_at(store, after, last_of(row), next_id)
 }
 
-#[test]
-fn feeds_are_accepted_or_refused(rt: HostRuntime) -> Result<(), Fail> {
-    let alloc = rt.alloc();
-    for row in rows() {
-        let (before, first_id, ..) = *row;
-        let changes = merges(alloc, before)?;
-        let mut store = opened(alloc, &changes, &[], first_id)?;
-        feeds_row(&rt, alloc, &mut store, row)?;
-    }
-    Ok(())
+/// Who flushes what is fed.
+#[derive(Clone, Copy)]
+enum Feeder {
+    Caller,
+    Threads,
 }
 
-/// Feeds a row's writes in threads, and says whether all came as without.
-fn feeds_row_in_threads(
+/// Whether the feed of a row's writes comes to what it should.
+fn comes_right(
     rt: &(impl Threads + Sync),
     alloc: Global,
-    store: &mut Store,
     row: &Row,
-) -> Result<bool, Fail> {
-    let (_, first_id, first, count, wanted, after) = *row;
-    let writes = numbered(alloc, first, &merges(alloc, count)?)?;
-    let outcome = store.feed_by(&InThreads(rt), alloc, &writes);
-    let next_id = first_id.wrapping_add(after as u64);
-    Ok(outcome == wanted && is_at(store, after, last_of(row), next_id))
+    feeder: Feeder,
+) -> Option<bool> {
+    let (before, first_id, first, count, ..) = *row;
+    let merge = Change::Merge(b"v");
+    let mut store = opened_copies(alloc, merge, before, first_id)?;
+    let writes = copies(alloc, merge, first, count)?;
+    let outcome = match feeder {
+        Feeder::Caller => store.feed(alloc, &writes),
+        Feeder::Threads => store.feed_by(&InThreads(rt), alloc, &writes),
+    };
+    Some(came_right(&store, row, outcome))
 }
 
 #[test]
-fn feeds_in_threads_are_those_without(rt: HostRuntime) -> Result<(), Fail> {
-    let alloc = rt.alloc();
+fn feeds_are_accepted_or_refused(rt: HostRuntime) {
     for row in rows() {
-        let (before, first_id, ..) = *row;
-        let changes = merges(alloc, before)?;
-        let mut store = opened(alloc, &changes, &[], first_id)?;
-        let alike = feeds_row_in_threads(&rt, alloc, &mut store, row)?;
-        assert!(rt; alike);
+        assert!(rt; comes_right(&rt, rt.alloc(), row, Feeder::Caller) == Some(true));
     }
-    Ok(())
+}
+
+#[test]
+fn feeds_in_threads_are_those_without(rt: HostRuntime) {
+    for row in rows() {
+        assert!(rt; comes_right(&rt, rt.alloc(), row, Feeder::Threads) == Some(true));
+    }
 }

@@ -1,39 +1,24 @@
 //! Writes that are fed to a store, and snapshots that come and go, worked by hand.
-use crate::installs::{Made, handed_back};
+use crate::installs::{Made, handed_back, installed};
 use crate::stores::{
-    Change, Commas, MERGED, Store, claimed, given_back, has_runs, merges, numbered, opened,
+    Change, MERGED, Store, claimed, copies, has_runs, has_value, is_given_back, is_refused, opened,
+    opened_copies, push,
 };
-use std::alloc::{AllocError, Global};
+use std::alloc::Global;
 use std::marker::Sync;
-use std::process::Abort;
-use std::test::Fail;
 use std::thread::Threads;
 use uc_batch::Writes;
-use uc_bytes::{Bytes, MAX_SEQUENCE, OpRef, WriteRef};
-use uc_query::{Answer, Query, answer_one};
+use uc_bytes::{MAX_SEQUENCE, OpRef, WriteRef};
 use uc_version::{FeedError, InstallError, OwnedClaim, ReleaseError, Stretch};
 use uc_version_state::GREATEST_FIRST_ID;
 
 /// The two newest runs.
 const NEWEST: Stretch = Stretch { first: 0, count: 2 };
 
-/// Feeds merges with sequences from `first` on.
-fn fed(alloc: Global, store: &mut Store, first: u64, count: usize) -> Result<u64, Fail> {
-    match feed(alloc, store, first, count)? {
-        Ok(runs) => Ok(runs),
-        Err(_) => Err("the feed is refused")?,
-    }
-}
-
-/// What comes of feeding merges with sequences from `first` on.
-pub(crate) fn feed(
-    alloc: Global,
-    store: &mut Store,
-    first: u64,
-    count: usize,
-) -> Result<Result<u64, FeedError>, Fail> {
-    let writes = numbered(alloc, first, &merges(alloc, count)?)?;
-    Ok(store.feed(alloc, &writes))
+/// Feeds merges with sequences from `first` on. How many runs they become, unless they are refused.
+fn fed(alloc: Global, store: &mut Store, first: u64, count: usize) -> Option<u64> {
+    let writes = copies(alloc, Change::Merge(b"v"), first, count)?;
+    store.feed(alloc, &writes).ok()
 }
 
 /// Whether a store has so many runs, this last sequence, and this id for the next run.
@@ -44,7 +29,10 @@ pub(crate) fn is_at(store: &Store, runs: usize, last: u64, next_id: u64) -> bool
 
 /// Feeds of puts that are made to one store, one after the other: the sequences, what comes of it, and how many runs, which
 /// last sequence and which next id there are then.
-type Course = &'static [(&'static [u64], Result<u64, FeedError>, usize, u64, u64)];
+type Course = &'static [Fed];
+
+/// One of them.
+type Fed = (&'static [u64], Result<u64, FeedError>, usize, u64, u64);
 
 /// Worked by hand, of stores of so many puts, whose first run has this id.
 static COURSES: [(usize, u64, Course); 6] = [
@@ -125,208 +113,58 @@ fn courses() -> &'static [(usize, u64, Course)] {
     &COURSES
 }
 
-/// `count` puts.
-fn puts(alloc: Global, count: usize) -> Result<Vec<Change>, AllocError> {
-    let mut changes = Vec::new(alloc);
-    for _ in 0..count {
-        changes.push(Change::Put(b"v"))?;
-    }
-    Ok(changes)
-}
+/// A put.
+const PUT: Change = Change::Put(b"v");
 
 /// Puts at these sequences.
-fn puts_at(alloc: Global, seqs: &[u64]) -> Result<Writes, Fail> {
+fn puts_at(alloc: Global, seqs: &[u64]) -> Option<Writes> {
     let mut writes = Vec::new(alloc);
-    for &seq in seqs {
-        writes.push(WriteRef::new(seq, OpRef::put(b"k", b"v")).to_write(alloc)?)?;
+    for seq in seqs {
+        push(&mut writes, alloc, *seq, PUT)?;
     }
-    Ok(Writes::of(writes).ok_or("the sequences don't rise")?)
+    Writes::of(writes)
 }
 
-/// What comes of feeding puts at these sequences.
-fn feed_at(alloc: Global, store: &mut Store, seqs: &[u64]) -> Result<Result<u64, FeedError>, Fail> {
+/// What comes of feeding puts at these sequences, if they can be made.
+fn feed_at(alloc: Global, store: &mut Store, seqs: &[u64]) -> Option<Result<u64, FeedError>> {
     let writes = puts_at(alloc, seqs)?;
-    Ok(store.feed(alloc, &writes))
+    Some(store.feed(alloc, &writes))
 }
 
-/// Makes the feeds of a course, and checks what came of each.
-fn feeds_course(
-    rt: &impl Abort,
-    alloc: Global,
-    store: &mut Store,
-    course: Course,
-) -> Result<(), Fail> {
-    for &(seqs, wanted, runs, last, next_id) in course {
-        let outcome = feed_at(alloc, store, seqs)?;
-        assert_eq!(rt; outcome, wanted);
-        assert!(rt; is_at(store, runs, last, next_id));
-    }
-    Ok(())
+/// Whether a feed of a course comes to what it should.
+fn feeds_so(alloc: Global, store: &mut Store, fed: &Fed) -> bool {
+    let (seqs, wanted, runs, last, next_id) = *fed;
+    feed_at(alloc, store, seqs) == Some(wanted) && is_at(store, runs, last, next_id)
 }
 
-#[test]
-fn feeds_follow_each_other(rt: HostRuntime) -> Result<(), Fail> {
-    let alloc = rt.alloc();
-    for &(count, first_id, course) in courses() {
-        let mut store = opened(alloc, &puts(alloc, count)?, &[], first_id)?;
-        feeds_course(&rt, alloc, &mut store, course)?;
+/// Whether all feeds of a course do.
+fn feeds_course(alloc: Global, store: &mut Store, course: Course) -> bool {
+    for fed in course {
+        if !feeds_so(alloc, store, fed) {
+            return false;
+        }
     }
-    Ok(())
+    true
 }
 
 /// Installs what is compacted of the two newest runs, and returns the id of the new run.
-fn compacted(rt: &(impl Threads + Sync), alloc: Global, store: &mut Store) -> Result<u64, Fail> {
-    match store.compact_now(rt, alloc, NEWEST) {
-        Ok(id) => Ok(id),
-        Err(_) => Err("the compaction is refused")?,
-    }
+fn compacted(rt: &(impl Threads + Sync), alloc: Global, store: &mut Store) -> Option<u64> {
+    store.compact_now(rt, alloc, NEWEST).ok()
 }
 
-#[test]
-fn no_run_gets_the_last_id(rt: HostRuntime) -> Result<(), Fail> {
-    let alloc = rt.alloc();
-    let mut store = opened(alloc, &puts(alloc, 255)?, &[], GREATEST_FIRST_ID)?;
-    assert_eq!(rt; compacted(&rt, alloc, &mut store)?, u64::MAX - 1);
-    let spent = feed_at(alloc, &mut store, &[256])?;
-    assert_eq!(rt; spent, Err(FeedError::IdsSpent));
-    assert_eq!(rt; feed_at(alloc, &mut store, &[])?, Ok(0));
-    Ok(())
+/// Whether a compaction takes the last id that a run may have, and only no writes can be fed then.
+fn has_last_id(rt: &(impl Threads + Sync), alloc: Global, store: &mut Store) -> bool {
+    compacted(rt, alloc, store) == Some(u64::MAX - 1)
+        && feed_at(alloc, store, &[256]) == Some(Err(FeedError::IdsSpent))
+        && feed_at(alloc, store, &[]) == Some(Ok(0))
 }
 
-#[test]
-fn runs_get_the_least_slots(rt: HostRuntime) -> Result<(), Fail> {
-    let alloc = rt.alloc();
-    let mut store = opened(alloc, &MERGED, &[], 1)?;
-    assert_eq!(rt; compacted(&rt, alloc, &mut store)?, 4);
-    assert!(rt; has_runs(&store, &[(4, 2), (1, 0)]));
-    assert_eq!(rt; fed(alloc, &mut store, 4, 2)?, 2);
-    assert!(rt; has_runs(&store, &[(6, 3), (5, 1), (4, 2), (1, 0)]));
-    Ok(())
-}
-
-/// Installs for a claim of the two newest runs what they became before others were fed.
-fn installs_behind_a_feed(
-    rt: &(impl Threads + Abort + Sync),
-    alloc: Global,
-    store: &mut Store,
-) -> Result<(), Fail> {
-    let claim = claimed(store, NEWEST)?;
-    assert!(rt; store.holds(&claim));
-    let made = store.compact(rt, alloc, &claim)?;
-    assert_eq!(rt; fed(alloc, store, 4, 1)?, 1);
-    assert!(rt; store.busy(2) && store.busy(1) && !store.busy(3));
-    assert!(rt; store.claim(NEWEST).is_err());
-    assert_eq!(rt; store.keep()?, 4);
-    if !store.holds(&claim) {
-        return Err("the claim isn't held")?;
-    }
-    match store.install(claim, made) {
-        Ok(id) => assert_eq!(rt; id, 5),
-        Err(_) => return Err("the install is refused")?,
-    }
-    assert!(rt; has_runs(store, &[(4, 3), (5, 2), (1, 0)]));
-    Ok(())
-}
-
-#[test]
-fn claims_go_on_behind_a_feed(rt: HostRuntime) -> Result<(), Fail> {
-    let alloc = rt.alloc();
-    installs_behind_a_feed(&rt, alloc, &mut opened(alloc, &MERGED, &[], 1)?)
-}
-
-/// A claim of the two newest runs, beside which a keep comes and goes. It can be given back.
-fn keeps_beside_a_claim(rt: &impl Abort, store: &mut Store) -> Result<(), Fail> {
-    let claim = claimed(store, NEWEST)?;
-    assert_eq!(rt; store.keep()?, 3);
-    assert!(rt; store.release(3).is_ok());
-    given_back(store, claim)
-}
-
-#[test]
-fn keeps_come_and_go(rt: HostRuntime) -> Result<(), Fail> {
-    let alloc = rt.alloc();
-    let mut store = opened(alloc, &MERGED, &[1], 1)?;
-    keeps_beside_a_claim(&rt, &mut store)?;
-    assert!(rt; store.version().keeps() == [1].as_slice());
-    let none = store.release(3);
-    assert_eq!(rt; none, Err(ReleaseError::NotKept(3)));
-    assert_eq!(rt; fed(alloc, &mut store, 7, 1)?, 1);
-    assert_eq!(rt; store.keep()?, 7);
-    assert_eq!(rt; store.keep()?, 7);
-    assert!(rt; store.version().keeps() == [1, 7].as_slice());
-    assert!(rt; store.release(1).is_ok());
-    assert!(rt; store.version().keeps() == [7].as_slice());
-    Ok(())
-}
-
-/// Whether an answer is this value.
-fn is_value(answer: &Answer, wanted: &[u8]) -> bool {
-    match answer {
-        Answer::Value(Some(value)) => value.as_slice() == wanted,
-        _ => false,
-    }
-}
-
-/// Whether a lookup of the key has this value at a keep.
-fn has_value(alloc: Global, store: &Store, at: u64, wanted: &[u8]) -> Result<bool, Fail> {
-    let key = Bytes::from_slice(alloc, b"k")?;
-    let answer = answer_one::<Commas>(alloc, store.version(), &Query::Get { key, at })?;
-    Ok(is_value(&answer, wanted))
-}
-
-/// Whether a lookup of the key is refused.
-fn is_refused(alloc: Global, store: &Store, at: u64) -> Result<bool, Fail> {
-    let key = Bytes::from_slice(alloc, b"k")?;
-    let answer = answer_one::<Commas>(alloc, store.version(), &Query::Get { key, at })?;
-    Ok(matches!(answer, Answer::NotProtected(seq) if seq == at))
-}
-
-/// A snapshot survives a feed and a compaction of all runs, and ends with its release.
-fn reads_at_a_snapshot(
-    rt: &(impl Threads + Sync + Abort),
-    alloc: Global,
-    store: &mut Store,
-) -> Result<(), Fail> {
-    assert_eq!(rt; fed(alloc, store, 4, 1)?, 1);
-    assert!(rt; is_refused(alloc, store, 4)?);
-    assert_eq!(rt; store.keep()?, 4);
-    let all = Stretch { first: 0, count: 4 };
-    assert!(rt; store.compact_now(rt, alloc, all).is_ok());
-    assert!(rt; has_value(alloc, store, 3, b"a,b,c")?);
-    assert!(rt; has_value(alloc, store, 4, b"a,b,c,v")?);
-    assert!(rt; store.release(3).is_ok());
-    assert!(rt; is_refused(alloc, store, 3)?);
-    Ok(())
-}
-
-#[test]
-fn snapshots_survive_feeds_and_compactions(rt: HostRuntime) -> Result<(), Fail> {
-    let alloc = rt.alloc();
-    reads_at_a_snapshot(&rt, alloc, &mut opened(alloc, &MERGED, &[], 1)?)
-}
-
-#[test]
-fn folded_runs_are_read_at_a_later_keep(rt: HostRuntime) -> Result<(), Fail> {
-    let alloc = rt.alloc();
-    let mut store = opened(alloc, &[Change::Put(b"a"), Change::Merge(b"b")], &[], 1)?;
-    assert!(rt; store.release(2).is_ok());
-    assert_eq!(rt; compacted(&rt, alloc, &mut store)?, 3);
-    assert_eq!(rt; store.keep()?, 2);
-    assert!(rt; has_value(alloc, &store, 2, b"a,b")?);
-    Ok(())
-}
-
-#[test]
-fn an_empty_range_takes_a_slot(rt: HostRuntime) -> Result<(), Fail> {
-    let alloc = rt.alloc();
-    let mut store = opened(alloc, &[Change::Put(b"a")], &[], 1)?;
-    let mut writes = Vec::new(alloc);
-    writes.push(WriteRef::new(2, OpRef::delete_range(b"l", b"k")).to_write(alloc)?)?;
-    let writes = Writes::of(writes).ok_or("the sequences don't rise")?;
-    assert_eq!(rt; store.feed(alloc, &writes), Ok(1));
-    assert!(rt; has_runs(&store, &[(2, 1), (1, 0)]));
-    assert_eq!(rt; store.keep()?, 2);
-    Ok(())
+/// Whether what is fed behind a compaction gets the least slots.
+fn gives_least_slots(rt: &(impl Threads + Sync), alloc: Global, store: &mut Store) -> bool {
+    compacted(rt, alloc, store) == Some(4)
+        && has_runs(store, &[(4, 2), (1, 0)])
+        && fed(alloc, store, 4, 2) == Some(2)
+        && has_runs(store, &[(6, 3), (5, 1), (4, 2), (1, 0)])
 }
 
 /// A claim of the two newest runs, and what they are compacted to.
@@ -334,21 +172,112 @@ fn made_of(
     rt: &(impl Threads + Sync),
     alloc: Global,
     store: &mut Store,
-) -> Result<(OwnedClaim, Made), Fail> {
+) -> Option<(OwnedClaim, Made)> {
     let claim = claimed(store, NEWEST)?;
     if !store.holds(&claim) {
-        return Err("the claim isn't held")?;
+        return None;
     }
-    let made = store.compact(rt, alloc, &claim)?;
-    Ok((claim, made))
+    let made = store.compact(rt, alloc, &claim).ok()?;
+    Some((claim, made))
+}
+
+/// Whether a feed and a keep go on beside a claim of the two runs behind the newest, which can't be claimed again.
+fn goes_on_beside(alloc: Global, store: &mut Store) -> bool {
+    fed(alloc, store, 4, 1) == Some(1)
+        && store.busy(2)
+        && store.busy(1)
+        && !store.busy(3)
+        && store.claim(NEWEST).is_err()
+        && store.keep() == Ok(4)
+}
+
+/// Whether what the two newest runs became before others were fed is installed behind that.
+fn installs_behind_a_feed(
+    rt: &(impl Threads + Sync),
+    alloc: Global,
+    store: &mut Store,
+) -> Option<bool> {
+    let (claim, made) = made_of(rt, alloc, store)?;
+    let goes_on = goes_on_beside(alloc, store);
+    let id = installed(store, claim, made)?;
+    Some(goes_on && id == 5 && has_runs(store, &[(4, 3), (5, 2), (1, 0)]))
+}
+
+/// Whether a keep comes and goes beside a claim of the two newest runs, which can be given back.
+fn keeps_beside_a_claim(store: &mut Store) -> bool {
+    match claimed(store, NEWEST) {
+        Some(claim) => {
+            let kept = store.keep() == Ok(3) && store.release(3).is_ok();
+            is_given_back(store, claim) && kept
+        }
+        None => false,
+    }
+}
+
+/// Whether a store has these keeps.
+fn has_keeps(store: &Store, keeps: &[u64]) -> bool {
+    store.version().keeps() == keeps
+}
+
+/// Whether keeps come and go behind a claim.
+fn keeps_come_so(alloc: Global, store: &mut Store) -> bool {
+    keeps_beside_a_claim(store)
+        && has_keeps(store, &[1])
+        && store.release(3) == Err(ReleaseError::NotKept(3))
+        && fed(alloc, store, 7, 1) == Some(1)
+        && store.keep() == Ok(7)
+        && store.keep() == Ok(7)
+        && has_keeps(store, &[1, 7])
+        && store.release(1).is_ok()
+        && has_keeps(store, &[7])
+}
+
+/// Whether a snapshot survives a feed and a compaction of all runs, and ends with its release.
+fn reads_at_a_snapshot(rt: &(impl Threads + Sync), alloc: Global, store: &mut Store) -> bool {
+    let all = Stretch { first: 0, count: 4 };
+    fed(alloc, store, 4, 1) == Some(1)
+        && is_refused(alloc, store, 4)
+        && store.keep() == Ok(4)
+        && store.compact_now(rt, alloc, all).is_ok()
+        && has_value(alloc, store, 3, b"a,b,c")
+        && has_value(alloc, store, 4, b"a,b,c,v")
+        && store.release(3).is_ok()
+        && is_refused(alloc, store, 3)
+}
+
+/// Whether runs that were folded under no keep are read at a later one.
+fn reads_folded(rt: &(impl Threads + Sync), alloc: Global, store: &mut Store) -> bool {
+    store.release(2).is_ok()
+        && compacted(rt, alloc, store) == Some(3)
+        && store.keep() == Ok(2)
+        && has_value(alloc, store, 2, b"a,b")
+}
+
+/// A deletion of an empty range at 2.
+fn empty_range(alloc: Global) -> Option<Writes> {
+    let mut writes = Vec::new(alloc);
+    let write = WriteRef::new(2, OpRef::delete_range(b"l", b"k"));
+    writes.push(write.to_write(alloc).ok()?).ok()?;
+    Writes::of(writes)
+}
+
+/// Whether it takes a slot.
+fn feeds_an_empty_range(alloc: Global, store: &mut Store) -> Option<bool> {
+    let writes = empty_range(alloc)?;
+    let outcome = store.feed(alloc, &writes);
+    Some(outcome == Ok(1) && has_runs(store, &[(2, 1), (1, 0)]) && store.keep() == Ok(2))
 }
 
 /// Installs twice for a claim what is refused twice: both come back each time. Returns the second error.
-fn refusal_of(store: &mut Store, claim: OwnedClaim, made: Made) -> Result<InstallError, Fail> {
+fn refusal_of(store: &mut Store, claim: OwnedClaim, made: Made) -> Option<InstallError> {
     let (claim, made, _) = handed_back(store, claim, made)?;
     let (claim, _, error) = handed_back(store, claim, made)?;
-    given_back(store, claim)?;
-    Ok(error)
+    is_given_back(store, claim).then_some(error)
+}
+
+/// Whether a store has all slots and sequences up to 256, and no id left.
+fn is_spent(store: &Store) -> bool {
+    is_at(store, 256, 256, u64::MAX)
 }
 
 /// Whether what is compacted before the last ids are given to two runs is refused behind them.
@@ -356,20 +285,11 @@ fn refuses_behind_a_feed(
     rt: &(impl Threads + Sync),
     alloc: Global,
     store: &mut Store,
-) -> Result<bool, Fail> {
+) -> Option<bool> {
     let (claim, made) = made_of(rt, alloc, store)?;
-    let outcome = feed_at(alloc, store, &[255, 256])?;
+    let outcome = feed_at(alloc, store, &[255, 256]);
     let error = refusal_of(store, claim, made)?;
-    Ok(outcome == Ok(2) && error == InstallError::IdsSpent)
-}
-
-#[test]
-fn an_install_needs_an_id_behind_a_feed(rt: HostRuntime) -> Result<(), Fail> {
-    let alloc = rt.alloc();
-    let mut store = opened(alloc, &puts(alloc, 254)?, &[], GREATEST_FIRST_ID)?;
-    assert!(rt; refuses_behind_a_feed(&rt, alloc, &mut store)?);
-    assert!(rt; is_at(&store, 256, 256, u64::MAX));
-    Ok(())
+    Some(outcome == Some(Ok(2)) && error == InstallError::IdsSpent && is_spent(store))
 }
 
 /// Whether what is compacted behind the feed of the last id is refused.
@@ -377,18 +297,140 @@ fn refuses_after_a_feed(
     rt: &(impl Threads + Sync),
     alloc: Global,
     store: &mut Store,
-) -> Result<bool, Fail> {
-    let outcome = feed_at(alloc, store, &[256])?;
+) -> Option<bool> {
+    let outcome = feed_at(alloc, store, &[256]);
     let (claim, made) = made_of(rt, alloc, store)?;
     let error = refusal_of(store, claim, made)?;
-    Ok(outcome == Ok(1) && error == InstallError::IdsSpent)
+    Some(outcome == Some(Ok(1)) && error == InstallError::IdsSpent && is_spent(store))
+}
+
+/// What is tried with a store.
+#[derive(Clone, Copy)]
+enum Tried {
+    Course(Course),
+    LastId,
+    LeastSlots,
+    InstallBehindAFeed,
+    Keeps,
+    Snapshot,
+    Folded,
+    EmptyRange,
+    RefusalBehindAFeed,
+    RefusalAfterAFeed,
+}
+
+/// Whether it comes to what it should in a store.
+fn comes_right(
+    rt: &(impl Threads + Sync),
+    alloc: Global,
+    store: &mut Store,
+    tried: Tried,
+) -> Option<bool> {
+    match tried {
+        Tried::Course(course) => Some(feeds_course(alloc, store, course)),
+        Tried::LastId => Some(has_last_id(rt, alloc, store)),
+        Tried::LeastSlots => Some(gives_least_slots(rt, alloc, store)),
+        Tried::InstallBehindAFeed => installs_behind_a_feed(rt, alloc, store),
+        Tried::Keeps => Some(keeps_come_so(alloc, store)),
+        Tried::Snapshot => Some(reads_at_a_snapshot(rt, alloc, store)),
+        Tried::Folded => Some(reads_folded(rt, alloc, store)),
+        Tried::EmptyRange => feeds_an_empty_range(alloc, store),
+        Tried::RefusalBehindAFeed => refuses_behind_a_feed(rt, alloc, store),
+        Tried::RefusalAfterAFeed => refuses_after_a_feed(rt, alloc, store),
+    }
+}
+
+/// The same in a store of these changes under these keeps.
+fn comes_right_of(
+    rt: &(impl Threads + Sync),
+    alloc: Global,
+    changes: &[Change],
+    keeps: &[u64],
+    tried: Tried,
+) -> Option<bool> {
+    comes_right(rt, alloc, &mut opened(alloc, changes, keeps)?, tried)
+}
+
+/// The same in a store of so many puts, whose first run has this id.
+fn comes_right_of_puts(
+    rt: &(impl Threads + Sync),
+    alloc: Global,
+    count: usize,
+    first_id: u64,
+    tried: Tried,
+) -> Option<bool> {
+    comes_right(
+        rt,
+        alloc,
+        &mut opened_copies(alloc, PUT, count, first_id)?,
+        tried,
+    )
 }
 
 #[test]
-fn the_last_id_is_fed(rt: HostRuntime) -> Result<(), Fail> {
-    let alloc = rt.alloc();
-    let mut store = opened(alloc, &puts(alloc, 255)?, &[], GREATEST_FIRST_ID)?;
-    assert!(rt; refuses_after_a_feed(&rt, alloc, &mut store)?);
-    assert!(rt; is_at(&store, 256, 256, u64::MAX));
-    Ok(())
+fn feeds_follow_each_other(rt: HostRuntime) {
+    for &(count, first_id, course) in courses() {
+        let tried = Tried::Course(course);
+        let right = comes_right_of_puts(&rt, rt.alloc(), count, first_id, tried);
+        assert!(rt; right == Some(true));
+    }
+}
+
+#[test]
+fn no_run_gets_the_last_id(rt: HostRuntime) {
+    let right = comes_right_of_puts(&rt, rt.alloc(), 255, GREATEST_FIRST_ID, Tried::LastId);
+    assert!(rt; right == Some(true));
+}
+
+#[test]
+fn runs_get_the_least_slots(rt: HostRuntime) {
+    let right = comes_right_of(&rt, rt.alloc(), &MERGED, &[], Tried::LeastSlots);
+    assert!(rt; right == Some(true));
+}
+
+#[test]
+fn claims_go_on_behind_a_feed(rt: HostRuntime) {
+    let right = comes_right_of(&rt, rt.alloc(), &MERGED, &[], Tried::InstallBehindAFeed);
+    assert!(rt; right == Some(true));
+}
+
+#[test]
+fn keeps_come_and_go(rt: HostRuntime) {
+    let right = comes_right_of(&rt, rt.alloc(), &MERGED, &[1], Tried::Keeps);
+    assert!(rt; right == Some(true));
+}
+
+#[test]
+fn snapshots_survive_feeds_and_compactions(rt: HostRuntime) {
+    let right = comes_right_of(&rt, rt.alloc(), &MERGED, &[], Tried::Snapshot);
+    assert!(rt; right == Some(true));
+}
+
+/// A put and a merge.
+static TWO: [Change; 2] = [Change::Put(b"a"), Change::Merge(b"b")];
+
+#[test]
+fn folded_runs_are_read_at_a_later_keep(rt: HostRuntime) {
+    let right = comes_right_of(&rt, rt.alloc(), &TWO, &[], Tried::Folded);
+    assert!(rt; right == Some(true));
+}
+
+#[test]
+fn an_empty_range_takes_a_slot(rt: HostRuntime) {
+    let right = comes_right_of_puts(&rt, rt.alloc(), 1, 1, Tried::EmptyRange);
+    assert!(rt; right == Some(true));
+}
+
+#[test]
+fn an_install_needs_an_id_behind_a_feed(rt: HostRuntime) {
+    let tried = Tried::RefusalBehindAFeed;
+    let right = comes_right_of_puts(&rt, rt.alloc(), 254, GREATEST_FIRST_ID, tried);
+    assert!(rt; right == Some(true));
+}
+
+#[test]
+fn the_last_id_is_fed(rt: HostRuntime) {
+    let tried = Tried::RefusalAfterAFeed;
+    let right = comes_right_of_puts(&rt, rt.alloc(), 255, GREATEST_FIRST_ID, tried);
+    assert!(rt; right == Some(true));
 }

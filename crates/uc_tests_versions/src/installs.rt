@@ -1,20 +1,29 @@
 //! Installs of compactions that the store didn't make, and claims of another store.
-use crate::stores::{Change, Commas, MERGED, Store, claimed, given_back, has_runs, opened};
+use crate::stores::{
+    Change, Commas, MERGED, Store, claimed, has_runs, is_given_back, opened, opened_copies,
+};
 use std::alloc::Global;
 use std::marker::Sync;
-use std::process::Abort;
-use std::test::Fail;
+use std::sync::Arc;
 use std::thread::Threads;
 use uc_compact::{Compacted, compact, inputs_stand};
-use uc_run::WhatRef;
-use uc_version::{InstallError, OwnedClaim, Stretch};
-use uc_version_state::Version;
+use uc_run::{Run, WhatRef};
+use uc_version::{InstallError, OwnedClaim, Placed, Stretch, Version};
 
 /// A compaction.
 pub(crate) type Made = Compacted<Commas>;
 
 /// The two newest runs.
 const NEWEST: Stretch = Stretch { first: 0, count: 2 };
+
+/// The first two runs of these.
+fn first_two(alloc: Global, runs: &[Placed]) -> Option<Vec<Arc<Run>>> {
+    let mut inputs = Vec::new(alloc);
+    for placed in runs.iter().take(2) {
+        inputs.push(placed.run().clone().ok()?).ok()?;
+    }
+    Some(inputs)
+}
 
 /// The compaction of a store's two newest runs under these keeps, with the oldest run among them or not.
 fn compacted(
@@ -23,26 +32,20 @@ fn compacted(
     store: &Store,
     keeps: &[u64],
     oldest: bool,
-) -> Result<Made, Fail> {
-    let mut inputs = Vec::new(alloc);
-    for placed in store.version().runs().iter().take(2) {
-        inputs.push(placed.run().clone()?)?;
-    }
+) -> Option<Made> {
+    let inputs = first_two(alloc, store.version().runs())?;
     if !inputs_stand(&inputs, keeps) {
-        return Err("the runs don't stand")?;
+        return None;
     }
-    Ok(compact::<Commas>(rt, alloc, &inputs, keeps, oldest)?)
+    compact::<Commas>(rt, alloc, &inputs, keeps, oldest).ok()
 }
 
 /// Installs a compaction for a held claim, and returns the id of its run.
-fn installed(store: &mut Store, claim: OwnedClaim, made: Made) -> Result<u64, Fail> {
+pub(crate) fn installed(store: &mut Store, claim: OwnedClaim, made: Made) -> Option<u64> {
     if !store.holds(&claim) {
-        return Err("the claim isn't held")?;
+        return None;
     }
-    match store.install(claim, made) {
-        Ok(id) => Ok(id),
-        Err(_) => Err("the install is refused")?,
-    }
+    store.install(claim, made).ok()
 }
 
 /// Installs for a held claim what is refused, and returns what comes back.
@@ -50,14 +53,11 @@ pub(crate) fn handed_back(
     store: &mut Store,
     claim: OwnedClaim,
     made: Made,
-) -> Result<(OwnedClaim, Made, InstallError), Fail> {
+) -> Option<(OwnedClaim, Made, InstallError)> {
     if !store.holds(&claim) {
-        return Err("the claim isn't held")?;
+        return None;
     }
-    match store.install(claim, made) {
-        Ok(_) => Err("the install isn't refused")?,
-        Err(refused) => Ok(refused),
-    }
+    store.install(claim, made).err()
 }
 
 /// A foreign compaction of the two newest runs of a put and two merges: the keeps of the store, those that it was made
@@ -91,18 +91,17 @@ fn foreign() -> &'static [MadeElsewhere] {
     &FOREIGN
 }
 
-/// Checks the refusal of a row, and returns the claim that comes back.
+/// The claim that comes back for what is made as a row says, and whether it is refused as the row says.
 fn comes_back(
-    rt: &(impl Threads + Abort + Sync),
+    rt: &(impl Threads + Sync),
     alloc: Global,
     store: &mut Store,
     row: &MadeElsewhere,
-) -> Result<OwnedClaim, Fail> {
+) -> Option<(OwnedClaim, bool)> {
     let claim = claimed(store, NEWEST)?;
     let made = compacted(rt, alloc, store, row.made_for, row.oldest)?;
     let (claim, _made, error) = handed_back(store, claim, made)?;
-    assert!(rt; error == row.error);
-    Ok(claim)
+    Some((claim, error == row.error))
 }
 
 /// Installs for a claim the compaction of the two newest runs under the store's own keeps, and returns the id of its
@@ -112,34 +111,22 @@ fn own_installed(
     alloc: Global,
     store: &mut Store,
     claim: OwnedClaim,
-) -> Result<u64, Fail> {
+) -> Option<u64> {
     let own = compacted(rt, alloc, store, store.version().keeps(), false)?;
     installed(store, claim, own)
 }
 
-/// Checks the refusal of a row. Then the store's own compaction is installed.
+/// Whether a row's compaction is refused as it says. Then the store's own compaction is installed.
 fn refuses(
-    rt: &(impl Threads + Abort + Sync),
+    rt: &(impl Threads + Sync),
     alloc: Global,
     store: &mut Store,
     row: &MadeElsewhere,
-) -> Result<(), Fail> {
-    let claim = comes_back(rt, alloc, store, row)?;
+) -> Option<bool> {
+    let (claim, is_right) = comes_back(rt, alloc, store, row)?;
     let is_kept = has_runs(store, &[(3, 2), (2, 1), (1, 0)]);
     let id = own_installed(rt, alloc, store, claim)?;
-    assert!(rt; is_kept);
-    assert_eq!(rt; id, 4);
-    assert!(rt; has_runs(store, &[(4, 2), (1, 0)]));
-    Ok(())
-}
-
-#[test]
-fn what_is_refused_comes_back(rt: HostRuntime) -> Result<(), Fail> {
-    let alloc = rt.alloc();
-    for row in foreign() {
-        refuses(&rt, alloc, &mut opened(alloc, &MERGED, row.keeps, 1)?, row)?;
-    }
-    Ok(())
+    Some(is_right && is_kept && id == 4 && has_runs(store, &[(4, 2), (1, 0)]))
 }
 
 /// Whether a store has two runs, of which the newest has this id, so many points, and this size.
@@ -152,47 +139,28 @@ fn has_newest(store: &Store, id: u64, points: u64, size: u64) -> bool {
     }
 }
 
-/// Installs what was made for no keep: first beside a keep, which it is refused for, and again behind its release.
+/// Whether what was made for no keep is refused beside a keep, and installed behind its release.
 fn installs_behind_a_release(
-    rt: &(impl Threads + Abort + Sync),
+    rt: &(impl Threads + Sync),
     alloc: Global,
     store: &mut Store,
-) -> Result<(), Fail> {
+) -> Option<bool> {
     let claim = claimed(store, NEWEST)?;
     let made = compacted(rt, alloc, store, &[], false)?;
     let (claim, made, error) = handed_back(store, claim, made)?;
-    let released = store.release(2);
+    let released = store.release(2).is_ok();
     let id = installed(store, claim, made)?;
-    assert!(rt; error == InstallError::WrongKeeps(2) && released.is_ok() && id == 4);
-    assert!(rt; has_newest(store, 4, 1, 12));
-    Ok(())
+    Some(error == InstallError::WrongKeeps(2) && released && id == 4 && has_newest(store, 4, 1, 12))
 }
 
-#[test]
-fn what_a_keep_refuses_is_installed_behind_its_release(rt: HostRuntime) -> Result<(), Fail> {
-    let alloc = rt.alloc();
-    installs_behind_a_release(&rt, alloc, &mut opened(alloc, &MERGED, &[2], 1)?)
-}
-
-/// Releases a keep between a compaction and its install. The value at the keep stays in the run.
-fn outlives_its_keep(
-    rt: &(impl Threads + Abort + Sync),
-    alloc: Global,
-    store: &mut Store,
-) -> Result<(), Fail> {
+/// Whether a compaction is installed behind the release of a keep that it was made under. The value at the keep stays in the
+/// run.
+fn outlives_its_keep(rt: &(impl Threads + Sync), alloc: Global, store: &mut Store) -> Option<bool> {
     let claim = claimed(store, NEWEST)?;
     let made = compacted(rt, alloc, store, store.version().keeps(), false)?;
-    let released = store.release(2);
+    let released = store.release(2).is_ok();
     let id = installed(store, claim, made)?;
-    assert!(rt; released.is_ok() && id == 4);
-    assert!(rt; has_newest(store, 4, 2, 20));
-    Ok(())
-}
-
-#[test]
-fn what_was_made_under_a_keep_is_installed_behind_its_release(rt: HostRuntime) -> Result<(), Fail> {
-    let alloc = rt.alloc();
-    outlives_its_keep(&rt, alloc, &mut opened(alloc, &MERGED, &[2], 1)?)
+    Some(released && id == 4 && has_newest(store, 4, 2, 20))
 }
 
 /// A put, and the delete of its key.
@@ -211,24 +179,94 @@ fn newest_is_a_delete(version: &Version) -> bool {
     }
 }
 
-/// Compacts a put and the delete of its key, and checks what is left of them.
-fn leaves_a_delete(
-    rt: &(impl Threads + Abort + Sync),
-    alloc: Global,
-    store: &mut Store,
-) -> Result<(), Fail> {
+/// Whether a put and the delete of its key are compacted to the delete.
+fn leaves_a_delete(rt: &(impl Threads + Sync), alloc: Global, store: &mut Store) -> Option<bool> {
     let claim = claimed(store, NEWEST)?;
     let id = own_installed(rt, alloc, store, claim)?;
-    assert_eq!(rt; id, 3);
-    assert!(rt; has_runs(store, &[(3, 1)]));
-    assert!(rt; newest_is_a_delete(store.version()));
-    Ok(())
+    Some(id == 3 && has_runs(store, &[(3, 1)]) && newest_is_a_delete(store.version()))
+}
+
+/// Claims the two newest runs and gives them back. Returns the number of the claim.
+fn number_of_a_claim(store: &mut Store) -> Option<usize> {
+    let claim = claimed(store, NEWEST)?;
+    let number = claim.number();
+    is_given_back(store, claim).then_some(number)
+}
+
+/// Whether each of three claims that are given back has the first number.
+fn can_be_claimed_again(store: &mut Store) -> bool {
+    for _ in 0..3 {
+        if number_of_a_claim(store) != Some(0) {
+            return false;
+        }
+    }
+    true
+}
+
+/// What is tried with a store.
+#[derive(Clone, Copy)]
+enum Tried {
+    Refuses(&'static MadeElsewhere),
+    InstallsBehindARelease,
+    OutlivesItsKeep,
+    LeavesADelete,
+    CanBeClaimedAgain,
+}
+
+/// Whether it comes to what it should in a store of these changes under these keeps.
+fn comes_right(
+    rt: &(impl Threads + Sync),
+    alloc: Global,
+    changes: &[Change],
+    keeps: &[u64],
+    tried: Tried,
+) -> Option<bool> {
+    let mut store = opened(alloc, changes, keeps)?;
+    match tried {
+        Tried::Refuses(row) => refuses(rt, alloc, &mut store, row),
+        Tried::InstallsBehindARelease => installs_behind_a_release(rt, alloc, &mut store),
+        Tried::OutlivesItsKeep => outlives_its_keep(rt, alloc, &mut store),
+        Tried::LeavesADelete => leaves_a_delete(rt, alloc, &mut store),
+        Tried::CanBeClaimedAgain => Some(can_be_claimed_again(&mut store)),
+    }
 }
 
 #[test]
-fn a_delete_stays_where_the_oldest_run_is_left_out(rt: HostRuntime) -> Result<(), Fail> {
-    let alloc = rt.alloc();
-    leaves_a_delete(&rt, alloc, &mut opened(alloc, &DELETED, &[], 1)?)
+fn what_is_refused_comes_back(rt: HostRuntime) {
+    for row in foreign() {
+        let right = comes_right(&rt, rt.alloc(), &MERGED, row.keeps, Tried::Refuses(row));
+        assert!(rt; right == Some(true));
+    }
+}
+
+#[test]
+fn what_a_keep_refuses_is_installed_behind_its_release(rt: HostRuntime) {
+    let right = comes_right(
+        &rt,
+        rt.alloc(),
+        &MERGED,
+        &[2],
+        Tried::InstallsBehindARelease,
+    );
+    assert!(rt; right == Some(true));
+}
+
+#[test]
+fn what_was_made_under_a_keep_is_installed_behind_its_release(rt: HostRuntime) {
+    let right = comes_right(&rt, rt.alloc(), &MERGED, &[2], Tried::OutlivesItsKeep);
+    assert!(rt; right == Some(true));
+}
+
+#[test]
+fn a_delete_stays_where_the_oldest_run_is_left_out(rt: HostRuntime) {
+    let right = comes_right(&rt, rt.alloc(), &DELETED, &[], Tried::LeavesADelete);
+    assert!(rt; right == Some(true));
+}
+
+#[test]
+fn what_is_given_back_can_be_claimed_again(rt: HostRuntime) {
+    let right = comes_right(&rt, rt.alloc(), &MERGED, &[], Tried::CanBeClaimedAgain);
+    assert!(rt; right == Some(true));
 }
 
 /// Whether two claims have one number, and each store holds only its own.
@@ -241,42 +279,20 @@ fn are_told_apart(one: &Store, claim: &OwnedClaim, other: &Store, foreign: &Owne
 }
 
 /// Whether the first claims of two stores are told apart.
-fn tell_claims_apart(one: &mut Store, other: &mut Store) -> Result<bool, Fail> {
+fn tell_claims_apart(one: &mut Store, other: &mut Store) -> Option<bool> {
     let claim = claimed(one, NEWEST)?;
     let foreign = claimed(other, NEWEST)?;
-    Ok(are_told_apart(one, &claim, other, &foreign))
+    Some(are_told_apart(one, &claim, other, &foreign))
+}
+
+/// Whether those of two stores that are opened here are.
+fn two_tell_claims_apart(alloc: Global) -> Option<bool> {
+    let mut one = opened(alloc, &MERGED, &[])?;
+    let mut other = opened_copies(alloc, Change::Merge(b"v"), 3, 100)?;
+    tell_claims_apart(&mut one, &mut other)
 }
 
 #[test]
-fn claims_of_another_store_are_not_held(rt: HostRuntime) -> Result<(), Fail> {
-    let alloc = rt.alloc();
-    let mut one = opened(alloc, &MERGED, &[], 1)?;
-    let mut other = opened(alloc, &MERGED, &[], 100)?;
-    assert!(rt; tell_claims_apart(&mut one, &mut other)?);
-    Ok(())
-}
-
-/// Claims the two newest runs and gives them back. Returns the number of the claim.
-fn number_of_a_claim(store: &mut Store) -> Result<usize, Fail> {
-    let claim = claimed(store, NEWEST)?;
-    let number = claim.number();
-    given_back(store, claim)?;
-    Ok(number)
-}
-
-/// Whether each of three claims that are given back has the first number.
-fn can_be_claimed_again(store: &mut Store) -> Result<bool, Fail> {
-    for _ in 0..3 {
-        if number_of_a_claim(store)? != 0 {
-            return Ok(false);
-        }
-    }
-    Ok(true)
-}
-
-#[test]
-fn what_is_given_back_can_be_claimed_again(rt: HostRuntime) -> Result<(), Fail> {
-    let mut store = opened(rt.alloc(), &MERGED, &[], 1)?;
-    assert!(rt; can_be_claimed_again(&mut store)?);
-    Ok(())
+fn claims_of_another_store_are_not_held(rt: HostRuntime) {
+    assert!(rt; two_tell_claims_apart(rt.alloc()) == Some(true));
 }

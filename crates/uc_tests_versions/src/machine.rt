@@ -309,7 +309,7 @@ impl Machine {
             Phase::Taken(noted) | Phase::Checked(noted) | Phase::Giving(noted) => noted,
             Phase::Idle | Phase::Bare(_) => Runs::none(),
         };
-        held.all().iter().any(|placed| placed.slot == slot)
+        held.has_slot(slot)
     }
 
     /// Whether each word says how many compactors hold its slot, and that is at most one.

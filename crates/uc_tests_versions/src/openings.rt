@@ -1,6 +1,6 @@
 //! Openings worked by hand.
+use crate::recoveries_in_threads::change_at;
 use std::alloc::Global;
-use std::process::Abort;
 use std::test::Fail;
 use uc_batch::Writes;
 use uc_bytes::{MAX_SEQUENCE, OpRef, WriteRef};
@@ -201,63 +201,81 @@ fn has_runs(version: &Version, wanted: &Opened) -> bool {
     version.runs().len() == wanted.runs
 }
 
-/// Checks the version of a row.
-fn wants_version(rt: &impl Abort, case: &Case, version: &Version, wanted: &Opened) {
-    assert!(rt; has_runs(version, wanted));
-    assert_eq!(rt; version.keeps(), wanted.keeps);
-    assert_eq!(rt; version.last(), case.puts);
-    let next = case.first_id.wrapping_add(wanted.runs as u64);
-    assert_eq!(rt; version.next_id(), next);
+/// Whether a version is that of a row.
+fn is_version(version: &Version, case: &Case, wanted: &Opened) -> bool {
+    let next_id = case.first_id.wrapping_add(wanted.runs as u64);
+    has_runs(version, wanted)
+        && version.keeps() == wanted.keeps
+        && version.last() == case.puts
+        && version.next_id() == next_id
 }
 
-/// Checks the outcome of a row.
-fn wants(rt: &impl Abort, case: &Case, outcome: Result<Version, OpenError>) -> Result<(), Fail> {
-    match (outcome, case.wanted) {
-        (Ok(version), Ok(wanted)) => wants_version(rt, case, &version, &wanted),
-        (Err(error), Err(wanted)) => assert_eq!(rt; error, wanted),
-        _ => return Err("another outcome")?,
+/// Whether an outcome is that of a row.
+fn is_wanted(case: &Case, outcome: &Result<Version, OpenError>) -> bool {
+    match (outcome, &case.wanted) {
+        (Ok(version), Ok(wanted)) => is_version(version, case, wanted),
+        (Err(error), Err(wanted)) => error == wanted,
+        _ => false,
     }
+}
+
+/// Takes a put at a sequence, if all before it are there.
+fn put_next(alloc: Global, opener: &mut Opener, seq: u64) -> Result<(), OpenError> {
+    if opener.last() >= seq || seq > MAX_SEQUENCE {
+        return Err(OpenError::BadCount);
+    }
+    opener.insert(&Alone, alloc, &WriteRef::new(seq, OpRef::put(b"k", b"1")))?;
     Ok(())
 }
 
 /// The outcome of the puts of a row, one by one.
-fn put_one_by_one(rt: &impl Abort, alloc: Global, case: &Case) -> Result<Version, OpenError> {
+fn put_one_by_one(alloc: Global, case: &Case) -> Result<Version, OpenError> {
     let mut opener = Opener::new(alloc, options_of(case));
     for seq in 1..=case.puts {
-        assert!(rt; opener.last() < seq);
-        assert!(rt; seq <= MAX_SEQUENCE);
-        opener.insert(&Alone, alloc, &WriteRef::new(seq, OpRef::put(b"k", b"1")))?;
+        put_next(alloc, &mut opener, seq)?;
     }
-    assert_eq!(rt; opener.last(), case.puts);
+    if opener.last() != case.puts {
+        return Err(OpenError::BadCount);
+    }
     opener.finish(&Alone, alloc, case.keeps)
 }
 
 #[test]
-fn puts_open_one_by_one(rt: HostRuntime) -> Result<(), Fail> {
+fn puts_open_one_by_one(rt: HostRuntime) {
     for case in cases() {
-        wants(&rt, case, put_one_by_one(&rt, rt.alloc(), case))?;
+        assert!(rt; is_wanted(case, &put_one_by_one(rt.alloc(), case)));
     }
-    Ok(())
 }
 
 /// `count` puts of ten bytes, numbered from 1.
-fn put_list(alloc: Global, count: u64) -> Result<Writes, Fail> {
+fn put_list(alloc: Global, count: u64) -> Option<Writes> {
     let mut list = Vec::new(alloc);
     for seq in 1..=count {
-        list.push(WriteRef::new(seq, OpRef::put(b"k", b"1")).to_write(alloc)?)?;
+        let write = WriteRef::new(seq, OpRef::put(b"k", b"1"));
+        list.push(write.to_write(alloc).ok()?).ok()?;
     }
-    Ok(Writes::of(list).ok_or("the sequences don't rise")?)
+    Writes::of(list)
+}
+
+/// The outcome of a list of the puts of a row, if it can be made.
+fn put_at_once(alloc: Global, case: &Case) -> Option<Result<Version, OpenError>> {
+    let writes = put_list(alloc, case.puts)?;
+    Some(open_version(alloc, &writes, case.keeps, &options_of(case)))
+}
+
+/// Whether a list of the puts of a row opens as the row says.
+fn list_opens(alloc: Global, case: &Case) -> bool {
+    match put_at_once(alloc, case) {
+        Some(outcome) => is_wanted(case, &outcome),
+        None => false,
+    }
 }
 
 #[test]
-fn lists_of_puts_open(rt: HostRuntime) -> Result<(), Fail> {
-    let alloc = rt.alloc();
+fn lists_of_puts_open(rt: HostRuntime) {
     for case in cases() {
-        let writes = put_list(alloc, case.puts)?;
-        let outcome = open_version(alloc, &writes, case.keeps, &options_of(case));
-        wants(&rt, case, outcome)?;
+        assert!(rt; list_opens(rt.alloc(), case));
     }
-    Ok(())
 }
 
 /// Whether a run has these least and greatest sequences, and these numbers of points and fragments.
@@ -282,49 +300,47 @@ const ONE_RUN: Opened = Opened {
     keeps: &[],
 };
 
-/// Checks the version of a range deletion at 5 that has no keys.
-fn wants_one_empty_run(rt: &impl Abort, version: &Version) {
-    assert!(rt; has_runs(version, &ONE_RUN));
-    assert_eq!(rt; version.last(), 5);
-    assert!(rt; newest_has_counts(version, [5, 5], 0, 0));
+/// The version of a range deletion at 5 that has no keys.
+fn version_of_no_keys(alloc: Global) -> Result<Version, OpenError> {
+    let mut opener = Opener::new(alloc, Options::usual());
+    if opener.last() >= 5 {
+        return Err(OpenError::BadCount);
+    }
+    let write = WriteRef::new(5, OpRef::delete_range(b"b", b"a"));
+    opener.insert(&Alone, alloc, &write)?;
+    opener.finish(&Alone, alloc, &[])
+}
+
+/// Whether it has one run, which is empty.
+fn is_one_empty_run(version: &Version) -> bool {
+    has_runs(version, &ONE_RUN) && version.last() == 5 && newest_has_counts(version, [5, 5], 0, 0)
 }
 
 #[test]
-fn a_range_without_keys_becomes_a_run(rt: HostRuntime) -> Result<(), Fail> {
-    let alloc = rt.alloc();
-    let mut opener = Opener::new(alloc, Options::usual());
-    assert!(rt; opener.last() < 5);
-    opener.insert(
-        &Alone,
-        alloc,
-        &WriteRef::new(5, OpRef::delete_range(b"b", b"a")),
-    )?;
-    wants_one_empty_run(&rt, &opener.finish(&Alone, alloc, &[])?);
-    Ok(())
+fn a_range_without_keys_becomes_a_run(rt: HostRuntime) {
+    let version = version_of_no_keys(rt.alloc()).expect(&rt, "the store opens");
+    assert!(rt; is_one_empty_run(&version));
 }
 
 /// A write of each kind, numbered from 1.
-fn every_change(alloc: Global) -> Result<Writes, Fail> {
-    let ops = [
-        OpRef::put(b"k", b"k"),
-        OpRef::merge(b"k", b"k"),
-        OpRef::delete(b"k"),
-        OpRef::delete_range(b"k", b"l"),
-    ];
+fn every_change(alloc: Global) -> Option<Writes> {
     let mut list = Vec::new(alloc);
-    for (at, op) in ops.into_iter().enumerate() {
-        list.push(WriteRef::new(at as u64 + 1, op).to_write(alloc)?)?;
+    for seq in 1..=4 {
+        list.push(WriteRef::new(seq, change_at(seq)).to_write(alloc).ok()?)
+            .ok()?;
     }
-    Ok(Writes::of(list).ok_or("the sequences don't rise")?)
+    Writes::of(list)
+}
+
+/// The version that they open.
+fn version_of_every_change(alloc: Global) -> Option<Version> {
+    open_version(alloc, &every_change(alloc)?, &[], &Options::usual()).ok()
 }
 
 #[test]
-fn a_list_of_every_change_opens(rt: HostRuntime) -> Result<(), Fail> {
-    let alloc = rt.alloc();
-    let writes = every_change(alloc)?;
-    let version = open_version(alloc, &writes, &[], &Options::usual())?;
+fn a_list_of_every_change_opens(rt: HostRuntime) {
+    let version = version_of_every_change(rt.alloc()).expect(&rt, "the store opens");
     assert!(rt; newest_has_counts(&version, [1, 4], 3, 1));
-    Ok(())
 }
 
 #[test]

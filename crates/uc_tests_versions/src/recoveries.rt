@@ -1,45 +1,39 @@
 //! Short logs, taken into a store.
+use crate::recoveries_in_threads::add_batch;
 use std::alloc::Global;
 use std::slice;
-use std::test::Fail;
-use uc_batch::{Ended, fits_batch, write_batch};
+use uc_batch::Ended;
 use uc_bytes::OpRef;
 use uc_logrec::LogWriter;
 use uc_version_open::{Alone, Recovered, recover};
 use uc_version_state::{Options, Version};
 
-/// The batch of one change at a sequence.
-pub(crate) fn batch_of(alloc: Global, seq: u64, change: &OpRef<'_>) -> Result<Vec<u8>, Fail> {
-    let op = change.to_op(alloc)?;
-    let ops = slice::from_ref(&op);
-    if !fits_batch(seq, ops) {
-        return Err("the batch is too long")?;
-    }
-    Ok(write_batch(alloc, seq, ops)?)
+/// Adds the batch of a delete at a sequence to a log.
+fn add_delete(alloc: Global, log: &mut LogWriter, seq: u64, key: &[u8]) -> Option<()> {
+    let op = OpRef::delete(key).to_op(alloc).ok()?;
+    add_batch(alloc, log, seq, slice::from_ref(&op))
 }
 
 /// Deletes of these keys, a batch for each, from sequence 1 on.
-fn log_of(alloc: Global, keys: &[&[u8]]) -> Result<Vec<u8>, Fail> {
+fn log_of(alloc: Global, keys: &[&[u8]]) -> Option<Vec<u8>> {
     let mut log = LogWriter::new(alloc);
     let mut seq = 0_u64;
     for key in keys {
         seq = seq.wrapping_add(1);
-        log.add(&batch_of(alloc, seq, &OpRef::delete(key))?)?;
+        add_delete(alloc, &mut log, seq, key)?;
     }
-    Ok(log.finish())
+    Some(log.finish())
 }
 
 /// The version that a log opens, and how far the log was read.
-fn recovered(alloc: Global, log: &[u8], memtable: u64) -> Result<(Version, Ended), Fail> {
+fn recovered(alloc: Global, log: &[u8], memtable: u64) -> Option<(Version, Ended)> {
     let options = Options {
         memtable,
         ..Options::usual()
     };
-    let Recovered { opener, ended } = recover(&Alone, alloc, log, options)?;
-    match opener.finish(&Alone, alloc, &[]) {
-        Ok(version) => Ok((version, ended)),
-        Err(_) => Err("the store doesn't open")?,
-    }
+    let Recovered { opener, ended } = recover(&Alone, alloc, log, options).ok()?;
+    let version = opener.finish(&Alone, alloc, &[]).ok()?;
+    Some((version, ended))
 }
 
 /// Whether a log opens a version of a number of runs up to a last sequence, and is read to this end.
@@ -50,18 +44,26 @@ fn is_taken_in(
     runs: usize,
     last: u64,
     wanted: &Ended,
-) -> Result<bool, Fail> {
-    let (version, ended) = recovered(alloc, log, memtable)?;
-    Ok(version.runs().len() == runs && version.last() == last && ended == *wanted)
+) -> bool {
+    match recovered(alloc, log, memtable) {
+        Some((version, ended)) => version.runs().len() == runs
+            && version.last() == last
+            && ended == *wanted,
+        None => false,
+    }
+}
+
+/// Whether a log of three deletes is taken in, whole and torn.
+fn three_are_taken_in(alloc: Global, log: &[u8]) -> bool {
+    let torn = log.get(..log.len().saturating_sub(1)).unwrap_or(&[]);
+    is_taken_in(alloc, log, 1, 3, 3, &Ended::Clean)
+        && is_taken_in(alloc, log, 1_000, 1, 3, &Ended::Clean)
+        && is_taken_in(alloc, torn, 1, 2, 2, &Ended::Torn(44))
 }
 
 #[test]
-fn logs_are_taken_in(rt: HostRuntime) -> Result<(), Fail> {
+fn logs_are_taken_in(rt: HostRuntime) {
     let alloc = rt.alloc();
-    let log = log_of(alloc, &[b"k", b"l", b"m"])?;
-    assert!(&rt; is_taken_in(alloc, &log, 1, 3, 3, &Ended::Clean)?);
-    assert!(&rt; is_taken_in(alloc, &log, 1_000, 1, 3, &Ended::Clean)?);
-    let torn = log.get(..log.len().saturating_sub(1)).ok_or("no log")?;
-    assert!(&rt; is_taken_in(alloc, torn, 1, 2, 2, &Ended::Torn(44))?);
-    Ok(())
+    let log = log_of(alloc, &[b"k", b"l", b"m"]).expect(&rt, "there is a log");
+    assert!(&rt; three_are_taken_in(alloc, &log));
 }

@@ -2,7 +2,6 @@
 use std::alloc::{AllocError, Global};
 use std::cmp;
 use std::marker::Sync;
-use std::test::Fail;
 use std::thread::Threads;
 use uc_batch::{Ended, Pieces, fits_batch, write_batch};
 use uc_bytes::{Op, OpRef, WriteRef};
@@ -147,7 +146,7 @@ fn rows() -> &'static [Row] {
 }
 
 /// The change at a sequence. Each takes ten bytes of a memtable.
-fn change_at(seq: u64) -> OpRef<'static> {
+pub(crate) fn change_at(seq: u64) -> OpRef<'static> {
     match seq % 4 {
         1 => OpRef::put(b"k", b"v"),
         2 => OpRef::merge(b"k", b"w"),
@@ -157,24 +156,29 @@ fn change_at(seq: u64) -> OpRef<'static> {
 }
 
 /// The changes from a sequence to another.
-fn changes_between(alloc: Global, first: u64, last: u64) -> Result<Vec<Op>, AllocError> {
+fn changes_between(alloc: Global, first: u64, last: u64) -> Option<Vec<Op>> {
     let mut ops = Vec::new(alloc);
     for seq in first..=last {
-        ops.push(change_at(seq).to_op(alloc)?)?;
+        ops.push(change_at(seq).to_op(alloc).ok()?).ok()?;
     }
-    Ok(ops)
+    Some(ops)
 }
 
-/// A batch of changes, the first at this sequence.
-fn long_batch_of(alloc: Global, first: u64, ops: &[Op]) -> Result<Vec<u8>, Fail> {
+/// Adds a batch of changes to a log, the first at this sequence.
+pub(crate) fn add_batch(alloc: Global, log: &mut LogWriter, first: u64, ops: &[Op]) -> Option<()> {
     if !fits_batch(first, ops) {
-        return Err("the batch is too long")?;
+        return None;
     }
-    Ok(write_batch(alloc, first, ops)?)
+    log.add(&write_batch(alloc, first, ops).ok()?).ok()
+}
+
+/// Adds a batch of the changes from a sequence to another.
+fn add_between(alloc: Global, log: &mut LogWriter, first: u64, last: u64) -> Option<()> {
+    add_batch(alloc, log, first, &changes_between(alloc, first, last)?)
 }
 
 /// This many changes, this many in a batch, from sequence 1 on.
-fn mixed_log(alloc: Global, changes: u64, batch: u64) -> Result<Vec<u8>, Fail> {
+fn mixed_log(alloc: Global, changes: u64, batch: u64) -> Option<Vec<u8>> {
     let mut log = LogWriter::new(alloc);
     let mut taken = 0_u64;
     for _ in 0..changes {
@@ -182,12 +186,10 @@ fn mixed_log(alloc: Global, changes: u64, batch: u64) -> Result<Vec<u8>, Fail> {
             break;
         }
         let last = cmp::min(taken.saturating_add(batch), changes);
-        let first = taken.saturating_add(1);
-        let ops = changes_between(alloc, first, last)?;
-        log.add(&long_batch_of(alloc, first, &ops)?)?;
+        add_between(alloc, &mut log, taken.saturating_add(1), last)?;
         taken = last;
     }
-    Ok(log.finish())
+    Some(log.finish())
 }
 
 /// Who flushes memtables.
@@ -327,6 +329,21 @@ fn is_wanted(outcome: &Result<Version, OpenError>, wanted: &Result<usize, OpenEr
     }
 }
 
+/// Whether a log opens the same in a way.
+fn opens_the_same(
+    rt: &(impl Threads + Sync),
+    alloc: Global,
+    log: &[u8],
+    memtable: u64,
+    way: Way,
+    alone: &Outcome,
+) -> bool {
+    match outcome_of(rt, alloc, log, memtable, way) {
+        Ok(other) => other.ended == alone.ended && same_outcomes(&other.version, &alone.version),
+        Err(_) => false,
+    }
+}
+
 /// Whether a log opens the same in all other ways.
 fn all_open_it(
     rt: &(impl Threads + Sync),
@@ -334,56 +351,47 @@ fn all_open_it(
     log: &[u8],
     memtable: u64,
     alone: &Outcome,
-) -> Result<bool, AllocError> {
-    for &way in ways() {
-        let other = outcome_of(rt, alloc, log, memtable, way)?;
-        if other.ended != alone.ended || !same_outcomes(&other.version, &alone.version) {
-            return Ok(false);
+) -> bool {
+    for way in ways() {
+        if !opens_the_same(rt, alloc, log, memtable, *way, alone) {
+            return false;
         }
     }
-    Ok(true)
+    true
 }
 
 /// Whether a row's log opens as it says, in all ways.
-fn opens_as_wanted(
-    rt: &(impl Threads + Sync),
-    alloc: Global,
-    log: &[u8],
-    row: &Row,
-) -> Result<bool, AllocError> {
-    let alone = outcome_of(rt, alloc, log, row.memtable, (By::One, By::One))?;
-    if alone.ended != row.ended || !is_wanted(&alone.version, &row.wanted) {
-        return Ok(false);
+fn opens_as_wanted(rt: &(impl Threads + Sync), alloc: Global, log: &[u8], row: &Row) -> bool {
+    match outcome_of(rt, alloc, log, row.memtable, (By::One, By::One)) {
+        Ok(alone) => alone.ended == row.ended
+            && is_wanted(&alone.version, &row.wanted)
+            && all_open_it(rt, alloc, log, row.memtable, &alone),
+        Err(_) => false,
     }
-    all_open_it(rt, alloc, log, row.memtable, &alone)
 }
 
 /// Whether the log of a row opens as the row says, in all ways.
-fn is_taken_in_by_threads(
-    rt: &(impl Threads + Sync),
-    alloc: Global,
-    row: &Row,
-) -> Result<bool, Fail> {
-    let log = mixed_log(alloc, row.changes, row.batch)?;
-    let log = log
-        .get(..log.len().saturating_sub(row.cut))
-        .ok_or("no log")?;
-    Ok(opens_as_wanted(rt, alloc, log, row)?)
+fn is_taken_in_by_threads(rt: &(impl Threads + Sync), alloc: Global, row: &Row) -> bool {
+    match mixed_log(alloc, row.changes, row.batch) {
+        Some(log) => {
+            let left = log.len().saturating_sub(row.cut);
+            opens_as_wanted(rt, alloc, log.get(..left).unwrap_or(&[]), row)
+        }
+        None => false,
+    }
 }
 
 #[test]
-fn threads_open_the_same(rt: HostRuntime) -> Result<(), Fail> {
-    let alloc = rt.alloc();
+fn threads_open_the_same(rt: HostRuntime) {
     for row in rows() {
         assert!(&rt;
-            is_taken_in_by_threads(&rt, alloc, row)?,
+            is_taken_in_by_threads(&rt, rt.alloc(), row),
             "{} {} {}",
             row.changes,
             row.batch,
             row.memtable
         );
     }
-    Ok(())
 }
 
 /// What a log of fifteen changes opens, flushed by one or by threads, with a sixteenth behind it.
@@ -426,9 +434,8 @@ fn all_take_one_more(rt: &(impl Threads + Sync), alloc: Global, log: &[u8]) -> b
 }
 
 #[test]
-fn a_write_more_is_taken(rt: HostRuntime) -> Result<(), Fail> {
+fn a_write_more_is_taken(rt: HostRuntime) {
     let alloc = rt.alloc();
-    let log = mixed_log(alloc, 15, 1)?;
+    let log = mixed_log(alloc, 15, 1).expect(&rt, "there is a log");
     assert!(&rt; all_take_one_more(&rt, alloc, &log));
-    Ok(())
 }

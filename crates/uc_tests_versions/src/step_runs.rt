@@ -71,12 +71,20 @@ impl Runs {
 
     /// The slot of the one at a place.
     pub(crate) fn slot(&self, place: usize) -> Option<usize> {
-        self.all().get(place).map(|placed| placed.slot)
+        match self.all().get(place) {
+            Some(placed) => Some(placed.slot),
+            None => None,
+        }
     }
 
     /// Whether one has a slot.
-    fn has_slot(&self, slot: usize) -> bool {
-        self.all().iter().any(|placed| placed.slot == slot)
+    pub(crate) fn has_slot(&self, slot: usize) -> bool {
+        for placed in self.all() {
+            if placed.slot == slot {
+                return true;
+            }
+        }
+        false
     }
 
     /// The least slot that none has, if one is left.
@@ -105,30 +113,43 @@ impl Runs {
         runs
     }
 
+    /// How many come before one with an id.
+    fn place_of(&self, id: u64) -> usize {
+        for (place, placed) in self.all().iter().enumerate() {
+            if placed.id == id {
+                return place;
+            }
+        }
+        MOST
+    }
+
     /// How many come before the newest of the noted ones.
-    fn place_of(&self, noted: &Runs) -> usize {
-        let newest = noted.all().first().map_or(0, |placed| placed.id);
-        let place = self.all().iter().position(|placed| placed.id == newest);
-        place.unwrap_or(MOST)
+    fn place_of_newest(&self, noted: &Runs) -> usize {
+        match noted.all().first() {
+            Some(newest) => self.place_of(newest.id),
+            None => MOST,
+        }
+    }
+
+    /// Whether others have the same ids in the same order.
+    fn same_ids(&self, others: &Runs) -> bool {
+        for (placed, other) in self.all().iter().zip(others.all()) {
+            if placed.id != other.id {
+                return false;
+            }
+        }
+        self.count == others.count
     }
 
     /// Whether the noted ones are here as neighbours, in order.
     pub(crate) fn has(&self, noted: &Runs) -> bool {
-        let part = self.part(self.place_of(noted), noted.all().len());
-        if part.all().len() != noted.all().len() {
-            return false;
-        }
-        for (place, placed) in part.all().iter().enumerate() {
-            if noted.all().get(place).map(|other| other.id) != Some(placed.id) {
-                return false;
-            }
-        }
-        true
+        let part = self.part(self.place_of_newest(noted), noted.count);
+        part.same_ids(noted)
     }
 
     /// One with the id that replaces the noted ones, with the slot of the newest of them.
     pub(crate) fn replaced(&self, noted: &Runs, id: u64) -> Runs {
-        let first = self.place_of(noted);
+        let first = self.place_of_newest(noted);
         let mut runs = self.part(0, first);
         if let Some(slot) = self.slot(first) {
             runs.push(Placed { id, slot });

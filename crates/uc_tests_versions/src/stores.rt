@@ -1,9 +1,9 @@
 //! Stores with one owner, in which each write is a run.
-use std::alloc::{AllocError, Global};
-use std::test::Fail;
+use std::alloc::Global;
 use uc_batch::Writes;
-use uc_bytes::{OpRef, WriteRef};
+use uc_bytes::{OpRef, Write, WriteRef};
 use uc_oper::Append;
+use uc_query::{Answer, get};
 use uc_version::{Options, Owned, OwnedClaim, Stretch, open_plain};
 
 /// The operator of the tests: texts joined by a comma.
@@ -27,15 +27,6 @@ pub(crate) static MERGED: [Change; 3] = [
     Change::Merge(b"c"),
 ];
 
-/// `count` merges.
-pub(crate) fn merges(alloc: Global, count: usize) -> Result<Vec<Change>, AllocError> {
-    let mut changes = Vec::new(alloc);
-    for _ in 0..count {
-        changes.push(Change::Merge(b"v"))?;
-    }
-    Ok(changes)
-}
-
 /// The change itself.
 fn op_of(change: Change) -> OpRef<'static> {
     match change {
@@ -45,33 +36,57 @@ fn op_of(change: Change) -> OpRef<'static> {
     }
 }
 
-/// These changes, numbered from `first` on.
-pub(crate) fn numbered(alloc: Global, first: u64, changes: &[Change]) -> Result<Writes, Fail> {
-    let mut writes = Vec::new(alloc);
-    let mut seq = first;
-    for &change in changes {
-        writes.push(WriteRef::new(seq, op_of(change)).to_write(alloc)?)?;
-        seq = seq.wrapping_add(1);
-    }
-    Ok(Writes::of(writes).ok_or("the sequences don't rise")?)
+/// Pushes a change at a sequence.
+pub(crate) fn push(writes: &mut Vec<Write>, alloc: Global, seq: u64, change: Change) -> Option<()> {
+    let write = WriteRef::new(seq, op_of(change)).to_write(alloc).ok()?;
+    writes.push(write).ok()
 }
 
-/// A store of these changes, numbered from 1, under these keeps, whose first run has this id.
-pub(crate) fn opened(
-    alloc: Global,
-    changes: &[Change],
-    keeps: &[u64],
-    first_id: u64,
-) -> Result<Store, Fail> {
+/// These changes, numbered from 1.
+fn numbered(alloc: Global, changes: &[Change]) -> Option<Writes> {
+    let mut writes = Vec::new(alloc);
+    let mut seq = 0_u64;
+    for change in changes {
+        seq = seq.wrapping_add(1);
+        push(&mut writes, alloc, seq, *change)?;
+    }
+    Writes::of(writes)
+}
+
+/// The same change so often, numbered from `first` on.
+pub(crate) fn copies(alloc: Global, change: Change, first: u64, count: usize) -> Option<Writes> {
+    let mut writes = Vec::new(alloc);
+    let mut seq = first;
+    for _ in 0..count {
+        push(&mut writes, alloc, seq, change)?;
+        seq = seq.wrapping_add(1);
+    }
+    Writes::of(writes)
+}
+
+/// A store of these writes under these keeps, whose first run has this id.
+fn store_of(alloc: Global, writes: &Writes, keeps: &[u64], first_id: u64) -> Option<Store> {
     let options = Options {
         memtable: 1,
         first_id,
         ..Options::usual()
     };
-    match open_plain::<Commas>(alloc, &numbered(alloc, 1, changes)?, keeps, options) {
-        Ok(store) => Ok(store),
-        Err(_) => Err("the store doesn't open")?,
-    }
+    open_plain::<Commas>(alloc, writes, keeps, options).ok()
+}
+
+/// A store of these changes under these keeps, whose runs are numbered from 1.
+pub(crate) fn opened(alloc: Global, changes: &[Change], keeps: &[u64]) -> Option<Store> {
+    store_of(alloc, &numbered(alloc, changes)?, keeps, 1)
+}
+
+/// A store of the same change so often, whose first run has this id.
+pub(crate) fn opened_copies(
+    alloc: Global,
+    change: Change,
+    count: usize,
+    first_id: u64,
+) -> Option<Store> {
+    store_of(alloc, &copies(alloc, change, 1, count)?, &[], first_id)
 }
 
 /// Whether a store has runs with these ids and slots, the newest first.
@@ -85,19 +100,40 @@ pub(crate) fn has_runs(store: &Store, wanted: &[(u64, usize)]) -> bool {
     runs.len() == wanted.len()
 }
 
-/// The claim of a stretch.
-pub(crate) fn claimed(store: &mut Store, stretch: Stretch) -> Result<OwnedClaim, Fail> {
-    match store.claim(stretch) {
-        Ok(claim) => Ok(claim),
-        Err(_) => Err("the claim is refused")?,
+/// Whether an answer is this value.
+fn is_value(answer: &Answer, wanted: &[u8]) -> bool {
+    match answer {
+        Answer::Value(Some(value)) => value.as_slice() == wanted,
+        _ => false,
     }
 }
 
-/// Gives back a claim that is held.
-pub(crate) fn given_back(store: &mut Store, claim: OwnedClaim) -> Result<(), Fail> {
+/// Whether a lookup of the key has this value at a keep.
+pub(crate) fn has_value(alloc: Global, store: &Store, at: u64, wanted: &[u8]) -> bool {
+    match get::<Commas>(alloc, store.version(), b"k", at) {
+        Ok(answer) => is_value(&answer, wanted),
+        Err(_) => false,
+    }
+}
+
+/// Whether a lookup of the key is refused.
+pub(crate) fn is_refused(alloc: Global, store: &Store, at: u64) -> bool {
+    match get::<Commas>(alloc, store.version(), b"k", at) {
+        Ok(Answer::NotProtected(seq)) => seq == at,
+        _ => false,
+    }
+}
+
+/// The claim of a stretch.
+pub(crate) fn claimed(store: &mut Store, stretch: Stretch) -> Option<OwnedClaim> {
+    store.claim(stretch).ok()
+}
+
+/// Gives back a claim, if it is held.
+pub(crate) fn is_given_back(store: &mut Store, claim: OwnedClaim) -> bool {
     if !store.holds(&claim) {
-        return Err("the claim isn't held")?;
+        return false;
     }
     store.abandon(claim);
-    Ok(())
+    true
 }

@@ -1,11 +1,9 @@
 //! A version's parts, a run that replaces others, and the places of runs.
-ghost use Rattle.std.specs.Prelude.{◌≡◌, ◌∷◌, [], IfOk};
+ghost use Rattle.std.specs.Prelude.{◌≡◌, ◌∷◌, [], IfSome};
 ghost use Rattle.std.specs.Arc.{arc_value};
 
-use std::alloc::Global;
-use std::process::Abort;
+use std::alloc::{AllocError, Global};
 use std::sync::Arc;
-use std::test::Fail;
 use uc_bytes::{MAX_SEQUENCE, OpRef, WriteRef};
 use uc_oper::Counter;
 use uc_run::{Memtable, Run};
@@ -19,17 +17,34 @@ use uc_version_state::{
     runs_are_replaced_once, runs_keep_their_contents, runs_stay_until_replaced,
 };
 
+/// Inserts a put at a sequence above the last.
+fn put(memtable: &mut Memtable, seq: u64) -> Option<()> {
+    if memtable.last() >= seq || seq > MAX_SEQUENCE {
+        return None;
+    }
+    memtable
+        .insert_ref(&WriteRef::new(seq, OpRef::put(b"\x6b", b"\x76")))
+        .ok()
+}
+
+/// The run of a memtable.
+fn flushed(alloc: Global, memtable: Memtable) -> Option<Arc<Run>> {
+    if memtable.is_empty() {
+        return None;
+    }
+    match memtable.flush(alloc) {
+        Ok(run) => Arc::new(alloc, run).ok(),
+        Err(_) => None,
+    }
+}
+
 /// The run of a put at each of some sequences.
-fn run_of(rt: &impl Abort, alloc: Global, seqs: &[u64]) -> Result<Arc<Run>, Fail> {
+fn run_of(alloc: Global, seqs: &[u64]) -> Option<Arc<Run>> {
     let mut memtable = Memtable::new(alloc);
     for seq in seqs {
-        let seq = *seq;
-        assert!(rt; memtable.last() < seq);
-        assert!(rt; seq <= MAX_SEQUENCE);
-        memtable.insert_ref(&WriteRef::new(seq, OpRef::put(b"\x6b", b"\x76")))?;
+        put(&mut memtable, *seq)?;
     }
-    assert!(rt; !memtable.is_empty());
-    Ok(Arc::new(alloc, memtable.flush(alloc)?)?)
+    flushed(alloc, memtable)
 }
 
 /// A version of three runs whose sequences go up to 5. Their ids have gaps, and their slots are in no order.
@@ -38,8 +53,8 @@ fn three_runs(
     newest: Arc<Run>,
     middle: Arc<Run>,
     oldest: Arc<Run>,
-) -> Result<Version, Fail>
-    ensures { IfOk result (λ version.
+) -> Option<Version>
+    ensures { IfSome result (λ version.
         version ≡
         record {
           runs = record { id = 6; slot = 2; run = arc_value newest }
@@ -56,10 +71,10 @@ fn three_runs(
     middle.recall();
     oldest.recall();
     if newest.high_seq() > 5 {
-        return Err(Fail::new("a sequence is above 5"));
+        return None;
     }
     if middle.high_seq() >= newest.low_seq() || oldest.high_seq() >= middle.low_seq() {
-        return Err(Fail::new("the newest run doesn't come first"));
+        return None;
     }
     let first = Placed {
         id: 6,
@@ -76,9 +91,13 @@ fn three_runs(
         slot: 0,
         run: oldest,
     };
-    let runs = vec![in alloc; first, second, third]?;
-    let keeps = Vec::from_slice(alloc, &[2, 5])?;
-    Ok(Version::new(runs, keeps, 5, 8, 1))
+    let Ok(runs) = vec![in alloc; first, second, third] else {
+        return None;
+    };
+    let Ok(keeps) = Vec::from_slice(alloc, &[2, 5]) else {
+        return None;
+    };
+    Some(Version::new(runs, keeps, 5, 8, 1))
 }
 
 /// The version with a run that replaces the older two.
@@ -88,59 +107,125 @@ fn with_merged(
     middle: Arc<Run>,
     oldest: Arc<Run>,
     merged: Arc<Run>,
-) -> Result<Version, Fail> {
+) -> Option<Version> {
     merged.recall();
     if merged.high_seq() >= newest.low_seq() {
-        return Err(Fail::new("the newest run doesn't come first"));
+        return None;
     }
     let mut version = three_runs(alloc, newest, middle, oldest)?;
     version.recall();
     version.replace(1, 2, merged);
-    Ok(version)
+    Some(version)
+}
+
+/// The version of puts at 1 to 5, in three runs.
+fn version_of_three(alloc: Global) -> Option<Version> {
+    let newest = run_of(alloc, &[5])?;
+    let middle = run_of(alloc, &[3, 4])?;
+    let oldest = run_of(alloc, &[1, 2])?;
+    three_runs(alloc, newest, middle, oldest)
+}
+
+/// The same, where the older two runs are one.
+fn version_of_two(alloc: Global) -> Option<Version> {
+    let newest = run_of(alloc, &[5])?;
+    let middle = run_of(alloc, &[3, 4])?;
+    let oldest = run_of(alloc, &[1, 2])?;
+    with_merged(alloc, newest, middle, oldest, run_of(alloc, &[1, 2, 3, 4])?)
 }
 
 /// An id, a slot, and the range of sequences.
 type Row = (u64, usize, u64, u64);
 
-/// Checks a version's runs.
-fn wants_runs(rt: &impl Abort, version: &Version, want: &[Row]) {
-    assert_eq!(rt; version.runs().len(), want.len());
-    for (placed, row) in version.runs().iter().zip(want) {
-        let run = placed.run();
-        let is = (placed.id(), placed.slot(), run.low_seq(), run.high_seq());
-        assert_eq!(rt; is, *row);
+/// Whether a run is that of a row.
+fn is_row(placed: &Placed, row: &Row) -> bool {
+    let (id, slot, low, high) = *row;
+    let run = placed.run();
+    placed.id() == id && placed.slot() == slot && run.low_seq() == low && run.high_seq() == high
+}
+
+/// Whether a version has these runs.
+fn has_runs(version: &Version, wanted: &[Row]) -> bool {
+    for (placed, row) in version.runs().iter().zip(wanted) {
+        if !is_row(placed, row) {
+            return false;
+        }
+    }
+    version.runs().len() == wanted.len()
+}
+
+/// Keeps, the last sequence and the next id.
+type Numbers = (&'static [u64], u64, u64);
+
+/// Whether a version was made, and has these runs and numbers.
+fn is_so(version: &Option<Version>, wanted: &[Row], numbers: Numbers) -> bool {
+    match version {
+        Some(version) => {
+            let is = (version.keeps(), version.last(), version.next_id());
+            has_runs(version, wanted) && is == numbers
+        }
+        None => false,
     }
 }
 
-/// Checks its keeps, its last sequence and its next id.
-fn wants_numbers(rt: &impl Abort, version: &Version, want: (&[u64], u64, u64)) {
-    assert_eq!(rt; (version.keeps(), version.last(), version.next_id()), want);
+/// The three runs.
+static THREE: [Row; 3] = [(6, 2, 5, 5), (4, 5, 3, 4), (3, 0, 1, 2)];
+
+#[test]
+fn a_version_has_runs(rt: HostRuntime) {
+    let version = version_of_three(rt.alloc());
+    assert!(rt; is_so(&version, &THREE, (&[2, 5], 5, 8)));
+}
+
+/// The newest of them, and the run of the other two.
+static TWO: [Row; 2] = [(6, 2, 5, 5), (8, 5, 1, 4)];
+
+#[test]
+fn a_run_is_put_in_place_of_two(rt: HostRuntime) {
+    let version = version_of_two(rt.alloc());
+    assert!(rt; is_so(&version, &TWO, (&[2, 5], 5, 9)));
+}
+
+/// Ids, and where they stand as neighbours.
+static PLACES: [([u64; 2], Option<usize>); 4] = [
+    ([6, 4], Some(0)),
+    ([4, 3], Some(1)),
+    ([6, 3], None),
+    ([3, 4], None),
+];
+
+/// Whether ids stand where a row says.
+fn is_place(version: &Version, (ids, place): &([u64; 2], Option<usize>)) -> bool {
+    version.place_of(ids) == *place
+}
+
+/// Whether all ids stand where they should.
+fn are_places(version: &Version, rows: &[([u64; 2], Option<usize>)]) -> bool {
+    for row in rows {
+        if !is_place(version, row) {
+            return false;
+        }
+    }
+    true
 }
 
 #[test]
-fn a_version_has_runs(rt: HostRuntime) -> Result<(), Fail> {
-    let alloc = rt.alloc();
-    let newest = run_of(&rt, alloc, &[5])?;
-    let middle = run_of(&rt, alloc, &[3, 4])?;
-    let oldest = run_of(&rt, alloc, &[1, 2])?;
-    let version = three_runs(alloc, newest, middle, oldest)?;
-    wants_runs(&rt, &version, &[(6, 2, 5, 5), (4, 5, 3, 4), (3, 0, 1, 2)]);
-    wants_numbers(&rt, &version, (&[2, 5], 5, 8));
-    Ok(())
+fn runs_are_found_by_their_ids(rt: HostRuntime) {
+    let version = version_of_three(rt.alloc()).expect(&rt, "there is a version");
+    assert!(rt; are_places(&version, &PLACES));
 }
 
-#[test]
-fn a_run_is_put_in_place_of_two(rt: HostRuntime) -> Result<(), Fail> {
-    let alloc = rt.alloc();
-    let newest = run_of(&rt, alloc, &[5])?;
-    let middle = run_of(&rt, alloc, &[3, 4])?;
-    let oldest = run_of(&rt, alloc, &[1, 2])?;
-    let merged = run_of(&rt, alloc, &[1, 2, 3, 4])?;
-    let version = with_merged(alloc, newest, middle, oldest, merged)?;
-    wants_runs(&rt, &version, &[(6, 2, 5, 5), (8, 5, 1, 4)]);
-    wants_numbers(&rt, &version, (&[2, 5], 5, 9));
-    Ok(())
-}
+/// A run that was made for no keep: the ids of those that it is to replace, whether the oldest is among them, its sequences, and why
+/// it may not.
+type Made = ((u64, u64), bool, [u64; 2], Option<Refusal>);
+
+/// Worked by hand.
+static MADE: [Made; 4] = [
+    ((6, 4), true, [1, 3], Some(Refusal::OlderBehind)),
+    ((6, 3), false, [1, 3], Some(Refusal::UnknownKeep(2))),
+    ((6, 3), false, [1, 2], Some(Refusal::NotInPlace)),
+    ((4, 3), true, [1, 2], None),
+];
 
 /// Why a run may not replace the ones with two ids, if it was made for no keep.
 fn refusal_of(
@@ -148,55 +233,49 @@ fn refusal_of(
     version: &Version,
     ids: (u64, u64),
     oldest: bool,
-    output: &Arc<Run>,
-) -> Result<Option<Refusal>, Fail> {
+    output: Arc<Run>,
+) -> Result<Option<Refusal>, AllocError> {
     let ids = vec![in alloc; ids.0, ids.1]?;
-    let install = Install::new(ids, Vec::new(alloc), oldest, output.clone()?);
-    Ok(version.refusal(&install))
+    Ok(version.refusal(&Install::new(ids, Vec::new(alloc), oldest, output)))
+}
+
+/// Whether a version refuses a row's run as it says.
+fn is_refused_so(alloc: Global, version: &Version, made: &Made) -> bool {
+    let (ids, oldest, seqs, wanted) = *made;
+    match run_of(alloc, &seqs) {
+        Some(output) => refusal_of(alloc, version, ids, oldest, output) == Ok(wanted),
+        None => false,
+    }
+}
+
+/// Whether a version refuses all of them as they say.
+fn are_refused_so(alloc: Global, version: &Version, all: &[Made]) -> bool {
+    for made in all {
+        if !is_refused_so(alloc, version, made) {
+            return false;
+        }
+    }
+    true
 }
 
 #[test]
-fn runs_are_found_by_their_ids(rt: HostRuntime) -> Result<(), Fail> {
+fn installs_are_refused_by_a_look_at_ids(rt: HostRuntime) {
     let alloc = rt.alloc();
-    let newest = run_of(&rt, alloc, &[5])?;
-    let middle = run_of(&rt, alloc, &[3, 4])?;
-    let oldest = run_of(&rt, alloc, &[1, 2])?;
-    let version = three_runs(alloc, newest, middle, oldest)?;
-    assert_eq!(rt; version.place_of(&[6, 4]), Some(0));
-    assert_eq!(rt; version.place_of(&[4, 3]), Some(1));
-    assert_eq!(rt; version.place_of(&[6, 3]), None);
-    assert_eq!(rt; version.place_of(&[3, 4]), None);
-    Ok(())
+    let version = version_of_three(alloc).expect(&rt, "there is a version");
+    assert!(rt; are_refused_so(alloc, &version, &MADE));
 }
 
-#[test]
-fn installs_are_refused_by_a_look_at_ids(rt: HostRuntime) -> Result<(), Fail> {
-    let alloc = rt.alloc();
-    let newest = run_of(&rt, alloc, &[5])?;
-    let middle = run_of(&rt, alloc, &[3, 4])?;
-    let oldest = run_of(&rt, alloc, &[1, 2])?;
-    let version = three_runs(alloc, newest, middle, oldest)?;
-    let output = run_of(&rt, alloc, &[1, 2])?;
-    let above = run_of(&rt, alloc, &[1, 3])?;
-    let older = refusal_of(alloc, &version, (6, 4), true, &above)?;
-    assert_eq!(rt; older, Some(Refusal::OlderBehind));
-    let keep = refusal_of(alloc, &version, (6, 3), false, &above)?;
-    assert_eq!(rt; keep, Some(Refusal::UnknownKeep(2)));
-    let gone = refusal_of(alloc, &version, (6, 3), false, &output)?;
-    assert_eq!(rt; gone, Some(Refusal::NotInPlace));
-    let fine = refusal_of(alloc, &version, (4, 3), true, &output)?;
-    assert_eq!(rt; fine, None);
-    Ok(())
-}
-
-#[test]
-fn a_version_may_be_empty(rt: HostRuntime) -> Result<(), Fail> {
-    let alloc = rt.alloc();
+/// The version of nothing, whose next id is 7.
+fn empty_version(alloc: Global) -> Version {
     let version = Version::new(Vec::new(alloc), Vec::new(alloc), 0, 7, 1);
     version.recall();
-    wants_runs(&rt, &version, &[]);
-    wants_numbers(&rt, &version, (&[], 0, 7));
-    Ok(())
+    version
+}
+
+#[test]
+fn a_version_may_be_empty(rt: HostRuntime) {
+    let version = Some(empty_version(rt.alloc()));
+    assert!(rt; is_so(&version, &[], (&[], 0, 7)));
 }
 
 #[test]

@@ -6,5 +6,5 @@ none : IsStrictlySortedBy nat_cmp []
 unfolding IsStrictlySortedBy
 none = tt
 
-pub new-install-requires-clause-keeps_rise : goal.new-install-requires-clause-keeps_rise
-new-install-requires-clause-keeps_rise c = subst (λ (keeps : List ℕ). IsStrictlySortedBy nat_cmp keeps) (sym c.new.ensures.items) none
+pub new-requires-2-clause-keeps_rise : goal.new-requires-2-clause-keeps_rise
+new-requires-2-clause-keeps_rise c = subst (λ (keeps : List ℕ). IsStrictlySortedBy nat_cmp keeps) (sym c.new.ensures.items) none

@@ -33,8 +33,8 @@ three newest middle oldest n m o below first second =
       limit_some = omega arith;
     }
 
-pub new-requires-2 : goal.new-requires-2
-new-requires-2 c =
+pub new-requires : goal.new-requires
+new-requires c =
     let newest = arc_value c.args.newest in
     let middle = arc_value c.args.middle in
     let oldest = arc_value c.args.oldest in
@@ -46,6 +46,6 @@ new-requires-2 c =
     let below : newest.high ≤ 5 = grind (arith, nat_tests) in
     let first : middle.high < newest.low = grind (arith, nat_tests) in
     let second : oldest.high < middle.low = grind (arith, nat_tests) in
-    subst (λ (keeps : List ℕ). IsVersion (record { runs = c.in_ok-runs.runs.items; keeps = keeps; last = 5; next_id = 8; limit = 1 })) (sym c.in_ok-keeps.ensures.items)
-    (subst (λ (runs : List PlacedRun). IsVersion (record { runs = runs; keeps = 2 ∷ 5 ∷ []; last = 5; next_id = 8; limit = 1 })) (sym c.in_ok-runs.ensures.items)
+    subst (λ (keeps : List ℕ). IsVersion (record { runs = c.in-Ok.runs.items; keeps = keeps; last = 5; next_id = 8; limit = 1 })) (sym c.in-Ok-from_slice.ensures.items)
+    (subst (λ (runs : List PlacedRun). IsVersion (record { runs = runs; keeps = 2 ∷ 5 ∷ []; last = 5; next_id = 8; limit = 1 })) (sym c.in-Ok.ensures.items)
     (three newest middle oldest (subst is_run c.deref.ensures c.recall.ensures) (subst is_run c.deref-2.ensures c.recall-2.ensures) (subst is_run c.deref-3.ensures c.recall-3.ensures) below first second))

@@ -1,7 +1,7 @@
 use Rattle.std.proofs.Common.{[], sym, subst, List, ℕ, arith}
 use Rattle.std.specs.List.Sorted.{IsStrictlySortedBy}
 use Rattle.uc_version_state.specs.Versions.{PlacedRun, IsVersion}
-use Rattle.uc_tests_versions.proofs.versions.a_version_may_be_empty.Goals as goal
+use Rattle.uc_tests_versions.proofs.versions.empty_version.Goals as goal
 
 none : IsVersion (record { runs = []; keeps = []; last = 0; next_id = 7; limit = 1 })
 unfolding IsStrictlySortedBy
@@ -21,6 +21,6 @@ none = record {
 }
 
 pub new-version-requires : goal.new-version-requires
-new-version-requires g c =
-    subst (λ (keeps : List ℕ). IsVersion (record { runs = c.new.result.items; keeps = keeps; last = 0; next_id = 7; limit = 1 })) (sym c.new-2.ensures.items)
-    (subst (λ (runs : List PlacedRun). IsVersion (record { runs = runs; keeps = []; last = 0; next_id = 7; limit = 1 })) (sym c.new.ensures.items) none)
+new-version-requires g =
+    subst (λ (keeps : List ℕ). IsVersion (record { runs = g.new.result.items; keeps = keeps; last = 0; next_id = 7; limit = 1 })) (sym g.new-2.ensures.items)
+    (subst (λ (runs : List PlacedRun). IsVersion (record { runs = runs; keeps = []; last = 0; next_id = 7; limit = 1 })) (sym g.new.ensures.items) none)
