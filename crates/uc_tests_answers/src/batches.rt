@@ -9,11 +9,11 @@ use std::marker::{Brand, Send, Sync};
 use std::sync::Wait;
 use std::test::Fail;
 use std::thread::{Threads, join};
+use testkit_compactors::worker::Worker;
 use uc_oper::{Append, Operator};
 use uc_query_read::{Answer, Query};
 use uc_query_shared::{AskError, Free, answer_all, batch_refusal};
 use uc_share::{Name, Opening, Reader, Store};
-use uc_tests_compactors::worker::Worker;
 
 /// Readers, and whether every batch that they were lent for was answered as it should be.
 type Asked<O, N> = (Vec<Reader<O, N>>, bool);

@@ -10,12 +10,12 @@ use std::marker::{Brand, Send, Sync};
 use std::sync::Wait;
 use std::test::Fail;
 use std::thread::{Threads, join};
+use testkit_compactors::stretches::both_compact;
+use testkit_compactors::worker::Pair;
 use uc_oper::{Append, Operator};
 use uc_query_read::{Answer, Query};
 use uc_query_shared::{Gate, answer_all};
 use uc_share::{Name, Opening, Reader, Store};
-use uc_tests_compactors::stretches::both_compact;
-use uc_tests_compactors::worker::Pair;
 
 /// A gate that holds piece 0 until piece 1 has come.
 #[derive(Drop)]

@@ -10,11 +10,11 @@ use std::marker::{Brand, Send, Sync};
 use std::sync::Wait;
 use std::test::Fail;
 use std::thread::{Threads, join};
+use testkit_compactors::worker::Worker;
 use uc_oper::{Append, Operator};
 use uc_query_read::{Answer, Query};
 use uc_query_shared::{Gate, answer_all};
 use uc_share::{Name, Opening, Reader, Store};
-use uc_tests_compactors::worker::Worker;
 
 /// A gate that holds the last piece until a compaction is installed, which begins when that piece has come.
 #[derive(Drop)]

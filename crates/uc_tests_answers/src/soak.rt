@@ -8,16 +8,16 @@ use std::process::Abort;
 use std::sync::Wait;
 use std::test::Fail;
 use std::thread::{Threads, join};
+use testkit_compactors::drawn::{MANY, SOME, Size, drawn_store};
+use testkit_compactors::turns::{four_compact, shows_installs};
+use testkit_compactors::worker::{Pair, next_pairs};
+use testkit_draws::dice::{Dice, KEYS};
 use uc_batch::Writes;
 use uc_bytes::Bytes;
 use uc_oper::{Append, Counter, Maximum, Operator, Tail};
 use uc_query_read::{Answer, Query, answer_writes};
 use uc_query_shared::{Free, answer_all};
 use uc_share::{Name, Opening, Reader, Seat, Store};
-use uc_tests_compactors::drawn::{MANY, SOME, Size, drawn_store};
-use uc_tests_compactors::turns::{four_compact, shows_installs};
-use uc_tests_compactors::worker::{Pair, next_pairs};
-use uc_tests_shared::dice::{Dice, KEYS};
 
 /// How many queries a batch has.
 const QUERIES: usize = 200;

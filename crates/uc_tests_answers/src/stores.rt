@@ -7,9 +7,9 @@ use std::marker::Sync;
 use std::sync::Wait;
 use std::test::Fail;
 use std::thread::Threads;
+use testkit_compactors::worker::{Pair, Worker, next_pair};
 use uc_oper::Operator;
 use uc_share::{Name, Opening, Reader, Store, Turn};
-use uc_tests_compactors::worker::{Pair, Worker, next_pair};
 
 /// A store, two compactors, and its other readers.
 pub(crate) fn opened<O: Operator, N: Name, W: Wait + Drop>(

@@ -1,12 +1,12 @@
 //! A store worked by hand, and a batch of queries with their answers.
 use std::alloc::Global;
 use std::test::Fail;
+use testkit_compactors::drawn::small_runs;
 use uc_batch::Writes;
 use uc_bytes::{Bytes, OpRef, WriteRef};
 use uc_oper::Operator;
 use uc_query_read::{Answer, Query, RowBuffer, Rows};
 use uc_share::Opening;
-use uc_tests_compactors::drawn::small_runs;
 
 /// The change with a number.
 fn change(number: u64) -> OpRef<'static> {

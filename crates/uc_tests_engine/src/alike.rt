@@ -3,10 +3,10 @@ use crate::plain::Plain;
 use crate::readable::Readable;
 use std::alloc::Global;
 use std::test::Fail;
+use testkit_draws::dice::{Dice, KEYS};
 use uc_bytes::Bytes;
 use uc_engine::Answer;
 use uc_query_read::Query;
-use uc_tests_shared::dice::{Dice, KEYS};
 
 /// Whether a key has the plain program's answer at a sequence.
 fn looks_up_alike<R: Readable>(

@@ -4,10 +4,10 @@ use crate::given::{empty, small};
 use crate::plain::Plain;
 use std::alloc::{AllocError, Global};
 use std::test::Fail;
+use testkit_draws::dice::Dice;
 use uc_batch::{fits_batch, write_batch};
 use uc_bytes::Op;
 use uc_engine::{Engine, LiveOptions, OpRef, OperatorKind, Options};
-use uc_tests_shared::dice::Dice;
 
 /// Each operator.
 pub(crate) static KINDS: [OperatorKind; 4] = [

@@ -7,8 +7,8 @@ use crate::jobs::{run, start};
 use crate::plain::Plain;
 use std::alloc::Global;
 use std::test::Fail;
+use testkit_draws::dice::Dice;
 use uc_engine::{JobEnd, LiveOptions, OpRef, OperatorKind};
-use uc_tests_shared::dice::Dice;
 
 /// Writes a drawn operation.
 fn write_drawn(

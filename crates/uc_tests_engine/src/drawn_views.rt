@@ -6,8 +6,8 @@ use crate::plain::Plain;
 use crate::views::view_of;
 use std::alloc::Global;
 use std::test::Fail;
+use testkit_draws::dice::Dice;
 use uc_engine::{Engine, EngineView, LiveOptions, OperatorKind};
-use uc_tests_shared::dice::Dice;
 
 /// A view, and the plain program as it was then.
 #[derive(Drop)]

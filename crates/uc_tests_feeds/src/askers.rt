@@ -4,12 +4,12 @@ use std::alloc::Global;
 use std::marker::{Send, Sync};
 use std::sync::{RwLock, Wait};
 use std::thread::{Threads, join};
+use testkit_draws::dice::Dice;
 use uc_batch::Writes;
 use uc_oper::Operator;
 use uc_query_read::answer_one;
 use uc_query_shared::{Free, answer_all};
 use uc_share::{Name, Reader, Store, Version};
-use uc_tests_shared::dice::Dice;
 
 /// How often each of those who ask does so.
 const ASKS: usize = 30;

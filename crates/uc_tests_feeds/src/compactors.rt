@@ -6,9 +6,9 @@ use std::alloc::Global;
 use std::marker::{Send, Sync};
 use std::sync::Wait;
 use std::thread::{Threads, join, yield_now};
+use testkit_compactors::worker::{Pair, Worker};
 use uc_oper::Operator;
 use uc_share::{Name, Store, Turn};
-use uc_tests_compactors::worker::{Pair, Worker};
 
 /// How often each compactor has its turn.
 const TURNS: usize = 120;

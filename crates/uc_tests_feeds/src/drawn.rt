@@ -1,10 +1,10 @@
 //! Writes that are drawn by their number alone, and queries.
 use std::alloc::{AllocError, Global};
+use testkit_draws::dice::{Dice, KEYS};
 use uc_batch::Writes;
 use uc_bytes::{Bytes, Write};
 use uc_oper::Operator;
 use uc_query_read::{Answer, Query, answer_writes};
-use uc_tests_shared::dice::{Dice, KEYS};
 
 /// How many writes a store opens with.
 pub(crate) const OPENED: u64 = 8;

@@ -5,9 +5,9 @@ use std::alloc::Global;
 use std::marker::{Send, Sync};
 use std::sync::Wait;
 use std::thread::{Threads, join, yield_now};
+use testkit_draws::dice::Dice;
 use uc_oper::Operator;
 use uc_share::{FeedError, Name, Reader, Store};
-use uc_tests_shared::dice::Dice;
 
 /// How often each feeder tries to feed.
 pub(crate) const FEEDS: usize = 30;

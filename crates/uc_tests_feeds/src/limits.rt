@@ -10,11 +10,11 @@ use std::process::Abort;
 use std::sync::Wait;
 use std::test::Fail;
 use std::thread::Threads;
+use testkit_compactors::steps::claimed;
+use testkit_compactors::worker::Worker;
 use uc_bytes::MAX_SEQUENCE;
 use uc_oper::{Append, Operator};
 use uc_share::{FeedError, InstallError, Name, Opening, Reader, Seat, Store, Stretch};
-use uc_tests_compactors::steps::claimed;
-use uc_tests_compactors::worker::Worker;
 
 /// What is fed to a store of 256 runs.
 static TO_256_RUNS: [Step; 5] = [

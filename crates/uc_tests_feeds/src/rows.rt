@@ -10,9 +10,9 @@ use std::process::Abort;
 use std::sync::Wait;
 use std::test::Fail;
 use std::thread::Threads;
+use testkit_compactors::worker::Worker;
 use uc_oper::{Append, Operator};
 use uc_share::{FeedError, Name, Opening, ReleaseError, Store, Stretch};
-use uc_tests_compactors::worker::Worker;
 
 /// Two merges are fed to a store of a put, and their last sequence is kept.
 static FED_AND_KEPT: [Step; 5] = [

@@ -18,11 +18,11 @@ use std::process::Abort;
 use std::sync::{RwLock, Wait};
 use std::test::Fail;
 use std::thread::{Threads, join};
+use testkit_compactors::drawn::small_runs;
+use testkit_compactors::worker::{Pair, next_pair};
+use testkit_draws::dice::Dice;
 use uc_oper::{Append, Counter, Maximum, Operator, Tail};
 use uc_share::{Name, Opening, Reader, Seat, Store, Version};
-use uc_tests_compactors::drawn::small_runs;
-use uc_tests_compactors::worker::{Pair, next_pair};
-use uc_tests_shared::dice::Dice;
 
 /// All writes that may be fed: the opening's, those of two feeders, and one before the first keep.
 const WRITES: u64 = OPENED + 2 * FEEDS as u64 * MOST_FED + 1;

@@ -7,14 +7,14 @@ use std::marker::Sync;
 use std::sync::Wait;
 use std::test::Fail;
 use std::thread::Threads;
+use testkit_compactors::drawn::small_runs;
+use testkit_compactors::steps::{claimed, installed};
+use testkit_compactors::worker::{Pair, next_pair};
 use uc_batch::Writes;
 use uc_bytes::{OpRef, WriteRef};
 use uc_oper::Operator;
 use uc_query_read::{Answer, get};
 use uc_share::{FeedError, Name, Opening, Options, Pin, Reader, Seat, Store, Stretch, Version};
-use uc_tests_compactors::drawn::small_runs;
-use uc_tests_compactors::steps::{claimed, installed};
-use uc_tests_compactors::worker::{Pair, next_pair};
 
 /// A change of the key `k` with its sequence.
 #[derive(Clone, Copy)]

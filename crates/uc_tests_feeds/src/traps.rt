@@ -11,11 +11,11 @@ use std::process::Abort;
 use std::sync::Wait;
 use std::test::Fail;
 use std::thread::Threads;
+use testkit_compactors::steps::{claim_refusal, claimed, installed};
+use testkit_compactors::worker::{Pair, Worker};
 use uc_compact::{Compacted, compact, inputs_stand};
 use uc_oper::{Append, Operator};
 use uc_share::{ClaimError, Held, InstallError, Name, Opening, Pin, Reader, Seat, Store, Stretch};
-use uc_tests_compactors::steps::{claim_refusal, claimed, installed};
-use uc_tests_compactors::worker::{Pair, Worker};
 
 /// The two newest runs.
 const NEWEST: Stretch = Stretch { first: 0, count: 2 };

@@ -8,14 +8,14 @@ use std::process::Abort;
 use std::sync::Wait;
 use std::test::Fail;
 use std::thread::{Threads, join};
+use testkit_compactors::drawn::small_runs;
+use testkit_compactors::worker::{Worker, next_worker};
 use uc_batch::Writes;
 use uc_bytes::{Bytes, OpRef, WriteRef};
 use uc_oper::{Append, Operator};
 use uc_query_read::{Answer, Query, answer_writes};
 use uc_query_shared::{Free, answer_all};
 use uc_share::{Name, Opening, Reader, Seat, Store, Turn};
-use uc_tests_compactors::drawn::small_runs;
-use uc_tests_compactors::worker::{Worker, next_worker};
 
 /// How many writes are fed, one at a time.
 const FEEDS: u64 = 100;

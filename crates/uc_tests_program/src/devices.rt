@@ -6,9 +6,9 @@ use std::marker::Sync;
 use std::process::Abort;
 use std::sync::Wait;
 use std::thread::Threads;
+use testkit_draws::options::small;
+use testkit_reports::worked::READ_SO_FAR;
 use uc_oper::Counter;
-use uc_tests_reports::worked::READ_SO_FAR;
-use uc_tests_shared::options::small;
 use uc_tool::{Done, ask, dump, is_plan, play, report_log};
 
 /// What is run.

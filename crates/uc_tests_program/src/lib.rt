@@ -5,7 +5,7 @@
 //!
 //! `devices.rt` has readers and writers that fail, for scripts and for logs, `endings.rt` the same for the calls that all
 //! programs share, `queries.rt` answers to queries by the plain programs, `reply_lines.rt` the line of each reply, and
-//! `reasons.rt` why runs are refused, as a reader is told. What reports print stands in `uc_tests_reports`. It goes through all
+//! `reasons.rt` why runs are refused, as a reader is told. What reports print stands in `testkit_reports`. It goes through all
 //! crates.
 #![tactic(auto)]
 

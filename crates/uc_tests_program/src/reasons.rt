@@ -4,8 +4,8 @@ use std::marker::Sync;
 use std::sync::Wait;
 use std::test::Fail;
 use std::thread::Threads;
+use testkit_draws::options::small;
 use uc_oper::Counter;
-use uc_tests_shared::options::small;
 use uc_tool::{Options, Reason, ask, is_plan, play, report_log};
 
 /// A program that tells why it refuses what it reads.

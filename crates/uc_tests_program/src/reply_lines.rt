@@ -1,14 +1,14 @@
 //! Lines worked by hand.
 use std::alloc::Global;
 use std::test::Fail;
+use testkit_reports::worked::{Worked, all};
 use uc_bytes::{Bytes, Items};
 use uc_query::{Reply, Report};
 use uc_query_read::Answer;
-use uc_tests_reports::worked::{Worked, all};
 use uc_tool_opening::{compacted_line, opening_refusal_line, reply_lines};
 use uc_version::{ClaimError, InstallError};
-use uc_version_state::{FeedError, Stretch};
 use uc_version_open::OpenError;
+use uc_version_state::{FeedError, Stretch};
 
 /// A reply of a test.
 #[derive(Clone, Copy)]

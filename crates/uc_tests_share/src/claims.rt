@@ -9,10 +9,10 @@ use std::process::Abort;
 use std::sync::Wait;
 use std::test::Fail;
 use std::thread::Threads;
+use testkit_compactors::steps::{claim_refusal, claimed, installed};
+use testkit_compactors::worker::Worker;
 use uc_oper::{Append, Operator};
 use uc_share::{ClaimError, Held, Name, Opening, Pin, Reader, Seat, Store, Stretch};
-use uc_tests_compactors::steps::{claim_refusal, claimed, installed};
-use uc_tests_compactors::worker::Worker;
 
 /// The two runs behind the newest.
 const OLDEST: Stretch = Stretch { first: 1, count: 2 };

@@ -9,11 +9,11 @@ use std::process::Abort;
 use std::sync::Wait;
 use std::test::Fail;
 use std::thread::Threads;
+use testkit_compactors::drawn::small_runs;
+use testkit_compactors::steps::{claimed, installed};
+use testkit_compactors::worker::{Worker, next_worker};
 use uc_oper::{Counter, Operator};
 use uc_share::{Name, Opening, Pin, Reader, Seat, Store, Stretch};
-use uc_tests_compactors::drawn::small_runs;
-use uc_tests_compactors::steps::{claimed, installed};
-use uc_tests_compactors::worker::{Worker, next_worker};
 
 /// Whether a reader pins a version that has runs with these ids, behind so many events.
 fn pins<O: Operator, N: Name, W: Wait + Drop>(

@@ -12,14 +12,14 @@ use std::process::Abort;
 use std::sync::Wait;
 use std::test::Fail;
 use std::thread::Threads;
+use testkit_compactors::drawn::small_runs;
+use testkit_compactors::steps::{claimed, installed};
+use testkit_compactors::worker::Worker;
 use uc_compact::Compacted;
 use uc_oper::{Append, Counter, Operator};
 use uc_share::{
     Held, InstallError, Name, OpenError, Opening, Options, Reader, Seat, Store, Stretch,
 };
-use uc_tests_compactors::drawn::small_runs;
-use uc_tests_compactors::steps::{claimed, installed};
-use uc_tests_compactors::worker::Worker;
 use uc_version::{Version, compact_stretch};
 
 /// Why an install is refused; the claim comes back.

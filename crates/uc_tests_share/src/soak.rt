@@ -8,15 +8,15 @@ use std::process::Abort;
 use std::sync::Wait;
 use std::test::Fail;
 use std::thread::{Threads, join};
+use testkit_compactors::drawn::{MANY, SOME, Size, drawn_store};
+use testkit_compactors::turns::{TURNS, four_compact, shows_installs};
+use testkit_compactors::worker::{Pair, next_pairs};
+use testkit_draws::dice::{Dice, KEYS};
 use uc_batch::Writes;
 use uc_bytes::Bytes;
 use uc_oper::{Append, Counter, Maximum, Operator, Tail};
 use uc_query_read::{Answer, Query, answer_one, answer_writes};
 use uc_share::{Name, Opening, Reader, Seat, Store, Version};
-use uc_tests_compactors::drawn::{MANY, SOME, Size, drawn_store};
-use uc_tests_compactors::turns::{TURNS, four_compact, shows_installs};
-use uc_tests_compactors::worker::{Pair, next_pairs};
-use uc_tests_shared::dice::{Dice, KEYS};
 
 /// Whether a version answers as it should.
 fn reads_alike<O: Operator>(alloc: Global, version: &Version, asked: &[(Query, Answer)]) -> bool {

@@ -5,13 +5,13 @@ ghost use Rattle.uc_share.specs.Stores.{IsNamed};
 use std::alloc::Global;
 use std::sync::Wait;
 use std::test::Fail;
+use testkit_compactors::drawn::small_runs;
+use testkit_compactors::steps::claimed;
+use testkit_compactors::worker::{Pair, next_pair};
 use uc_batch::Writes;
 use uc_bytes::{OpRef, WriteRef};
 use uc_oper::Operator;
 use uc_share::{Held, Name, Opening, Options, Reader, Seat, Store, Stretch, Version};
-use uc_tests_compactors::drawn::small_runs;
-use uc_tests_compactors::steps::claimed;
-use uc_tests_compactors::worker::{Pair, next_pair};
 
 /// The two newest runs.
 pub(crate) const NEWEST: Stretch = Stretch { first: 0, count: 2 };

@@ -9,10 +9,10 @@ use std::process::Abort;
 use std::sync::Wait;
 use std::test::Fail;
 use std::thread::Threads;
+use testkit_compactors::stretches::both_compact;
+use testkit_compactors::worker::Pair;
 use uc_oper::{Append, Operator};
 use uc_share::{Name, Opening, Store};
-use uc_tests_compactors::stretches::both_compact;
-use uc_tests_compactors::worker::Pair;
 use uc_version::Version;
 
 /// Whether the two runs of a version have ids 5 and 6, the newer one sequences 3 and 4 and the older one 1 and 2.

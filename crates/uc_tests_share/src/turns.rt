@@ -9,14 +9,14 @@ use std::process::Abort;
 use std::sync::Wait;
 use std::test::Fail;
 use std::thread::{Threads, join};
+use testkit_compactors::drawn::small_runs;
+use testkit_compactors::turns::shows_installs;
+use testkit_compactors::worker::{Worker, next_pair};
 use uc_batch::Writes;
 use uc_bytes::{Bytes, OpRef, WriteRef};
 use uc_oper::{Append, Operator};
 use uc_query_read::{Answer, Query, answer_writes};
 use uc_share::{Name, Opening, Options, Reader, Seat, Store, Turn};
-use uc_tests_compactors::drawn::small_runs;
-use uc_tests_compactors::turns::shows_installs;
-use uc_tests_compactors::worker::{Worker, next_pair};
 
 /// How often each thread has its turn.
 const TURNS: usize = 200;

@@ -4,12 +4,12 @@ use std::process::Abort;
 use std::sync::Arc;
 use std::test::Fail;
 use std::thread::Threads;
+use testkit_draws::dice::{Dice, KEYS};
 use uc_bytes::{MAX_SEQUENCE, Write};
 use uc_compact::{compact, inputs_stand};
 use uc_model::{effect_at, value_at};
 use uc_oper::{Append, Counter, Maximum, Operator, Tail};
 use uc_run::{Memtable, Run};
-use uc_tests_shared::dice::{Dice, KEYS};
 
 /// Runs, the newest first, the writes of all of them in order, and the last sequence.
 #[derive(Drop)]

@@ -2,13 +2,13 @@
 use crate::stores::Commas;
 use std::alloc::{AllocError, Global};
 use std::test::Fail;
+use testkit_draws::dice::Dice;
 use uc_batch::Writes;
 use uc_bytes::{Bytes, Op, Write};
 use uc_oper::{Counter, Operator};
 use uc_query_read::{Query, answer_one, answer_writes};
-use uc_tests_shared::dice::Dice;
+use uc_version_open::open_version;
 use uc_version_state::{Options, Version};
-use uc_version_work::open_version;
 
 /// The keys that are drawn.
 static KEYS: [&[u8]; 6] = [b"", b"a", b"aa", b"b", b"c", b"\xff"];

@@ -5,12 +5,12 @@ use std::marker::Sync;
 use std::process::Abort;
 use std::test::Fail;
 use std::thread::Threads;
+use testkit_draws::dice::{Dice, KEYS};
 use uc_batch::Writes;
 use uc_bytes::{Bytes, Write};
 use uc_compact::Compacted;
 use uc_oper::{Append, Counter, Maximum, Operator, Tail};
 use uc_query_read::{Query, answer_one, answer_writes};
-use uc_tests_shared::dice::{Dice, KEYS};
 use uc_version::{FeedError, MOST_SLOTS, Options, Owned, OwnedClaim, Stretch, open_plain};
 
 /// A claim that is held, and what its runs were compacted to, if they were.

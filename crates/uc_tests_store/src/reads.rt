@@ -5,8 +5,8 @@ use std::test::Fail;
 use uc_batch::Writes;
 use uc_bytes::{Bytes, OpRef, WriteRef};
 use uc_query_read::{Answer, Query, Rows, answer_one};
+use uc_version_open::open_version;
 use uc_version_state::{Options, Version};
-use uc_version_work::open_version;
 
 /// A change of a test.
 #[derive(Clone, Copy)]

@@ -9,8 +9,8 @@ use uc_bytes::{Bytes, OpRef, WriteRef};
 use uc_oper::Append;
 use uc_query_read::{Answer, Query, RowBuffer, Rows};
 use uc_query_workers::{AskError, answer_plain};
-use uc_version_state::{Options, Version};
 use uc_version_open::open_version;
+use uc_version_state::{Options, Version};
 
 /// A change of a test.
 #[derive(Clone, Copy)]

@@ -4,12 +4,12 @@ use std::alloc::Global;
 use std::marker::Sync;
 use std::test::Fail;
 use std::thread::Threads;
+use testkit_draws::dice::{Dice, KEYS};
 use uc_batch::Writes;
 use uc_bytes::Bytes;
 use uc_oper::{Append, Counter, Operator};
 use uc_query_read::{Answer, Query, answer_writes};
 use uc_query_workers::answer_plain;
-use uc_tests_shared::dice::{Dice, KEYS};
 use uc_version::{Options, Version, open_version};
 
 /// One of the keys, or one that sorts before them all.

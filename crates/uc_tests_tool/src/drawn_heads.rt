@@ -7,10 +7,10 @@ use std::process::Abort;
 use std::sync::Wait;
 use std::test::Fail;
 use std::thread::Threads;
+use testkit_draws::dice::Dice;
+use testkit_draws::lines::op_line;
 use uc_bytes::Op;
 use uc_oper::{Append, Counter, Maximum, Operator, Tail};
-use uc_tests_shared::dice::Dice;
-use uc_tests_shared::lines::op_line;
 use uc_tool::play;
 use uc_tool_io::Done;
 

@@ -8,12 +8,12 @@ use std::process::Abort;
 use std::test::Fail;
 use std::thread::Threads;
 use std::{mem, str};
+use testkit_draws::lines::op_line;
+use testkit_draws::options::small;
 use uc_batch::Writes;
 use uc_bytes::{Op, Write};
 use uc_oper::{Append, Counter, Maximum, Operator, Tail};
 use uc_query_read::{Query, answer_writes};
-use uc_tests_shared::lines::op_line;
-use uc_tests_shared::options::small;
 use uc_tool_io::Done;
 
 /// A line that claims, compacts or picks prints one line, of which the plain writes know nothing.

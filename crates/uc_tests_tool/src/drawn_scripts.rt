@@ -5,12 +5,12 @@ use std::marker::Sync;
 use std::process::Abort;
 use std::test::Fail;
 use std::thread::Threads;
+use testkit_draws::lines::{field, op_line};
+use testkit_draws::options::small;
 use uc_batch::Writes;
 use uc_bytes::{Bytes, Op, OpRef, Write};
 use uc_oper::{Append, Counter, Maximum, Operator, Tail};
 use uc_query_read::{Answer, Query, Rows, answer_writes};
-use uc_tests_shared::lines::{field, op_line};
-use uc_tests_shared::options::small;
 use uc_tool_io::Done;
 
 /// A linear congruential generator, with the constants of Knuth's MMIX.

@@ -5,8 +5,8 @@ use std::marker::Sync;
 use std::process::Abort;
 use std::test::Fail;
 use std::thread::Threads;
+use testkit_draws::options::small;
 use uc_oper::Append;
-use uc_tests_shared::options::small;
 use uc_tool_io::Done;
 use uc_version_state::{GREATEST_FIRST_ID, Options};
 

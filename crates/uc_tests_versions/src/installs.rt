@@ -8,7 +8,8 @@ use std::sync::Arc;
 use std::thread::Threads;
 use uc_compact::{Compacted, compact, inputs_stand};
 use uc_run::{Run, WhatRef};
-use uc_version::{InstallError, OwnedClaim, Placed, Stretch, Version};
+use uc_version::{OwnedClaim, Placed, Stretch, Version};
+use uc_version_compact::InstallError;
 
 /// A compaction.
 pub(crate) type Made = Compacted<Commas>;

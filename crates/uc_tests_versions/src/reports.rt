@@ -3,10 +3,10 @@ use std::alloc::{AllocError, Global};
 use std::marker::Sync;
 use std::test::Fail;
 use std::thread::Threads;
+use testkit_reports::worked::{EMPTY, OVERLAP, THREE_PUTS, Worked, all};
 use uc_batch::Writes;
 use uc_bytes::{OpRef, WriteRef};
 use uc_query::{Field, Figure, Report, report, total_fields};
-use uc_tests_reports::worked::{EMPTY, OVERLAP, THREE_PUTS, Worked, all};
 use uc_version_open::open_version;
 use uc_version_state::{Options, Version};
 

@@ -1,9 +1,9 @@
 //! Stores of small runs, and drawn ones.
 use std::alloc::Global;
+use testkit_draws::dice::Dice;
 use uc_batch::Writes;
 use uc_oper::Operator;
 use uc_share::{Opening, Options};
-use uc_tests_shared::dice::Dice;
 
 /// Options under which each write is a run and two runs are compacted.
 pub fn small_runs() -> Options {

@@ -7,9 +7,9 @@ use std::alloc::Global;
 use std::marker::{Send, Sync};
 use std::sync::Wait;
 use std::thread::{Threads, join};
+use testkit_draws::dice::Dice;
 use uc_oper::Operator;
 use uc_share::{Held, Name, Reader, Seat, Store, Stretch};
-use uc_tests_shared::dice::Dice;
 
 /// How often each compactor looks for something to do.
 pub const TURNS: usize = 24;
