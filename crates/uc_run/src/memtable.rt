@@ -180,8 +180,8 @@ impl Memtable {
     }
 
     /// The run of its first writes: the points in order of key, and the range deletions cut into fragments. It costs a
-    /// sort of the points, a copy of their texts, and the fragments. The sort compares a number for each key, and texts
-    /// only where two numbers are equal.
+    /// sort of the points, a copy of their texts, and the fragments. The sort is one of numbers, and texts are compared
+    /// only where two numbers tell the same of their keys.
     pub fn run_of_first(&self, alloc: Global, count: usize) -> Result<Run, AllocError>
         requires some { 0 < count }
         requires within { count ≤ length self.now }
