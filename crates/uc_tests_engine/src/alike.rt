@@ -1,8 +1,7 @@
 //! Reads of an engine or of a view, beside the plain program.
 use crate::plain::Plain;
 use crate::readable::Readable;
-use std::alloc::Global;
-use std::test::Fail;
+use std::alloc::{AllocError, Global};
 use uc_bytes::Bytes;
 use uc_engine::Answer;
 use uc_query_read::Query;
@@ -15,7 +14,7 @@ fn looks_up_alike<R: Readable>(
     plain: &Plain,
     key: &[u8],
     at: u64,
-) -> Result<bool, Fail> {
+) -> Result<bool, AllocError> {
     let query = Query::Get {
         key: Bytes::from_slice(alloc, key)?,
         at,
@@ -30,7 +29,7 @@ fn looks_up_last<R: Readable>(
     store: &R,
     plain: &Plain,
     key: &[u8],
-) -> Result<bool, Fail> {
+) -> Result<bool, AllocError> {
     let at = plain.last();
     let query = Query::Get {
         key: Bytes::from_slice(alloc, key)?,
@@ -41,7 +40,7 @@ fn looks_up_last<R: Readable>(
 }
 
 /// A drawn scan at a sequence.
-fn drawn_scan(alloc: Global, dice: &mut Dice, at: u64) -> Result<Query, Fail> {
+fn drawn_scan(alloc: Global, dice: &mut Dice, at: u64) -> Result<Query, AllocError> {
     let high = KEYS[dice.roll(4) as usize];
     Ok(Query::Scan {
         low: Bytes::from_slice(alloc, b"a")?,
@@ -51,6 +50,17 @@ fn drawn_scan(alloc: Global, dice: &mut Dice, at: u64) -> Result<Query, Fail> {
     })
 }
 
+/// Whether a query has the plain program's answer.
+fn is_answered<R: Readable>(
+    alloc: Global,
+    store: &R,
+    plain: &Plain,
+    query: &Query,
+) -> Result<bool, AllocError> {
+    let wanted = plain.answer(alloc, &plain.keeps, query)?;
+    Ok(store.answer(alloc, query)? == wanted)
+}
+
 /// Whether a drawn scan has the plain program's answer at a sequence.
 fn scans_alike<R: Readable>(
     alloc: Global,
@@ -58,14 +68,13 @@ fn scans_alike<R: Readable>(
     store: &R,
     plain: &Plain,
     at: u64,
-) -> Result<bool, Fail> {
+) -> Result<bool, AllocError> {
     let query = drawn_scan(alloc, dice, at)?;
-    let wanted = plain.answer(alloc, &plain.keeps, &query)?;
-    Ok(store.answer(alloc, &query)? == wanted)
+    is_answered(alloc, store, plain, &query)
 }
 
 /// The rows of a scan at the last sequence.
-fn last_rows<R: Readable>(alloc: Global, store: &R, query: &Query) -> Result<Answer, Fail> {
+fn last_rows<R: Readable>(alloc: Global, store: &R, query: &Query) -> Result<Answer, AllocError> {
     match query {
         Query::Scan {
             low,
@@ -83,7 +92,7 @@ fn scans_last<R: Readable>(
     dice: &mut Dice,
     store: &R,
     plain: &Plain,
-) -> Result<bool, Fail> {
+) -> Result<bool, AllocError> {
     let at = plain.last();
     let query = drawn_scan(alloc, dice, at)?;
     let wanted = plain.answer(alloc, &[at], &query)?;
@@ -96,7 +105,7 @@ pub(crate) fn reads_alike<R: Readable>(
     dice: &mut Dice,
     store: &R,
     plain: &Plain,
-) -> Result<bool, Fail> {
+) -> Result<bool, AllocError> {
     let at = dice.roll(plain.last().saturating_add(2));
     let key = KEYS[dice.roll(4) as usize];
     Ok(

@@ -15,6 +15,8 @@ mod alike;
 mod batches;
 pub mod busy;
 #[cfg(test)]
+mod cases;
+#[cfg(test)]
 mod compactions;
 #[cfg(test)]
 mod drawn;
