@@ -7,6 +7,18 @@ use uc_engine::Answer;
 use uc_query_read::Query;
 use uc_tests_shared::dice::{Dice, KEYS};
 
+/// The plain program's answer to a lookup under these keeps.
+fn plain_value(
+    alloc: Global,
+    plain: &Plain,
+    keeps: &[u64],
+    key: &[u8],
+    at: u64,
+) -> Result<Answer, AllocError> {
+    let key = Bytes::from_slice(alloc, key)?;
+    plain.answer(alloc, keeps, &Query::Get { key, at })
+}
+
 /// Whether a key has the plain program's answer at a sequence.
 fn looks_up_alike<R: Readable>(
     alloc: Global,
@@ -15,11 +27,7 @@ fn looks_up_alike<R: Readable>(
     key: &[u8],
     at: u64,
 ) -> Result<bool, AllocError> {
-    let query = Query::Get {
-        key: Bytes::from_slice(alloc, key)?,
-        at,
-    };
-    let wanted = plain.answer(alloc, &plain.keeps, &query)?;
+    let wanted = plain_value(alloc, plain, &plain.keeps, key, at)?;
     Ok(store.get_at(alloc, key, at)? == wanted)
 }
 
@@ -31,11 +39,7 @@ fn looks_up_last<R: Readable>(
     key: &[u8],
 ) -> Result<bool, AllocError> {
     let at = plain.last();
-    let query = Query::Get {
-        key: Bytes::from_slice(alloc, key)?,
-        at,
-    };
-    let wanted = plain.answer(alloc, &[at], &query)?;
+    let wanted = plain_value(alloc, plain, &[at], key, at)?;
     Ok(Answer::Value(store.get(alloc, key)?) == wanted)
 }
 
@@ -86,17 +90,26 @@ fn last_rows<R: Readable>(alloc: Global, store: &R, query: &Query) -> Result<Ans
     }
 }
 
-/// Whether a drawn scan has the plain program's rows at the last sequence.
+/// Whether a scan has the plain program's rows at the last sequence, which is its own.
+fn shows_last<R: Readable>(
+    alloc: Global,
+    store: &R,
+    plain: &Plain,
+    query: &Query,
+) -> Result<bool, AllocError> {
+    let wanted = plain.answer(alloc, &[query.at()], query)?;
+    Ok(last_rows(alloc, store, query)? == wanted)
+}
+
+/// Whether a drawn scan has.
 fn scans_last<R: Readable>(
     alloc: Global,
     dice: &mut Dice,
     store: &R,
     plain: &Plain,
 ) -> Result<bool, AllocError> {
-    let at = plain.last();
-    let query = drawn_scan(alloc, dice, at)?;
-    let wanted = plain.answer(alloc, &[at], &query)?;
-    Ok(last_rows(alloc, store, &query)? == wanted)
+    let query = drawn_scan(alloc, dice, plain.last())?;
+    shows_last(alloc, store, plain, &query)
 }
 
 /// Whether a store reads as the plain program does, at a drawn sequence and at the last one.

@@ -1,7 +1,7 @@
 //! The engines and the bytes that tests begin with.
 use std::alloc::{AllocError, Global};
 use std::test::Fail;
-use uc_engine::{Engine, LiveOptions, OpRef, OperatorKind, Options};
+use uc_engine::{Answer, Engine, LiveOptions, OpRef, OperatorKind, Options};
 
 /// Options that flush behind each write, and compact only if asked.
 pub(crate) fn small() -> LiveOptions {
@@ -72,6 +72,14 @@ pub(crate) fn has(
     match engine.get(alloc, key)? {
         Some(value) => Ok(value.as_slice() == wanted),
         None => Ok(false),
+    }
+}
+
+/// Whether an answer is this value.
+pub(crate) fn is_value(answer: &Answer, wanted: &[u8]) -> bool {
+    match answer {
+        Answer::Value(Some(value)) => value.as_slice() == wanted,
+        _ => false,
     }
 }
 

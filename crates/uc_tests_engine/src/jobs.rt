@@ -131,17 +131,27 @@ fn wide() -> LiveOptions {
     }
 }
 
+/// Whether no write is taken, no flush and no snapshot.
+fn is_full(alloc: Global, busy: &mut Busy) -> bool {
+    let claimed = Err(WriteError::NoRoom(RoomError::RunsClaimed));
+    busy.write(alloc, OpRef::put(b"k", b"z")) == claimed
+        && busy.flush(alloc) == Err(RoomError::RunsClaimed)
+        && busy.snapshot(alloc) == Err(RoomError::RunsClaimed)
+        && busy.engine().last() == 257
+        && busy.engine().report().runs == 256
+}
+
+/// Runs the job and ends it, and writes again.
+fn makes_room(alloc: Global, busy: &mut Busy) -> Result<bool, Fail> {
+    let is_in = run(alloc, busy)? && busy.end() == Some(JobEnd::Installed(257));
+    let goes_on = busy.write(alloc, OpRef::put(b"k", b"z")) == Ok(());
+    Ok(is_in && goes_on && stands(alloc, busy, b"z", 3)?)
+}
+
 /// A job has 255 runs, and one more fills the last slot. No write is taken then before the job is ended.
 fn fills_up(alloc: Global, busy: &mut Busy) -> Result<bool, Fail> {
     let is_started = merges(alloc, busy, 256) && start(alloc, busy)? && merges(alloc, busy, 1);
-    let claimed = Err(WriteError::NoRoom(RoomError::RunsClaimed));
-    let is_full = busy.write(alloc, OpRef::put(b"k", b"z")) == claimed
-        && busy.flush(alloc) == Err(RoomError::RunsClaimed)
-        && busy.snapshot(alloc) == Err(RoomError::RunsClaimed);
-    let stays = busy.engine().last() == 257 && busy.engine().report().runs == 256;
-    let is_in = run(alloc, busy)? && busy.end() == Some(JobEnd::Installed(257));
-    let goes_on = busy.write(alloc, OpRef::put(b"k", b"z")) == Ok(());
-    Ok(is_started && is_full && stays && is_in && goes_on && stands(alloc, busy, b"z", 3)?)
+    Ok(is_started && is_full(alloc, busy) && makes_room(alloc, busy)?)
 }
 
 /// Options under which 256 ids are left.
@@ -167,15 +177,19 @@ fn spends(alloc: Global, busy: &mut Busy) -> bool {
     false
 }
 
-/// A job that is ended when no id is left is refused, and its runs stay.
+/// Whether the job is refused, and its runs stay.
+fn is_refused(busy: &mut Busy) -> bool {
+    let runs = busy.engine().report().runs;
+    let is_refused = busy.end() == Some(JobEnd::Refused(InstallError::IdsSpent));
+    is_refused && !busy.has_out() && busy.engine().report().runs == runs
+}
+
+/// A job that is ended when no id is left is refused, and reads stay as they were.
 fn comes_late(alloc: Global, busy: &mut Busy) -> Result<bool, Fail> {
     let is_run = start(alloc, busy)? && run(alloc, busy)?;
-    let is_spent = spends(alloc, busy);
-    let runs = busy.engine().report().runs;
+    let is_late = is_run && spends(alloc, busy);
     let value = busy.engine().get(alloc, b"k")?;
-    let is_refused = busy.end() == Some(JobEnd::Refused(InstallError::IdsSpent));
-    let is_back = !busy.has_out() && busy.engine().report().runs == runs;
-    Ok(is_run && is_spent && is_refused && is_back && busy.engine().get(alloc, b"k")? == value)
+    Ok(is_late && is_refused(busy) && busy.engine().get(alloc, b"k")? == value)
 }
 
 /// What is tried of jobs of four runs.

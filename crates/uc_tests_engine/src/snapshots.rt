@@ -1,15 +1,14 @@
 //! Snapshots that come and go.
-use crate::given::put;
+use crate::given::{is_value, put};
 use std::alloc::{AllocError, Global};
-use uc_engine::{Answer, Bytes, Engine, ReleaseError};
+use uc_engine::{Answer, Engine, ReleaseError};
 
 /// Takes a snapshot at 1 between two puts, twice, and reads there.
 fn takes(alloc: Global, engine: &mut Engine) -> Result<bool, AllocError> {
     let old = put(alloc, engine, b"k", b"old") && engine.snapshot(alloc) == Ok(1);
     let again = engine.snapshot(alloc) == Ok(1) && engine.keeps() == [1].as_slice();
     let new = put(alloc, engine, b"k", b"new");
-    let read = Answer::Value(Some(Bytes::from_slice(alloc, b"old")?));
-    Ok(old && again && new && engine.get_at(alloc, b"k", 1)? == read)
+    Ok(old && again && new && is_value(&engine.get_at(alloc, b"k", 1)?, b"old"))
 }
 
 /// Releases it as often.

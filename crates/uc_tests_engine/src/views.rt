@@ -1,10 +1,10 @@
 //! Views, by hand.
-use crate::given::{batch, empty, expect, has, put, small};
+use crate::given::{batch, empty, expect, has, is_value, put, small};
 use std::alloc::{AllocError, Global};
 use std::process::Abort;
 use std::test::Fail;
 use std::thread::{Threads, join};
-use uc_engine::{Answer, Bytes, Engine, EngineView, LiveOptions, OperatorKind};
+use uc_engine::{Answer, Engine, EngineView, LiveOptions, OperatorKind};
 
 /// What an engine holds now. If it is refused once, it is asked for again.
 pub(crate) fn view_of(alloc: Global, engine: &mut Engine) -> Result<EngineView, AllocError> {
@@ -122,8 +122,7 @@ fn is_alike(view: &EngineView, engine: &Engine) -> bool {
 
 /// Whether the snapshot is still there.
 fn keeps(alloc: Global, view: &EngineView) -> Result<bool, AllocError> {
-    let read = Answer::Value(Some(Bytes::from_slice(alloc, b"old")?));
-    Ok(view.keeps() == [1].as_slice() && view.get_at(alloc, b"k", 1)? == read)
+    Ok(view.keeps() == [1].as_slice() && is_value(&view.get_at(alloc, b"k", 1)?, b"old"))
 }
 
 /// Whether a snapshot stays in a view, and is released by its engine.
