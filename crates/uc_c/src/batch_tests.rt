@@ -252,7 +252,7 @@ fn two_steps(rt: HostRuntime) {
 }
 
 /// What a look-up of many keys tells.
-#[derive(PartialEq, Eq, Debug, Drop)]
+#[derive(PartialEq, Eq, Drop)]
 struct Told {
     status: i32,
     lengths: [u64; 4],

@@ -14,7 +14,7 @@ static WRITES: [u8; 53] = [
 ];
 
 /// What a step of a walk over the log tells.
-#[derive(PartialEq, Eq, Debug, Drop)]
+#[derive(PartialEq, Eq, Drop)]
 struct Told {
     status: i32,
     size: usize,

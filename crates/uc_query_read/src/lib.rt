@@ -11,7 +11,7 @@
 //!
 //! An `Err(AllocError)` comes only if an allocation fails.
 //!
-//! Tests: its own, `uc_tests_base`, `uc_tests_answers`.
+//! Tests: `uc_tests_base`, `uc_tests_store`, `uc_tests_answers`.
 #![tactic(auto)]
 
 mod answer;
@@ -38,10 +38,3 @@ pub use laws::{histories_keep_answers, later_events_leave_answers_alone};
 pub use plain::answer_writes;
 pub use query::Query;
 pub use uc_rows::{RowBuffer, RowIter, Rows};
-
-#[cfg(test)]
-mod drawn_tests;
-#[cfg(test)]
-mod hidden_tests;
-#[cfg(test)]
-mod tests;

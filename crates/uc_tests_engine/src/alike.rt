@@ -1,12 +1,23 @@
 //! Reads of an engine or of a view, beside the plain program.
 use crate::plain::Plain;
 use crate::readable::Readable;
-use std::alloc::Global;
-use std::test::Fail;
+use std::alloc::{AllocError, Global};
 use testkit_draws::dice::{Dice, KEYS};
 use uc_bytes::Bytes;
 use uc_engine::Answer;
 use uc_query_read::Query;
+
+/// The plain program's answer to a lookup under these keeps.
+fn plain_value(
+    alloc: Global,
+    plain: &Plain,
+    keeps: &[u64],
+    key: &[u8],
+    at: u64,
+) -> Result<Answer, AllocError> {
+    let key = Bytes::from_slice(alloc, key)?;
+    plain.answer(alloc, keeps, &Query::Get { key, at })
+}
 
 /// Whether a key has the plain program's answer at a sequence.
 fn looks_up_alike<R: Readable>(
@@ -15,12 +26,8 @@ fn looks_up_alike<R: Readable>(
     plain: &Plain,
     key: &[u8],
     at: u64,
-) -> Result<bool, Fail> {
-    let query = Query::Get {
-        key: Bytes::from_slice(alloc, key)?,
-        at,
-    };
-    let wanted = plain.answer(alloc, &plain.keeps, &query)?;
+) -> Result<bool, AllocError> {
+    let wanted = plain_value(alloc, plain, &plain.keeps, key, at)?;
     Ok(store.get_at(alloc, key, at)? == wanted)
 }
 
@@ -30,18 +37,14 @@ fn looks_up_last<R: Readable>(
     store: &R,
     plain: &Plain,
     key: &[u8],
-) -> Result<bool, Fail> {
+) -> Result<bool, AllocError> {
     let at = plain.last();
-    let query = Query::Get {
-        key: Bytes::from_slice(alloc, key)?,
-        at,
-    };
-    let wanted = plain.answer(alloc, &[at], &query)?;
+    let wanted = plain_value(alloc, plain, &[at], key, at)?;
     Ok(Answer::Value(store.get(alloc, key)?) == wanted)
 }
 
 /// A drawn scan at a sequence.
-fn drawn_scan(alloc: Global, dice: &mut Dice, at: u64) -> Result<Query, Fail> {
+fn drawn_scan(alloc: Global, dice: &mut Dice, at: u64) -> Result<Query, AllocError> {
     let high = KEYS[dice.roll(4) as usize];
     Ok(Query::Scan {
         low: Bytes::from_slice(alloc, b"a")?,
@@ -51,6 +54,17 @@ fn drawn_scan(alloc: Global, dice: &mut Dice, at: u64) -> Result<Query, Fail> {
     })
 }
 
+/// Whether a query has the plain program's answer.
+fn is_answered<R: Readable>(
+    alloc: Global,
+    store: &R,
+    plain: &Plain,
+    query: &Query,
+) -> Result<bool, AllocError> {
+    let wanted = plain.answer(alloc, &plain.keeps, query)?;
+    Ok(store.answer(alloc, query)? == wanted)
+}
+
 /// Whether a drawn scan has the plain program's answer at a sequence.
 fn scans_alike<R: Readable>(
     alloc: Global,
@@ -58,14 +72,13 @@ fn scans_alike<R: Readable>(
     store: &R,
     plain: &Plain,
     at: u64,
-) -> Result<bool, Fail> {
+) -> Result<bool, AllocError> {
     let query = drawn_scan(alloc, dice, at)?;
-    let wanted = plain.answer(alloc, &plain.keeps, &query)?;
-    Ok(store.answer(alloc, &query)? == wanted)
+    is_answered(alloc, store, plain, &query)
 }
 
 /// The rows of a scan at the last sequence.
-fn last_rows<R: Readable>(alloc: Global, store: &R, query: &Query) -> Result<Answer, Fail> {
+fn last_rows<R: Readable>(alloc: Global, store: &R, query: &Query) -> Result<Answer, AllocError> {
     match query {
         Query::Scan {
             low,
@@ -77,17 +90,26 @@ fn last_rows<R: Readable>(alloc: Global, store: &R, query: &Query) -> Result<Ans
     }
 }
 
-/// Whether a drawn scan has the plain program's rows at the last sequence.
+/// Whether a scan has the plain program's rows at the last sequence, which is its own.
+fn shows_last<R: Readable>(
+    alloc: Global,
+    store: &R,
+    plain: &Plain,
+    query: &Query,
+) -> Result<bool, AllocError> {
+    let wanted = plain.answer(alloc, &[query.at()], query)?;
+    Ok(last_rows(alloc, store, query)? == wanted)
+}
+
+/// Whether a drawn scan has.
 fn scans_last<R: Readable>(
     alloc: Global,
     dice: &mut Dice,
     store: &R,
     plain: &Plain,
-) -> Result<bool, Fail> {
-    let at = plain.last();
-    let query = drawn_scan(alloc, dice, at)?;
-    let wanted = plain.answer(alloc, &[at], &query)?;
-    Ok(last_rows(alloc, store, &query)? == wanted)
+) -> Result<bool, AllocError> {
+    let query = drawn_scan(alloc, dice, plain.last())?;
+    shows_last(alloc, store, plain, &query)
 }
 
 /// Whether a store reads as the plain program does, at a drawn sequence and at the last one.
@@ -96,7 +118,7 @@ pub(crate) fn reads_alike<R: Readable>(
     dice: &mut Dice,
     store: &R,
     plain: &Plain,
-) -> Result<bool, Fail> {
+) -> Result<bool, AllocError> {
     let at = dice.roll(plain.last().saturating_add(2));
     let key = KEYS[dice.roll(4) as usize];
     Ok(

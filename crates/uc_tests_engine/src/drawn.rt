@@ -1,6 +1,6 @@
 //! Drawn calls of an engine, and the answers of the plain program all along.
 use crate::alike::reads_alike;
-use crate::given::{empty, small};
+use crate::given::{empty, expect, small};
 use crate::plain::Plain;
 use std::alloc::{AllocError, Global};
 use std::test::Fail;
@@ -28,10 +28,9 @@ fn write_drawn(
     plain: &mut Plain,
 ) -> Result<(), Fail> {
     let op = dice.op(alloc)?;
-    if engine.write(alloc, OpRef::of(&op)) != Ok(()) {
-        return Err("the write is refused")?;
-    }
-    plain.write(alloc, plain.next(), op)
+    let is_written = engine.write(alloc, OpRef::of(&op)) == Ok(());
+    plain.write(alloc, plain.next(), op)?;
+    expect(is_written, "the write is refused")
 }
 
 /// The bytes of a batch of these operations.
@@ -67,28 +66,27 @@ fn write_bytes(alloc: Global, dice: &mut Dice, engine: &mut Engine, bytes: &[u8]
     is_prepared
 }
 
-/// Writes a batch of up to three drawn operations, which leaves up to three sequences out, or has none of its own.
-fn write_drawn_batch(
-    alloc: Global,
-    dice: &mut Dice,
-    engine: &mut Engine,
-    plain: &mut Plain,
-) -> Result<(), Fail> {
+/// Up to three drawn operations.
+fn drawn_ops(alloc: Global, dice: &mut Dice) -> Result<Vec<Op>, AllocError> {
     let mut ops = Vec::new(alloc);
     for _ in 0..dice.roll(4) {
         ops.push(dice.op(alloc)?)?;
     }
-    let gap = dice.roll(4);
-    let mut seq = plain.next().saturating_add(gap);
-    let bytes = bytes_of(alloc, seq, &ops)?;
-    let bytes = if gap == 0 {
-        unnumbered(alloc, &bytes)?
+    Ok(ops)
+}
+
+/// The bytes of a batch, which has no sequence of its own if it leaves none out.
+fn batch_behind(alloc: Global, gap: u64, seq: u64, ops: &[Op]) -> Result<Vec<u8>, Fail> {
+    let bytes = bytes_of(alloc, seq, ops)?;
+    if gap == 0 {
+        Ok(unnumbered(alloc, &bytes)?)
     } else {
-        bytes
-    };
-    if !write_bytes(alloc, dice, engine, &bytes) {
-        return Err("the batch is refused")?;
+        Ok(bytes)
     }
+}
+
+/// Writes operations to the plain program, from a sequence on.
+fn write_plain(alloc: Global, plain: &mut Plain, mut seq: u64, ops: Vec<Op>) -> Result<(), Fail> {
     for op in ops {
         plain.write(alloc, seq, op)?;
         seq = seq.saturating_add(1);
@@ -96,23 +94,42 @@ fn write_drawn_batch(
     Ok(())
 }
 
+/// Writes a batch of up to three drawn operations, which leaves up to three sequences out, or has none of its own.
+fn write_drawn_batch(
+    alloc: Global,
+    dice: &mut Dice,
+    engine: &mut Engine,
+    plain: &mut Plain,
+) -> Result<(), Fail> {
+    let ops = drawn_ops(alloc, dice)?;
+    let gap = dice.roll(4);
+    let seq = plain.next().saturating_add(gap);
+    let bytes = batch_behind(alloc, gap, seq, &ops)?;
+    write_plain(alloc, plain, seq, ops)?;
+    expect(
+        write_bytes(alloc, dice, engine, &bytes),
+        "the batch is refused",
+    )
+}
+
 /// Takes a snapshot.
 fn take(alloc: Global, engine: &mut Engine, plain: &mut Plain) -> Result<(), Fail> {
-    if engine.snapshot(alloc) != Ok(plain.last()) {
-        return Err("another sequence is kept")?;
-    }
     plain.keep(plain.last())?;
-    Ok(())
+    expect(
+        engine.snapshot(alloc) == Ok(plain.last()),
+        "another sequence is kept",
+    )
 }
 
 /// Releases a drawn snapshot, if the drawn sequence is one.
 fn release_drawn(dice: &mut Dice, engine: &mut Engine, plain: &mut Plain) -> Result<(), Fail> {
     let seq = dice.roll(plain.last().saturating_add(2));
-    if engine.release(seq).is_ok() != plain.is_kept(seq) {
-        return Err("only a snapshot is released")?;
-    }
+    let is_kept = plain.is_kept(seq);
     plain.release(seq);
-    Ok(())
+    expect(
+        engine.release(seq).is_ok() == is_kept,
+        "only a snapshot is released",
+    )
 }
 
 /// Flushes or compacts.
@@ -122,11 +139,7 @@ fn tidy(alloc: Global, dice: &mut Dice, engine: &mut Engine) -> Result<(), Fail>
     } else {
         engine.compact_once(alloc).is_ok()
     };
-    if is_done {
-        Ok(())
-    } else {
-        Err("nothing is flushed or compacted")?
-    }
+    expect(is_done, "nothing is flushed or compacted")
 }
 
 /// Makes a drawn call.

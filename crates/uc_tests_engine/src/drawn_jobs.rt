@@ -2,7 +2,7 @@
 use crate::alike::reads_alike;
 use crate::busy::Busy;
 use crate::drawn::{CALLS, KINDS, gathering};
-use crate::given::{empty, small};
+use crate::given::{empty, expect, small};
 use crate::jobs::{run, start};
 use crate::plain::Plain;
 use std::alloc::Global;
@@ -18,32 +18,29 @@ fn write_drawn(
     plain: &mut Plain,
 ) -> Result<(), Fail> {
     let op = dice.op(alloc)?;
-    if busy.write(alloc, OpRef::of(&op)) != Ok(()) {
-        return Err("the write is refused")?;
-    }
-    plain.write(alloc, plain.next(), op)
+    let is_written = busy.write(alloc, OpRef::of(&op)) == Ok(());
+    plain.write(alloc, plain.next(), op)?;
+    expect(is_written, "the write is refused")
 }
 
-/// Takes a snapshot, or releases the first one.
-fn keep_drawn(
-    alloc: Global,
-    dice: &mut Dice,
-    busy: &mut Busy,
-    plain: &mut Plain,
-) -> Result<(), Fail> {
-    if dice.roll(2) == 0 {
-        if busy.snapshot(alloc) != Ok(plain.last()) {
-            return Err("another sequence is kept")?;
-        }
-        plain.keep(plain.last())?;
-        return Ok(());
-    }
+/// Takes a snapshot.
+fn take(alloc: Global, busy: &mut Busy, plain: &mut Plain) -> Result<(), Fail> {
+    plain.keep(plain.last())?;
+    expect(
+        busy.snapshot(alloc) == Ok(plain.last()),
+        "another sequence is kept",
+    )
+}
+
+/// Releases a drawn snapshot, if the drawn sequence is one.
+fn release_drawn(dice: &mut Dice, busy: &mut Busy, plain: &mut Plain) -> Result<(), Fail> {
     let seq = dice.roll(plain.last().saturating_add(2));
-    if busy.release(seq).is_ok() != plain.is_kept(seq) {
-        return Err("only a snapshot is released")?;
-    }
+    let is_kept = plain.is_kept(seq);
     plain.release(seq);
-    Ok(())
+    expect(
+        busy.release(seq).is_ok() == is_kept,
+        "only a snapshot is released",
+    )
 }
 
 /// Starts, runs or ends the first job, or exchanges the two.
@@ -68,11 +65,7 @@ fn tidy(alloc: Global, dice: &mut Dice, busy: &mut Busy) -> Result<(), Fail> {
     } else {
         busy.compact_once(alloc).is_ok()
     };
-    if is_done {
-        Ok(())
-    } else {
-        Err("nothing is flushed or compacted")?
-    }
+    expect(is_done, "nothing is flushed or compacted")
 }
 
 /// Makes a drawn call.
@@ -82,10 +75,12 @@ fn call(alloc: Global, dice: &mut Dice, busy: &mut Busy, plain: &mut Plain) -> R
         write_drawn(alloc, dice, busy, plain)
     } else if kind < 8 {
         work_drawn(alloc, dice, busy)
-    } else if kind == 8 {
-        keep_drawn(alloc, dice, busy, plain)
-    } else {
+    } else if kind == 9 {
         tidy(alloc, dice, busy)
+    } else if dice.roll(2) == 0 {
+        take(alloc, busy, plain)
+    } else {
+        release_drawn(dice, busy, plain)
     }
 }
 

@@ -4,7 +4,7 @@ use crate::drawn::{CALLS, KINDS, call, gathering};
 use crate::given::{empty, small};
 use crate::plain::Plain;
 use crate::views::view_of;
-use std::alloc::Global;
+use std::alloc::{AllocError, Global};
 use std::test::Fail;
 use testkit_draws::dice::Dice;
 use uc_engine::{Engine, EngineView, LiveOptions, OperatorKind};
@@ -26,7 +26,7 @@ fn moment_of(alloc: Global, engine: &mut Engine, plain: &Plain) -> Result<Moment
 }
 
 /// Whether a drawn moment reads as it did.
-fn looks_back(alloc: Global, dice: &mut Dice, moments: &[Moment]) -> Result<bool, Fail> {
+fn looks_back(alloc: Global, dice: &mut Dice, moments: &[Moment]) -> Result<bool, AllocError> {
     match moments.get(dice.roll(moments.len() as u64) as usize) {
         Some(moment) => reads_alike(alloc, dice, &moment.view, &moment.plain),
         None => Ok(true),
@@ -61,7 +61,7 @@ fn view_all_along(
             return Ok(false);
         }
     }
-    reads_alike(alloc, dice, engine, plain)
+    Ok(reads_alike(alloc, dice, engine, plain)?)
 }
 
 /// Whether views stay as they were while drawn calls are made, and when the engine is gone.

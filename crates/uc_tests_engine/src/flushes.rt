@@ -1,12 +1,11 @@
 //! Flushes that are done by jobs, by hand. `bindings/c/test.c` tries what comes between their start and their end.
-use crate::given::{empty, has, put, small};
+use crate::given::{has, put, small};
 use std::alloc::{AllocError, Global};
-use std::test::Fail;
-use uc_engine::{Engine, FlushEnd, JobStage, LiveOptions, OperatorKind, Options, flushes_go_in};
+use uc_engine::{Engine, FlushEnd, FlushJob, JobStage, LiveOptions, Options, flushes_go_in};
 use uc_oper::Counter;
 
 /// Options that leave memtables of 30 bytes to jobs, up to three of them.
-fn leaving() -> LiveOptions {
+pub(crate) fn leaving() -> LiveOptions {
     let small = small();
     LiveOptions {
         store: Options {
@@ -18,87 +17,71 @@ fn leaving() -> LiveOptions {
     }
 }
 
-/// Flushes what is gathered by a job that is taken, run and ended at once.
-fn flush_by_job(alloc: Global, engine: &mut Engine) -> Result<Option<FlushEnd>, AllocError> {
+/// Takes a flush job, runs it or not, and ends it. Tells how it ended; nothing if there was none.
+fn flush_by_job(
+    alloc: Global,
+    engine: &mut Engine,
+    is_run: bool,
+) -> Result<Option<FlushEnd>, AllocError> {
     flushes_go_in::<Counter>();
     let Some(mut job) = engine.start_flush(alloc)? else {
         return Ok(None);
     };
-    job.run(alloc)?;
-    Ok(Some(engine.end_flush(alloc, &mut job)))
-}
-
-/// Takes a job, and ends it without a run.
-fn give_back(alloc: Global, engine: &mut Engine) -> Result<Option<FlushEnd>, AllocError> {
-    flushes_go_in::<Counter>();
-    let Some(mut job) = engine.start_flush(alloc)? else {
-        return Ok(None);
-    };
+    if is_run {
+        job.run(alloc)?;
+    }
     Ok(Some(engine.end_flush(alloc, &mut job)))
 }
 
 /// Puts the keys from `first` on, each of which has 10 bytes. Returns whether it may.
 fn puts(alloc: Global, engine: &mut Engine, first: u8, count: u8) -> bool {
     for number in 0..count {
-        if put(alloc, engine, &[first.wrapping_add(number)], b"v") != Ok(()) {
+        if !put(alloc, engine, &[first.wrapping_add(number)], b"v") {
             return false;
         }
     }
     true
 }
 
-/// Nothing is flushed until a memtable is full, a job that isn't run leaves it, and one that is run installs it.
-fn goes_in(alloc: Global, engine: &mut Engine) -> Result<bool, Fail> {
-    let is_early = puts(alloc, engine, 1, 2) && flush_by_job(alloc, engine)?.is_none();
-    let is_left = puts(alloc, engine, 3, 1) && give_back(alloc, engine)? == Some(FlushEnd::NotRun);
-    let is_gathered = engine.gathered() == 3 && engine.report().runs == 0;
-    let is_in = flush_by_job(alloc, engine)? == Some(FlushEnd::Installed(1));
-    let is_there = engine.gathered() == 0 && engine.report().runs == 1;
-    let is_read = has(alloc, engine, &[1], b"v")? && engine.last() == 3;
-    Ok(is_early && is_left && is_gathered && is_in && is_there && is_read)
+/// Whether an engine has so many gathered writes and runs.
+fn stands(engine: &Engine, gathered: usize, runs: u64) -> bool {
+    engine.gathered() == gathered && engine.report().runs == runs
 }
 
-#[test]
-fn a_full_memtable_is_flushed_by_a_job(rt: HostRuntime) -> Result<(), Fail> {
-    let alloc = rt.alloc();
-    let mut engine = empty(alloc, OperatorKind::Append, leaving())?;
-    let goes_in = goes_in(alloc, &mut engine)?;
-    assert!(rt; goes_in);
-    Ok(())
+/// Nothing is flushed until a memtable is full, and a job that isn't run leaves it.
+fn stays(alloc: Global, engine: &mut Engine) -> Result<bool, AllocError> {
+    let is_early = puts(alloc, engine, 1, 2) && flush_by_job(alloc, engine, true)? == None;
+    let is_full = puts(alloc, engine, 3, 1);
+    let is_left = flush_by_job(alloc, engine, false)? == Some(FlushEnd::NotRun);
+    Ok(is_early && is_full && is_left && stands(engine, 3, 0))
+}
+
+/// One that is run installs it.
+pub(crate) fn goes_in(alloc: Global, engine: &mut Engine) -> Result<bool, AllocError> {
+    let stays = stays(alloc, engine)?;
+    let is_in = flush_by_job(alloc, engine, true)? == Some(FlushEnd::Installed(1));
+    let is_there = stands(engine, 0, 1) && engine.last() == 3;
+    Ok(stays && is_in && is_there && has(alloc, engine, &[1], b"v")?)
 }
 
 /// While no job comes, writes gather three memtables, and the next one flushes all.
-fn flushes_itself(alloc: Global, engine: &mut Engine) -> bool {
+pub(crate) fn flushes_itself(alloc: Global, engine: &mut Engine) -> bool {
     let is_gathered = puts(alloc, engine, 1, 9) && engine.gathered() == 9;
-    let is_flushed = puts(alloc, engine, 10, 1) && engine.gathered() == 1;
-    is_gathered && is_flushed && engine.report().runs == 1
+    is_gathered && puts(alloc, engine, 10, 1) && stands(engine, 1, 1)
 }
 
-#[test]
-fn writes_flush_what_no_job_does(rt: HostRuntime) -> Result<(), Fail> {
-    let alloc = rt.alloc();
-    let mut engine = empty(alloc, OperatorKind::Tail, leaving())?;
-    let flushes = flushes_itself(alloc, &mut engine);
-    assert!(rt; flushes);
-    Ok(())
-}
-
-/// Whether a job that is out keeps its number and its stage until its engine is asked for another one.
-fn is_out_alone(alloc: Global, engine: &mut Engine) -> Result<bool, Fail> {
-    let is_written = puts(alloc, engine, 1, 4);
-    let Some(job) = engine.start_flush(alloc)? else {
-        return Err("no flush is wanted")?;
-    };
-    let is_told = job.number() == 1 && job.stage() == JobStage::Taken && engine.has_flush_out(&job);
+/// Whether a job that is out keeps its number and its stage, and stays alone, while writes fill a second memtable.
+fn stays_alone(alloc: Global, engine: &mut Engine, job: &FlushJob) -> Result<bool, AllocError> {
+    let is_told = job.number() == 1 && job.stage() == JobStage::Taken && engine.has_flush_out(job);
     let is_alone = puts(alloc, engine, 5, 4) && engine.start_flush(alloc)?.is_none();
-    Ok(is_written && is_told && is_alone && engine.gathered() == 8 && engine.has_flush_out(&job))
+    Ok(is_told && is_alone && engine.gathered() == 8 && engine.has_flush_out(job))
 }
 
-#[test]
-fn one_flush_is_out_at_a_time(rt: HostRuntime) -> Result<(), Fail> {
-    let alloc = rt.alloc();
-    let mut engine = empty(alloc, OperatorKind::Counter, leaving())?;
-    let is_alone = is_out_alone(alloc, &mut engine)?;
-    assert!(rt; is_alone);
-    Ok(())
+/// Whether one job is out at a time.
+pub(crate) fn is_out_alone(alloc: Global, engine: &mut Engine) -> Result<bool, AllocError> {
+    let is_written = puts(alloc, engine, 1, 4);
+    match engine.start_flush(alloc)? {
+        Some(job) => Ok(is_written && stays_alone(alloc, engine, &job)?),
+        None => Ok(false),
+    }
 }

@@ -1,7 +1,7 @@
 //! The engines and the bytes that tests begin with.
 use std::alloc::{AllocError, Global};
 use std::test::Fail;
-use uc_engine::{Engine, LiveOptions, OpRef, OperatorKind, Options, WriteError};
+use uc_engine::{Answer, Engine, LiveOptions, OpRef, OperatorKind, Options};
 
 /// Options that flush behind each write, and compact only if asked.
 pub(crate) fn small() -> LiveOptions {
@@ -40,14 +40,26 @@ pub(crate) fn batch(
     Ok(bytes)
 }
 
-/// Sets a key.
-pub(crate) fn put(
+/// Sets a key. Returns whether it may.
+pub(crate) fn put(alloc: Global, engine: &mut Engine, key: &[u8], value: &[u8]) -> bool {
+    engine.write(alloc, OpRef::put(key, value)) == Ok(())
+}
+
+/// Writes a batch. Returns whether it may.
+pub(crate) fn write_batch(
     alloc: Global,
     engine: &mut Engine,
-    key: &[u8],
-    value: &[u8],
-) -> Result<(), WriteError> {
-    engine.write(alloc, OpRef::put(key, value))
+    sequence: u64,
+    count: u32,
+    records: &[u8],
+) -> Result<bool, AllocError> {
+    let bytes = batch(alloc, sequence, count, records)?;
+    Ok(engine.write_batch(alloc, &bytes) == Ok(()))
+}
+
+/// An error with these words, unless it is right.
+pub(crate) fn expect(is_right: bool, wrong: &'static str) -> Result<(), Fail> {
+    if is_right { Ok(()) } else { Err(wrong)? }
 }
 
 /// Whether the key has this value at the last sequence.
@@ -60,6 +72,14 @@ pub(crate) fn has(
     match engine.get(alloc, key)? {
         Some(value) => Ok(value.as_slice() == wanted),
         None => Ok(false),
+    }
+}
+
+/// Whether an answer is this value.
+pub(crate) fn is_value(answer: &Answer, wanted: &[u8]) -> bool {
+    match answer {
+        Answer::Value(Some(value)) => value.as_slice() == wanted,
+        _ => false,
     }
 }
 

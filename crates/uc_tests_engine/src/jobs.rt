@@ -1,6 +1,6 @@
 //! Jobs, by hand.
 use crate::busy::Busy;
-use crate::given::{empty, has, put, small};
+use crate::given::{empty, expect, has, put, small};
 use std::alloc::{AllocError, Global};
 use std::process::Abort;
 use std::test::Fail;
@@ -23,11 +23,9 @@ fn merges(alloc: Global, busy: &mut Busy, times: usize) -> bool {
 /// An engine with four runs and one write behind them, each a merge of `a` into `k`.
 fn with_runs(alloc: Global, options: LiveOptions) -> Result<Busy, Fail> {
     let mut busy = Busy::new(empty(alloc, OperatorKind::Append, options)?);
-    if merges(alloc, &mut busy, 5) && busy.engine().report().runs == 4 {
-        Ok(busy)
-    } else {
-        Err("there aren't four runs")?
-    }
+    let are_four = merges(alloc, &mut busy, 5) && busy.engine().report().runs == 4;
+    expect(are_four, "there aren't four runs")?;
+    Ok(busy)
 }
 
 /// Starts the first job. If that is refused once, nothing is out, and it is asked for again.
@@ -64,30 +62,12 @@ fn goes_in(alloc: Global, busy: &mut Busy) -> Result<bool, Fail> {
     Ok(is_started && none_more && is_flushed && is_run && is_in && is_there)
 }
 
-#[test]
-fn a_job_goes_in_beside_writes(rt: HostRuntime) -> Result<(), Fail> {
-    let alloc = rt.alloc();
-    let mut busy = with_runs(alloc, small())?;
-    let goes_in = goes_in(alloc, &mut busy)?;
-    assert!(rt; goes_in);
-    Ok(())
-}
-
 /// A job that isn't run leaves its runs, which are picked again.
 fn comes_back(alloc: Global, busy: &mut Busy) -> Result<bool, Fail> {
     let is_started = start(alloc, busy)?;
     let is_back = busy.end() == Some(JobEnd::NotRun) && stands(alloc, busy, b"a,a,a,a,a", 4)?;
     let again = busy.compact_once(alloc) == Ok(true) && stands(alloc, busy, b"a,a,a,a,a", 1)?;
     Ok(is_started && is_back && again && !start(alloc, busy)?)
-}
-
-#[test]
-fn a_job_that_is_not_run_changes_nothing(rt: HostRuntime) -> Result<(), Fail> {
-    let alloc = rt.alloc();
-    let mut busy = with_runs(alloc, small())?;
-    let comes_back = comes_back(alloc, &mut busy)?;
-    assert!(rt; comes_back);
-    Ok(())
 }
 
 /// A job of four runs, and one of four that came behind it.
@@ -99,7 +79,7 @@ fn start_two(alloc: Global, busy: &mut Busy) -> Result<bool, Fail> {
     Ok(is_first && is_second && run(alloc, busy)? && stands(alloc, busy, b"a,a,a,a,a,a,a,a,a", 8)?)
 }
 
-/// Ends both, the first one first.
+/// Ends both, the first one of the two first.
 fn end_two(alloc: Global, busy: &mut Busy) -> Result<bool, Fail> {
     let is_one = busy.end() == Some(JobEnd::Installed(9))
         && stands(alloc, busy, b"a,a,a,a,a,a,a,a,a", 5)?;
@@ -108,19 +88,16 @@ fn end_two(alloc: Global, busy: &mut Busy) -> Result<bool, Fail> {
     Ok(is_one && is_other && stands(alloc, busy, b"a,a,a,a,a,a,a,a,a", 2)?)
 }
 
-#[test]
-fn two_jobs_go_in_in_both_orders(rt: HostRuntime) -> Result<(), Fail> {
-    let alloc = rt.alloc();
-    let mut busy = with_runs(alloc, small())?;
-    let are_started = start_two(alloc, &mut busy)?;
-    let are_in = end_two(alloc, &mut busy)?;
-    assert!(rt; are_started && are_in);
-    let mut other = with_runs(alloc, small())?;
-    let are_started = start_two(alloc, &mut other)?;
-    other.swap();
-    let are_in = end_two(alloc, &mut other)?;
-    assert!(rt; are_started && are_in);
-    Ok(())
+/// Two jobs that are ended in the order in which they came.
+fn go_in_in_order(alloc: Global, busy: &mut Busy) -> Result<bool, Fail> {
+    Ok(start_two(alloc, busy)? && end_two(alloc, busy)?)
+}
+
+/// Two jobs that are ended in the other order.
+fn go_in_swapped(alloc: Global, busy: &mut Busy) -> Result<bool, Fail> {
+    let are_started = start_two(alloc, busy)?;
+    busy.swap();
+    Ok(are_started && end_two(alloc, busy)?)
 }
 
 /// Options that stop writes at four runs, of which all are picked then.
@@ -139,15 +116,6 @@ fn writes_on(alloc: Global, busy: &mut Busy) -> Result<bool, Fail> {
     Ok(is_started && is_written && is_in && stands(alloc, busy, b"a,a,a,a,a,a,a", 3)?)
 }
 
-#[test]
-fn writes_go_on_beside_a_job(rt: HostRuntime) -> Result<(), Fail> {
-    let alloc = rt.alloc();
-    let mut busy = with_runs(alloc, narrow())?;
-    let writes_on = writes_on(alloc, &mut busy)?;
-    assert!(rt; writes_on);
-    Ok(())
-}
-
 /// Options with the greatest trigger, under which all runs are picked from 255 on.
 fn wide() -> LiveOptions {
     LiveOptions {
@@ -163,26 +131,27 @@ fn wide() -> LiveOptions {
     }
 }
 
+/// Whether no write is taken, no flush and no snapshot.
+fn is_full(alloc: Global, busy: &mut Busy) -> bool {
+    let claimed = Err(WriteError::NoRoom(RoomError::RunsClaimed));
+    busy.write(alloc, OpRef::put(b"k", b"z")) == claimed
+        && busy.flush(alloc) == Err(RoomError::RunsClaimed)
+        && busy.snapshot(alloc) == Err(RoomError::RunsClaimed)
+        && busy.engine().last() == 257
+        && busy.engine().report().runs == 256
+}
+
+/// Runs the job and ends it, and writes again.
+fn makes_room(alloc: Global, busy: &mut Busy) -> Result<bool, Fail> {
+    let is_in = run(alloc, busy)? && busy.end() == Some(JobEnd::Installed(257));
+    let goes_on = busy.write(alloc, OpRef::put(b"k", b"z")) == Ok(());
+    Ok(is_in && goes_on && stands(alloc, busy, b"z", 3)?)
+}
+
 /// A job has 255 runs, and one more fills the last slot. No write is taken then before the job is ended.
 fn fills_up(alloc: Global, busy: &mut Busy) -> Result<bool, Fail> {
     let is_started = merges(alloc, busy, 256) && start(alloc, busy)? && merges(alloc, busy, 1);
-    let claimed = Err(WriteError::NoRoom(RoomError::RunsClaimed));
-    let is_full = busy.write(alloc, OpRef::put(b"k", b"z")) == claimed
-        && busy.flush(alloc) == Err(RoomError::RunsClaimed)
-        && busy.snapshot(alloc) == Err(RoomError::RunsClaimed);
-    let stays = busy.engine().last() == 257 && busy.engine().report().runs == 256;
-    let is_in = run(alloc, busy)? && busy.end() == Some(JobEnd::Installed(257));
-    let goes_on = busy.write(alloc, OpRef::put(b"k", b"z")) == Ok(());
-    Ok(is_started && is_full && stays && is_in && goes_on && stands(alloc, busy, b"z", 3)?)
-}
-
-#[test]
-fn no_slot_is_free_beside_a_job_of_all_runs(rt: HostRuntime) -> Result<(), Fail> {
-    let alloc = rt.alloc();
-    let mut busy = Busy::new(empty(alloc, OperatorKind::Append, wide())?);
-    let fills_up = fills_up(alloc, &mut busy)?;
-    assert!(rt; fills_up);
-    Ok(())
+    Ok(is_started && is_full(alloc, busy) && makes_room(alloc, busy)?)
 }
 
 /// Options under which 256 ids are left.
@@ -208,38 +177,107 @@ fn spends(alloc: Global, busy: &mut Busy) -> bool {
     false
 }
 
-/// A job that is ended when no id is left is refused, and its runs stay.
+/// Whether the job is refused, and its runs stay.
+fn is_refused(busy: &mut Busy) -> bool {
+    let runs = busy.engine().report().runs;
+    let is_refused = busy.end() == Some(JobEnd::Refused(InstallError::IdsSpent));
+    is_refused && !busy.has_out() && busy.engine().report().runs == runs
+}
+
+/// A job that is ended when no id is left is refused, and reads stay as they were.
 fn comes_late(alloc: Global, busy: &mut Busy) -> Result<bool, Fail> {
     let is_run = start(alloc, busy)? && run(alloc, busy)?;
-    let is_spent = spends(alloc, busy);
-    let runs = busy.engine().report().runs;
+    let is_late = is_run && spends(alloc, busy);
     let value = busy.engine().get(alloc, b"k")?;
-    let is_refused = busy.end() == Some(JobEnd::Refused(InstallError::IdsSpent));
-    let is_back = !busy.has_out() && busy.engine().report().runs == runs;
-    Ok(is_run && is_spent && is_refused && is_back && busy.engine().get(alloc, b"k")? == value)
+    Ok(is_late && is_refused(busy) && busy.engine().get(alloc, b"k")? == value)
+}
+
+/// What is tried of jobs of four runs.
+#[derive(Clone, Copy, Debug)]
+enum Case {
+    GoesIn,
+    ComesBack,
+    InOrder,
+    Swapped,
+    WritesOn,
+    ComesLate,
+}
+
+/// Each of them.
+static CASES: [Case; 6] = [
+    Case::GoesIn,
+    Case::ComesBack,
+    Case::InOrder,
+    Case::Swapped,
+    Case::WritesOn,
+    Case::ComesLate,
+];
+
+/// The options of a case.
+fn options(case: Case) -> LiveOptions {
+    match case {
+        Case::WritesOn => narrow(),
+        Case::ComesLate => late(),
+        _ => small(),
+    }
+}
+
+/// Whether a case goes as it should.
+fn holds(alloc: Global, case: Case) -> Result<bool, Fail> {
+    let mut busy = with_runs(alloc, options(case))?;
+    match case {
+        Case::GoesIn => goes_in(alloc, &mut busy),
+        Case::ComesBack => comes_back(alloc, &mut busy),
+        Case::InOrder => go_in_in_order(alloc, &mut busy),
+        Case::Swapped => go_in_swapped(alloc, &mut busy),
+        Case::WritesOn => writes_on(alloc, &mut busy),
+        Case::ComesLate => comes_late(alloc, &mut busy),
+    }
 }
 
 #[test]
-fn a_job_is_refused_if_no_id_is_left(rt: HostRuntime) -> Result<(), Fail> {
-    let alloc = rt.alloc();
-    let mut busy = with_runs(alloc, late())?;
-    let comes_late = comes_late(alloc, &mut busy)?;
-    assert!(rt; comes_late);
+fn jobs_of_four_runs(rt: HostRuntime) -> Result<(), Fail> {
+    for case in &CASES {
+        assert!(rt; holds(rt.alloc(), *case)?, "{case:?}");
+    }
     Ok(())
+}
+
+/// A job of all runs that there may be.
+fn fills_up_wide(alloc: Global) -> Result<bool, Fail> {
+    let mut busy = Busy::new(empty(alloc, OperatorKind::Append, wide())?);
+    fills_up(alloc, &mut busy)
+}
+
+#[test]
+fn no_slot_is_free_beside_a_job_of_all_runs(rt: HostRuntime) -> Result<(), Fail> {
+    assert!(rt; fills_up_wide(rt.alloc())?);
+    Ok(())
+}
+
+/// Puts a key so often. Returns whether it may.
+fn puts(alloc: Global, engine: &mut Engine, times: u8) -> bool {
+    for number in 0..times {
+        if !put(alloc, engine, b"k", &[number]) {
+            return false;
+        }
+    }
+    true
 }
 
 /// An engine with four runs, and the job of them.
 fn with_job(alloc: Global, kind: OperatorKind) -> Result<(Engine, EngineJob), Fail> {
     let mut engine = empty(alloc, kind, small())?;
-    for _ in 0..5 {
-        if put(alloc, &mut engine, b"k", b"v") != Ok(()) {
-            return Err("the put is refused")?;
-        }
-    }
+    expect(puts(alloc, &mut engine, 5), "the put is refused")?;
     match engine.start_job(alloc)? {
         Some(job) => Ok((engine, job)),
         None => Err("no job is started")?,
     }
+}
+
+/// Whether a job is taken, and out of its engine alone, and not of another one.
+fn is_out(engine: &Engine, job: &EngineJob, other: &Engine) -> bool {
+    job.stage() == JobStage::Taken && engine.has_out(job) && !other.has_out(job)
 }
 
 /// Whether a job says what it is, and is out of its engine alone, and not of one of another operator that has a job of
@@ -247,26 +285,19 @@ fn with_job(alloc: Global, kind: OperatorKind) -> Result<(Engine, EngineJob), Fa
 fn is_foreign(alloc: Global) -> Result<bool, Fail> {
     let (engine, job) = with_job(alloc, OperatorKind::Counter)?;
     let (other, others) = with_job(alloc, OperatorKind::Maximum)?;
-    let are_own = engine.has_out(&job) && other.has_out(&others);
-    let is_told = job.kind() == OperatorKind::Counter && job.stage() == JobStage::Taken;
-    Ok(are_own && is_told && !engine.has_out(&others) && !other.has_out(&job))
+    let are_out = is_out(&engine, &job, &other) && is_out(&other, &others, &engine);
+    Ok(are_out && job.kind() == OperatorKind::Counter)
 }
 
 #[test]
 fn a_job_of_another_operator_is_not_out(rt: HostRuntime) -> Result<(), Fail> {
-    let is_foreign = is_foreign(rt.alloc())?;
-    assert!(rt; is_foreign);
+    assert!(rt; is_foreign(rt.alloc())?);
     Ok(())
 }
 
 /// Puts a key often. Returns whether it may.
 fn write_much(alloc: Global, mut engine: Engine) -> bool {
-    for number in 0..200u8 {
-        if put(alloc, &mut engine, b"k", &[number]) != Ok(()) {
-            return false;
-        }
-    }
-    true
+    puts(alloc, &mut engine, 200)
 }
 
 /// Runs a job. Returns whether it is done.

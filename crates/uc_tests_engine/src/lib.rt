@@ -1,12 +1,13 @@
 //! Engines, whose operator is a value, by hand and drawn.
 //!
 //! `worked.rt` has the values that are worked out by hand for each operator, and `given.rt` the engines and bytes that
-//! tests begin with. `writes.rt`, `batches.rt`, `steps.rt`, `reads.rt`, `snapshots.rt`, `compactions.rt` and
-//! `openings.rt` try each call on its happy path and each refusal, and `views.rt` views, also in several threads.
-//! `jobs.rt` tries jobs, by the type of `busy.rt`, which knows that its engine takes them back, and `flushes.rt` flushes by
-//! jobs. `drawn.rt` plays drawn
-//! calls beside the plain program of `plain.rt`, `drawn_views.rt` takes views meanwhile, and `drawn_jobs.rt` jobs;
-//! `alike.rt` compares.
+//! tests begin with. `cases.rt` is a table of what is tried of an engine without writes: each call on its happy path and
+//! each refusal. A case stands in the file of its topic, `writes.rt`, `batches.rt`, `steps.rt`, `reads.rt`,
+//! `snapshots.rt`, `compactions.rt`, `flushes.rt` (by jobs) or `views.rt`. `openings.rt` has engines that open, and
+//! `views.rt` also threads. `jobs.rt` tries jobs, by the type of `busy.rt`, which knows that its engine takes them back.
+//!
+//! `drawn.rt` plays drawn calls beside the plain program of `plain.rt`, `drawn_views.rt` takes views meanwhile, and
+//! `drawn_jobs.rt` jobs; `alike.rt` compares.
 #![tactic(auto)]
 
 #[cfg(test)]
@@ -14,6 +15,8 @@ mod alike;
 #[cfg(test)]
 mod batches;
 pub mod busy;
+#[cfg(test)]
+mod cases;
 #[cfg(test)]
 mod compactions;
 #[cfg(test)]

@@ -1,7 +1,7 @@
 //! Engines that open, and those that don't.
 use crate::given::{batch, has, small};
 use crate::worked::{MERGED, Merged};
-use std::alloc::Global;
+use std::alloc::{AllocError, Global};
 use std::test::Fail;
 use uc_bytes::MAX_SEQUENCE;
 use uc_engine::{Ended, Engine, LiveOpenError, LiveOptions, OpenedEngine, OperatorKind, Options};
@@ -15,7 +15,7 @@ fn log_of(alloc: Global, sequence: u64, count: u32, records: &[u8]) -> Result<Ve
 }
 
 /// What opens from a log.
-fn opened(alloc: Global, kind: OperatorKind, log: &[u8]) -> Result<OpenedEngine, Fail> {
+pub(crate) fn opened(alloc: Global, kind: OperatorKind, log: &[u8]) -> Result<OpenedEngine, Fail> {
     match Engine::open(alloc, kind, log, LiveOptions::usual()) {
         Ok(opened) => Ok(opened),
         Err(_) => Err("the engine doesn't open")?,
@@ -29,18 +29,23 @@ pub(crate) fn full(alloc: Global) -> Result<Engine, Fail> {
 }
 
 /// Whether what opened has both merges of a log, whose batch begins at the sequence 7.
-fn has_merged(alloc: Global, opened: &OpenedEngine, merged: &Merged) -> Result<bool, Fail> {
+fn has_merged(alloc: Global, opened: &OpenedEngine, merged: &Merged) -> Result<bool, AllocError> {
     let is_whole = opened.ended == Ended::Clean && opened.engine.kind() == merged.kind;
     let is_last = opened.engine.last() == 8 && opened.engine.keeps().is_empty();
     Ok(is_whole && is_last && has(alloc, &opened.engine, b"k", merged.value)?)
 }
 
-/// Whether a log opens under each operator.
+/// Whether the log of an operator opens with both.
+fn opens_merged(alloc: Global, merged: &Merged) -> Result<bool, Fail> {
+    let log = log_of(alloc, 7, 2, merged.records)?;
+    let opened = opened(alloc, merged.kind, &log)?;
+    Ok(has_merged(alloc, &opened, merged)?)
+}
+
+/// Whether the log of each operator does.
 fn each_opens(alloc: Global) -> Result<bool, Fail> {
     for merged in &MERGED {
-        let log = log_of(alloc, 7, 2, merged.records)?;
-        let opened = opened(alloc, merged.kind, &log)?;
-        if !has_merged(alloc, &opened, merged)? {
+        if !opens_merged(alloc, merged)? {
             return Ok(false);
         }
     }
@@ -49,17 +54,19 @@ fn each_opens(alloc: Global) -> Result<bool, Fail> {
 
 #[test]
 fn logs_open_under_each_operator(rt: HostRuntime) -> Result<(), Fail> {
-    let alloc = rt.alloc();
-    assert!(rt; each_opens(alloc)?);
+    assert!(rt; each_opens(rt.alloc())?);
     Ok(())
+}
+
+/// Whether a torn log opens up to its end.
+fn opens_torn(alloc: Global) -> Result<bool, Fail> {
+    let opened = opened(alloc, OperatorKind::Tail, b"\x01\x02\x03")?;
+    Ok(opened.ended == Ended::Torn(0) && opened.engine.last() == 0)
 }
 
 #[test]
 fn a_torn_log_opens_up_to_its_end(rt: HostRuntime) -> Result<(), Fail> {
-    let alloc = rt.alloc();
-    let opened = opened(alloc, OperatorKind::Tail, b"\x01\x02\x03")?;
-    assert!(rt; opened.ended == Ended::Torn(0));
-    assert!(rt; opened.engine.last() == 0);
+    assert!(rt; opens_torn(rt.alloc())?);
     Ok(())
 }
 
@@ -103,27 +110,26 @@ fn bad_options_are_refused(rt: HostRuntime) -> Result<(), Fail> {
     Ok(())
 }
 
-/// The records of so many deletes of the key without bytes.
-fn deletes(alloc: Global, count: usize) -> Result<Vec<u8>, Fail> {
-    let mut records = Vec::new(alloc);
-    for _ in 0..count {
-        records.extend_from_slice(b"\0\0")?;
+/// A log of so many batches, each a delete of the key without bytes.
+fn long_log(alloc: Global, count: u64) -> Result<Vec<u8>, Fail> {
+    let mut log = LogWriter::new(alloc);
+    for number in 0..count {
+        log.add(&batch(alloc, 1 + number, 1, b"\0\0")?)?;
     }
-    Ok(records)
+    Ok(log.finish())
 }
 
-/// A log whose memtables are more than there are slots opens.
+/// Whether a log opens whose memtables are more than there are slots.
+fn opens_long(alloc: Global) -> Result<bool, Fail> {
+    match Engine::open(alloc, OperatorKind::Append, &long_log(alloc, 600)?, small()) {
+        Ok(opened) => Ok(opened.engine.last() == 600 && opened.engine.report().runs <= 36),
+        Err(_) => Ok(false),
+    }
+}
+
 #[test]
 fn long_logs_open(rt: HostRuntime) -> Result<(), Fail> {
-    let alloc = rt.alloc();
-    let mut log = LogWriter::new(alloc);
-    for sequence in 0..600 {
-        log.add(&batch(alloc, 1 + sequence, 1, &deletes(alloc, 1)?)?)?;
-    }
-    let Ok(opened) = Engine::open(alloc, OperatorKind::Append, &log.finish(), small()) else {
-        return Err("the log doesn't open")?;
-    };
-    assert!(rt; opened.engine.last() == 600 && opened.engine.report().runs <= 36);
+    assert!(rt; opens_long(rt.alloc())?);
     Ok(())
 }
 

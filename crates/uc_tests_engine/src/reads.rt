@@ -1,8 +1,7 @@
 //! Scans at the last sequence.
-use crate::given::{empty, put};
-use std::alloc::Global;
-use std::test::Fail;
-use uc_engine::{Bytes, Engine, LiveOptions, OperatorKind, Rows};
+use crate::given::put;
+use std::alloc::{AllocError, Global};
+use uc_engine::{Bytes, Engine, Rows};
 
 /// Whether rows are these.
 fn are(rows: &Rows, wanted: &[(&[u8], &[u8])]) -> bool {
@@ -19,55 +18,55 @@ fn are(rows: &Rows, wanted: &[(&[u8], &[u8])]) -> bool {
 
 /// Puts `a`, `b`, `c` and `d`.
 fn put_four(alloc: Global, engine: &mut Engine) -> bool {
-    put(alloc, engine, b"b", b"2") == Ok(())
-        && put(alloc, engine, b"a", b"1") == Ok(())
-        && put(alloc, engine, b"d", b"4") == Ok(())
-        && put(alloc, engine, b"c", b"3") == Ok(())
+    put(alloc, engine, b"b", b"2")
+        && put(alloc, engine, b"a", b"1")
+        && put(alloc, engine, b"d", b"4")
+        && put(alloc, engine, b"c", b"3")
 }
 
-/// Whether a scan has these rows.
-fn shows(
-    alloc: Global,
-    engine: &Engine,
-    range: (&[u8], Option<&[u8]>),
-    limit: u64,
-    wanted: &[(&[u8], &[u8])],
-) -> Result<bool, Fail> {
-    let high = match range.1 {
-        Some(high) => Some(Bytes::from_slice(alloc, high)?),
-        None => None,
-    };
-    let rows = engine.scan(alloc, range.0, &high, limit)?;
-    Ok(are(&rows, wanted))
-}
+/// Where a scan begins and ends, its limit, and its rows.
+type Scan = (
+    &'static [u8],
+    Option<&'static [u8]>,
+    u64,
+    &'static [(&'static [u8], &'static [u8])],
+);
 
 /// Scans with and without an end, and with a limit.
-fn scans(alloc: Global, engine: &Engine) -> Result<bool, Fail> {
-    let all = [
-        (b"b".as_slice(), b"2".as_slice()),
-        (b"c".as_slice(), b"3".as_slice()),
-        (b"d".as_slice(), b"4".as_slice()),
-    ];
-    let below = [
-        (b"a".as_slice(), b"1".as_slice()),
-        (b"b".as_slice(), b"2".as_slice()),
-    ];
-    Ok(
-        shows(alloc, engine, (b"b", None), 9, &all)?
-            && shows(alloc, engine, (b"a", Some(b"c")), 9, &below)?
-            && shows(alloc, engine, (b"", None), 1, &below[..1])?,
-    )
+static SCANS: [Scan; 3] = [
+    (b"b", None, 9, &[(b"b", b"2"), (b"c", b"3"), (b"d", b"4")]),
+    (b"a", Some(b"c"), 9, &[(b"a", b"1"), (b"b", b"2")]),
+    (b"", None, 1, &[(b"a", b"1")]),
+];
+
+/// The end of a scan.
+fn high_of(alloc: Global, high: Option<&[u8]>) -> Result<Option<Bytes>, AllocError> {
+    match high {
+        Some(high) => Ok(Some(Bytes::from_slice(alloc, high)?)),
+        None => Ok(None),
+    }
 }
 
-#[test]
-fn scans_show_the_first_rows(rt: HostRuntime) -> Result<(), Fail> {
-    let alloc = rt.alloc();
-    let mut engine = empty(alloc, OperatorKind::Tail, LiveOptions::usual())?;
-    let is_put = put_four(alloc, &mut engine);
-    assert!(rt; is_put);
-    assert!(rt; scans(alloc, &engine)?);
-    let is_flushed = engine.flush(alloc).is_ok();
-    assert!(rt; is_flushed && engine.gathered() == 0);
-    assert!(rt; scans(alloc, &engine)?);
-    Ok(())
+/// Whether a scan has its rows.
+fn shows(alloc: Global, engine: &Engine, scan: &Scan) -> Result<bool, AllocError> {
+    let (low, high, limit, wanted) = *scan;
+    let high = high_of(alloc, high)?;
+    Ok(are(&engine.scan(alloc, low, &high, limit)?, wanted))
+}
+
+/// Whether each has.
+fn scans(alloc: Global, engine: &Engine) -> Result<bool, AllocError> {
+    for scan in &SCANS {
+        if !shows(alloc, engine, scan)? {
+            return Ok(false);
+        }
+    }
+    Ok(true)
+}
+
+/// Scans what is gathered, and what is flushed.
+pub(crate) fn scans_first_rows(alloc: Global, engine: &mut Engine) -> Result<bool, AllocError> {
+    let is_gathered = put_four(alloc, engine) && scans(alloc, engine)?;
+    let is_flushed = engine.flush(alloc).is_ok() && engine.gathered() == 0;
+    Ok(is_gathered && is_flushed && scans(alloc, engine)?)
 }

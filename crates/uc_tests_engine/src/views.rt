@@ -1,10 +1,10 @@
 //! Views, by hand.
-use crate::given::{batch, empty, has, put, small};
+use crate::given::{batch, empty, expect, has, is_value, put, small};
 use std::alloc::{AllocError, Global};
 use std::process::Abort;
 use std::test::Fail;
 use std::thread::{Threads, join};
-use uc_engine::{Answer, Bytes, Engine, EngineView, LiveOptions, OperatorKind};
+use uc_engine::{Answer, Engine, EngineView, LiveOptions, OperatorKind};
 
 /// What an engine holds now. If it is refused once, it is asked for again.
 pub(crate) fn view_of(alloc: Global, engine: &mut Engine) -> Result<EngineView, AllocError> {
@@ -24,9 +24,7 @@ fn shows(alloc: Global, view: &EngineView, key: &[u8], wanted: &[u8]) -> Result<
 
 /// Puts a key, and returns a view of that.
 fn put_and_view(alloc: Global, engine: &mut Engine, value: &[u8]) -> Result<EngineView, Fail> {
-    if put(alloc, engine, b"k", value) != Ok(()) {
-        return Err("the put is refused")?;
-    }
+    expect(put(alloc, engine, b"k", value), "the put is refused")?;
     Ok(view_of(alloc, engine)?)
 }
 
@@ -45,86 +43,100 @@ fn is_second(alloc: Global, view: &EngineView) -> Result<bool, AllocError> {
     Ok(view.last() == 2 && view.gathered() == 1 && shows(alloc, view, b"k", b"new")?)
 }
 
-/// Whether views of an engine stay as they were, while it goes on and when it is gone.
-fn stay(alloc: Global, mut engine: Engine) -> Result<bool, Fail> {
-    let first = put_and_view(alloc, &mut engine, b"old")?;
-    let is_flushed = tidy(alloc, &mut engine);
-    let second = put_and_view(alloc, &mut engine, b"new")?;
-    let third = second.again()?;
-    let is_tidy = is_flushed && tidy(alloc, &mut engine);
-    let is_last = put(alloc, &mut engine, b"k", b"zzz") == Ok(())
-        && has(alloc, &engine, b"k", b"zzz")?;
-    let are_there = is_first(alloc, &first)? && is_second(alloc, &second)?;
+/// Views of an engine that goes on, with a put each, and then with another one.
+fn goes_on(alloc: Global, engine: &mut Engine, views: &mut Vec<EngineView>) -> Result<bool, Fail> {
+    views.push(put_and_view(alloc, engine, b"old")?)?;
+    let is_flushed = tidy(alloc, engine);
+    views.push(put_and_view(alloc, engine, b"new")?)?;
+    let is_tidy = tidy(alloc, engine) && put(alloc, engine, b"k", b"zzz");
+    Ok(is_flushed && is_tidy && has(alloc, engine, b"k", b"zzz")?)
+}
+
+/// Whether these are a view of one put, and one of two.
+fn are_there(alloc: Global, views: &[EngineView]) -> Result<bool, AllocError> {
+    match views {
+        [first, second] => Ok(is_first(alloc, first)? && is_second(alloc, second)?),
+        _ => Ok(false),
+    }
+}
+
+/// Puts another view in place of the last one, which shows the same.
+fn replace_last(views: &mut Vec<EngineView>) -> Result<(), Fail> {
+    let again = match views.last() {
+        Some(last) => last.again()?,
+        None => return Err("there is no view")?,
+    };
+    drop(views.pop());
+    Ok(views.push(again)?)
+}
+
+/// Whether views of an engine stay as they were, while it goes on and when it is gone, and one of them is.
+fn stay(alloc: Global, mut engine: Engine, views: &mut Vec<EngineView>) -> Result<bool, Fail> {
+    let goes_on = goes_on(alloc, &mut engine, views)?;
+    let are_there = are_there(alloc, views)?;
     drop(engine);
-    drop(second);
-    let are_left = is_first(alloc, &first)? && is_second(alloc, &third)?;
-    Ok(is_tidy && is_last && are_there && are_left)
+    replace_last(views)?;
+    Ok(goes_on && are_there && crate::views::are_there(alloc, views)?)
 }
 
 #[test]
 fn views_stay_as_they_were(rt: HostRuntime) -> Result<(), Fail> {
     let alloc = rt.alloc();
+    let mut views = Vec::new(alloc);
     let engine = empty(alloc, OperatorKind::Tail, LiveOptions::usual())?;
-    let stay = stay(alloc, engine)?;
-    assert!(rt; stay);
+    assert!(rt; stay(alloc, engine, &mut views)?);
     Ok(())
+}
+
+/// A view of an engine in which a batch waits that is taken then.
+fn view_beside_waiting(alloc: Global, engine: &mut Engine) -> Result<EngineView, Fail> {
+    let bytes = batch(alloc, 0, 1, b"\x01\x01k\x01v")?;
+    expect(put(alloc, engine, b"k", b"u"), "the put is refused")?;
+    expect(
+        engine.prepare_recorded(alloc, 0, &bytes).is_ok(),
+        "the batch isn't prepared",
+    )?;
+    let view = view_of(alloc, engine)?;
+    engine.commit();
+    Ok(view)
 }
 
 /// Whether what waits isn't in a view, and is taken afterwards.
-fn waits(alloc: Global, engine: &mut Engine) -> Result<bool, Fail> {
-    let bytes = batch(alloc, 0, 1, b"\x01\x01k\x01v")?;
-    let is_put = put(alloc, engine, b"k", b"u") == Ok(());
-    let is_prepared = engine.prepare_recorded(alloc, 0, &bytes).is_ok();
-    let view = view_of(alloc, engine)?;
-    engine.commit();
+pub(crate) fn waits(alloc: Global, engine: &mut Engine) -> Result<bool, Fail> {
+    let view = view_beside_waiting(alloc, engine)?;
     let is_taken = engine.last() == 2 && has(alloc, engine, b"k", b"v")?;
-    let is_old = view.last() == 1 && shows(alloc, &view, b"k", b"u")?;
-    Ok(is_put && is_prepared && is_taken && is_old)
+    Ok(is_taken && view.last() == 1 && shows(alloc, &view, b"k", b"u")?)
 }
 
-#[test]
-fn what_is_prepared_is_in_no_view(rt: HostRuntime) -> Result<(), Fail> {
-    let alloc = rt.alloc();
-    let mut engine = empty(alloc, OperatorKind::Maximum, LiveOptions::usual())?;
-    let waits = waits(alloc, &mut engine)?;
-    assert!(rt; waits);
-    Ok(())
-}
-
-/// A view of an engine with a snapshot at 1, which the engine then releases.
+/// A view of an engine with a snapshot at 1.
 fn view_snapshot(alloc: Global, engine: &mut Engine) -> Result<EngineView, Fail> {
-    if put(alloc, engine, b"k", b"old") != Ok(()) || engine.snapshot(alloc) != Ok(1) {
-        return Err("there is no snapshot")?;
-    }
-    let view = put_and_view(alloc, engine, b"new")?;
-    let is_alike = view.report() == engine.report() && view.kind() == engine.kind();
-    if engine.release(1) == Ok(()) && is_alike {
-        Ok(view)
-    } else {
-        Err("the snapshot isn't released")?
-    }
+    let is_kept = put(alloc, engine, b"k", b"old") && engine.snapshot(alloc) == Ok(1);
+    expect(is_kept, "there is no snapshot")?;
+    put_and_view(alloc, engine, b"new")
+}
+
+/// Whether a view reports what its engine does.
+fn is_alike(view: &EngineView, engine: &Engine) -> bool {
+    view.report() == engine.report() && view.kind() == engine.kind()
 }
 
 /// Whether the snapshot is still there.
-fn keeps(alloc: Global, view: &EngineView) -> Result<bool, Fail> {
-    let read = Answer::Value(Some(Bytes::from_slice(alloc, b"old")?));
-    Ok(view.keeps() == [1].as_slice() && view.get_at(alloc, b"k", 1)? == read)
+fn keeps(alloc: Global, view: &EngineView) -> Result<bool, AllocError> {
+    Ok(view.keeps() == [1].as_slice() && is_value(&view.get_at(alloc, b"k", 1)?, b"old"))
 }
 
-#[test]
-fn views_keep_snapshots(rt: HostRuntime) -> Result<(), Fail> {
-    let alloc = rt.alloc();
-    let mut engine = empty(alloc, OperatorKind::Counter, small())?;
-    let view = view_snapshot(alloc, &mut engine)?;
-    assert!(rt; keeps(alloc, &view)?);
-    assert!(rt; engine.get_at(alloc, b"k", 1)? == Answer::NotProtected(1));
-    Ok(())
+/// Whether a snapshot stays in a view, and is released by its engine.
+pub(crate) fn keeps_alone(alloc: Global, engine: &mut Engine) -> Result<bool, Fail> {
+    let view = view_snapshot(alloc, engine)?;
+    let is_alike = is_alike(&view, engine) && engine.release(1) == Ok(());
+    let is_gone = engine.get_at(alloc, b"k", 1)? == Answer::NotProtected(1);
+    Ok(is_alike && is_gone && keeps(alloc, &view)?)
 }
 
 /// Puts a key often, and flushes and compacts meanwhile. Returns whether it may.
 fn write_much(alloc: Global, mut engine: Engine) -> bool {
     for number in 0..2000u16 {
-        if put(alloc, &mut engine, b"k", &number.to_be_bytes()) != Ok(()) {
+        if !put(alloc, &mut engine, b"k", &number.to_be_bytes()) {
             return false;
         }
     }
