@@ -43,40 +43,50 @@ fn is_second(alloc: Global, view: &EngineView) -> Result<bool, AllocError> {
     Ok(view.last() == 2 && view.gathered() == 1 && shows(alloc, view, b"k", b"new")?)
 }
 
-/// Views of an engine that goes on, with a put each, and then with another one.
+/// Views of an engine that goes on, with a put each and another one of the second, and then with another put.
 fn goes_on(alloc: Global, engine: &mut Engine, views: &mut Vec<EngineView>) -> Result<bool, Fail> {
     views.push(put_and_view(alloc, engine, b"old")?)?;
     let is_flushed = tidy(alloc, engine);
-    views.push(put_and_view(alloc, engine, b"new")?)?;
+    push_twice(views, put_and_view(alloc, engine, b"new")?)?;
     let is_tidy = tidy(alloc, engine) && put(alloc, engine, b"k", b"zzz");
     Ok(is_flushed && is_tidy && has(alloc, engine, b"k", b"zzz")?)
 }
 
-/// Whether these are a view of one put, and one of two.
+/// Adds a view, and another one of it.
+fn push_twice(views: &mut Vec<EngineView>, view: EngineView) -> Result<(), Fail> {
+    let again = view.again()?;
+    views.push(view)?;
+    Ok(views.push(again)?)
+}
+
+/// Whether these are a view of one put, and behind it views of two.
 fn are_there(alloc: Global, views: &[EngineView]) -> Result<bool, AllocError> {
     match views {
-        [first, second] => Ok(is_first(alloc, first)? && is_second(alloc, second)?),
+        [first, second, third] => Ok(
+            is_first(alloc, first)? && is_second(alloc, second)? && is_second(alloc, third)?,
+        ),
+        [first, third] => Ok(is_first(alloc, first)? && is_second(alloc, third)?),
         _ => Ok(false),
     }
 }
 
-/// Puts another view in place of the last one, which shows the same.
-fn replace_last(views: &mut Vec<EngineView>) -> Result<(), Fail> {
-    let again = match views.last() {
-        Some(last) => last.again()?,
-        None => return Err("there is no view")?,
-    };
+/// Lets go the last view but one.
+fn drop_second(views: &mut Vec<EngineView>) -> Result<(), Fail> {
+    let third = views.pop();
     drop(views.pop());
-    Ok(views.push(again)?)
+    match third {
+        Some(third) => Ok(views.push(third)?),
+        None => Err("there is no view")?,
+    }
 }
 
 /// Whether views of an engine stay as they were, while it goes on and when it is gone, and one of them is.
 fn stay(alloc: Global, mut engine: Engine, views: &mut Vec<EngineView>) -> Result<bool, Fail> {
     let goes_on = goes_on(alloc, &mut engine, views)?;
-    let are_there = are_there(alloc, views)?;
+    let all_stay = goes_on && views.len() == 3 && are_there(alloc, views)?;
     drop(engine);
-    replace_last(views)?;
-    Ok(goes_on && are_there && crate::views::are_there(alloc, views)?)
+    drop_second(views)?;
+    Ok(all_stay && are_there(alloc, views)?)
 }
 
 #[test]
