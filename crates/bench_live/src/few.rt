@@ -1,8 +1,8 @@
 //! A few writes in batches of several sizes: a small fixed piece of work.
-use crate::batches::batches_of;
 use crate::live::live_of;
 use crate::words::Asking;
 use anyhow::{Result, ensure};
+use bench_queries::batches::batches_of;
 use bench_queries::numbers::Numbers;
 use bench_queries::queries::key_of;
 use std::alloc::{AllocError, Global};

@@ -12,17 +12,16 @@
 //! last answers must be the same.
 #![tactic(auto)]
 
-mod batches;
 mod few;
 mod live;
 mod times;
 mod words;
 
-use crate::batches::logged_batches;
 use crate::few::few_batches;
 use crate::live::{Live, live_of};
 use crate::words::{Asked, asked_by};
 use anyhow::Result;
+use bench_queries::batches::logged_batches;
 use std::alloc::Global;
 use std::env;
 use std::io::Read;

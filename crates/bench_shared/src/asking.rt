@@ -1,4 +1,5 @@
 //! [`Answered`]: what came of a batch of queries, and how long it took.
+use anyhow::{Context, Result};
 use bench_queries::checksum::with_answers;
 use std::alloc::Global;
 use std::fmt;
@@ -35,6 +36,17 @@ impl fmt::Display for Answered {
 /// How many nanoseconds passed since a start.
 pub(crate) fn nanoseconds_since(clock: &impl Clock, start: Instant) -> Option<u64> {
     u64::try_from(start.elapsed(clock).ok()?.as_nanos()).ok()
+}
+
+/// A batch, answered from one version, unless it is refused.
+pub(crate) fn plain_batch(
+    rt: &(impl Clock + Threads + Sync),
+    alloc: Global,
+    version: &Version,
+    queries: &[Query],
+    workers: usize,
+) -> Result<Answered> {
+    answered_plain(rt, alloc, version, queries, workers).context("a batch is refused")
 }
 
 /// A batch, answered from one version.

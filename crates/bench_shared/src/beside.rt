@@ -1,19 +1,22 @@
 //! [`Beside`]: a batch beside compactors, and once more behind them.
-ghost use Rattle.std.specs.Prelude.{◌≡◌, IfSome, All};
+ghost use Rattle.std.specs.Prelude.{◌≡◌, IfSome, All, true};
 ghost use Rattle.uc_share.specs.Stores.{IsNamed};
+ghost use Rattle.uc_version_state.specs.Options.{are_good};
 
 use crate::asked::Crew;
 use crate::asking::{Answered, answered_shared, nanoseconds_since};
 use crate::compacting::{Compactor, Compactors, all_compact, two_compactors};
+use crate::opening::opening_of;
+use anyhow::{Context, Result};
 use std::alloc::Global;
 use std::fmt;
-use std::marker::{Send, Sync};
+use std::marker::{Brand, Send, Sync};
 use std::sync::Wait;
 use std::thread::{Threads, join};
 use std::time::{Clock, Instant};
 use uc_oper::Counter;
 use uc_query_read::Query;
-use uc_share::{Name, Opening, Reader, Seat, Store};
+use uc_share::{Name, Opening, Options, Reader, Seat, Store, Version};
 
 /// What compactors did.
 #[derive(Clone, Copy)]
@@ -124,7 +127,7 @@ where
 }
 
 /// A batch in a store that is opened here, beside compactors and once more behind them.
-pub(crate) fn answered_beside<N, W, R>(
+fn answered_beside<N, W, R>(
     rt: &R,
     handle: W,
     alloc: Global,
@@ -140,4 +143,20 @@ where
 {
     let (store, readers, seats) = opening.named::<N, W>(alloc, handle).ok()?;
     answered_twice(rt, alloc, &store, readers, seats, queries, workers)
+}
+
+/// The same in a store that opens with a version, for a crew.
+pub(crate) fn crew_beside(
+    rt: &(impl Clock + Threads + Wait + Sync),
+    alloc: Global,
+    version: Version,
+    options: Options,
+    queries: &[Query],
+    crew: Crew,
+) -> Result<Beside>
+    requires { are_good options ≡ true }
+{
+    let opening = opening_of(alloc, version, options, crew.workers, crew.compactors)?;
+    let beside = answered_beside::<Brand, _, _>(rt, rt, alloc, opening, queries, crew.workers);
+    beside.context("a batch or a compaction is refused")
 }

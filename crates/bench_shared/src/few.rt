@@ -1,41 +1,21 @@
 //! A small fixed piece of work: all modes with a few writes, whose answers must be the same.
 use crate::asked::Crew;
-use crate::asking::answered_plain;
-use crate::beside::answered_beside;
-use crate::latencies::timed;
-use crate::opening::opening_of;
-use anyhow::{Context, Result, ensure};
+use crate::asking::{Answered, plain_batch};
+use crate::beside::{Beside, crew_beside};
+use crate::latencies::one_beside;
+use anyhow::{Result, ensure};
 use bench_queries::few::{few_batches, few_options, few_writes};
 use bench_queries::opening::totals;
 use bench_queries::queries::as_one_batch;
 use std::alloc::Global;
-use std::marker::{Brand, Sync};
+use std::marker::Sync;
 use std::sync::Wait;
 use std::thread::Threads;
 use std::time::Clock;
 use uc_query_read::Query;
 
-/// Makes sure that so many workers beside so many compactors come to these answers, and also behind them.
-fn ensure_same_beside(
-    rt: &(impl Clock + Threads + Wait + Sync),
-    alloc: Global,
-    queries: &[Query],
-    crew: Crew,
-    checksum: u64,
-) -> Result<()> {
-    let Crew {
-        workers,
-        compactors,
-    } = crew;
-    let opening = opening_of(
-        alloc,
-        few_writes(alloc)?,
-        few_options(),
-        workers,
-        compactors,
-    )?;
-    let beside = answered_beside::<Brand, _, _>(rt, rt, alloc, opening, queries, workers);
-    let beside = beside.context("a batch or a compaction is refused")?;
+/// Makes sure that batches beside so many compactors came to these answers, and also behind them.
+fn ensure_same_batches(beside: Beside, compactors: usize, checksum: u64) -> Result<()> {
     ensure!(
         beside.meanwhile.checksum == checksum,
         "the answers beside compactors differ"
@@ -51,19 +31,46 @@ fn ensure_same_beside(
     Ok(())
 }
 
-/// Makes sure that single queries beside so many compactors have these answers.
-fn ensure_same_each(
+/// Makes sure that so many workers beside so many compactors come to these answers.
+fn ensure_same_beside(
+    rt: &(impl Clock + Threads + Wait + Sync),
+    alloc: Global,
+    queries: &[Query],
+    crew: Crew,
+    checksum: u64,
+) -> Result<()> {
+    let beside = crew_beside(rt, alloc, few_writes(alloc)?, few_options(), queries, crew)?;
+    ensure_same_batches(beside, crew.compactors, checksum)
+}
+
+/// A checksum of the answers to single queries beside so many compactors.
+fn checksum_of_each(
+    rt: &(impl Clock + Threads + Wait + Sync),
+    alloc: Global,
+    queries: &[Query],
+    compactors: usize,
+) -> Result<u64> {
+    let version = few_writes(alloc)?;
+    Ok(one_beside(rt, alloc, version, few_options(), queries, compactors)?.checksum)
+}
+
+/// Makes sure that batches and single queries beside so many compactors have these answers.
+fn ensure_same_of(
     rt: &(impl Clock + Threads + Wait + Sync),
     alloc: Global,
     queries: &[Query],
     compactors: usize,
     checksum: u64,
 ) -> Result<()> {
-    let opening = opening_of(alloc, few_writes(alloc)?, few_options(), 1, compactors)?;
-    let latencies = timed::<Brand, _, _>(rt, rt, alloc, opening, queries);
-    let latencies = latencies.context("a lookup or a compaction is refused")?;
+    for workers in [1, 2, 4] {
+        let crew = Crew {
+            workers,
+            compactors,
+        };
+        ensure_same_beside(rt, alloc, queries, crew, checksum)?;
+    }
     ensure!(
-        latencies.checksum == checksum,
+        checksum_of_each(rt, alloc, queries, compactors)? == checksum,
         "the answers one by one differ"
     );
     Ok(())
@@ -77,16 +84,21 @@ fn ensure_same(
     checksum: u64,
 ) -> Result<()> {
     for compactors in 0..3 {
-        for workers in [1, 2, 4] {
-            let crew = Crew {
-                workers,
-                compactors,
-            };
-            ensure_same_beside(rt, alloc, queries, crew, checksum)?;
-        }
-        ensure_same_each(rt, alloc, queries, compactors, checksum)?;
+        ensure_same_of(rt, alloc, queries, compactors, checksum)?;
     }
     Ok(())
+}
+
+/// How large a store of a few writes is, and what comes of a few queries of it, in all modes.
+fn answered_alike(
+    rt: &(impl Clock + Threads + Wait + Sync),
+    alloc: Global,
+) -> Result<((usize, u64), Answered)> {
+    let version = few_writes(alloc)?;
+    let queries = as_one_batch(alloc, few_batches(alloc, version.last())?)?;
+    let plain = plain_batch(rt, alloc, &version, &queries, 1)?;
+    ensure_same(rt, alloc, &queries, plain.checksum)?;
+    Ok((totals(&version), plain))
 }
 
 /// Answers a few queries of a few writes in all modes, and prints how large the store is, and what the answers were.
@@ -94,11 +106,7 @@ pub(crate) fn few_answers(
     rt: &(impl Clock + Threads + Wait + Sync + Print),
     alloc: Global,
 ) -> Result<()> {
-    let version = few_writes(alloc)?;
-    let queries = as_one_batch(alloc, few_batches(alloc, version.last())?)?;
-    let plain = answered_plain(rt, alloc, &version, &queries, 1).context("a batch is refused")?;
-    ensure_same(rt, alloc, &queries, plain.checksum)?;
-    let (runs, points) = totals(&version);
+    let ((runs, points), plain) = answered_alike(rt, alloc)?;
     println!(rt; "{runs} {points} {} {:016x}", plain.answers, plain.checksum)?;
     Ok(())
 }

@@ -1,8 +1,9 @@
 //! A few batches of writes that are fed beside a compactor and two readers: a small fixed piece of work, whose answers must be those
 //! of the plain writes.
-use crate::batches::batches_of;
+use crate::asking::Answered;
 use crate::fed::{Feeds, fed_to_new};
 use anyhow::{Context, Result, ensure};
+use bench_queries::batches::batches_of;
 use bench_queries::checksum::with_answer;
 use bench_queries::few::few_options;
 use bench_queries::numbers::Numbers;
@@ -71,25 +72,43 @@ fn plain_checksum(alloc: Global, writes: &Writes) -> Result<u64, AllocError> {
     Ok(checksum)
 }
 
-/// Feeds a few batches, and prints how many, the last sequence, and what the answers there were.
-pub(crate) fn few_fed(
-    rt: &(impl Clock + Threads + Wait + Sync + Print),
+/// Feeds batches of a few writes. What the answers in the end were.
+fn answered_fed(
+    rt: &(impl Clock + Threads + Wait + Sync),
     alloc: Global,
-) -> Result<()> {
-    let writes = few_writes(alloc)?;
-    let batches = batches_of(alloc, &writes, SIZE, writes.len())?;
+    batches: &[Writes],
+) -> Result<Answered> {
     let feeds = Feeds {
-        batches: &batches,
+        batches,
         keys: KEYS,
         last: LOOKUPS,
     };
-    let answered = fed_to_new(rt, alloc, few_options(), feeds)?.answered();
+    Ok(fed_to_new(rt, alloc, few_options(), feeds)?.answered())
+}
+
+/// Feeds a few writes in batches. How many batches they were, the last sequence, and what the answers there were, which must be
+/// those of the plain writes.
+fn fed_alike(
+    rt: &(impl Clock + Threads + Wait + Sync),
+    alloc: Global,
+) -> Result<(usize, u64, Answered)> {
+    let writes = few_writes(alloc)?;
+    let batches = batches_of(alloc, &writes, SIZE, writes.len())?;
+    let answered = answered_fed(rt, alloc, &batches)?;
     let writes = Writes::of(writes).context("the sequences don't rise")?;
     ensure!(
         answered.checksum == plain_checksum(alloc, &writes)?,
         "the answers of what was fed differ"
     );
-    let (count, last) = (batches.len(), writes.last());
+    Ok((batches.len(), writes.last(), answered))
+}
+
+/// Feeds a few batches, and prints how many, the last sequence, and what the answers there were.
+pub(crate) fn few_fed(
+    rt: &(impl Clock + Threads + Wait + Sync + Print),
+    alloc: Global,
+) -> Result<()> {
+    let (count, last, answered) = fed_alike(rt, alloc)?;
     println!(rt;
         "{count} {last} {} {:016x}",
         answered.answers, answered.checksum

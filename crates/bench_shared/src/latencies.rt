@@ -1,21 +1,24 @@
 //! [`Latencies`]: how long single queries take beside compactors.
-ghost use Rattle.std.specs.Prelude.{◌≡◌, IfSome, All};
+ghost use Rattle.std.specs.Prelude.{◌≡◌, IfSome, All, true};
 ghost use Rattle.uc_share.specs.Stores.{IsNamed};
+ghost use Rattle.uc_version_state.specs.Options.{are_good};
 
 use crate::asking::nanoseconds_since;
 use crate::compacting::{Compactor, Compactors, all_compact, two_compactors};
+use crate::opening::opening_of;
 use crate::times::Times;
+use anyhow::{Context, Result};
 use bench_queries::checksum::with_answer;
 use std::alloc::Global;
 use std::fmt;
-use std::marker::{Send, Sync};
+use std::marker::{Brand, Send, Sync};
 use std::sync::Wait;
 use std::sync::atomic::{AtomicBool, Ordering};
 use std::thread::{Threads, join};
 use std::time::{Clock, Instant};
 use uc_oper::Counter;
 use uc_query_read::{Answer, Query, answer_one};
-use uc_share::{Name, Opening, Reader, Seat, Store};
+use uc_share::{Name, Opening, Options, Reader, Seat, Store, Version};
 
 /// What came of single queries.
 #[derive(Drop)]
@@ -182,7 +185,7 @@ where
 }
 
 /// Single queries of a store that is opened here, by one reader, beside its compactors.
-pub(crate) fn timed<N, W, R>(
+fn timed<N, W, R>(
     rt: &R,
     handle: W,
     alloc: Global,
@@ -197,4 +200,20 @@ where
 {
     let (store, readers, seats) = opening.named::<N, W>(alloc, handle).ok()?;
     timed_by_one(rt, alloc, &store, readers, seats, queries)
+}
+
+/// The same in a store that opens with a version, beside so many compactors.
+pub(crate) fn one_beside(
+    rt: &(impl Clock + Threads + Wait + Sync),
+    alloc: Global,
+    version: Version,
+    options: Options,
+    queries: &[Query],
+    compactors: usize,
+) -> Result<Latencies>
+    requires { are_good options ≡ true }
+{
+    let opening = opening_of(alloc, version, options, 1, compactors)?;
+    let latencies = timed::<Brand, _, _>(rt, rt, alloc, opening, queries);
+    latencies.context("a lookup or a compaction is refused")
 }

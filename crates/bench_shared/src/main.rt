@@ -30,7 +30,6 @@
 
 mod asked;
 mod asking;
-mod batches;
 mod beside;
 mod compacting;
 mod fed;
@@ -42,40 +41,41 @@ mod latencies;
 mod opening;
 mod times;
 
-use crate::asked::{Asked, Crew, asked_by, queries_of, size_and_count};
-use crate::asking::answered_plain;
-use crate::batches::logged_batches;
-use crate::beside::answered_beside;
+use crate::asked::{Asked, asked_by, queries_of, size_and_count};
+use crate::asking::plain_batch;
+use crate::beside::crew_beside;
 use crate::fed::{Feeds, fed_to_new};
 use crate::few::few_answers;
 use crate::few_fed::few_fed;
-use crate::latencies::timed;
-use crate::opening::opening_of;
-use anyhow::{Context, Result};
+use crate::latencies::one_beside;
+use anyhow::Result;
+use bench_queries::batches::logged_batches;
 use bench_queries::opening::{opened, totals};
 use bench_queries::queries::KEYS;
 use std::alloc::Global;
 use std::env;
 use std::io::Read;
-use std::marker::{Brand, Sync};
+use std::marker::Sync;
 use std::sync::Wait;
 use std::thread::Threads;
 use std::time::Clock;
-use uc_batch::Writes;
 use uc_query_read::Query;
 use uc_share::{Options, Version};
 
 /// How many lookups there are behind all feeds.
 const LAST_LOOKUPS: usize = 20_000;
 
-/// Feeds batches of a log's writes to a new store, and prints a line of it.
+/// Feeds the first batches of a log's writes to a new store, and prints a line of it.
 fn measure_fed(
     rt: &(impl Clock + Threads + Wait + Sync + Print),
     alloc: Global,
-    batches: &[Writes],
+    log: Vec<u8>,
+    numbers: &[String],
 ) -> Result<()> {
+    let (size, count) = size_and_count(numbers)?;
+    let batches = logged_batches(alloc, log, size, count)?;
     let feeds = Feeds {
-        batches,
+        batches: &batches,
         keys: KEYS,
         last: LAST_LOOKUPS,
     };
@@ -84,7 +84,7 @@ fn measure_fed(
     Ok(())
 }
 
-/// Measures what is asked for in a store that opens with a version, and prints a line of it.
+/// Measures what is asked for in a store that opens with a version, and prints the rest of a line of it.
 fn measure(
     rt: &(impl Clock + Threads + Wait + Sync + Print),
     alloc: Global,
@@ -93,29 +93,49 @@ fn measure(
     asked: Asked,
 ) -> Result<()> {
     let options = Options::usual();
-    let (runs, points) = totals(&version);
-    print!(rt; "{runs} {points} ")?;
     match asked {
         Asked::Plain(workers) => {
-            let answered = answered_plain(rt, alloc, &version, queries, workers);
-            println!(rt; "{}", answered.context("a batch is refused")?)?;
+            let answered = plain_batch(rt, alloc, &version, queries, workers)?;
+            println!(rt; "{answered}")?;
         }
         Asked::Beside(crew) => {
-            let Crew {
-                workers,
-                compactors,
-            } = crew;
-            let opening = opening_of(alloc, version, options, workers, compactors)?;
-            let beside = answered_beside::<Brand, _, _>(rt, rt, alloc, opening, queries, workers);
-            println!(rt; "{}", beside.context("a batch or a compaction is refused")?)?;
+            let beside = crew_beside(rt, alloc, version, options, queries, crew)?;
+            println!(rt; "{beside}")?;
         }
         Asked::Lookups(compactors) => {
-            let opening = opening_of(alloc, version, options, 1, compactors)?;
-            let times = timed::<Brand, _, _>(rt, rt, alloc, opening, queries);
-            println!(rt; "{}", times.context("a lookup or a compaction is refused")?)?;
+            let times = one_beside(rt, alloc, version, options, queries, compactors)?;
+            println!(rt; "{times}")?;
         }
     }
     Ok(())
+}
+
+/// Measures what is asked for in a store that opens from a log, and prints a line of it.
+fn measure_opened(
+    rt: &(impl Clock + Threads + Wait + Sync + Print),
+    alloc: Global,
+    log: Vec<u8>,
+    asked: Asked,
+) -> Result<()> {
+    let version = opened(alloc, log, Options::usual())?;
+    let queries = queries_of(alloc, asked, version.last())?;
+    let (runs, points) = totals(&version);
+    print!(rt; "{runs} {points} ")?;
+    measure(rt, alloc, version, &queries, asked)
+}
+
+/// Measures what a mode and the numbers behind it ask for.
+fn measure_mode(
+    rt: &(impl Clock + Threads + Wait + Sync + Print),
+    alloc: Global,
+    log: Vec<u8>,
+    mode: &str,
+    numbers: &[String],
+) -> Result<()> {
+    if mode == "fed" {
+        return measure_fed(rt, alloc, log, numbers);
+    }
+    measure_opened(rt, alloc, log, asked_by(mode, numbers)?)
 }
 
 /// All modes with a few writes.
@@ -132,13 +152,5 @@ fn main(rt: HostRuntime) -> Result<()> {
     };
     let mut log = Vec::new(alloc);
     rt.stdin().read_to_end(&mut log)?;
-    if mode.as_str() == "fed" {
-        let (size, count) = size_and_count(numbers)?;
-        let batches = logged_batches(alloc, log, size, count)?;
-        return measure_fed(&rt, alloc, &batches);
-    }
-    let asked = asked_by(mode, numbers)?;
-    let version = opened(alloc, log, Options::usual())?;
-    let queries = queries_of(alloc, asked, version.last())?;
-    measure(&rt, alloc, version, &queries, asked)
+    measure_mode(&rt, alloc, log, mode, numbers)
 }

@@ -1,15 +1,14 @@
 //! [`Call`]: the calls that are probed, by their names.
+use crate::calls::{calls_made, live_calls_made};
 use crate::effects::{effect_applied, effects_folded, effects_joined};
 use crate::formats::{batch_read, batch_written, log_read, payload_added, writes_read};
-use crate::live::{live_calls_made, snapshot_released, snapshot_taken, writes_fed};
+use crate::live::{snapshot_released, snapshot_taken, writes_fed};
 use crate::live_shared::{LiveCall, store_changed};
 use crate::owned::{
     claim_compacted, claim_installed, compacted_now, log_opened, stretch_claimed, version_opened,
 };
 use crate::probe::Verdict;
-use crate::queries::{
-    calls_made, lookup_asked, plain_asked, scan_asked, version_reported, writes_asked,
-};
+use crate::queries::{lookup_asked, plain_asked, scan_asked, version_reported, writes_asked};
 use crate::runs::{
     effect_found, memtable_flushed, run_built, runs_compacted, table_made, write_inserted,
 };

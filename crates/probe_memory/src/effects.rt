@@ -1,5 +1,6 @@
 //! Effects on one key, joined and applied, and folds of many. An `Err` loses what is moved in, so it is there twice.
-use crate::probe::{Outcome, Probe, Verdict, tried, tried_again};
+use crate::marks::{BEGIN, END, mark};
+use crate::probe::{Outcome, Probe, Verdict, tried};
 use crate::settings::{LONG, Texts};
 use std::alloc::Global;
 use std::marker::Sync;
@@ -119,6 +120,17 @@ impl Folds {
     }
 }
 
+/// The verdict on the fold between the marks, tried again if memory ran out.
+fn fold_tried(rt: &(impl Threads + Sync), alloc: Global, folds: &mut Folds) -> Verdict {
+    mark(alloc, BEGIN);
+    let first = folds.call(rt, alloc);
+    mark(alloc, END);
+    match first {
+        Outcome::Memory => Verdict::of_again(folds.call(rt, alloc)),
+        first => Verdict::of_first(first),
+    }
+}
+
 /// Merges folded by threads.
 pub(crate) fn effects_folded(rt: &(impl Threads + Sync), alloc: Global) -> Option<Verdict> {
     let wanted = fold_all::<Effects<Texts>>(rt, alloc, parts(alloc)?).ok()?;
@@ -126,6 +138,5 @@ pub(crate) fn effects_folded(rt: &(impl Threads + Sync), alloc: Global) -> Optio
     for _ in 0..2 {
         lists.push(parts(alloc)?).ok()?;
     }
-    let mut folds = Folds { lists, wanted };
-    Some(tried_again(alloc, || folds.call(rt, alloc)))
+    Some(fold_tried(rt, alloc, &mut Folds { lists, wanted }))
 }

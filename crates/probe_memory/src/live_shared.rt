@@ -214,9 +214,9 @@ fn marked_outcome<N: Name, W: Wait + Drop>(
 ) -> Outcome
     requires { N.keeps_stay ≡ false }
 {
-    let _begin = mark(alloc, BEGIN);
+    mark(alloc, BEGIN);
     let outcome = call_outcome(rt, alloc, store, reader, trial.call, &trial.writes);
-    let _end = mark(alloc, END);
+    mark(alloc, END);
     outcome
 }
 

@@ -8,10 +8,11 @@
 //! once after it. Without words it makes each call once. `probe_memory list` prints their names.
 //!
 //! Read `probe.rt` first. `settings.rt` has what the calls borrow; the calls are in `formats.rt`, `effects.rt`,
-//! `runs.rt`, `owned.rt`, `live.rt`, `shared.rt`, `live_shared.rt` and `queries.rt`.
+//! `runs.rt`, `owned.rt`, `live.rt`, `calls.rt`, `shared.rt`, `live_shared.rt` and `queries.rt`.
 #![tactic(auto)]
 
 mod call;
+mod calls;
 mod effects;
 mod formats;
 mod live;

@@ -1,5 +1,6 @@
 //! A store with one owner: opened, and claimed, compacted and installed by one call after another or by one for all.
-use crate::probe::{Fault, Outcome, Probe, Verdict, marked, tried, tried_again};
+use crate::marks::{BEGIN, END, mark};
+use crate::probe::{Fault, Outcome, Probe, Verdict, tried};
 use crate::settings::{
     KEEPS, Texts, is_busy, log, owned, owned_after, same_version, small_runs, version, writes,
 };
@@ -127,23 +128,29 @@ fn compact_outcome(
     }
 }
 
-/// The verdict on compacting a claim, tried again if memory ran out.
+/// The verdict on compacting a claim between the marks, tried again if memory ran out.
 fn compact_tried(
     rt: &(impl Threads + Sync),
     alloc: Global,
     owned: &Owned<Texts>,
     claim: &OwnedClaim,
-) -> Option<Verdict> {
-    let wanted = compacted(rt, alloc, owned, claim)?;
-    let wanted = wanted.output();
-    Some(tried_again(alloc, || compact_outcome(rt, alloc, owned, claim, wanted)))
+    wanted: &Run,
+) -> Verdict {
+    mark(alloc, BEGIN);
+    let first = compact_outcome(rt, alloc, owned, claim, wanted);
+    mark(alloc, END);
+    match first {
+        Outcome::Memory => Verdict::of_again(compact_outcome(rt, alloc, owned, claim, wanted)),
+        first => Verdict::of_first(first),
+    }
 }
 
 /// Compacts a claim.
 pub(crate) fn claim_compacted(rt: &(impl Threads + Sync), alloc: Global) -> Option<Verdict> {
     let mut owned = owned(alloc)?;
     let claim = claimed(&mut owned)?;
-    compact_tried(rt, alloc, &owned, &claim)
+    let wanted = compacted(rt, alloc, &owned, &claim)?;
+    Some(compact_tried(rt, alloc, &owned, &claim, wanted.output()))
 }
 
 /// A claim, and what its runs become.
@@ -168,7 +175,9 @@ fn install_outcome(
 
 /// The verdict on an install, by the version that is right after it, tried again if memory ran out.
 fn install_tried(alloc: Global, owned: &mut Owned<Texts>, made: Made, wanted: &Version) -> Verdict {
-    let (first, back) = marked(alloc, || install_outcome(owned, made, wanted));
+    mark(alloc, BEGIN);
+    let (first, back) = install_outcome(owned, made, wanted);
+    mark(alloc, END);
     match back {
         Some(made) => Verdict::of_again(install_outcome(owned, made, wanted).0),
         None => Verdict::of_first(first),
@@ -216,7 +225,9 @@ fn compact_now_tried(
     before: &Version,
     wanted: &Version,
 ) -> Verdict {
-    let first = marked(alloc, || compact_now_outcome(rt, alloc, owned, wanted));
+    mark(alloc, BEGIN);
+    let first = compact_now_outcome(rt, alloc, owned, wanted);
+    mark(alloc, END);
     if first != Outcome::Memory {
         return Verdict::of_first(first);
     }

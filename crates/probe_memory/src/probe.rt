@@ -112,8 +112,8 @@ impl fmt::Display for Verdict {
     }
 }
 
-/// A call with all that it borrows, and what is right. A call that may start threads has no [`Probe`], and is a closure
-/// instead: a trait can't say that threads may use the runtime's stand-in.
+/// A call with all that it borrows, and what is right. A call that may start threads has no [`Probe`], and a function of its own
+/// makes it between the marks: a trait can't say that threads may use the runtime's stand-in.
 pub(crate) trait Probe {
     /// Makes the call. It allocates only what the call allocates. What the call takes for good if it fails, is there
     /// twice.
@@ -123,33 +123,6 @@ pub(crate) trait Probe {
     /// A call that may change nothing that it borrows leaves this as it is.
     fn is_unchanged(&self) -> bool {
         true
-    }
-}
-
-/// Makes a call between the marks.
-pub(crate) fn marked<T, F: FnOnce() -> T>(alloc: Global, call: F) -> T
-where
-    F: Drop,
-    requires { F.pre call }
-{
-    let _begin = mark(alloc, BEGIN);
-    let came = call();
-    let _end = mark(alloc, END);
-    came
-}
-
-/// Makes a call between the marks, and the same call again if memory ran out.
-pub(crate) fn tried_again<F: FnMut() -> Outcome>(alloc: Global, mut call: F) -> Verdict
-where
-    F: Drop,
-    requires { F.IsAlwaysCallable call }
-{
-    let _begin = mark(alloc, BEGIN);
-    let first = call();
-    let _end = mark(alloc, END);
-    match first {
-        Outcome::Memory => Verdict::of_again(call()),
-        first => Verdict::of_first(first),
     }
 }
 
@@ -166,6 +139,8 @@ fn judged<P: Probe>(alloc: Global, probe: &mut P, first: Outcome) -> Verdict {
 
 /// Makes a call between the marks, and judges it.
 pub(crate) fn tried<P: Probe>(alloc: Global, probe: &mut P) -> Verdict {
-    let first = marked(alloc, || probe.call(alloc));
+    mark(alloc, BEGIN);
+    let first = probe.call(alloc);
+    mark(alloc, END);
     judged(alloc, probe, first)
 }

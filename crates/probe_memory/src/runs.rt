@@ -1,5 +1,6 @@
 //! Memtables, runs, compactions of runs, and tables of claim words.
-use crate::probe::{Fault, Outcome, Probe, Verdict, tried, tried_again};
+use crate::marks::{BEGIN, END, mark};
+use crate::probe::{Fault, Outcome, Probe, Verdict, tried};
 use crate::settings::{CHANGES, KEEPS, LONG, Texts, version, writes};
 use std::alloc::Global;
 use std::marker::Sync;
@@ -277,12 +278,27 @@ fn compact_outcome(
     }
 }
 
+/// The verdict on compacting runs between the marks, tried again if memory ran out.
+fn compact_tried(
+    rt: &(impl Threads + Sync),
+    alloc: Global,
+    runs: &[Arc<Run>],
+    wanted: &Run,
+) -> Verdict {
+    mark(alloc, BEGIN);
+    let first = compact_outcome(rt, alloc, runs, wanted);
+    mark(alloc, END);
+    match first {
+        Outcome::Memory => Verdict::of_again(compact_outcome(rt, alloc, runs, wanted)),
+        first => Verdict::of_first(first),
+    }
+}
+
 /// Compacts runs.
 pub(crate) fn runs_compacted(rt: &(impl Threads + Sync), alloc: Global) -> Option<Verdict> {
     let runs = runs(alloc)?;
     let wanted = compacted(rt, alloc, &runs)?;
-    let (runs, wanted) = (runs.as_slice(), wanted.output());
-    Some(tried_again(alloc, || compact_outcome(rt, alloc, runs, wanted)))
+    Some(compact_tried(rt, alloc, &runs, wanted.output()))
 }
 
 /// `ClaimTable::new`.

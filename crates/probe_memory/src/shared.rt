@@ -3,7 +3,7 @@ ghost use Rattle.std.specs.Prelude.{◌≡◌, IfSome, All};
 ghost use Rattle.uc_share.specs.Stores.{IsNamed};
 
 use crate::marks::{BEGIN, END, mark};
-use crate::probe::{Fault, Outcome, Verdict, marked, tried_again};
+use crate::probe::{Fault, Outcome, Verdict};
 use crate::settings::{
     Texts, answers, owned, owned_after, queries, same_version, small_runs, version,
 };
@@ -78,9 +78,9 @@ fn opens(rt: &impl Wait, alloc: Global, version: Version, wanted: &Version) -> O
 /// Opens a store. The version is moved in, so it is there twice.
 pub(crate) fn store_opened(rt: &impl Wait, alloc: Global) -> Option<Verdict> {
     let (one, other, wanted) = (version(alloc)?, version(alloc)?, version(alloc)?);
-    let _begin = mark(alloc, BEGIN);
+    mark(alloc, BEGIN);
     let first = opens(rt, alloc, one, &wanted);
-    let _end = mark(alloc, END);
+    mark(alloc, END);
     Some(match first {
         Outcome::Memory => Verdict::of_again(opens(rt, alloc, other, &wanted)),
         first => Verdict::of_first(first),
@@ -106,7 +106,13 @@ fn pinned<N: Name, W: Wait + Drop>(
     reader: &mut Reader<Texts, N>,
     wanted: &Version,
 ) -> Verdict {
-    tried_again(alloc, || pin_outcome(store, reader, wanted))
+    mark(alloc, BEGIN);
+    let first = pin_outcome(store, reader, wanted);
+    mark(alloc, END);
+    match first {
+        Outcome::Memory => Verdict::of_again(pin_outcome(store, reader, wanted)),
+        first => Verdict::of_first(first),
+    }
 }
 
 /// The verdict on a pick, which must be what a store with one owner picks.
@@ -119,9 +125,9 @@ fn picked<N: Name, W: Wait + Drop>(
 ) -> Verdict
     requires { seat.table ≡ store.now.table }
 {
-    let _begin = mark(alloc, BEGIN);
+    mark(alloc, BEGIN);
     let stretch = store.pick(pin, &mut seat);
-    let _end = mark(alloc, END);
+    mark(alloc, END);
     Verdict::of_first(Outcome::of(stretch == wanted))
 }
 
@@ -152,9 +158,9 @@ fn claimed<N: Name, W: Wait + Drop>(
 ) -> Verdict
     requires { seat.table ≡ store.now.table }
 {
-    let _begin = mark(alloc, BEGIN);
+    mark(alloc, BEGIN);
     let (first, back) = claim_outcome(store, reader, seat, pin);
-    let _end = mark(alloc, END);
+    mark(alloc, END);
     match back {
         Some((seat, pin)) => Verdict::of_again(claim_outcome(store, reader, seat, pin).0),
         None => Verdict::of_first(first),
@@ -190,15 +196,30 @@ fn compact_outcome<N: Name>(
     }
 }
 
-/// The verdict on a compaction of a claim, tried again if memory ran out.
+/// The verdict on a compaction of a claim between the marks, tried again if memory ran out.
+fn compact_tried<N: Name>(
+    rt: &(impl Threads + Sync),
+    alloc: Global,
+    held: &Held<Texts, N>,
+    wanted: &Run,
+) -> Verdict {
+    mark(alloc, BEGIN);
+    let first = compact_outcome(rt, alloc, held, wanted);
+    mark(alloc, END);
+    match first {
+        Outcome::Memory => Verdict::of_again(compact_outcome(rt, alloc, held, wanted)),
+        first => Verdict::of_first(first),
+    }
+}
+
+/// The verdict on a compaction of a claim.
 fn compacted<N: Name>(
     rt: &(impl Threads + Sync),
     alloc: Global,
     held: &Held<Texts, N>,
 ) -> Option<Verdict> {
     let wanted = held.compact(rt, alloc).ok()?;
-    let wanted = wanted.output();
-    Some(tried_again(alloc, || compact_outcome(rt, alloc, held, wanted)))
+    Some(compact_tried(rt, alloc, held, wanted.output()))
 }
 
 /// The runs that are picked.
@@ -241,9 +262,9 @@ fn install_tried<N: Name, W: Wait + Drop>(
     requires { made.0.seat.table ≡ store.now.table }
 {
     let (before, after) = shown;
-    let _begin = mark(alloc, BEGIN);
+    mark(alloc, BEGIN);
     let (first, made) = install_outcome(rt, alloc, store, made, reader);
-    let _end = mark(alloc, END);
+    mark(alloc, END);
     let Some(made) = made else {
         let pinned = pin_outcome(store, reader, after);
         return Verdict::of_first(first.and(pinned));
@@ -279,9 +300,9 @@ fn abandoned<N: Name, W: Wait + Drop>(
 ) -> Verdict
     requires { held.seat.table ≡ store.now.table }
 {
-    let _begin = mark(alloc, BEGIN);
+    mark(alloc, BEGIN);
     let (seat, pin) = store.abandon(held);
-    let _end = mark(alloc, END);
+    mark(alloc, END);
     Verdict::of_first(claim_outcome(store, reader, seat, pin).0)
 }
 
@@ -309,10 +330,9 @@ fn batch_tried<N: Name + Send>(
     queries: &[Query],
     wanted: &[Answer],
 ) -> Verdict {
-    let (readers, first) = marked(
-        alloc,
-        move || batch_outcome(rt, alloc, readers, queries, wanted),
-    );
+    mark(alloc, BEGIN);
+    let (readers, first) = batch_outcome(rt, alloc, readers, queries, wanted);
+    mark(alloc, END);
     if first != Outcome::Memory {
         return Verdict::of_first(first);
     }

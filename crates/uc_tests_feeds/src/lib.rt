@@ -1,6 +1,7 @@
 //! A store that threads share, which is fed while it lives, and whose snapshots come and go, called as its users call it.
 //!
-//! `stores.rt` opens stores and looks at them, and `steps.rt` walks lists of what is done to them. `rows.rt` has what feeds, keeps and
+//! `stores.rt` opens stores and looks at them, and `steps.rt` walks lists of what is done to them; `tried.rt` opens one
+//! for what is tried with it. `rows.rt` has what feeds, keeps and
 //! releases show, worked by hand, and what refuses them; `limits.rt` where slots, sequences and ids end; `traps.rt` claims and installs
 //! around feeds. `unreleased.rt` asks at snapshots that nobody releases, beside one who feeds and compacts.
 //!
@@ -33,5 +34,7 @@ mod steps;
 mod stores;
 #[cfg(test)]
 mod traps;
+#[cfg(test)]
+mod tried;
 #[cfg(test)]
 mod unreleased;

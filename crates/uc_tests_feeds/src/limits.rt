@@ -1,20 +1,24 @@
 //! Where feeds end: no slot, no sequence or no id is left. Worked by hand.
 ghost use Rattle.std.specs.Prelude.{◌≡◌, false};
-ghost use Rattle.uc_share.specs.Stores.{IsNamed};
 
-use crate::steps::{Step, come_so, opened_come_so};
-use crate::stores::{Change, compacts, opened, store_of_puts};
+use crate::steps::{Step, come_so};
+use crate::stores::{Change, Commas, compacts, store_of_puts};
+use crate::tried::{Tried, is_right};
 use std::alloc::Global;
-use std::marker::{Brand, Sync};
-use std::process::Abort;
+use std::marker::Sync;
 use std::sync::Wait;
-use std::test::Fail;
 use std::thread::Threads;
 use testkit_compactors::steps::claimed;
 use testkit_compactors::worker::Worker;
 use uc_bytes::MAX_SEQUENCE;
+<<<<<<< HEAD
 use uc_oper::{Append, Operator};
 use uc_share::{FeedError, InstallError, Name, Opening, Reader, Seat, Store, Stretch};
+=======
+use uc_share::{FeedError, InstallError, Name, Reader, Seat, Store, Stretch};
+use testkit_compactors::steps::claimed;
+use testkit_compactors::worker::Pair;
+>>>>>>> 082395358267c5c7adfdb2f62d5557430dce9f8c
 
 /// What is fed to a store of 256 runs.
 static TO_256_RUNS: [Step; 5] = [
@@ -59,27 +63,23 @@ fn fed_to(count: u64) -> &'static [Step] {
 }
 
 #[test]
-fn feeds_end_with_slots_and_sequences(rt: HostRuntime) -> Result<(), Fail> {
-    let alloc = rt.alloc();
+fn feeds_end_with_slots_and_sequences(rt: HostRuntime) {
     for count in [256, 255, 3] {
-        let opening = store_of_puts(alloc, count, 1)?;
-        let steps = fed_to(count);
-        let right = opened_come_so::<Append<0x2C>, Brand, _>(&rt, &rt, alloc, opening, steps)?;
-        assert!(rt; right);
+        let opening = store_of_puts(rt.alloc(), count, 1);
+        assert!(rt; is_right(&rt, rt.alloc(), opening, Tried::Steps(fed_to(count))));
     }
-    Ok(())
 }
 
 /// The two newest runs.
 const NEWEST: Stretch = Stretch { first: 0, count: 2 };
 
 /// Why the install of what the two newest runs are compacted to is refused.
-fn install_refusal<O: Operator + Sync, N: Name, W: Wait + Drop>(
+fn install_refusal<N: Name, W: Wait + Drop>(
     rt: &(impl Threads + Wait + Sync),
     alloc: Global,
-    store: &Store<O, N, W>,
+    store: &Store<Commas, N, W>,
     seat: Seat,
-    reader: &mut Reader<O, N>,
+    reader: &mut Reader<Commas, N>,
 ) -> Option<InstallError>
     requires { seat.table ≡ store.now.table }
 {
@@ -105,78 +105,44 @@ static LAST_IS_INSTALLED: [Step; 3] = [
     Step::Counts(254, 2),
 ];
 
+/// What is seen of it then.
+static ALL_RUNS: [Step; 1] = [Step::Counts(256, 2)];
+
 /// The last id is a fed run's, and nothing is installed any more.
-fn run_has_the_last_id<O: Operator + Sync, N: Name, W: Wait + Drop>(
+pub(crate) fn run_has_the_last_id<N: Name, W: Wait + Drop>(
     rt: &(impl Threads + Wait + Sync),
     alloc: Global,
-    store: &Store<O, N, W>,
-    worker: Worker<O, N>,
+    store: &Store<Commas, N, W>,
+    pair: Pair<Commas, N>,
 ) -> bool
-    requires table { worker.1.table ≡ store.now.table }
+    requires table { pair.0.1.table ≡ store.now.table }
     requires keeps { N.keeps_stay ≡ false }
 {
-    let (mut reader, seat) = worker;
-    let fed = come_so(rt, alloc, store, &mut reader, &LAST_IS_FED);
-    let error = install_refusal(rt, alloc, store, seat, &mut reader);
-    let refused = error == Some(InstallError::IdsSpent);
-    fed && refused && come_so(rt, alloc, store, &mut reader, &[Step::Counts(256, 2)])
+    let ((mut reader, seat), _) = pair;
+    come_so(rt, alloc, store, &mut reader, &LAST_IS_FED)
+        && install_refusal(rt, alloc, store, seat, &mut reader) == Some(InstallError::IdsSpent)
+        && come_so(rt, alloc, store, &mut reader, &ALL_RUNS)
 }
 
 /// The last id is an installed run's, and nothing is fed any more.
-fn install_has_the_last_id<O: Operator + Sync, N: Name, W: Wait + Drop>(
+pub(crate) fn install_has_the_last_id<N: Name, W: Wait + Drop>(
     rt: &(impl Threads + Wait + Sync),
     alloc: Global,
-    store: &Store<O, N, W>,
-    worker: Worker<O, N>,
+    store: &Store<Commas, N, W>,
+    pair: Pair<Commas, N>,
 ) -> bool
-    requires table { worker.1.table ≡ store.now.table }
+    requires table { pair.0.1.table ≡ store.now.table }
     requires keeps { N.keeps_stay ≡ false }
 {
-    let (mut reader, seat) = worker;
-    let compacted = compacts(rt, alloc, store, seat, &mut reader, NEWEST).is_some();
-    compacted && come_so(rt, alloc, store, &mut reader, &LAST_IS_INSTALLED)
-}
-
-/// Who has the last id: a run that is fed, or one that is installed.
-fn last_id_is<O: Operator + Sync, N: Name, W: Wait + Drop>(
-    rt: &(impl Threads + Wait + Sync),
-    alloc: Global,
-    store: &Store<O, N, W>,
-    worker: Worker<O, N>,
-    is_fed: bool,
-) -> bool
-    requires table { worker.1.table ≡ store.now.table }
-    requires keeps { N.keeps_stay ≡ false }
-{
-    if is_fed {
-        run_has_the_last_id(rt, alloc, store, worker)
-    } else {
-        install_has_the_last_id(rt, alloc, store, worker)
-    }
-}
-
-/// The same of a store that is opened here.
-fn last_id_is_given<O: Operator + Sync, N: Name, W: Wait + Drop>(
-    rt: &(impl Threads + Wait + Sync),
-    handle: W,
-    alloc: Global,
-    opening: Opening<O>,
-    is_fed: bool,
-) -> Result<bool, Fail>
-    requires name { IsNamed opening N.book N.table N.base }
-    requires keeps { N.keeps_stay ≡ false }
-{
-    let (store, (worker, _)) = opened::<O, N, W>(handle, alloc, opening)?;
-    Ok(last_id_is(rt, alloc, &store, worker, is_fed))
+    let ((mut reader, seat), _) = pair;
+    compacts(rt, alloc, store, seat, &mut reader, NEWEST).is_some()
+        && come_so(rt, alloc, store, &mut reader, &LAST_IS_INSTALLED)
 }
 
 #[test]
-fn feeds_end_with_ids(rt: HostRuntime) -> Result<(), Fail> {
-    let alloc = rt.alloc();
-    for is_fed in [true, false] {
-        let opening = store_of_puts(alloc, 255, 18_446_744_073_709_551_359)?;
-        let right = last_id_is_given::<Append<0x2C>, Brand, _>(&rt, &rt, alloc, opening, is_fed)?;
-        assert!(rt; right);
+fn feeds_end_with_ids(rt: HostRuntime) {
+    for tried in [Tried::RunHasTheLastId, Tried::InstallHasTheLastId] {
+        let opening = store_of_puts(rt.alloc(), 255, 18_446_744_073_709_551_359);
+        assert!(rt; is_right(&rt, rt.alloc(), opening, tried));
     }
-    Ok(())
 }

@@ -1,18 +1,21 @@
 //! What feeds, keeps and releases show, and which writes are refused, worked by hand.
 ghost use Rattle.std.specs.Prelude.{◌≡◌, false};
-ghost use Rattle.uc_share.specs.Stores.{IsNamed};
 
-use crate::steps::{Step, come_so, opened_come_so};
-use crate::stores::{Change, Read, Wanted, compacts, opened, store_of};
+use crate::steps::{Step, come_so};
+use crate::stores::{Change, Commas, Read, Wanted, compacts, store_of};
+use crate::tried::{Tried, is_right};
 use std::alloc::Global;
-use std::marker::{Brand, Sync};
-use std::process::Abort;
+use std::marker::Sync;
 use std::sync::Wait;
-use std::test::Fail;
 use std::thread::Threads;
+<<<<<<< HEAD
 use testkit_compactors::worker::Worker;
 use uc_oper::{Append, Operator};
 use uc_share::{FeedError, Name, Opening, ReleaseError, Store, Stretch};
+=======
+use uc_share::{FeedError, Name, Opening, ReleaseError, Store, Stretch};
+use testkit_compactors::worker::Pair;
+>>>>>>> 082395358267c5c7adfdb2f62d5557430dce9f8c
 
 /// Two merges are fed to a store of a put, and their last sequence is kept.
 static FED_AND_KEPT: [Step; 5] = [
@@ -63,43 +66,26 @@ static COMPACTED_AND_RELEASED: [Step; 8] = [
 ];
 
 /// Feeds, a keep, a compaction and a release, one after the other.
-fn store_goes_on<O: Operator + Sync, N: Name, W: Wait + Drop>(
+pub(crate) fn store_goes_on<N: Name, W: Wait + Drop>(
     rt: &(impl Threads + Wait + Sync),
     alloc: Global,
-    store: &Store<O, N, W>,
-    worker: Worker<O, N>,
+    store: &Store<Commas, N, W>,
+    pair: Pair<Commas, N>,
 ) -> bool
-    requires table { worker.1.table ≡ store.now.table }
+    requires table { pair.0.1.table ≡ store.now.table }
     requires keeps { N.keeps_stay ≡ false }
 {
-    let (mut reader, seat) = worker;
+    let ((mut reader, seat), _) = pair;
     let three = Stretch { first: 0, count: 3 };
-    let kept = come_so(rt, alloc, store, &mut reader, &FED_AND_KEPT);
-    let compacted = compacts(rt, alloc, store, seat, &mut reader, three).is_some();
-    kept && compacted && come_so(rt, alloc, store, &mut reader, &COMPACTED_AND_RELEASED)
-}
-
-/// The same of a store that is opened here.
-fn opened_store_goes_on<O: Operator + Sync, N: Name, W: Wait + Drop>(
-    rt: &(impl Threads + Wait + Sync),
-    handle: W,
-    alloc: Global,
-    opening: Opening<O>,
-) -> Result<bool, Fail>
-    requires name { IsNamed opening N.book N.table N.base }
-    requires keeps { N.keeps_stay ≡ false }
-{
-    let (store, (worker, _)) = opened::<O, N, W>(handle, alloc, opening)?;
-    Ok(store_goes_on(rt, alloc, &store, worker))
+    come_so(rt, alloc, store, &mut reader, &FED_AND_KEPT)
+        && compacts(rt, alloc, store, seat, &mut reader, three).is_some()
+        && come_so(rt, alloc, store, &mut reader, &COMPACTED_AND_RELEASED)
 }
 
 #[test]
-fn a_store_is_fed_kept_and_released(rt: HostRuntime) -> Result<(), Fail> {
-    let alloc = rt.alloc();
-    let opening = store_of(alloc, &[Change::Put(1, b"a")], &[])?;
-    let right = opened_store_goes_on::<Append<0x2C>, Brand, _>(&rt, &rt, alloc, opening)?;
-    assert!(rt; right);
-    Ok(())
+fn a_store_is_fed_kept_and_released(rt: HostRuntime) {
+    let opening = store_of(rt.alloc(), &[Change::Put(1, b"a")], &[]);
+    assert!(rt; is_right(&rt, rt.alloc(), opening, Tried::GoesOn));
 }
 
 /// Of a store of a put and two merges, which also keeps 0. That stays a keep: no call releases another than its own.
@@ -155,24 +141,19 @@ static REFUSED_AND_KEPT: [Step; 14] = [
 ];
 
 /// A put and two merges.
-pub(crate) fn put_and_merges<O: Operator>(
-    alloc: Global,
-    keeps: &[u64],
-) -> Result<Opening<O>, Fail> {
-    let changes = [
-        Change::Put(1, b"a"),
-        Change::Merge(2, b"b"),
-        Change::Merge(3, b"c"),
-    ];
-    store_of(alloc, &changes, keeps)
+static PUT_AND_MERGES: [Change; 3] = [
+    Change::Put(1, b"a"),
+    Change::Merge(2, b"b"),
+    Change::Merge(3, b"c"),
+];
+
+/// A store of a put and two merges.
+pub(crate) fn put_and_merges(alloc: Global, keeps: &[u64]) -> Option<Opening<Commas>> {
+    store_of(alloc, &PUT_AND_MERGES, keeps)
 }
 
 #[test]
-fn what_is_old_is_refused_and_what_is_kept_stays(rt: HostRuntime) -> Result<(), Fail> {
-    let alloc = rt.alloc();
-    let opening = put_and_merges(alloc, &[0])?;
-    let steps = &REFUSED_AND_KEPT;
-    let right = opened_come_so::<Append<0x2C>, Brand, _>(&rt, &rt, alloc, opening, steps)?;
-    assert!(rt; right);
-    Ok(())
+fn what_is_old_is_refused_and_what_is_kept_stays(rt: HostRuntime) {
+    let opening = put_and_merges(rt.alloc(), &[0]);
+    assert!(rt; is_right(&rt, rt.alloc(), opening, Tried::Steps(&REFUSED_AND_KEPT)));
 }

@@ -14,13 +14,15 @@ use crate::feeders::{FEEDS, MOST_FED, two_feed};
 use crate::keeper::keeps_often;
 use std::alloc::Global;
 use std::marker::{Brand, Send, Sync};
-use std::process::Abort;
 use std::sync::{RwLock, Wait};
-use std::test::Fail;
 use std::thread::{Threads, join};
+<<<<<<< HEAD
 use testkit_compactors::drawn::small_runs;
 use testkit_compactors::worker::{Pair, next_pair};
 use testkit_draws::dice::Dice;
+=======
+use uc_batch::Writes;
+>>>>>>> 082395358267c5c7adfdb2f62d5557430dce9f8c
 use uc_oper::{Append, Counter, Maximum, Operator, Tail};
 use uc_share::{Name, Opening, Reader, Seat, Store, Version};
 
@@ -232,41 +234,57 @@ fn opening_of<O: Operator>(alloc: Global) -> Option<Opening<O>> {
     Opening::open(alloc, &writes, &[KEPT], small_runs(), 9, 2).ok()
 }
 
-/// What is done to so many stores, where all is answered as it should be, and nothing is lost.
+/// What is done to a store, where all is answered as it should be, and nothing is lost.
+fn done_to_one<O: Operator + Send + Sync, R: Threads + Wait + Sync>(
+    rt: &R,
+    alloc: Global,
+    opening: Opening<O>,
+    writes: &Writes,
+    seed: u64,
+) -> Option<Done> {
+    let asking = Asking {
+        kept: RwLock::new(OPENED),
+        writes,
+        seed,
+        first_id: opening.version().next_id(),
+    };
+    soaks_opened::<O, Brand, &R, R>(rt, rt, alloc, opening, &asking)
+}
+
+/// What is done to so many stores.
 fn done_to<O: Operator + Send + Sync, R: Threads + Wait + Sync>(
     rt: &R,
     alloc: Global,
+    writes: &Writes,
     stores: u64,
-) -> Result<Done, Fail> {
-    let writes = writes_behind(alloc, 0, WRITES).ok_or("there are no writes")?;
+) -> Option<Done> {
     let mut done = Done::nothing();
     for seed in 0..stores {
-        let opening = opening_of::<O>(alloc).ok_or("the store isn't opened")?;
-        let asking = Asking {
-            kept: RwLock::new(OPENED),
-            writes: &writes,
-            seed,
-            first_id: opening.version().next_id(),
-        };
-        let came = soaks_opened::<O, Brand, &R, R>(rt, rt, alloc, opening, &asking);
-        done = done.and(came.ok_or("an answer differs, or an install is refused")?);
+        let opening = opening_of::<O>(alloc)?;
+        done = done.and(done_to_one(rt, alloc, opening, writes, seed)?);
     }
-    Ok(done)
+    Some(done)
+}
+
+/// What is done to the stores of all operators.
+fn done_to_all<R: Threads + Wait + Sync>(rt: &R, alloc: Global) -> Option<Done> {
+    let writes = writes_behind(alloc, 0, WRITES)?;
+    let appended = done_to::<Append<0x2C>, _>(rt, alloc, &writes, STORES)?;
+    let counted = done_to::<Counter, _>(rt, alloc, &writes, STORES)?;
+    let greatest = done_to::<Maximum, _>(rt, alloc, &writes, STORES)?;
+    let last = done_to::<Tail<2>, _>(rt, alloc, &writes, STORES)?;
+    Some(appended.and(counted).and(greatest).and(last))
 }
 
 /// Whether enough was done that it means something.
-fn is_enough(done: Done, stores: u64) -> bool {
-    done.installs >= stores && done.runs >= stores
+fn is_enough(done: Option<Done>, stores: u64) -> bool {
+    match done {
+        Some(done) => done.installs >= stores && done.runs >= stores,
+        None => false,
+    }
 }
 
 #[test]
-fn stores_answer_while_they_are_fed_kept_and_released(rt: HostRuntime) -> Result<(), Fail> {
-    let alloc = rt.alloc();
-    let appended = done_to::<Append<0x2C>, _>(&rt, alloc, STORES)?;
-    let counted = done_to::<Counter, _>(&rt, alloc, STORES)?;
-    let greatest = done_to::<Maximum, _>(&rt, alloc, STORES)?;
-    let last = done_to::<Tail<2>, _>(&rt, alloc, STORES)?;
-    let all = appended.and(counted).and(greatest).and(last);
-    assert!(rt; is_enough(all, 4 * STORES));
-    Ok(())
+fn stores_answer_while_they_are_fed_kept_and_released(rt: HostRuntime) {
+    assert!(rt; is_enough(done_to_all(&rt, rt.alloc()), 4 * STORES));
 }

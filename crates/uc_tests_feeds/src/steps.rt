@@ -1,13 +1,10 @@
 //! [`Step`]: what is done to a store, and what has to come of it.
 ghost use Rattle.std.specs.Prelude.{◌≡◌, false};
-ghost use Rattle.uc_share.specs.Stores.{IsNamed};
 
-use crate::stores::{Change, Read, Wanted, feed, opened, reads, shows};
+use crate::stores::{Change, Commas, Read, Wanted, feed, reads, shows};
 use std::alloc::Global;
 use std::sync::Wait;
-use std::test::Fail;
-use uc_oper::Operator;
-use uc_share::{FeedError, Name, Opening, Reader, ReleaseError, Store};
+use uc_share::{FeedError, Name, Reader, ReleaseError, Store};
 
 /// What is done to a store, and what has to come of it.
 #[derive(Clone, Copy)]
@@ -27,9 +24,9 @@ pub(crate) enum Step {
 }
 
 /// Whether what is shown has so many runs and events.
-fn counts_are<O: Operator, N: Name, W: Wait + Drop>(
-    store: &Store<O, N, W>,
-    reader: &mut Reader<O, N>,
+fn counts_are<N: Name, W: Wait + Drop>(
+    store: &Store<Commas, N, W>,
+    reader: &mut Reader<Commas, N>,
     runs: usize,
     events: u64,
 ) -> bool {
@@ -40,11 +37,11 @@ fn counts_are<O: Operator, N: Name, W: Wait + Drop>(
 }
 
 /// Whether a step comes to what it has to.
-fn comes_so<O: Operator, N: Name, W: Wait + Drop>(
+fn comes_so<N: Name, W: Wait + Drop>(
     rt: &impl Wait,
     alloc: Global,
-    store: &Store<O, N, W>,
-    reader: &mut Reader<O, N>,
+    store: &Store<Commas, N, W>,
+    reader: &mut Reader<Commas, N>,
     step: &Step,
 ) -> bool
     requires { N.keeps_stay ≡ false }
@@ -60,11 +57,11 @@ fn comes_so<O: Operator, N: Name, W: Wait + Drop>(
 }
 
 /// Whether all steps, one after the other, come to what they have to.
-pub(crate) fn come_so<O: Operator, N: Name, W: Wait + Drop>(
+pub(crate) fn come_so<N: Name, W: Wait + Drop>(
     rt: &impl Wait,
     alloc: Global,
-    store: &Store<O, N, W>,
-    reader: &mut Reader<O, N>,
+    store: &Store<Commas, N, W>,
+    reader: &mut Reader<Commas, N>,
     steps: &[Step],
 ) -> bool
     requires { N.keeps_stay ≡ false }
@@ -75,19 +72,4 @@ pub(crate) fn come_so<O: Operator, N: Name, W: Wait + Drop>(
         }
     }
     true
-}
-
-/// The same of a store that is opened here.
-pub(crate) fn opened_come_so<O: Operator, N: Name, W: Wait + Drop>(
-    rt: &impl Wait,
-    handle: W,
-    alloc: Global,
-    opening: Opening<O>,
-    steps: &[Step],
-) -> Result<bool, Fail>
-    requires name { IsNamed opening N.book N.table N.base }
-    requires keeps { N.keeps_stay ≡ false }
-{
-    let (store, ((mut reader, _), _)) = opened::<O, N, W>(handle, alloc, opening)?;
-    Ok(come_so(rt, alloc, &store, &mut reader, steps))
 }

@@ -1,20 +1,22 @@
 //! Stores of a few runs, what is fed to them, and what they show.
-ghost use Rattle.std.specs.Prelude.{◌≡◌, IfOk, IfSome};
+ghost use Rattle.std.specs.Prelude.{◌≡◌, IfSome};
 ghost use Rattle.uc_share.specs.Stores.{IsNamed};
 
 use std::alloc::Global;
 use std::marker::Sync;
 use std::sync::Wait;
-use std::test::Fail;
 use std::thread::Threads;
 use testkit_compactors::drawn::small_runs;
 use testkit_compactors::steps::{claimed, installed};
 use testkit_compactors::worker::{Pair, next_pair};
 use uc_batch::Writes;
 use uc_bytes::{OpRef, WriteRef};
-use uc_oper::Operator;
+use uc_oper::Append;
 use uc_query_read::{Answer, get};
 use uc_share::{FeedError, Name, Opening, Options, Pin, Reader, Seat, Store, Stretch, Version};
+
+/// The operator of most stores: texts joined by a comma.
+pub(crate) type Commas = Append<0x2C>;
 
 /// A change of the key `k` with its sequence.
 #[derive(Clone, Copy)]
@@ -59,74 +61,66 @@ fn changes_of(alloc: Global, changes: &[Change]) -> Option<Writes> {
 }
 
 /// So many puts, numbered from 1.
-fn puts(alloc: Global, count: u64) -> Result<Writes, Fail> {
+fn puts(alloc: Global, count: u64) -> Option<Writes> {
     let mut list = Vec::new(alloc);
     for number in 0..count {
         let write = WriteRef::new(number.saturating_add(1), OpRef::put(b"k", b"a"));
-        list.push(write.to_write(alloc)?)?;
+        list.push(write.to_write(alloc).ok()?).ok()?;
     }
-    Ok(Writes::of(list).ok_or("the sequences don't rise")?)
+    Writes::of(list)
 }
 
 /// A store of writes, each a run, for two readers and two seats. It keeps these sequences and the last one.
-fn small_store<O: Operator>(
+fn small_store(
     alloc: Global,
     writes: &Writes,
     keeps: &[u64],
     first_id: u64,
-) -> Result<Opening<O>, Fail> {
+) -> Option<Opening<Commas>> {
     let options = Options {
         first_id,
         ..small_runs()
     };
-    match Opening::open(alloc, writes, keeps, options, 2, 2) {
-        Ok(opening) => Ok(opening),
-        Err(_) => Err("the store isn't opened")?,
-    }
+    Opening::open(alloc, writes, keeps, options, 2, 2).ok()
 }
 
 /// A store of changes, whose runs are numbered from 1.
-pub(crate) fn store_of<O: Operator>(
+pub(crate) fn store_of(
     alloc: Global,
     changes: &[Change],
     keeps: &[u64],
-) -> Result<Opening<O>, Fail> {
-    let writes = changes_of(alloc, changes).ok_or("the sequences don't rise")?;
-    small_store(alloc, &writes, keeps, 1)
+) -> Option<Opening<Commas>> {
+    small_store(alloc, &changes_of(alloc, changes)?, keeps, 1)
 }
 
 /// A store of so many puts, whose runs are numbered from a first id.
-pub(crate) fn store_of_puts<O: Operator>(
-    alloc: Global,
-    count: u64,
-    first_id: u64,
-) -> Result<Opening<O>, Fail> {
+pub(crate) fn store_of_puts(alloc: Global, count: u64, first_id: u64) -> Option<Opening<Commas>> {
     small_store(alloc, &puts(alloc, count)?, &[], first_id)
 }
 
 /// A store with two compactors.
-pub(crate) fn opened<O: Operator, N: Name, W: Wait + Drop>(
+pub(crate) fn opened<N: Name, W: Wait + Drop>(
     handle: W,
     alloc: Global,
-    opening: Opening<O>,
-) -> Result<(Store<O, N, W>, Pair<O, N>), Fail>
+    opening: Opening<Commas>,
+) -> Option<(Store<Commas, N, W>, Pair<Commas, N>)>
     requires { IsNamed opening N.book N.table N.base }
-    ensures { IfOk result (λ opened.
+    ensures { IfSome result (λ opened.
         (opened.1.0.1.table ≡ opened.0.table) × (opened.1.1.1.table ≡ opened.0.table)) }
 {
     let Ok((store, mut readers, mut seats)) = opening.named::<N, W>(alloc, handle) else {
-        return Err("the store has no name")?;
+        return None;
     };
-    let pair = next_pair(&store, &mut readers, &mut seats).ok_or("there are no two compactors")?;
-    Ok((store, pair))
+    let pair = next_pair(&store, &mut readers, &mut seats)?;
+    Some((store, pair))
 }
 
 /// Feeds changes: how many runs there are more, or what refused them. Nothing is said if the writes can't be made.
-pub(crate) fn feed<O: Operator, N: Name, W: Wait + Drop>(
+pub(crate) fn feed<N: Name, W: Wait + Drop>(
     rt: &impl Wait,
     alloc: Global,
-    store: &Store<O, N, W>,
-    reader: &mut Reader<O, N>,
+    store: &Store<Commas, N, W>,
+    reader: &mut Reader<Commas, N>,
     changes: &[Change],
 ) -> Option<Result<u64, FeedError>> {
     let writes = changes_of(alloc, changes)?;
@@ -143,18 +137,18 @@ fn is_answer(answer: &Answer, wanted: Read) -> bool {
 }
 
 /// Whether a version reads so.
-fn is_read_so<O: Operator>(alloc: Global, version: &Version, wanted: Read) -> bool {
+fn is_read_so(alloc: Global, version: &Version, wanted: Read) -> bool {
     let (Read::Value(at, _) | Read::NotProtected(at)) = wanted;
-    match get::<O>(alloc, version, b"k", at) {
+    match get::<Commas>(alloc, version, b"k", at) {
         Ok(answer) => is_answer(&answer, wanted),
         Err(_) => false,
     }
 }
 
 /// Whether a version reads so at all these sequences.
-fn are_read_so<O: Operator>(alloc: Global, version: &Version, all: &[Read]) -> bool {
+fn are_read_so(alloc: Global, version: &Version, all: &[Read]) -> bool {
     for wanted in all {
-        if !is_read_so::<O>(alloc, version, *wanted) {
+        if !is_read_so(alloc, version, *wanted) {
             return false;
         }
     }
@@ -162,14 +156,14 @@ fn are_read_so<O: Operator>(alloc: Global, version: &Version, all: &[Read]) -> b
 }
 
 /// Whether what is shown now reads so.
-pub(crate) fn reads<O: Operator, N: Name, W: Wait + Drop>(
+pub(crate) fn reads<N: Name, W: Wait + Drop>(
     alloc: Global,
-    store: &Store<O, N, W>,
-    reader: &mut Reader<O, N>,
+    store: &Store<Commas, N, W>,
+    reader: &mut Reader<Commas, N>,
     all: &[Read],
 ) -> bool {
     match store.pin(reader) {
-        Ok(pin) => are_read_so::<O>(alloc, pin.version(), all),
+        Ok(pin) => are_read_so(alloc, pin.version(), all),
         Err(_) => false,
     }
 }
@@ -193,7 +187,7 @@ fn ends_at(version: &Version, seq: u64) -> bool {
 }
 
 /// Whether what was pinned is this. Its newest run ends at the last sequence.
-fn is_pinned<O: Operator, N: Name>(pin: &Pin<O, N>, wanted: &Wanted) -> bool {
+fn is_pinned<N: Name>(pin: &Pin<Commas, N>, wanted: &Wanted) -> bool {
     let version = pin.version();
     let runs = has_runs(version, wanted.ids, wanted.slots) && ends_at(version, wanted.last);
     let keeps = version.keeps() == wanted.keeps && version.last() == wanted.last;
@@ -202,9 +196,9 @@ fn is_pinned<O: Operator, N: Name>(pin: &Pin<O, N>, wanted: &Wanted) -> bool {
 }
 
 /// Whether what is shown now is this.
-pub(crate) fn shows<O: Operator, N: Name, W: Wait + Drop>(
-    store: &Store<O, N, W>,
-    reader: &mut Reader<O, N>,
+pub(crate) fn shows<N: Name, W: Wait + Drop>(
+    store: &Store<Commas, N, W>,
+    reader: &mut Reader<Commas, N>,
     wanted: &Wanted,
 ) -> bool {
     match store.pin(reader) {
@@ -214,12 +208,12 @@ pub(crate) fn shows<O: Operator, N: Name, W: Wait + Drop>(
 }
 
 /// A stretch of what is shown is claimed, compacted and installed. The seat comes back.
-pub(crate) fn compacts<O: Operator + Sync, N: Name, W: Wait + Drop>(
+pub(crate) fn compacts<N: Name, W: Wait + Drop>(
     rt: &(impl Threads + Wait + Sync),
     alloc: Global,
-    store: &Store<O, N, W>,
+    store: &Store<Commas, N, W>,
     seat: Seat,
-    reader: &mut Reader<O, N>,
+    reader: &mut Reader<Commas, N>,
     stretch: Stretch,
 ) -> Option<Seat>
     requires { seat.table ≡ store.now.table }

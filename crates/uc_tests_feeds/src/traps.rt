@@ -1,21 +1,18 @@
 //! Claims and installs around feeds, keeps and releases, one after the other.
 ghost use Rattle.std.specs.Prelude.{◌≡◌, false, IfSome};
-ghost use Rattle.uc_share.specs.Stores.{IsNamed};
 
 use crate::rows::put_and_merges;
 use crate::steps::{Step, come_so};
-use crate::stores::{Change, Read, Wanted, compacts, opened, reads, store_of};
+use crate::stores::{Change, Commas, Read, Wanted, compacts, reads, store_of};
+use crate::tried::{Tried, is_right};
 use std::alloc::Global;
-use std::marker::{Brand, Sync};
-use std::process::Abort;
+use std::marker::Sync;
 use std::sync::Wait;
-use std::test::Fail;
 use std::thread::Threads;
 use testkit_compactors::steps::{claim_refusal, claimed, installed};
 use testkit_compactors::worker::{Pair, Worker};
 use uc_compact::{Compacted, compact, inputs_stand};
-use uc_oper::{Append, Operator};
-use uc_share::{ClaimError, Held, InstallError, Name, Opening, Pin, Reader, Seat, Store, Stretch};
+use uc_share::{ClaimError, Held, InstallError, Name, Pin, Reader, Seat, Store, Stretch};
 
 /// The two newest runs.
 const NEWEST: Stretch = Stretch { first: 0, count: 2 };
@@ -27,12 +24,12 @@ const OLDEST: Stretch = Stretch { first: 1, count: 2 };
 const THREE: Stretch = Stretch { first: 0, count: 3 };
 
 /// A stretch of what is shown, claimed.
-fn held_now<O: Operator, N: Name, W: Wait + Drop>(
-    store: &Store<O, N, W>,
+fn held_now<N: Name, W: Wait + Drop>(
+    store: &Store<Commas, N, W>,
     seat: Seat,
-    reader: &mut Reader<O, N>,
+    reader: &mut Reader<Commas, N>,
     stretch: Stretch,
-) -> Option<Held<O, N>>
+) -> Option<Held<Commas, N>>
     requires { seat.table ≡ store.now.table }
     ensures { IfSome result (λ held. held.seat.table ≡ store.now.table) }
 {
@@ -64,13 +61,13 @@ static INSTALLED_BEHIND: [Step; 2] = [
 ];
 
 /// What was claimed and compacted is installed behind a feed, a keep and a release by another.
-fn made_is_installed<O: Operator, N: Name, W: Wait + Drop>(
+fn made_is_installed<N: Name, W: Wait + Drop>(
     rt: &impl Wait,
     alloc: Global,
-    store: &Store<O, N, W>,
-    held: Held<O, N>,
-    made: Compacted<O>,
-    readers: (&mut Reader<O, N>, &mut Reader<O, N>),
+    store: &Store<Commas, N, W>,
+    held: Held<Commas, N>,
+    made: Compacted<Commas>,
+    readers: (&mut Reader<Commas, N>, &mut Reader<Commas, N>),
 ) -> bool
     requires table { held.seat.table ≡ store.now.table }
     requires keeps { N.keeps_stay ≡ false }
@@ -82,12 +79,12 @@ fn made_is_installed<O: Operator, N: Name, W: Wait + Drop>(
 }
 
 /// What was claimed is compacted and installed behind a feed, a keep and a release by another.
-fn held_is_installed<O: Operator + Sync, N: Name, W: Wait + Drop>(
+fn held_is_installed<N: Name, W: Wait + Drop>(
     rt: &(impl Threads + Wait + Sync),
     alloc: Global,
-    store: &Store<O, N, W>,
-    held: Held<O, N>,
-    readers: (&mut Reader<O, N>, &mut Reader<O, N>),
+    store: &Store<Commas, N, W>,
+    held: Held<Commas, N>,
+    readers: (&mut Reader<Commas, N>, &mut Reader<Commas, N>),
 ) -> bool
     requires table { held.seat.table ≡ store.now.table }
     requires keeps { N.keeps_stay ≡ false }
@@ -99,12 +96,12 @@ fn held_is_installed<O: Operator + Sync, N: Name, W: Wait + Drop>(
 }
 
 /// What was claimed is installed behind a feed, a keep and a release by another, and compacted before or behind these.
-fn claim_is_installed<O: Operator + Sync, N: Name, W: Wait + Drop>(
+fn claim_is_installed<N: Name, W: Wait + Drop>(
     rt: &(impl Threads + Wait + Sync),
     alloc: Global,
-    store: &Store<O, N, W>,
-    held: Held<O, N>,
-    readers: (&mut Reader<O, N>, &mut Reader<O, N>),
+    store: &Store<Commas, N, W>,
+    held: Held<Commas, N>,
+    readers: (&mut Reader<Commas, N>, &mut Reader<Commas, N>),
     made_before: bool,
 ) -> bool
     requires table { held.seat.table ≡ store.now.table }
@@ -120,54 +117,32 @@ fn claim_is_installed<O: Operator + Sync, N: Name, W: Wait + Drop>(
 }
 
 /// A claim of three runs, which outlives a feed, a keep and a release.
-fn claim_outlives<O: Operator + Sync, N: Name, W: Wait + Drop>(
+pub(crate) fn claim_outlives<N: Name, W: Wait + Drop>(
     rt: &(impl Threads + Wait + Sync),
     alloc: Global,
-    store: &Store<O, N, W>,
-    worker: Worker<O, N>,
-    other: &mut Reader<O, N>,
+    store: &Store<Commas, N, W>,
+    pair: Pair<Commas, N>,
     made_before: bool,
 ) -> bool
-    requires table { worker.1.table ≡ store.now.table }
+    requires table { pair.0.1.table ≡ store.now.table }
     requires keeps { N.keeps_stay ≡ false }
 {
-    let (mut reader, seat) = worker;
+    let ((mut reader, seat), (mut other, _other_seat)) = pair;
     match held_now(store, seat, &mut reader, THREE) {
-        Some(held) => claim_is_installed(rt, alloc, store, held, (&mut reader, other), made_before),
+        Some(held) => {
+            let readers = (&mut reader, &mut other);
+            claim_is_installed(rt, alloc, store, held, readers, made_before)
+        }
         None => false,
     }
 }
 
-/// The same of a store that is opened here.
-fn claim_of_a_store_outlives<O: Operator + Sync, N: Name, W: Wait + Drop>(
-    rt: &(impl Threads + Wait + Sync),
-    handle: W,
-    alloc: Global,
-    opening: Opening<O>,
-    made_before: bool,
-) -> Result<bool, Fail>
-    requires name { IsNamed opening N.book N.table N.base }
-    requires keeps { N.keeps_stay ≡ false }
-{
-    let (store, (worker, (mut other, _))) = opened::<O, N, W>(handle, alloc, opening)?;
-    Ok(claim_outlives(rt, alloc, &store, worker, &mut other, made_before))
-}
-
 #[test]
-fn claims_outlive_feeds_keeps_and_releases(rt: HostRuntime) -> Result<(), Fail> {
-    let alloc = rt.alloc();
+fn claims_outlive_feeds_keeps_and_releases(rt: HostRuntime) {
     for made_before in [true, false] {
-        let opening = put_and_merges(alloc, &[1])?;
-        let right = claim_of_a_store_outlives::<Append<0x2C>, Brand, _>(
-            &rt,
-            &rt,
-            alloc,
-            opening,
-            made_before,
-        )?;
-        assert!(rt; right);
+        let opening = put_and_merges(rt.alloc(), &[1]);
+        assert!(rt; is_right(&rt, rt.alloc(), opening, Tried::ClaimOutlives(made_before)));
     }
-    Ok(())
 }
 
 /// Two runs take the two slots that are free once three are compacted.
@@ -183,12 +158,12 @@ static TWO_ARE_FED: [Step; 2] = [
 ];
 
 /// All three runs are compacted, and two others take the two slots that are free. The seat comes back.
-fn slots_are_taken_anew<O: Operator + Sync, N: Name, W: Wait + Drop>(
+fn slots_are_taken_anew<N: Name, W: Wait + Drop>(
     rt: &(impl Threads + Wait + Sync),
     alloc: Global,
-    store: &Store<O, N, W>,
+    store: &Store<Commas, N, W>,
     seat: Seat,
-    reader: &mut Reader<O, N>,
+    reader: &mut Reader<Commas, N>,
 ) -> Option<(Seat, bool)>
     requires table { seat.table ≡ store.now.table }
     requires keeps { N.keeps_stay ≡ false }
@@ -200,11 +175,11 @@ fn slots_are_taken_anew<O: Operator + Sync, N: Name, W: Wait + Drop>(
 }
 
 /// Whether what was pinned before has moved, and leaves no slot taken. The seat comes back.
-fn has_moved<O: Operator, N: Name, W: Wait + Drop>(
-    store: &Store<O, N, W>,
-    old: Pin<O, N>,
+fn has_moved<N: Name, W: Wait + Drop>(
+    store: &Store<Commas, N, W>,
+    old: Pin<Commas, N>,
     seat: Seat,
-    reader: &mut Reader<O, N>,
+    reader: &mut Reader<Commas, N>,
 ) -> (Seat, bool)
     requires { seat.table ≡ store.now.table }
     ensures { result.0.table ≡ store.now.table }
@@ -216,12 +191,12 @@ fn has_moved<O: Operator, N: Name, W: Wait + Drop>(
 
 /// What was pinned before its slots got other runs has moved, and its seat is free again. The runs that have these slots now can be
 /// claimed.
-fn old_pin_has_moved<O: Operator + Sync, N: Name, W: Wait + Drop>(
+fn moves_for_both<N: Name, W: Wait + Drop>(
     rt: &(impl Threads + Wait + Sync),
     alloc: Global,
-    store: &Store<O, N, W>,
-    old: Pin<O, N>,
-    pair: Pair<O, N>,
+    store: &Store<Commas, N, W>,
+    old: Pin<Commas, N>,
+    pair: Pair<Commas, N>,
 ) -> Option<bool>
     requires table { (pair.0.1.table ≡ store.now.table) × (pair.1.1.table ≡ store.now.table) }
     requires keeps { N.keeps_stay ≡ false }
@@ -235,36 +210,34 @@ fn old_pin_has_moved<O: Operator + Sync, N: Name, W: Wait + Drop>(
     Some(taken && moved && claimed && again && right)
 }
 
-/// The same of a store that is opened here.
-fn old_pin_of_a_store_has_moved<O: Operator + Sync, N: Name, W: Wait + Drop>(
+/// The same of a pin that is taken here.
+pub(crate) fn old_pin_has_moved<N: Name, W: Wait + Drop>(
     rt: &(impl Threads + Wait + Sync),
-    handle: W,
     alloc: Global,
-    opening: Opening<O>,
-) -> Result<bool, Fail>
-    requires name { IsNamed opening N.book N.table N.base }
+    store: &Store<Commas, N, W>,
+    pair: Pair<Commas, N>,
+) -> bool
+    requires table { (pair.0.1.table ≡ store.now.table) × (pair.1.1.table ≡ store.now.table) }
     requires keeps { N.keeps_stay ≡ false }
 {
-    let (store, ((mut reader, seat), other)) = opened::<O, N, W>(handle, alloc, opening)?;
-    let old = store.pin(&mut reader)?;
-    let moved = old_pin_has_moved(rt, alloc, &store, old, ((reader, seat), other));
-    Ok(moved.ok_or("three runs aren't compacted")?)
+    let ((mut reader, seat), other) = pair;
+    match store.pin(&mut reader) {
+        Ok(old) => moves_for_both(rt, alloc, store, old, ((reader, seat), other)) == Some(true),
+        Err(_) => false,
+    }
 }
 
 #[test]
-fn slots_of_an_old_pin_have_other_runs(rt: HostRuntime) -> Result<(), Fail> {
-    let alloc = rt.alloc();
-    let opening = put_and_merges(alloc, &[])?;
-    let right = old_pin_of_a_store_has_moved::<Append<0x2C>, Brand, _>(&rt, &rt, alloc, opening)?;
-    assert!(rt; right);
-    Ok(())
+fn slots_of_an_old_pin_have_other_runs(rt: HostRuntime) {
+    let opening = put_and_merges(rt.alloc(), &[]);
+    assert!(rt; is_right(&rt, rt.alloc(), opening, Tried::OldPinHasMoved));
 }
 
 /// Whether another can't claim the two oldest runs, one of which is claimed. The seat comes back.
-fn is_busy<O: Operator, N: Name, W: Wait + Drop>(
-    store: &Store<O, N, W>,
+fn is_busy<N: Name, W: Wait + Drop>(
+    store: &Store<Commas, N, W>,
     seat: Seat,
-    reader: &mut Reader<O, N>,
+    reader: &mut Reader<Commas, N>,
     slot: usize,
 ) -> Option<(Seat, bool)>
     requires { seat.table ≡ store.now.table }
@@ -289,13 +262,13 @@ static SLOT_IS_FED: [Step; 2] = [
 
 /// Two of three runs are busy while they are claimed. Once they are installed, the slot that is free then gets
 /// a run that is fed, which can be claimed.
-fn slots_are_busy_for_a_while<O: Operator + Sync, N: Name, W: Wait + Drop>(
+fn slots_are_busy_for_a_while<N: Name, W: Wait + Drop>(
     rt: &(impl Threads + Wait + Sync),
     alloc: Global,
-    store: &Store<O, N, W>,
-    held: Held<O, N>,
-    other: Worker<O, N>,
-    reader: &mut Reader<O, N>,
+    store: &Store<Commas, N, W>,
+    held: Held<Commas, N>,
+    other: Worker<Commas, N>,
+    reader: &mut Reader<Commas, N>,
 ) -> Option<bool>
     requires held { held.seat.table ≡ store.now.table }
     requires other { other.1.table ≡ store.now.table }
@@ -310,57 +283,57 @@ fn slots_are_busy_for_a_while<O: Operator + Sync, N: Name, W: Wait + Drop>(
     Some(busy && fed && claimed && right)
 }
 
-/// The same of a store that is opened here.
-fn slots_of_a_store_are_busy<O: Operator + Sync, N: Name, W: Wait + Drop>(
+/// The same of a claim that is made here.
+pub(crate) fn slots_are_busy<N: Name, W: Wait + Drop>(
     rt: &(impl Threads + Wait + Sync),
-    handle: W,
     alloc: Global,
-    opening: Opening<O>,
-) -> Result<bool, Fail>
-    requires name { IsNamed opening N.book N.table N.base }
+    store: &Store<Commas, N, W>,
+    pair: Pair<Commas, N>,
+) -> bool
+    requires table { (pair.0.1.table ≡ store.now.table) × (pair.1.1.table ≡ store.now.table) }
     requires keeps { N.keeps_stay ≡ false }
 {
-    let (store, ((mut reader, seat), other)) = opened::<O, N, W>(handle, alloc, opening)?;
-    let held = held_now(&store, seat, &mut reader, OLDEST).ok_or("the claim is refused")?;
-    let busy = slots_are_busy_for_a_while(rt, alloc, &store, held, other, &mut reader);
-    Ok(busy.ok_or("the install is refused")?)
+    let ((mut reader, seat), other) = pair;
+    match held_now(store, seat, &mut reader, OLDEST) {
+        Some(held) => {
+            let busy = slots_are_busy_for_a_while(rt, alloc, store, held, other, &mut reader);
+            busy == Some(true)
+        }
+        None => false,
+    }
 }
 
 #[test]
-fn slots_that_were_busy_are_fed(rt: HostRuntime) -> Result<(), Fail> {
-    let alloc = rt.alloc();
-    let opening = put_and_merges(alloc, &[])?;
-    let right = slots_of_a_store_are_busy::<Append<0x2C>, Brand, _>(&rt, &rt, alloc, opening)?;
-    assert!(rt; right);
-    Ok(())
+fn slots_that_were_busy_are_fed(rt: HostRuntime) {
+    let opening = put_and_merges(rt.alloc(), &[]);
+    assert!(rt; is_right(&rt, rt.alloc(), opening, Tried::SlotsAreBusy));
 }
 
 /// What claimed runs are compacted to under given keeps, for the oldest run.
-fn compacted_under<O: Operator + Sync, N: Name>(
+fn compacted_under<N: Name>(
     rt: &(impl Threads + Sync),
     alloc: Global,
-    held: &Held<O, N>,
+    held: &Held<Commas, N>,
     keeps: &[u64],
-) -> Option<Compacted<O>> {
+) -> Option<Compacted<Commas>> {
     let mut inputs = Vec::new(alloc);
     for placed in held.runs() {
-        let run = placed.run().clone().ok()?;
-        inputs.push(run).ok()?;
+        inputs.push(placed.run().clone().ok()?).ok()?;
     }
     if !inputs_stand(&inputs, keeps) {
         return None;
     }
-    compact::<O>(rt, alloc, &inputs, keeps, true).ok()
+    compact::<Commas>(rt, alloc, &inputs, keeps, true).ok()
 }
 
 /// What was made without a keep below the inputs' greatest sequence is refused, and what the claim is compacted to isn't.
-fn fewer_keeps_are_refused<O: Operator + Sync, N: Name, W: Wait + Drop>(
+fn fewer_keeps_are_refused<N: Name, W: Wait + Drop>(
     rt: &(impl Threads + Wait + Sync),
     alloc: Global,
-    store: &Store<O, N, W>,
-    held: Held<O, N>,
-    made: Compacted<O>,
-    reader: &mut Reader<O, N>,
+    store: &Store<Commas, N, W>,
+    held: Held<Commas, N>,
+    made: Compacted<Commas>,
+    reader: &mut Reader<Commas, N>,
 ) -> bool
     requires { held.seat.table ≡ store.now.table }
 {
@@ -382,13 +355,13 @@ static TWO_FED_RUNS: [Step; 3] = [
 ];
 
 /// The three runs behind that are claimed.
-fn two_fed_runs_held<O: Operator, N: Name, W: Wait + Drop>(
+fn two_fed_runs_held<N: Name, W: Wait + Drop>(
     rt: &impl Wait,
     alloc: Global,
-    store: &Store<O, N, W>,
+    store: &Store<Commas, N, W>,
     seat: Seat,
-    reader: &mut Reader<O, N>,
-) -> Option<Held<O, N>>
+    reader: &mut Reader<Commas, N>,
+) -> Option<Held<Commas, N>>
     requires table { seat.table ≡ store.now.table }
     requires keeps { N.keeps_stay ≡ false }
     ensures { IfSome result (λ held. held.seat.table ≡ store.now.table) }
@@ -400,35 +373,49 @@ fn two_fed_runs_held<O: Operator, N: Name, W: Wait + Drop>(
     }
 }
 
-/// What is installed of a store that is opened here, and how it reads then.
-fn fewer_keeps_of_a_store_are_refused<O: Operator + Sync, N: Name, W: Wait + Drop>(
+/// How the store reads behind the install.
+static READ_BEHIND: [Read; 3] = [
+    Read::Value(1, b"a"),
+    Read::Value(2, b"a,b"),
+    Read::NotProtected(3),
+];
+
+/// What is made of these runs without the keep between them is refused, and how the store reads then.
+fn held_is_refused<N: Name, W: Wait + Drop>(
     rt: &(impl Threads + Wait + Sync),
-    handle: W,
     alloc: Global,
-    opening: Opening<O>,
-) -> Result<bool, Fail>
-    requires name { IsNamed opening N.book N.table N.base }
+    store: &Store<Commas, N, W>,
+    held: Held<Commas, N>,
+    reader: &mut Reader<Commas, N>,
+) -> bool
+    requires { held.seat.table ≡ store.now.table }
+{
+    match compacted_under(rt, alloc, &held, &[1]) {
+        Some(made) => fewer_keeps_are_refused(rt, alloc, store, held, made, reader)
+            && reads(alloc, store, reader, &READ_BEHIND),
+        None => false,
+    }
+}
+
+/// The same of runs that are fed and claimed here.
+pub(crate) fn fewer_keeps_of_a_store_are_refused<N: Name, W: Wait + Drop>(
+    rt: &(impl Threads + Wait + Sync),
+    alloc: Global,
+    store: &Store<Commas, N, W>,
+    pair: Pair<Commas, N>,
+) -> bool
+    requires table { pair.0.1.table ≡ store.now.table }
     requires keeps { N.keeps_stay ≡ false }
 {
-    let (store, ((mut reader, seat), _)) = opened::<O, N, W>(handle, alloc, opening)?;
-    let held = two_fed_runs_held(rt, alloc, &store, seat, &mut reader).ok_or("nothing is claimed")?;
-    let made = compacted_under(rt, alloc, &held, &[1]).ok_or("the runs aren't compacted")?;
-    let refused = fewer_keeps_are_refused(rt, alloc, &store, held, made, &mut reader);
-    let right = [
-        Read::Value(1, b"a"),
-        Read::Value(2, b"a,b"),
-        Read::NotProtected(3),
-    ];
-    Ok(refused && reads(alloc, &store, &mut reader, &right))
+    let ((mut reader, seat), _) = pair;
+    match two_fed_runs_held(rt, alloc, store, seat, &mut reader) {
+        Some(held) => held_is_refused(rt, alloc, store, held, &mut reader),
+        None => false,
+    }
 }
 
 #[test]
-fn what_was_made_under_fewer_keeps_is_refused(rt: HostRuntime) -> Result<(), Fail> {
-    let alloc = rt.alloc();
-    let opening = store_of(alloc, &[Change::Put(1, b"a")], &[])?;
-    let right = fewer_keeps_of_a_store_are_refused::<Append<0x2C>, Brand, _>(
-        &rt, &rt, alloc, opening,
-    )?;
-    assert!(rt; right);
-    Ok(())
+fn what_was_made_under_fewer_keeps_is_refused(rt: HostRuntime) {
+    let opening = store_of(rt.alloc(), &[Change::Put(1, b"a")], &[]);
+    assert!(rt; is_right(&rt, rt.alloc(), opening, Tried::FewerKeepsAreRefused));
 }

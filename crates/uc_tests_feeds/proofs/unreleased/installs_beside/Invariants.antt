@@ -1,5 +1,5 @@
 use Rattle.std.proofs.Common.{true}
-use Rattle.uc_tests_feeds.proofs.unreleased.keeps_that_are_not_released_answer_as_given.Given as goal
+use Rattle.uc_tests_feeds.proofs.unreleased.installs_beside.Given as goal
 
 -- the book, the claim words and the version of what was opened; nobody keeps or releases a sequence
 abbrev pub ghosts-installs_of : goal.ghosts-installs_of

@@ -1,5 +1,5 @@
 use Rattle.std.proofs.Common.{false}
-use Rattle.bench_shared.proofs.few.ensure_same_beside.Given as goal
+use Rattle.bench_shared.proofs.beside.crew_beside.Given as goal
 
 -- the book, the claim words and the version of what was opened
 abbrev pub ghosts-answered_beside : goal.ghosts-answered_beside

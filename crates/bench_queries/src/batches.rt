@@ -10,7 +10,7 @@ fn batch_of(alloc: Global, writes: &[Write]) -> Result<Writes> {
 }
 
 /// The first `count` batches of these writes, each of `size` but for the last.
-pub(crate) fn batches_of(
+pub fn batches_of(
     alloc: Global,
     writes: &[Write],
     size: usize,
@@ -25,7 +25,7 @@ pub(crate) fn batches_of(
 }
 
 /// The first `count` batches of a log's writes, each of `size` but for the last, however they stand in it. The log is freed.
-pub(crate) fn logged_batches(
+pub fn logged_batches(
     alloc: Global,
     log: Vec<u8>,
     size: usize,

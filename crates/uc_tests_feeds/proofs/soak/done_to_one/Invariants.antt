@@ -1,5 +1,5 @@
 use Rattle.std.proofs.Common.{false}
-use Rattle.uc_tests_feeds.proofs.soak.done_to.Given as goal
+use Rattle.uc_tests_feeds.proofs.soak.done_to_one.Given as goal
 
 -- the book, the claim words and the version of what was opened; keeps come and go
 abbrev pub ghosts-soaks_opened : goal.ghosts-soaks_opened
