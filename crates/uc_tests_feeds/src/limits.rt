@@ -9,16 +9,9 @@ use std::marker::Sync;
 use std::sync::Wait;
 use std::thread::Threads;
 use testkit_compactors::steps::claimed;
-use testkit_compactors::worker::Worker;
-use uc_bytes::MAX_SEQUENCE;
-<<<<<<< HEAD
-use uc_oper::{Append, Operator};
-use uc_share::{FeedError, InstallError, Name, Opening, Reader, Seat, Store, Stretch};
-=======
-use uc_share::{FeedError, InstallError, Name, Reader, Seat, Store, Stretch};
-use testkit_compactors::steps::claimed;
 use testkit_compactors::worker::Pair;
->>>>>>> 082395358267c5c7adfdb2f62d5557430dce9f8c
+use uc_bytes::MAX_SEQUENCE;
+use uc_share::{FeedError, InstallError, Name, Reader, Seat, Store, Stretch};
 
 /// What is fed to a store of 256 runs.
 static TO_256_RUNS: [Step; 5] = [

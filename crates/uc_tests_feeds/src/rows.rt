@@ -8,14 +8,8 @@ use std::alloc::Global;
 use std::marker::Sync;
 use std::sync::Wait;
 use std::thread::Threads;
-<<<<<<< HEAD
-use testkit_compactors::worker::Worker;
-use uc_oper::{Append, Operator};
-use uc_share::{FeedError, Name, Opening, ReleaseError, Store, Stretch};
-=======
-use uc_share::{FeedError, Name, Opening, ReleaseError, Store, Stretch};
 use testkit_compactors::worker::Pair;
->>>>>>> 082395358267c5c7adfdb2f62d5557430dce9f8c
+use uc_share::{FeedError, Name, Opening, ReleaseError, Store, Stretch};
 
 /// Two merges are fed to a store of a put, and their last sequence is kept.
 static FED_AND_KEPT: [Step; 5] = [

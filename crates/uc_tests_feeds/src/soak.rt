@@ -16,13 +16,10 @@ use std::alloc::Global;
 use std::marker::{Brand, Send, Sync};
 use std::sync::{RwLock, Wait};
 use std::thread::{Threads, join};
-<<<<<<< HEAD
 use testkit_compactors::drawn::small_runs;
 use testkit_compactors::worker::{Pair, next_pair};
 use testkit_draws::dice::Dice;
-=======
 use uc_batch::Writes;
->>>>>>> 082395358267c5c7adfdb2f62d5557430dce9f8c
 use uc_oper::{Append, Counter, Maximum, Operator, Tail};
 use uc_share::{Name, Opening, Reader, Seat, Store, Version};
 
