@@ -10,7 +10,7 @@ use Rattle.uc_live.proofs.Flush.{Why, why, not_back, not_many, ids_spent, flushe
 use Rattle.uc_live.proofs.live_store.LiveStore.flush_active.Goals as goal
 
 pub invariant_of-self : goal.invariant_of-self
-invariant_of-self g c = flushed_is c.self.inside c.self.invariant c.feed_gathered.new.owned c.new.result c.in-Ok.ensures.ok.1 c.new.ensures
+invariant_of-self g c = flushed_is c.self.inside c.self.invariant c.feed_gathered.new.owned c.clear.new.self c.in-Ok.ensures.ok.1 c.clear.ensures
 
 pub invariant_of-self-in-Err-IdsSpent : goal.invariant_of-self-in-Err-IdsSpent
 invariant_of-self-in-Err-IdsSpent g c = same_is c.self.inside c.self.invariant c.feed_gathered.new.owned c.in-Err-IdsSpent.ensures.err.0
@@ -39,7 +39,7 @@ returns-in-Ok-clause-goes_on g c =
     let on = flushes c.self.inside c.self.invariant c.recall.ensures c.args.self.now c.self.view_is c.small_writes_fill_one_memtable.ensures c.no_refusal_is_leave_to_feed.ensures c.requires.some c.requires.free m c.feed_gathered.new.owned c.in-Ok.ensures.ok.0 c.in-Ok.ensures.ok.1 in
     let holds = holds_over c.self.inside c.self.invariant c.recall.ensures c.args.self.now c.self.view_is c.small_writes_fill_one_memtable.ensures c.no_refusal_is_leave_to_feed.ensures c.requires.some c.requires.free c.claims_keep_their_runs.ensures.over_a_feed c.feed_gathered.new.owned c.in-Ok.ensures.ok.0 c.in-Ok.ensures.ok.1 in
     let same = claims_stay c.self.inside c.self.invariant c.recall.ensures c.args.self.now c.self.view_is c.small_writes_fill_one_memtable.ensures c.no_refusal_is_leave_to_feed.ensures c.requires.some c.requires.free c.feed_gathered.new.owned c.in-Ok.ensures.ok.1 in
-    let none : [] ≡ c.new.result.shown = sym (ap (λ (a : Gathered). a.shown) c.new.ensures) in (
+    let none : [] ≡ c.clear.new.self.shown = sym (ap (λ (a : Gathered). a.shown) c.clear.ensures) in (
       subst (λ (ws : List Write). Follows m now.version c.feed_gathered.new.owned.version now.gathered ws []) none on,
       ap (λ (l : Live). l.snapshots) c.self.view_is,
       ap (λ (l : Live). l.options) c.self.view_is,
