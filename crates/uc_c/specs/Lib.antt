@@ -10,6 +10,7 @@ pub mod Batches
 pub mod Room
 pub mod Reading
 pub mod Many
+pub mod Sources
 pub mod Rows
 pub mod Compacting
 pub mod LogWrites

@@ -24,7 +24,7 @@
 //!
 //! Read `status.rt` and `specs/Replies.antt` first, for what the functions answer, then `opening.rt`, `batches.rt`,
 //! `writing.rt`, `snapshots.rt`, `readable.rt`, `reading.rt`, `many.rt`, `scanning.rt`, `views.rt`, `view_reading.rt`,
-//! `checkpoints.rt`, `compacting.rt`, `jobs.rt`, `job_laws.rt`, `c_report.rt` and, with `specs/LogWalk.antt`, `logs.rt`.
+//! `sources.rt`, `checkpoints.rt`, `compacting.rt`, `jobs.rt`, `job_laws.rt`, `c_report.rt` and, with `specs/LogWalk.antt`, `logs.rt`.
 //!
 //! Tests: its own.
 #![tactic(auto)]
@@ -54,6 +54,9 @@ mod reading;
 mod room;
 mod scanning;
 mod snapshots;
+#[cfg(test)]
+mod source_tests;
+mod sources;
 mod status;
 #[cfg(test)]
 mod tests;

@@ -1,11 +1,12 @@
 //! [`Readable`]: what is read in the same way.
 use std::alloc::{AllocError, Global};
-use uc_engine::{Answer, Bytes, Engine, EngineView, Query, Rows, ValueRef};
+use uc_engine::{Answer, Bytes, Engine, EngineView, LookupSource, Query, Rows, ValueRef};
 
 /// An engine, or a view of one.
 pub trait Readable {
     ghost use Rattle.std.specs.Prelude.{◌≡◌, IfOk};
     ghost use Rattle.uc_query_read.specs.declared.query.Query.TheVariants as queries;
+    ghost use Rattle.uc_live.specs.Sources.{source_of};
     ghost use Rattle.uc_engine.specs.EngineViews.{Viewed, answer_seen, rows_seen, value_seen};
 
     /// What is seen of it.
@@ -14,6 +15,10 @@ pub trait Readable {
     /// The value that a key has at the last sequence, if it has one. One that was put stays where it is.
     fn get_ref(&self, alloc: Global, key: &[u8]) -> Result<Option<ValueRef<'_>>, AllocError>
         ensures { IfOk result (λ value. value ≡ value_seen (viewed self.now) key.now) };
+
+    /// Where a lookup of a key at the last sequence is answered.
+    fn source(&self, alloc: Global, key: &[u8]) -> Result<LookupSource, AllocError>
+        ensures { IfOk result (λ source. source ≡ source_of (viewed self.now).seen key.now) };
 
     /// Looks a key up at a sequence. The answer is a value, if the key has one, or `NotProtected` if no snapshot is at
     /// the sequence.
@@ -45,6 +50,10 @@ impl Readable for Engine {
         Engine::get_ref(self, alloc, key)
     }
 
+    fn source(&self, alloc: Global, key: &[u8]) -> Result<LookupSource, AllocError> {
+        Engine::source(self, alloc, key)
+    }
+
     fn get_at(&self, alloc: Global, key: &[u8], at: u64) -> Result<Answer, AllocError> {
         Engine::get_at(self, alloc, key, at)
     }
@@ -69,6 +78,10 @@ impl Readable for EngineView {
 
     fn get_ref(&self, alloc: Global, key: &[u8]) -> Result<Option<ValueRef<'_>>, AllocError> {
         EngineView::get_ref(self, alloc, key)
+    }
+
+    fn source(&self, alloc: Global, key: &[u8]) -> Result<LookupSource, AllocError> {
+        EngineView::source(self, alloc, key)
     }
 
     fn get_at(&self, alloc: Global, key: &[u8], at: u64) -> Result<Answer, AllocError> {

@@ -3,6 +3,7 @@ pub use Rattle.uc_query_read.specs.Answers
 pub use Rattle.uc_live.specs.LiveOptions
 pub use Rattle.uc_live.specs.Lives
 pub use Rattle.uc_live.specs.Views
+pub use Rattle.uc_live.specs.Sources
 pub use Rattle.uc_live.specs.Going
 pub use Rattle.uc_live.specs.Compacting
 pub use Rattle.uc_live.specs.Writing

@@ -1,6 +1,7 @@
 //! [`EngineView`]: what an engine holds at a moment.
 ghost use Rattle.std.specs.Prelude.{◌≡◌, IfOk, length};
 ghost use Rattle.uc_query_read.specs.declared.query.Query.TheVariants as queries;
+ghost use Rattle.uc_live.specs.Sources.{source_of};
 ghost use Rattle.uc_live.specs.Views as views;
 ghost use Rattle.uc_engine.specs.EngineViews.{answer_seen, rows_seen, value_seen, viewed_in};
 
@@ -10,7 +11,7 @@ use crate::operator_kind::{LastBytes, OperatorKind, Texts};
 use std::alloc::{AllocError, Global};
 use std::marker::Model;
 use uc_bytes::Bytes;
-use uc_live::{Version, View};
+use uc_live::{LookupSource, Version, View};
 use uc_oper::{Counter, Maximum, ValueRef, owned_value};
 use uc_query_read::{Answer, Query, Rows};
 
@@ -126,6 +127,13 @@ impl EngineView {
         ensures { IfOk result (λ value. value ≡ value_seen self.now key.now) }
     {
         with_each!(AnyView, &self.view, view => view.get_ref(alloc, key))
+    }
+
+    /// Where a lookup of a key at the last sequence is answered.
+    pub fn source(&self, alloc: Global, key: &[u8]) -> Result<LookupSource, AllocError>
+        ensures { IfOk result (λ source. source ≡ source_of self.now.seen key.now) }
+    {
+        with_each!(AnyView, &self.view, view => view.source(alloc, key))
     }
 
     /// Looks a key up at a sequence. The answer is a value, if the key has one, or `NotProtected` if no snapshot was at

@@ -43,8 +43,8 @@ pub use uc_bytes::{Bytes, OpRef};
 pub use uc_checkpoint::{CheckpointError, pieces_are_read_back, rows_are_at_most_the_writes};
 pub use uc_live::{
     FeedError, FlushEnd, FlushJob, GREATEST_STOP, InstallError, JobEnd, JobStage, LiveOpenError,
-    LiveOptions, Options, ReleaseError, RoomError, WriteError, batches_are_walked, flushes_go_in,
-    jobs_go_in, recorded_batch_is_recovered,
+    LiveOptions, LookupSource, Options, ReleaseError, RoomError, WriteError, batches_are_walked,
+    flushes_go_in, jobs_go_in, recorded_batch_is_recovered, sources_tell_what_values_come_of,
 };
 pub use uc_oper::ValueRef;
 pub use uc_query_read::{Answer, Query, Rows};

@@ -1,12 +1,15 @@
 //! Reads, which only read.
 ghost use Rattle.std.specs.Prelude.{◌≡◌, IfOk};
 ghost use Rattle.uc_query_read.specs.declared.query.Query.TheVariants as queries;
+ghost use Rattle.uc_live.specs.Sources.{source_of};
+ghost use Rattle.uc_live.specs.Views.{seen_in};
 ghost use Rattle.uc_engine.specs.Engines.{answer_in, last_rows, last_value};
 
 use crate::each_operator::with_each;
 use crate::engine::{AnyStore, Engine};
 use std::alloc::{AllocError, Global};
 use uc_bytes::Bytes;
+use uc_live::LookupSource;
 use uc_oper::{ValueRef, owned_value};
 use uc_query_read::{Answer, Query, Rows};
 
@@ -25,6 +28,13 @@ impl Engine {
         ensures { IfOk result (λ value. value ≡ last_value self.now key.now) }
     {
         with_each!(AnyStore, &self.store, store => store.get_ref(alloc, key))
+    }
+
+    /// Where a lookup of a key at the last sequence is answered.
+    pub fn source(&self, alloc: Global, key: &[u8]) -> Result<LookupSource, AllocError>
+        ensures { IfOk result (λ source. source ≡ source_of (seen_in self.now.live) key.now) }
+    {
+        with_each!(AnyStore, &self.store, store => store.source(alloc, key))
     }
 
     /// Looks a key up at a sequence. The answer is a value, if the key has one, or `NotProtected` if no snapshot is at

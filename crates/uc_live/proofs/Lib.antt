@@ -17,3 +17,5 @@ pub mod JobsOut
 pub mod FlushesOut
 pub mod FlushEnds
 pub mod FlushesTaken
+pub mod SeenEffects
+pub mod Sourced

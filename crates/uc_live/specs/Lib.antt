@@ -3,6 +3,7 @@ pub mod Lives
 pub mod HeldLives
 pub mod Views
 pub mod HeldViews
+pub mod Sources
 pub mod Going
 pub mod Writing
 pub mod Compacting

@@ -13,6 +13,9 @@
 //! A [`View`] is what a store holds at a moment, which other threads read while the store goes on (`view.rt`,
 //! `specs/Views.antt`).
 //!
+//! A store and its views say of a key where a lookup is answered: by the memtables, by the filters of the runs, or by the
+//! runs ([`LookupSource`], `specs/Sources.antt`, `source_laws.rt`).
+//!
 //! A program makes it durable by a log in a file: [`LiveStore::prepare_recorded`] gives what it appends before it
 //! commits (`recording.rt`, `recorded_laws.rt`).
 //!
@@ -41,6 +44,7 @@ mod last_reads;
 mod laws;
 mod live_options;
 mod live_store;
+mod lookup_source;
 mod open_error;
 mod opening;
 mod preparing;
@@ -49,6 +53,7 @@ mod recorded_laws;
 mod recording;
 mod room_error;
 mod snapshots;
+mod source_laws;
 mod view;
 mod waiting;
 mod write_error;
@@ -62,10 +67,12 @@ pub use laws::{
 };
 pub use live_options::{GREATEST_STOP, LiveOptions, MOST_RANGES};
 pub use live_store::LiveStore;
+pub use lookup_source::LookupSource;
 pub use open_error::LiveOpenError;
 pub use opening::OpenedStore;
 pub use recorded_laws::{batches_are_walked, recorded_batch_is_recovered};
 pub use room_error::RoomError;
+pub use source_laws::sources_tell_what_values_come_of;
 pub use uc_batch::{BatchError, Ended};
 pub use uc_bytes::{Bytes, OpRef};
 pub use uc_query_read::{Answer, Rows};

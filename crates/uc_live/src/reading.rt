@@ -4,9 +4,12 @@ ghost use Rattle.uc_model.specs.Meaning.{value_of};
 ghost use Rattle.uc_query_read.specs.Answers.{answer_of, first_rows, named_keys};
 ghost use Rattle.uc_query_read.specs.declared.query.Query.TheVariants as queries;
 ghost use Rattle.uc_live.specs.Lives as lives;
+ghost use Rattle.uc_live.specs.Sources.{source_of};
+ghost use Rattle.uc_live.specs.Views.{seen_in};
 
 use crate::last_reads::{last_rows, last_value};
 use crate::live_store::LiveStore;
+use crate::lookup_source::{LookupSource, last_source};
 use std::alloc::{AllocError, Global};
 use uc_bytes::Bytes;
 use uc_model::later_writes_change_nothing;
@@ -32,6 +35,14 @@ impl<O: Operator> LiveStore<O> {
             value ≡ value_of O.meaning (lives.writes_of self.now) key.now (lives.last self.now)) }
     {
         last_value::<O>(alloc, self.owned.version(), &self.active, key)
+    }
+
+    /// Where [`get`](LiveStore::get) finds what it answers of a key. It is refused for want of memory, and costs no more than
+    /// the lookup.
+    pub fn source(&self, alloc: Global, key: &[u8]) -> Result<LookupSource, AllocError>
+        ensures { IfOk result (λ source. source ≡ source_of (seen_in self.now) key.now) }
+    {
+        last_source::<O>(alloc, self.owned.version(), &self.active, key)
     }
 
     /// Looks a key up at a sequence. The answer is a value, if the key has one, or `NotProtected` if no snapshot is at

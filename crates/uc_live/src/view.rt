@@ -4,11 +4,13 @@ ghost use Rattle.uc_batch.specs.Rising.{IsRising};
 ghost use Rattle.uc_model.specs.Meaning.{value_of};
 ghost use Rattle.uc_query_read.specs.Answers.{answer_of, first_rows, named_keys};
 ghost use Rattle.uc_query_read.specs.declared.query.Query.TheVariants as queries;
+ghost use Rattle.uc_live.specs.Sources.{source_of};
 ghost use Rattle.uc_live.specs.Views as views;
 ghost use Rattle.uc_live.specs.Views.{seen_in};
 
 use crate::last_reads::{last_rows, last_sequence, last_value, sorted, sorted_rows};
 use crate::live_store::LiveStore;
+use crate::lookup_source::{LookupSource, last_source};
 use std::alloc::{AllocError, Global};
 use std::marker::{Model, PhantomData};
 use std::sync::Arc;
@@ -150,6 +152,13 @@ impl<O: Operator> View<O> {
             value ≡ value_of O.meaning (views.writes_of self.now) key.now (views.last self.now)) }
     {
         last_value::<O>(alloc, &self.parts.version, &self.parts.gathered, key)
+    }
+
+    /// Where [`get`](View::get) finds what it answers of a key, as [`LiveStore::source`] says it.
+    pub fn source(&self, alloc: Global, key: &[u8]) -> Result<LookupSource, AllocError>
+        ensures { IfOk result (λ source. source ≡ source_of self.now key.now) }
+    {
+        last_source::<O>(alloc, &self.parts.version, &self.parts.gathered, key)
     }
 
     /// Looks a key up at a sequence. The answer is a value, if the key has one, or `NotProtected` if no snapshot was at
