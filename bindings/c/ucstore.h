@@ -140,6 +140,13 @@ enum ucstore_operator {
     UCSTORE_TAIL = 3      /* The last four bytes of all texts. */
 };
 
+/* Where a look-up of a key at the last sequence is answered. */
+enum ucstore_source {
+    UCSTORE_MEMTABLE = 0, /* By the memtables: one of their writes puts the key, or deletes it, alone or in a range. */
+    UCSTORE_FILTERS = 1,  /* By the filters: none of them does, and no write of a run touches the key, so no run has a point of it. */
+    UCSTORE_RUNS = 2      /* By the runs: none of them does, and a write of a run touches the key. */
+};
+
 /* A text for a status. */
 static inline const char *ucstore_status_text(int32_t status) {
     static const char *const texts[] = {
@@ -363,6 +370,10 @@ int32_t ucstore_last(struct ucstore *store, uint64_t *seq);
 int32_t ucstore_get(struct ucstore *store, const uint8_t *key, size_t key_length, uint8_t *room, size_t room_length,
                     size_t *size);
 
+/* Tells where a look-up of a key at the last sequence is answered: one of enum ucstore_source. It costs a look-up at most.
+ * UCSTORE_NO_STORE, UCSTORE_OUT_OF_MEMORY. */
+int32_t ucstore_source(struct ucstore *store, const uint8_t *key, size_t key_length, uint32_t *source);
+
 /* Looks a key up at a snapshot, as `ucstore_get` does.
  * UCSTORE_NO_STORE, UCSTORE_NOT_PROTECTED, UCSTORE_NOT_FOUND, UCSTORE_OUT_OF_MEMORY. */
 int32_t ucstore_get_at(struct ucstore *store, const uint8_t *key, size_t key_length, uint64_t at, uint8_t *room,
@@ -404,6 +415,10 @@ int32_t ucstore_view_again(struct ucstore_view *view, struct ucstore_view *again
  * UCSTORE_NO_VIEW, UCSTORE_NOT_FOUND, UCSTORE_OUT_OF_MEMORY. */
 int32_t ucstore_view_get(struct ucstore_view *view, const uint8_t *key, size_t key_length, uint8_t *room, size_t room_length,
                          size_t *size);
+
+/* Tells where a look-up of a key in a view is answered, as `ucstore_source` does of a store.
+ * UCSTORE_NO_VIEW, UCSTORE_OUT_OF_MEMORY. */
+int32_t ucstore_view_source(struct ucstore_view *view, const uint8_t *key, size_t key_length, uint32_t *source);
 
 /* Looks a key up in a view at a snapshot that the store had then, as `ucstore_get_at` does.
  * UCSTORE_NO_VIEW, UCSTORE_NOT_PROTECTED, UCSTORE_NOT_FOUND, UCSTORE_OUT_OF_MEMORY. */

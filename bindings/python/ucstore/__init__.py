@@ -31,8 +31,8 @@ from typing import Iterable, Iterator, List, NamedTuple, Optional, Tuple, TypeVa
 __all__ = [
     "BadOption", "BatchFault", "BatchFull", "Checkpoint", "Closed", "Damaged", "Db", "DbBatch", "DbError",
     "DbOptions", "DbSnapshot", "DbStats", "Delete", "DeleteRange", "End", "Ended", "Event", "EventKind", "FileFault",
-    "Forked", "IdsSpent", "Job", "Locked", "LogFault", "LogWrites", "Merge", "Missing", "NoCheckpoint", "NoJob",
-    "NoStore", "NoView", "NotABatch", "NotProtected", "Operation", "Operator", "Options", "OtherOperator",
+    "Forked", "IdsSpent", "Job", "Locked", "LogFault", "LogWrites", "LookupSource", "Merge", "Missing", "NoCheckpoint",
+    "NoJob", "NoStore", "NoView", "NotABatch", "NotProtected", "Operation", "Operator", "Options", "OtherOperator",
     "OutOfMemory", "Progress", "Put", "ReadOnly", "Report", "RunsClaimed", "SequenceBack", "SequencesSpent",
     "Snapshot", "Store", "Sync", "TooLong", "UcstoreError", "UnknownOperator", "View", "Write", "WriteBatch",
     "batch_bytes", "log_writes",
@@ -248,6 +248,17 @@ class Report(NamedTuple):
     last: int
 
 
+class LookupSource(enum.IntEnum):
+    """Where a lookup at the last sequence is answered."""
+
+    MEMTABLE = 0
+    """By the memtables: one of the writes that no run has yet puts the key, or deletes it, alone or in a range."""
+    FILTERS = 1
+    """By the filters of the runs: none of those writes does, and no write of a run touches the key."""
+    RUNS = 2
+    """By the runs: none of those writes does, and a write of a run touches the key."""
+
+
 class End(enum.IntEnum):
     """How far a log can be read: to its end, to what was being written, or to a fault of a record or a batch."""
 
@@ -365,6 +376,7 @@ _PLACE = (_POINTER, _SIZE)
 _READS = {
     "last": (_POINTER, _POINTER),
     "get": (_POINTER, *_TEXT, *_PLACE, _POINTER),
+    "source": (_POINTER, *_TEXT, _POINTER),
     "get_at": (_POINTER, *_TEXT, _U64, *_PLACE, _POINTER),
     "get_many": (_POINTER, *_TEXT, *_PLACE, *_PLACE, *_PLACE, _POINTER),
     "scan": (_POINTER, *_TEXT, *_TEXT, ctypes.c_bool, _U64, *_PLACE, _POINTER, _POINTER),
@@ -687,6 +699,18 @@ class _HeldReader(_Held, _Reader):
         sequence = _U64()
         self._call(self._function("last"), ctypes.byref(sequence))
         return sequence.value
+
+    def source(self, key: bytes) -> LookupSource:
+        """Where `get` finds what it answers of a key. It costs a lookup at most. Raises `OutOfMemory`.
+
+            >>> with Store(Operator.APPEND) as store:
+            ...     store[b"colour"] = b"blue"
+            ...     store.source(b"colour").name, store.source(b"size").name
+            ('MEMTABLE', 'FILTERS')
+        """
+        source = _U32()
+        self._call(self._function("source"), *_texts(key), ctypes.byref(source))
+        return LookupSource(source.value)
 
     def get_at(self, key: bytes, at: int) -> Optional[bytes]:
         """The value under a key at a snapshot, or None. Raises `NotProtected` and `OutOfMemory`."""

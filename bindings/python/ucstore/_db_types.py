@@ -210,3 +210,9 @@ class DbStats(NamedTuple):
     """The bytes of the runs that these compactions made."""
     checkpoints: int
     """How many checkpoints were made."""
+    lookups_by_memtable: int
+    """About how many of the lookups the memtables answered: 64 times those of one in 64 that were asked."""
+    lookups_by_filters: int
+    """The same of those that filters answered: no write of a run touched the key."""
+    lookups_by_runs: int
+    """The same of those that runs answered."""

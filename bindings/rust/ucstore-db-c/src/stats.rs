@@ -61,6 +61,12 @@ pub struct CStats {
     pub compaction_written: u64,
     /// How many checkpoints were made.
     pub checkpoints: u64,
+    /// About how many of the lookups the memtables answered.
+    pub lookups_by_memtable: u64,
+    /// About how many of them filters answered.
+    pub lookups_by_filters: u64,
+    /// About how many of them runs answered.
+    pub lookups_by_runs: u64,
 }
 
 impl From<Stats> for CStats {
@@ -92,6 +98,9 @@ impl From<Stats> for CStats {
             compaction_read: stats.compaction_read,
             compaction_written: stats.compaction_written,
             checkpoints: stats.checkpoints,
+            lookups_by_memtable: stats.lookups_by_memtable,
+            lookups_by_filters: stats.lookups_by_filters,
+            lookups_by_runs: stats.lookups_by_runs,
         }
     }
 }

@@ -1,6 +1,6 @@
 //! [`Counts`]: what a database counts.
 
-use crate::lanes::Lanes;
+use crate::lookups::Lookups;
 use crate::sync_times::SyncTimes;
 use std::sync::atomic::{AtomicU64, Ordering};
 use std::time::{Duration, Instant};
@@ -24,7 +24,7 @@ pub(crate) struct Counts {
     pub(crate) compaction_read: Count,
     pub(crate) compaction_written: Count,
     pub(crate) checkpoints: Count,
-    lookups: Lanes<Count>,
+    pub(crate) lookups: Lookups,
     /// The bytes of the batches that were taken.
     pub(crate) user_bytes: Count,
     /// The bytes that were appended to logs.
@@ -42,16 +42,6 @@ impl Counts {
     pub(crate) fn add_sync(&self, took: Duration) {
         self.syncs.add(1);
         self.sync_times.add(took);
-    }
-
-    /// Counts keys that are looked up.
-    pub(crate) fn add_lookups(&self, more: u64) {
-        self.lookups.own().add(more);
-    }
-
-    /// How many keys were looked up.
-    pub(crate) fn lookups(&self) -> u64 {
-        self.lookups.iter().map(Count::get).sum()
     }
 
     /// Counts for how long a write was slowed or waited.
@@ -77,7 +67,7 @@ impl Default for Counts {
             compaction_read: Count::default(),
             compaction_written: Count::default(),
             checkpoints: Count::default(),
-            lookups: Lanes::default(),
+            lookups: Lookups::default(),
             user_bytes: Count::default(),
             logged_bytes: Count::default(),
             base_bytes: Count::default(),
@@ -86,9 +76,9 @@ impl Default for Counts {
 }
 
 impl Count {
-    /// Raises it.
-    pub(crate) fn add(&self, more: u64) {
-        self.0.fetch_add(more, Ordering::Relaxed);
+    /// Raises it, and tells what it was.
+    pub(crate) fn add(&self, more: u64) -> u64 {
+        self.0.fetch_add(more, Ordering::Relaxed)
     }
 
     /// What it is now.

@@ -143,7 +143,7 @@ impl Db {
     /// [`Error::Store`] if memory is refused, as for each read.
     pub fn get(&self, key: impl AsRef<[u8]>) -> Result<Option<Vec<u8>>, Error> {
         let key = key.as_ref();
-        self.look_up(|holder| holder.get(key))
+        self.look_up(key, |holder| holder.get(key))
     }
 
     /// Puts the value under a key into a vector, instead of what that has, and tells whether there is one. The vector is empty
@@ -166,7 +166,7 @@ impl Db {
     /// Those of [`get`](Db::get).
     pub fn get_into(&self, key: impl AsRef<[u8]>, value: &mut Vec<u8>) -> Result<bool, Error> {
         let key = key.as_ref();
-        self.look_up(|holder| holder.get_into(key, value))
+        self.look_up(key, |holder| holder.get_into(key, value))
     }
 
     /// Copies the value under a key into a room, as much of it as there is room for. Returns the size of all of it, if there is
@@ -181,7 +181,7 @@ impl Db {
         room: &mut [MaybeUninit<u8>],
     ) -> Result<Option<usize>, Error> {
         let key = key.as_ref();
-        self.look_up(|holder| holder.get_to_room(key, room))
+        self.look_up(key, |holder| holder.get_to_room(key, room))
     }
 
     /// For each key its value, if there is one, at one moment. The keys come in any order.
@@ -301,14 +301,17 @@ impl Db {
         })
     }
 
-    /// Looks a key up.
+    /// Looks a key up, and counts that.
     fn look_up<T>(
         &self,
+        key: &[u8],
         read: impl FnOnce(Holder<'_>) -> Result<T, ucstore::Error>,
     ) -> Result<T, Error> {
         let shared = self.shared();
-        shared.counts.add_lookups(1);
-        shared.read(read)
+        shared.read(|holder| {
+            shared.counts.lookups.add(|| holder.source(key));
+            read(holder)
+        })
     }
 
     /// Takes a batch of one operation.

@@ -1,7 +1,7 @@
 //! [`Holder`]: what a key is looked up in.
 
 use std::mem::MaybeUninit;
-use ucstore::{Error, Store, View};
+use ucstore::{Error, LookupSource, Store, View};
 
 /// What a key is looked up in.
 pub(crate) enum Holder<'a> {
@@ -16,6 +16,14 @@ impl Holder<'_> {
         match self {
             Holder::View(view) => view.get(key),
             Holder::Store(store) => store.get(key),
+        }
+    }
+
+    /// Where a lookup of a key is answered.
+    pub(crate) fn source(&self, key: &[u8]) -> Result<LookupSource, Error> {
+        match self {
+            Holder::View(view) => view.source(key),
+            Holder::Store(store) => store.source(key),
         }
     }
 

@@ -62,6 +62,7 @@ mod group;
 mod holder;
 mod lanes;
 mod log;
+mod lookups;
 mod name;
 mod newest;
 mod operator_file;
@@ -87,7 +88,7 @@ pub use options::{Options, Sync};
 pub use snapshot::{Rows, Snapshot};
 pub use stats::Stats;
 pub use ucstore;
-pub use ucstore::{Batch, Operator};
+pub use ucstore::{Batch, LookupSource, Operator};
 
 use std::sync::{Mutex, MutexGuard, PoisonError, TryLockError};
 

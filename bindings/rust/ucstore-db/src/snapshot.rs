@@ -78,8 +78,7 @@ impl Snapshot {
     ///
     /// [`Error::Store`] if memory is refused, as for each read.
     pub fn get(&self, key: impl AsRef<[u8]>) -> Result<Option<Vec<u8>>, Error> {
-        self.counts.add_lookups(1);
-        Ok(self.view.get(key)?)
+        Ok(self.view_to_read(&key).get(key)?)
     }
 
     /// Puts the value under a key into a vector, instead of what that has, and tells whether there is one. The vector is empty
@@ -89,8 +88,7 @@ impl Snapshot {
     ///
     /// Those of [`get`](Snapshot::get).
     pub fn get_into(&self, key: impl AsRef<[u8]>, value: &mut Vec<u8>) -> Result<bool, Error> {
-        self.counts.add_lookups(1);
-        Ok(self.view.get_into(key, value)?)
+        Ok(self.view_to_read(&key).get_into(key, value)?)
     }
 
     /// Copies the value under a key into a room, as much of it as there is room for. Returns the size of all of it, if there is
@@ -104,8 +102,7 @@ impl Snapshot {
         key: impl AsRef<[u8]>,
         room: &mut [MaybeUninit<u8>],
     ) -> Result<Option<usize>, Error> {
-        self.counts.add_lookups(1);
-        Ok(self.view.get_to_room(key, room)?)
+        Ok(self.view_to_read(&key).get_to_room(key, room)?)
     }
 
     /// For each key its value, if there is one. The keys come in any order.
@@ -117,8 +114,14 @@ impl Snapshot {
         &self,
         keys: impl IntoIterator<Item = K>,
     ) -> Result<Vec<Option<Vec<u8>>>, Error> {
+        let lookups = &self.counts.lookups;
+        let mut number = lookups.next();
+        let keys = keys.into_iter().inspect(|key| {
+            lookups.ask(number, || self.view.source(key));
+            number += 1;
+        });
         let values = self.view.get_many(keys)?;
-        self.counts.add_lookups(values.len() as u64);
+        lookups.add_many(values.len() as u64);
         Ok(values)
     }
 
@@ -147,6 +150,12 @@ impl Snapshot {
     /// Those of [`iter`](Snapshot::iter).
     pub fn prefix(&self, prefix: impl AsRef<[u8]>) -> Result<Rows, Error> {
         Ok(self.view_to_scan()?.into_prefix(prefix))
+    }
+
+    /// The view, for a lookup of a key, which it counts.
+    fn view_to_read(&self, key: impl AsRef<[u8]>) -> &View {
+        self.counts.lookups.add(|| self.view.source(key));
+        &self.view
     }
 
     /// The view once more, for a scan. The first one sorts it for all.

@@ -4,6 +4,7 @@ use crate::lock;
 use crate::shared::Shared;
 use std::fmt;
 use std::time::Duration;
+use ucstore::LookupSource;
 
 /// What a database holds, and what it did since it was opened. Shown, it is a table with a line for each number.
 #[derive(Clone, Copy, Debug, Default, PartialEq, Eq)]
@@ -33,6 +34,14 @@ pub struct Stats {
     pub base_bytes: u64,
     /// How many keys were looked up, in it and in its snapshots.
     pub lookups: u64,
+    /// About how many of the lookups the memtables answered, as
+    /// [`LookupSource::Memtable`](ucstore::LookupSource::Memtable) says. Of 64 lookups one is asked, and counts for all of
+    /// them: a few hundred lookups tell little.
+    pub lookups_by_memtable: u64,
+    /// About how many of them filters answered: no write of a run touched the key.
+    pub lookups_by_filters: u64,
+    /// About how many of them runs answered.
+    pub lookups_by_runs: u64,
     /// How often a log was synced.
     pub syncs: u64,
     /// The time that half of the last 1,024 syncs kept to.
@@ -80,7 +89,10 @@ impl Stats {
             user_bytes: counts.user_bytes.get(),
             logged_bytes: counts.logged_bytes.get(),
             base_bytes: counts.base_bytes.get(),
-            lookups: counts.lookups(),
+            lookups: counts.lookups.count(),
+            lookups_by_memtable: counts.lookups.estimate(LookupSource::Memtable),
+            lookups_by_filters: counts.lookups.estimate(LookupSource::Filters),
+            lookups_by_runs: counts.lookups.estimate(LookupSource::Runs),
             syncs: counts.syncs.get(),
             sync_p50,
             sync_p99,
@@ -148,7 +160,7 @@ impl fmt::Display for Millis {
 
 impl fmt::Display for Stats {
     fn fmt(&self, formatter: &mut fmt::Formatter<'_>) -> fmt::Result {
-        let rows: [(&str, &dyn fmt::Display); 26] = [
+        let rows: [(&str, &dyn fmt::Display); 29] = [
             ("last sequence", &self.last),
             ("runs", &self.runs),
             ("bytes of runs", &Bytes(self.bytes)),
@@ -165,6 +177,9 @@ impl fmt::Display for Stats {
                 &format!("{:.2}", self.write_amplification()),
             ),
             ("lookups", &self.lookups),
+            ("about, by memtables", &self.lookups_by_memtable),
+            ("about, by filters", &self.lookups_by_filters),
+            ("about, by runs", &self.lookups_by_runs),
             ("syncs", &self.syncs),
             ("sync, p50", &Millis(self.sync_p50)),
             ("sync, p99", &Millis(self.sync_p99)),

@@ -61,6 +61,13 @@ pub const UCSTORE_NO_CHECKPOINT: i32 = 26;
 /// The handle has a checkpoint already.
 pub const UCSTORE_HAS_CHECKPOINT: i32 = 27;
 
+/// One of the gathered writes puts or deletes the key.
+pub const UCSTORE_MEMTABLE: u32 = 0;
+/// None of them does, and no write of a run touches the key.
+pub const UCSTORE_FILTERS: u32 = 1;
+/// None of them does, and a write of a run touches the key.
+pub const UCSTORE_RUNS: u32 = 2;
+
 /// A handle: no store if it is all zeros.
 #[repr(C)]
 pub struct ucstore {
@@ -258,6 +265,12 @@ extern "C" {
         room_length: usize,
         size: *mut usize,
     ) -> i32;
+    pub fn ucstore_source(
+        store: *mut ucstore,
+        key: *const u8,
+        key_length: usize,
+        source: *mut u32,
+    ) -> i32;
     pub fn ucstore_get_at(
         store: *mut ucstore,
         key: *const u8,
@@ -316,6 +329,12 @@ extern "C" {
         room: *mut u8,
         room_length: usize,
         size: *mut usize,
+    ) -> i32;
+    pub fn ucstore_view_source(
+        view: *mut ucstore_view,
+        key: *const u8,
+        key_length: usize,
+        source: *mut u32,
     ) -> i32;
     pub fn ucstore_view_get_at(
         view: *mut ucstore_view,

@@ -1,6 +1,7 @@
 //! [`Reads`]: what the functions that read a handle answer.
 
 use crate::error::{check, Error};
+use crate::lookup_source::LookupSource;
 use crate::sys;
 use std::mem::MaybeUninit;
 use std::slice;
@@ -15,6 +16,7 @@ const USUAL_SHARE: usize = 256;
 const NO_VALUE: u64 = u64::MAX;
 
 type Get<H> = unsafe extern "C" fn(*mut H, *const u8, usize, *mut u8, usize, *mut usize) -> i32;
+type TellSource<H> = unsafe extern "C" fn(*mut H, *const u8, usize, *mut u32) -> i32;
 type GetAt<H> =
     unsafe extern "C" fn(*mut H, *const u8, usize, u64, *mut u8, usize, *mut usize) -> i32;
 type GetMany<H> = unsafe extern "C" fn(
@@ -60,6 +62,7 @@ type ScanRowsAt<H> = unsafe extern "C" fn(
 /// The functions that read a handle.
 pub(crate) struct Functions<H> {
     pub(crate) get: Get<H>,
+    pub(crate) source: TellSource<H>,
     pub(crate) get_at: GetAt<H>,
     pub(crate) get_many: GetMany<H>,
     pub(crate) scan: ScanRows<H>,
@@ -122,6 +125,15 @@ impl<H> Reads<H> {
             )
         };
         found(status, size)
+    }
+
+    /// Where a lookup of a key is answered.
+    pub(crate) fn source(&self, key: &[u8]) -> Result<LookupSource, Error> {
+        let mut source = 0;
+        check(unsafe {
+            (self.functions.source)(self.handle, key.as_ptr(), key.len(), &mut source)
+        })?;
+        LookupSource::of(source)
     }
 
     /// The value under a key at a snapshot, if there is one.

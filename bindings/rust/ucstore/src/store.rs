@@ -5,6 +5,7 @@ use crate::ended::Ended;
 use crate::error::{check, Error};
 use crate::job::{EndedJob, Job};
 use crate::options::{Operator, Options};
+use crate::lookup_source::LookupSource;
 use crate::reads::{Functions, Reads};
 use crate::record::record_by;
 use crate::report::Report;
@@ -24,6 +25,7 @@ static NEXT_NUMBER: AtomicU64 = AtomicU64::new(0);
 /// The functions that read a store.
 const READS: Functions<sys::ucstore> = Functions {
     get: sys::ucstore_get,
+    source: sys::ucstore_source,
     get_at: sys::ucstore_get_at,
     get_many: sys::ucstore_get_many,
     scan: sys::ucstore_scan,
@@ -249,6 +251,26 @@ impl Store {
             )
         });
         sequences
+    }
+
+    /// Where [`get`](Store::get) finds what it answers of a key. It costs a lookup at most, and no value is copied.
+    ///
+    /// ```
+    /// # use ucstore::{LookupSource, Operator, Options, Store};
+    /// # fn main() -> Result<(), ucstore::Error> {
+    /// let store = Store::create(Operator::Append, &Options::default())?;
+    /// store.put("colour", "blue")?;
+    /// assert_eq!(store.source("colour")?, LookupSource::Memtable);
+    /// assert_eq!(store.source("size")?, LookupSource::Filters);
+    /// # Ok(())
+    /// # }
+    /// ```
+    ///
+    /// # Errors
+    ///
+    /// [`Error::OutOfMemory`].
+    pub fn source(&self, key: impl AsRef<[u8]>) -> Result<LookupSource, Error> {
+        self.reads().source(key.as_ref())
     }
 
     /// The value under a key at a snapshot, if there is one.

@@ -2,6 +2,7 @@
 
 use crate::checkpoint::Checkpoint;
 use crate::error::{check, Error};
+use crate::lookup_source::LookupSource;
 use crate::reads::{Functions, Reads};
 use crate::report::Report;
 use crate::scan::{end_of_prefix, Scan};
@@ -14,6 +15,7 @@ use std::ptr;
 /// The functions that read a view.
 const READS: Functions<sys::ucstore_view> = Functions {
     get: sys::ucstore_view_get,
+    source: sys::ucstore_view_source,
     get_at: sys::ucstore_view_get_at,
     get_many: sys::ucstore_view_get_many,
     scan: sys::ucstore_view_scan,
@@ -102,6 +104,26 @@ impl View {
         room: &mut [MaybeUninit<u8>],
     ) -> Result<Option<usize>, Error> {
         self.reads().get_to_room(key.as_ref(), room)
+    }
+
+    /// Where [`get`](View::get) finds what it answers of a key. It costs a lookup at most, and no value is copied.
+    ///
+    /// ```
+    /// # use ucstore::{LookupSource, Operator, Options, Store};
+    /// # fn main() -> Result<(), ucstore::Error> {
+    /// let store = Store::create(Operator::Append, &Options::default())?;
+    /// store.put("colour", "blue")?;
+    /// assert_eq!(store.view()?.source("colour")?, LookupSource::Memtable);
+    /// assert_eq!(store.view()?.source("size")?, LookupSource::Filters);
+    /// # Ok(())
+    /// # }
+    /// ```
+    ///
+    /// # Errors
+    ///
+    /// [`Error::OutOfMemory`].
+    pub fn source(&self, key: impl AsRef<[u8]>) -> Result<LookupSource, Error> {
+        self.reads().source(key.as_ref())
     }
 
     /// The value under a key at a snapshot that the store had then, if there is one.

@@ -1,0 +1,117 @@
+//! [`Lookups`]: how many keys were looked up, and where they were answered.
+
+use crate::counts::Count;
+use crate::lanes::Lanes;
+use ucstore::{Error, LookupSource};
+
+/// Of how many lookups one is asked where it is answered.
+const SHARE: u64 = 64;
+
+/// How many keys were looked up, and where some of them were answered.
+#[derive(Default)]
+pub(crate) struct Lookups {
+    all: Lanes<Count>,
+    by_memtable: Count,
+    by_filters: Count,
+    by_runs: Count,
+}
+
+impl Lookups {
+    /// Counts a lookup. If it is one of those that are asked, so is its source.
+    pub(crate) fn add(&self, source: impl FnOnce() -> Result<LookupSource, Error>) {
+        let number = self.all.own().add(1);
+        self.ask(number, source);
+    }
+
+    /// The number of the calling thread's next lookup, if that comes soon.
+    pub(crate) fn next(&self) -> u64 {
+        self.all.own().get()
+    }
+
+    /// Asks the source of a lookup, if it is one of those that are asked. A source that is refused isn't counted.
+    pub(crate) fn ask(&self, number: u64, source: impl FnOnce() -> Result<LookupSource, Error>) {
+        if is_asked(number) {
+            if let Ok(source) = source() {
+                self.asked(source).add(1);
+            }
+        }
+    }
+
+    /// Counts lookups that were made together.
+    pub(crate) fn add_many(&self, count: u64) {
+        self.all.own().add(count);
+    }
+
+    /// How many there were.
+    pub(crate) fn count(&self) -> u64 {
+        self.all.iter().map(Count::get).sum()
+    }
+
+    /// About how many of them were answered there.
+    pub(crate) fn estimate(&self, source: LookupSource) -> u64 {
+        SHARE * self.asked(source).get()
+    }
+
+    /// How many of those that were asked were answered there.
+    fn asked(&self, source: LookupSource) -> &Count {
+        match source {
+            LookupSource::Memtable => &self.by_memtable,
+            LookupSource::Filters => &self.by_filters,
+            LookupSource::Runs => &self.by_runs,
+        }
+    }
+}
+
+/// Whether the lookup with a number is asked: one in [`SHARE`], spread by the golden ratio (Knuth, "Sorting and Searching",
+/// 6.4), so that where lookups go in turns each of them is met as often.
+fn is_asked(number: u64) -> bool {
+    let spread = number.wrapping_add(1).wrapping_mul(0x9E37_79B9_7F4A_7C15);
+    spread < u64::MAX / SHARE
+}
+
+#[cfg(test)]
+mod tests {
+    use super::*;
+
+    #[test]
+    fn each_turn_is_asked_as_often() {
+        for turns in 1..=70u64 {
+            for turn in 0..turns {
+                let count = 64 * 1000;
+                let numbers = (0..count).map(|round| round * turns + turn);
+                let asked = numbers.filter(|&number| is_asked(number)).count();
+                assert!((980..=1020).contains(&asked), "{asked} of {turn} in {turns}");
+            }
+        }
+    }
+
+    #[test]
+    fn sources_are_counted_by_their_share() {
+        let lookups = Lookups::default();
+        for number in 0..6400 {
+            lookups.add(|| match number % 4 {
+                0 => Ok(LookupSource::Memtable),
+                1 => Ok(LookupSource::Filters),
+                2 => Ok(LookupSource::Runs),
+                _ => Err(Error::OutOfMemory),
+            });
+        }
+        assert_eq!(lookups.count(), 6400);
+        for source in [
+            LookupSource::Memtable,
+            LookupSource::Filters,
+            LookupSource::Runs,
+        ] {
+            let estimate = lookups.estimate(source);
+            assert!((1280..=1920).contains(&estimate), "{estimate} by {source:?}");
+        }
+    }
+
+    #[test]
+    fn no_more_are_told_than_there_may_be() {
+        let lookups = Lookups::default();
+        lookups.add(|| Ok(LookupSource::Runs));
+        assert_eq!((lookups.count(), lookups.estimate(LookupSource::Runs)), (1, 0));
+        assert_eq!(lookups.next(), 1);
+    }
+}
