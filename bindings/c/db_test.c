@@ -151,6 +151,28 @@ static void try_lookups(struct ucstore_db *db) {
     CHECK(size == 0);
 }
 
+/* Whether an estimate is near to 640: each look-up that was asked counts for 64. */
+static bool is_near(uint64_t estimate) {
+    return estimate >= 640 - 3 * 64 && estimate <= 640 + 3 * 64;
+}
+
+/* Looks up keys in a run, in the memtable and nowhere. */
+static void try_sources(void) {
+    struct ucstore_db *db = open_texts("sources");
+    struct ucstore_db_stats stats;
+    put(db, "run", "v");
+    OK(ucstore_db_flush(db));
+    put(db, "memtable", "v");
+    for (int round = 0; round < 640; round++) {
+        CHECK(has(db, "run", "v") && has(db, "memtable", "v") && !has(db, "nowhere", "v"));
+    }
+    stats.size = sizeof stats;
+    OK(ucstore_db_stats(db, &stats));
+    CHECK(stats.lookups == 3 * 640 && is_near(stats.lookups_by_memtable));
+    CHECK(is_near(stats.lookups_by_filters) && is_near(stats.lookups_by_runs));
+    OK(ucstore_db_close(db));
+}
+
 static void try_batches(struct ucstore_db *db) {
     struct ucstore_db_batch *batch = NULL;
     uint64_t count = 0;
@@ -471,6 +493,7 @@ int main(int argc, char **argv) {
     try_cursors(db);
     try_pages(db);
     try_snapshots(db);
+    try_sources();
     try_events();
     try_damage();
     try_full_device();

@@ -176,8 +176,9 @@ struct call {
 
 enum {
     PUT, DELETE, MERGE, DELETE_RANGE, BATCH_PUT, BATCH_DELETE, BATCH_MERGE, BATCH_DELETE_RANGE, WRITE, WRITE_BYTES, PREPARE,
-    PREPARE_BYTES, FLUSH, SNAPSHOT, RELEASE, GET, GET_AT, GET_MANY, SCAN, SCAN_AT, VIEW, VIEW_AGAIN, VIEW_GET, VIEW_GET_AT,
-    VIEW_GET_MANY, VIEW_SCAN, VIEW_SCAN_AT, VIEW_CLOSE, CHECKPOINT, CHECKPOINT_NEXT, JOB, JOB_RUN, JOB_END, COMPACT, OPEN, NEXT, KINDS
+    PREPARE_BYTES, FLUSH, SNAPSHOT, RELEASE, GET, SOURCE, GET_AT, GET_MANY, SCAN, SCAN_AT, VIEW, VIEW_AGAIN, VIEW_GET, VIEW_SOURCE,
+    VIEW_GET_AT, VIEW_GET_MANY, VIEW_SCAN, VIEW_SCAN_AT, VIEW_CLOSE, CHECKPOINT, CHECKPOINT_NEXT, JOB, JOB_RUN, JOB_END, COMPACT, OPEN,
+    NEXT, KINDS
 };
 
 static size_t draw_text(uint8_t *text, size_t most) {
@@ -271,6 +272,7 @@ static int32_t try_call(const struct call *call) {
     struct ucstore_ended ended = {0, 0, 0};
     size_t size = 0;
     uint64_t number = 0, parts[2] = {1, call->key_length - 1}, lengths[2] = {0, 0};
+    uint32_t source = 0;
     bool told = false;
     switch (call->kind) {
     case PUT:
@@ -306,6 +308,8 @@ static int32_t try_call(const struct call *call) {
         return ucstore_release(&store, call->at);
     case GET:
         return ucstore_get(&store, call->key, call->key_length, room, ROOM, &size);
+    case SOURCE:
+        return ucstore_source(&store, call->key, call->key_length, &source);
     case GET_AT:
         return ucstore_get_at(&store, call->key, call->key_length, call->at, room, ROOM, &size);
     case GET_MANY:
@@ -322,6 +326,8 @@ static int32_t try_call(const struct call *call) {
         return ucstore_view_again(&shown, &again);
     case VIEW_GET:
         return ucstore_view_get(&shown, call->key, call->key_length, room, ROOM, &size);
+    case VIEW_SOURCE:
+        return ucstore_view_source(&shown, call->key, call->key_length, &source);
     case VIEW_GET_AT:
         return ucstore_view_get_at(&shown, call->key, call->key_length, call->at, room, ROOM, &size);
     case VIEW_GET_MANY:

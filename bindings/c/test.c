@@ -491,6 +491,23 @@ static void check_report(struct moment *of) {
     CHECK((of == &live ? ucstore_last(&store, &last) : ucstore_view_last(&of->view, &last)) == UCSTORE_OK && last == of->last);
 }
 
+/* Asks where a key is looked up. No place is told that has nothing. */
+static void check_source(struct moment *of) {
+    uint8_t text[TEXT];
+    int key = (int)draw(KEYS);
+    size_t length = key_text(key, text);
+    struct ucstore_report report;
+    uint32_t source = 7;
+    report.size = sizeof report;
+    CHECK(report_of(of, &report) == UCSTORE_OK);
+    int32_t status = of == &live ? ucstore_source(&store, text, length, &source)
+                                 : ucstore_view_source(&of->view, text, length, &source);
+    CHECK(status == UCSTORE_OK && source <= UCSTORE_RUNS);
+    CHECK(source != UCSTORE_MEMTABLE || report.gathered > 0);
+    CHECK(source != UCSTORE_RUNS || report.runs > 0);
+    CHECK(source != UCSTORE_FILTERS || report.gathered > 0 || !of->now.at[key].held);
+}
+
 /* Jobs. */
 
 /* Ends a job, which is kept: its run is installed if there is one, and it wasn't flushed before. */
@@ -834,6 +851,7 @@ static void step(void) {
         release();
         check_snapshots();
         check_report(draw_moment());
+        check_source(draw_moment());
     } else if (choice < 63) {
         compact();
     } else if (choice < 64) {
@@ -983,6 +1001,7 @@ static void without_store(void) {
     uint8_t room[4];
     size_t size = 0, found = 7;
     uint64_t seq = 7;
+    uint32_t source = 7;
     bool compacted = true;
     report.size = sizeof report;
     CHECK(ucstore_put(&store, text, 1, text, 1) == UCSTORE_NO_STORE);
@@ -1001,6 +1020,7 @@ static void without_store(void) {
     CHECK(ucstore_release(&store, 0) == UCSTORE_NO_STORE);
     CHECK(ucstore_last(&store, &seq) == UCSTORE_NO_STORE && seq == 7);
     CHECK(ucstore_get(&store, text, 1, room, sizeof room, &size) == UCSTORE_NO_STORE);
+    CHECK(ucstore_source(&store, text, 1, &source) == UCSTORE_NO_STORE && source == 7);
     CHECK(ucstore_get_at(&store, text, 1, 0, room, sizeof room, &size) == UCSTORE_NO_STORE);
     CHECK(ucstore_scan(&store, text, 1, text, 1, false, 9, room, sizeof room, &size, &seq) == UCSTORE_NO_STORE && seq == 7);
     CHECK(ucstore_scan_at(&store, text, 1, text, 1, false, 0, 9, room, sizeof room, &size, &seq) == UCSTORE_NO_STORE && seq == 7);
@@ -1019,12 +1039,14 @@ static void without_view(void) {
     uint8_t room[4];
     size_t size = 0;
     uint64_t seq = 7;
+    uint32_t source = 7;
     report.size = sizeof report;
     CHECK(ucstore_view(&store, &none) == UCSTORE_NO_STORE && none.at == NULL);
     CHECK(ucstore_view_again(&none, &other) == UCSTORE_NO_VIEW && other.at == NULL);
     CHECK(ucstore_view_last(&none, &seq) == UCSTORE_NO_VIEW);
     CHECK(ucstore_view_report(&none, &report) == UCSTORE_NO_VIEW);
     CHECK(ucstore_view_get(&none, text, 1, room, sizeof room, &size) == UCSTORE_NO_VIEW);
+    CHECK(ucstore_view_source(&none, text, 1, &source) == UCSTORE_NO_VIEW && source == 7);
     CHECK(ucstore_view_get_at(&none, text, 1, 0, room, sizeof room, &size) == UCSTORE_NO_VIEW);
     CHECK(ucstore_view_get_many(&none, text, 1, &length, 1, &seq, 1, room, sizeof room, &size) == UCSTORE_NO_VIEW);
     CHECK(ucstore_view_scan(&none, text, 1, text, 1, false, 9, room, sizeof room, &size, &seq) == UCSTORE_NO_VIEW);

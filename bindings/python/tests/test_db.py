@@ -182,6 +182,18 @@ class Calls(InFolder):
             self.assertIsNone(db.failure())
             self.assertEqual(len(list(db)), 19)
 
+    def test_lookups_are_counted_by_where_they_are_answered(self):
+        with Db(self.folder) as db:
+            db[b"run"] = b"v"
+            db.flush()
+            db[b"memtable"] = b"v"
+            for _ in range(640):
+                self.assertEqual((db[b"run"], db[b"memtable"], db.get(b"nowhere")), (b"v", b"v", None))
+            stats = db.stats()
+            self.assertEqual(stats.lookups, 3 * 640)
+            for estimate in stats.lookups_by_memtable, stats.lookups_by_filters, stats.lookups_by_runs:
+                self.assertLessEqual(abs(estimate - 640), 3 * 64)
+
 
 def init_options():
     """The library's function that fills in options."""

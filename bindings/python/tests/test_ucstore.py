@@ -9,9 +9,9 @@ import unittest
 
 import ucstore
 from ucstore import (
-    BadOption, BatchFault, Delete, DeleteRange, End, Ended, LogFault, Merge, NoCheckpoint, NoJob, NoStore, NoView,
-    NotABatch, NotProtected, Operator, Options, Put, SequenceBack, SequencesSpent, Store, UnknownOperator, WriteBatch,
-    batch_bytes, log_writes,
+    BadOption, BatchFault, Delete, DeleteRange, End, Ended, LogFault, LookupSource, Merge, NoCheckpoint, NoJob, NoStore,
+    NoView, NotABatch, NotProtected, Operator, Options, Put, SequenceBack, SequencesSpent, Store, UnknownOperator,
+    WriteBatch, batch_bytes, log_writes,
 )
 
 
@@ -260,6 +260,22 @@ class Calls(unittest.TestCase):
         self.assertRaises(NotProtected, view.get_at, b"b", 7)
         view.close()
         view.close()
+
+    def test_a_store_and_its_views_say_where_they_look(self):
+        store, source = self.store, LookupSource
+        store.write([Put(b"flushed", b"1"), Put(b"merged", b"1")])
+        store.flush()
+        store.write([Merge(b"merged", b"2"), Merge(b"alone", b"1"), Put(b"put", b"1"), DeleteRange(b"r", b"s")])
+        keys = [b"flushed", b"merged", b"alone", b"nowhere", b"put", b"range"]
+        wanted = [source.RUNS, source.RUNS, source.FILTERS, source.FILTERS, source.MEMTABLE, source.MEMTABLE]
+        with store.view() as view:
+            self.assertEqual([store.source(key) for key in keys], wanted)
+            store.flush()
+            self.assertEqual([view.source(key) for key in keys], wanted)
+        self.assertEqual({store.source(key) for key in keys if key != b"nowhere"}, {source.RUNS})
+        self.assertEqual(store.source(b"nowhere"), source.FILTERS)
+        self.assertRaises(NoView, view.source, b"put")
+        self.assertRaises(TypeError, store.source, "put")
 
     def test_a_checkpoint_is_a_log_of_a_view(self):
         rows = {b"%05d" % number: b"v" * (number % 50) for number in range(9000)}

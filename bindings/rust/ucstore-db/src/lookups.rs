@@ -72,15 +72,20 @@ fn is_asked(number: u64) -> bool {
 #[cfg(test)]
 mod tests {
     use super::*;
+    use LookupSource::{Filters, Memtable, Runs};
+
+    /// How many of a thousand times [`SHARE`] lookups are asked that are one turn of some.
+    fn asked_of(turn: u64, turns: u64) -> usize {
+        let numbers = (0..1000 * SHARE).map(|round| round * turns + turn);
+        numbers.filter(|&number| is_asked(number)).count()
+    }
 
     #[test]
     fn each_turn_is_asked_as_often() {
-        for turns in 1..=70u64 {
+        for turns in [1, 2, 3, 5, 8, 13, 21, 32, 64, 100] {
             for turn in 0..turns {
-                let count = 64 * 1000;
-                let numbers = (0..count).map(|round| round * turns + turn);
-                let asked = numbers.filter(|&number| is_asked(number)).count();
-                assert!((980..=1020).contains(&asked), "{asked} of {turn} in {turns}");
+                let asked = asked_of(turn, turns);
+                assert!((980..=1020).contains(&asked), "{turn} of {turns}: {asked}");
             }
         }
     }
@@ -88,30 +93,23 @@ mod tests {
     #[test]
     fn sources_are_counted_by_their_share() {
         let lookups = Lookups::default();
-        for number in 0..6400 {
-            lookups.add(|| match number % 4 {
-                0 => Ok(LookupSource::Memtable),
-                1 => Ok(LookupSource::Filters),
-                2 => Ok(LookupSource::Runs),
-                _ => Err(Error::OutOfMemory),
-            });
+        for number in 0..100 * SHARE {
+            let sources = [Ok(Memtable), Ok(Filters), Ok(Runs), Err(Error::OutOfMemory)];
+            lookups.add(|| sources[number as usize % 4]);
         }
-        assert_eq!(lookups.count(), 6400);
-        for source in [
-            LookupSource::Memtable,
-            LookupSource::Filters,
-            LookupSource::Runs,
-        ] {
-            let estimate = lookups.estimate(source);
-            assert!((1280..=1920).contains(&estimate), "{estimate} by {source:?}");
+        assert_eq!(lookups.count(), 100 * SHARE);
+        for source in [Memtable, Filters, Runs] {
+            let count = lookups.estimate(source) / SHARE;
+            assert!((23..=27).contains(&count), "{source:?}: {count}");
         }
     }
 
     #[test]
-    fn no_more_are_told_than_there_may_be() {
+    fn a_few_lookups_tell_nothing() {
         let lookups = Lookups::default();
-        lookups.add(|| Ok(LookupSource::Runs));
-        assert_eq!((lookups.count(), lookups.estimate(LookupSource::Runs)), (1, 0));
-        assert_eq!(lookups.next(), 1);
+        lookups.add(|| Ok(Runs));
+        lookups.add_many(2);
+        assert_eq!((lookups.count(), lookups.next()), (3, 3));
+        assert_eq!(lookups.estimate(Runs), 0);
     }
 }

@@ -315,3 +315,32 @@ fn numbers_of_work_are_counted() {
     let wanted = (logged + base) as f64 / stats.user_bytes as f64;
     assert_eq!(stats.write_amplification(), wanted);
 }
+
+/// Whether an estimate of how many lookups were answered somewhere is near the number: each that was asked counts for 64.
+fn is_near(estimate: u64, count: u64) -> bool {
+    estimate.abs_diff(count) <= 3 * 64
+}
+
+#[test]
+fn lookups_are_counted_by_where_they_are_answered() {
+    let db = Db::in_memory(&Options::default()).unwrap();
+    db.put("run", "v").unwrap();
+    db.flush().unwrap();
+    db.put("memtable", "v").unwrap();
+    let snapshot = db.snapshot().unwrap();
+    let mut value = Vec::new();
+    for _ in 0..3200 {
+        db.get("memtable").unwrap();
+        snapshot.get("run").unwrap();
+        db.get_into("run", &mut value).unwrap();
+    }
+    for _ in 0..100 {
+        snapshot.get_many(["nowhere"; 96]).unwrap();
+        db.get_many(["memtable"; 32]).unwrap();
+    }
+    let stats = db.stats();
+    assert_eq!(stats.lookups, 3 * 3200 + 100 * 128);
+    assert!(is_near(stats.lookups_by_memtable, 6400), "{stats}");
+    assert!(is_near(stats.lookups_by_filters, 9600), "{stats}");
+    assert!(is_near(stats.lookups_by_runs, 6400), "{stats}");
+}

@@ -3,7 +3,7 @@
 use std::mem::MaybeUninit;
 use std::sync::mpsc;
 use std::thread;
-use ucstore::{Ended, Error, Job, Operator, Options, Store, View};
+use ucstore::{Ended, Error, Job, LookupSource, Operator, Options, Store, View};
 
 /// A store that leaves its compactions to jobs.
 fn empty(operator: Operator) -> Store {
@@ -48,6 +48,39 @@ fn a_view_stays_what_it_is() {
     let mut rows = again.into_prefix("");
     assert_eq!(rows.next_row(), Ok(Some((&b"a"[..], &b"1"[..]))));
     assert_eq!(rows.map(Result::unwrap).count(), 1);
+}
+
+#[test]
+fn a_store_and_its_views_say_where_they_look() {
+    use LookupSource::{Filters, Memtable, Runs};
+    let store = empty(Operator::Append);
+    store.put("flushed", "1").unwrap();
+    store.put("merged", "1").unwrap();
+    store.flush().unwrap();
+    store.merge("merged", "2").unwrap();
+    store.merge("alone", "1").unwrap();
+    store.put("put", "1").unwrap();
+    store.delete("deleted").unwrap();
+    store.delete_range("r", "s").unwrap();
+    let view = store.view().unwrap();
+    let wanted = [
+        ("flushed", Runs),
+        ("merged", Runs),
+        ("alone", Filters),
+        ("nowhere", Filters),
+        ("put", Memtable),
+        ("deleted", Memtable),
+        ("range", Memtable),
+    ];
+    for (key, source) in wanted {
+        assert_eq!(store.source(key), Ok(source), "{key}");
+    }
+    store.flush().unwrap();
+    for (key, source) in wanted {
+        assert_eq!(view.source(key), Ok(source), "{key}");
+        let is_written = key != "nowhere";
+        assert_eq!(store.source(key), Ok(if is_written { Runs } else { Filters }));
+    }
 }
 
 #[test]
