@@ -79,7 +79,10 @@ fn a_store_and_its_views_say_where_they_look() {
     for (key, source) in wanted {
         assert_eq!(view.source(key), Ok(source), "{key}");
         let is_written = key != "nowhere";
-        assert_eq!(store.source(key), Ok(if is_written { Runs } else { Filters }));
+        assert_eq!(
+            store.source(key),
+            Ok(if is_written { Runs } else { Filters })
+        );
     }
 }
 
