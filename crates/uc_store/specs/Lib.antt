@@ -20,6 +20,7 @@ pub use Rattle.uc_live.specs.Compacting
 pub use Rattle.uc_live.specs.Writing
 pub use Rattle.uc_live.specs.Recording
 pub use Rattle.uc_live.specs.Views
+pub use Rattle.uc_live.specs.Sources
 pub use Rattle.uc_live.specs.LiveJobs
 pub use Rattle.uc_version.specs.Jobs
 pub mod Batches

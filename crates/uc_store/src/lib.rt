@@ -41,8 +41,8 @@ pub use uc_batch::{Ended, Op, Pieces, Writes};
 pub use uc_bytes::{Bytes, OpRef, Write};
 pub use uc_checkpoint::{Checkpoint, CheckpointError};
 pub use uc_live::{
-    FlushEnd, FlushJob, Job, JobEnd, JobStage, LiveOpenError, LiveOptions, LiveStore, OpenedStore,
-    RoomError, View, WriteError,
+    FlushEnd, FlushJob, Job, JobEnd, JobStage, LiveOpenError, LiveOptions, LiveStore, LookupSource,
+    OpenedStore, RoomError, View, WriteError,
 };
 pub use uc_oper::{Append, Counter, Maximum, Operator, Tail};
 pub use uc_query::{Answer, AskError, Query, Report, Rows, answer_one, answer_plain, get, report};

@@ -88,7 +88,7 @@ pub use options::{Options, Sync};
 pub use snapshot::{Rows, Snapshot};
 pub use stats::Stats;
 pub use ucstore;
-pub use ucstore::{Batch, LookupSource, Operator};
+pub use ucstore::{Batch, Operator};
 
 use std::sync::{Mutex, MutexGuard, PoisonError, TryLockError};
 

@@ -149,6 +149,15 @@ impl fmt::Display for Bytes {
     }
 }
 
+/// A number that is estimated.
+struct About(u64);
+
+impl fmt::Display for About {
+    fn fmt(&self, formatter: &mut fmt::Formatter<'_>) -> fmt::Result {
+        write!(formatter, "~{}", self.0)
+    }
+}
+
 /// A duration, in milliseconds.
 struct Millis(Duration);
 
@@ -177,9 +186,9 @@ impl fmt::Display for Stats {
                 &format!("{:.2}", self.write_amplification()),
             ),
             ("lookups", &self.lookups),
-            ("about, by memtables", &self.lookups_by_memtable),
-            ("about, by filters", &self.lookups_by_filters),
-            ("about, by runs", &self.lookups_by_runs),
+            ("lookups, by memtables", &About(self.lookups_by_memtable)),
+            ("lookups, by filters", &About(self.lookups_by_filters)),
+            ("lookups, by runs", &About(self.lookups_by_runs)),
             ("syncs", &self.syncs),
             ("sync, p50", &Millis(self.sync_p50)),
             ("sync, p99", &Millis(self.sync_p99)),
@@ -233,6 +242,7 @@ mod tests {
             user_bytes: 100,
             logged_bytes: 110,
             base_bytes: 40,
+            lookups_by_filters: 640,
             flush_bytes: 1000,
             compaction_read: 1 << 20,
             compaction_written: 2500,
@@ -244,6 +254,7 @@ mod tests {
             "batches                               7",
             "batches a group                    3.50",
             "write amplification                1.50",
+            "lookups, by filters                ~640",
             "sync, p99                      1.234 ms",
             "bytes compacted                 1.0 MiB",
             "run amplification                  3.50",
