@@ -1,9 +1,10 @@
 -- What the effect of writes tells of them: whether a read sees one, and whether it sees one that overwrites the key.
-use Rattle.std.proofs.Common.{◌≡◌, ◌≢◌, ℕ, ◌≤◌, Bool, true, false, cond, ◌&&◌, List, [], ◌∷◌, ◌++◌, Option, None, fold, filter, map, refl, sym, ap, ◌∙◌, arith}
-use Rattle.std.specs.Prelude.{◌||◌}
+use Rattle.std.proofs.Common.{◌≡◌, ℕ, ◌≤◌, Bool, true, false, cond, ◌&&◌, List, [], ◌∷◌, ◌++◌, Option, None, fold, filter, map, length, get_or, take, ◌+◌, ◌<◌, refl, sym, ap, ◌∙◌}
+use Rattle.std.specs.Prelude.{◌||◌, ◌↔◌, IsTrue}
 use Rattle.std.specs.List.{list_any}
 use Rattle.std.proofs.lemmas.Bool.{false≢true}
-use Rattle.std.proofs.lemmas.List.Folds.{list_any-append}
+use Rattle.std.proofs.lemmas.List.{take_all}
+use Rattle.std.proofs.lemmas.List.Folds.{list_any-append, list_any_at, list_any_more}
 use Rattle.uc_oper.specs.Operation.{Operation}
 use Rattle.uc_oper.specs.Composition.{applied, composed}
 use Rattle.uc_oper.specs.Lent.{sets}
@@ -104,6 +105,14 @@ module _ {X : Type 0} (run_of : X → Contents) (key : List ℕ) (at : ℕ) wher
   abbrev pub is_seen_in : X → Bool
   is_seen_in x = is_seen_among (plain_list (run_of x)) key at
 
+  -- the effect of a run tells it
+  pub told_of_run : (m : Operation) (x : X) (run : Contents) (e : Effect) (told : Bool) → run ≡ run_of x → e ≡ effect_on m (plain_list run) key at → told ≡ changes e → told ≡ is_seen_in x
+  told_of_run m x run e told same found is =
+      is
+      ∙ ap changes found
+      ∙ changes_if_seen m (plain_list run) key at
+      ∙ ap (λ (r : Contents). is_seen_among (plain_list r) key at) same
+
   -- a read sees a write of runs exactly if it sees one of one of them
   pub seen_in_runs : (runs : List X) → is_seen_among (writes_of (map run_of runs)) key at ≡ list_any is_seen_in runs
   seen_in_runs [] = refl
@@ -111,3 +120,26 @@ module _ {X : Type 0} (run_of : X → Contents) (key : List ℕ) (at : ℕ) wher
       list_any-append (is_seen key at) (writes_of (map run_of xs)) (plain_list (run_of x))
       ∙ ap (λ b. b || is_seen_in x) (seen_in_runs xs)
       ∙ or_comm (list_any is_seen_in xs) (is_seen_in x)
+
+  -- so it does where it sees one of the run at a place
+  pub seen_at : (runs : List X) (i : ℕ) (x : X) → i < length runs → x ≡ get_or runs i x → is_seen_in x ≡ true → true ≡ is_seen_among (writes_of (map run_of runs)) key at
+  seen_at runs i x lt is seen =
+      sym (seen_in_runs runs ∙ list_any_at is_seen_in runs i x lt (ap is_seen_in (sym is) ∙ seen))
+
+  -- and it sees none of one run more if it sees none of that
+  pub none_more : (runs : List X) (i : ℕ) (x : X) → i < length runs → x ≡ get_or runs i x → list_any is_seen_in (take i runs) ≡ false → is_seen_in x ≡ false → list_any is_seen_in (take (i + 1) runs) ≡ false
+  none_more runs i x lt is none unseen =
+      list_any_more is_seen_in runs i x lt
+      ∙ ap (λ b. b || is_seen_in (get_or runs i x)) none
+      ∙ ap is_seen_in (sym is)
+      ∙ unseen
+
+  pub none_of_all : (runs : List X) (i : ℕ) → length runs ≤ i → list_any is_seen_in (take i runs) ≡ false → false ≡ is_seen_among (writes_of (map run_of runs)) key at
+  none_of_all runs i le none =
+      sym (seen_in_runs runs ∙ ap (list_any is_seen_in) (sym (take_all i runs le)) ∙ none)
+
+-- two tests that hold together are the same
+pub same_test : (a b : Bool) → IsTrue a ↔ (b ≡ true) → a ≡ b
+same_test true b both = sym (both.0 refl)
+same_test false true both = absurd (false≢true (both.1 refl))
+same_test false false both = refl

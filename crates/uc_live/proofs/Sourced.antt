@@ -1,5 +1,5 @@
 -- What a place where a lookup is answered tells of the writes.
-use Rattle.std.proofs.Common.{◌≡◌, ◌≢◌, ℕ, ◌≤◌, Bool, true, false, cond, ◌&&◌, leb, List, [], ◌∷◌, ◌++◌, filter, map, refl, sym, ◌∙◌, arith}
+use Rattle.std.proofs.Common.{◌≡◌, ◌≢◌, ℕ, ◌≤◌, Bool, true, false, cond, ◌&&◌, leb, List, [], ◌∷◌, ◌++◌, filter, map, refl, sym, ap, ◌∙◌}
 use Rattle.std.specs.Prelude.{◌||◌, ◌↔◌, IsTrue, IsPermutation, if◌then◌else◌}
 use Rattle.std.specs.List.{AllByRecursion, list_any, flat_map}
 use Rattle.std.proofs.lemmas.Bool.{false≢true, le-leb}
@@ -15,11 +15,14 @@ use Rattle.uc_run_entry.specs.declared.entry.What.TheVariants as what
 use Rattle.uc_run_entry.specs.PlainList as plain
 use Rattle.uc_run_entry.specs.PlainList.{op_of, point_write, fragment_writes, plain_list}
 use Rattle.uc_compact.specs.Inputs.{writes_of}
+use Rattle.uc_version_state.specs.Versions.{writes_in}
+use Rattle.uc_live.specs.Sources.{is_decided_by, is_seen_among, source_of}
+use Rattle.uc_live.specs.Views.{Seen, last}
 use Rattle.uc_live.specs.declared.lookup_source.LookupSource.{LookupSource}
 use Rattle.uc_live.specs.declared.lookup_source.LookupSource.TheVariants.{Memtable, Filters, Runs}
 
 -- where it is answered, by whether the gathered writes decide and whether the runs have one
-abbrev source_by : Bool → Bool → LookupSource
+abbrev pub source_by : Bool → Bool → LookupSource
 source_by decided seen = if decided then Memtable else if seen then Runs else Filters
 
 pub memtable_decides : (decided seen : Bool) → source_by decided seen ≡ Memtable → decided ≡ true
@@ -36,6 +39,24 @@ pub runs_see_one : (decided seen : Bool) → source_by decided seen ≡ Runs →
 runs_see_one true seen from = absurd cc
 runs_see_one false true from = refl
 runs_see_one false false from = absurd cc
+
+-- what was found tells it
+module _ (s : Seen) (key sought : List ℕ) (at : ℕ) (same : sought ≡ key) (now : at ≡ last s) where
+  decided_now : (decided : Bool) → decided ≡ is_decided_by s.gathered sought at → decided ≡ is_decided_by s.gathered key (last s)
+  decided_now decided is =
+      is ∙ ap (λ (k : List ℕ). is_decided_by s.gathered k at) same ∙ ap (λ (n : ℕ). is_decided_by s.gathered key n) now
+
+  pub memtable_told : (decided : Bool) → decided ≡ is_decided_by s.gathered sought at → decided ≡ true → Memtable ≡ source_of s key
+  memtable_told decided is holds =
+      sym (ap (λ b. source_by b (is_seen_among (writes_in s.version) key (last s))) (sym (decided_now decided is) ∙ holds))
+
+  pub rest_told : (decided seen : Bool) → decided ≡ is_decided_by s.gathered sought at → seen ≡ is_seen_among (writes_in s.version) sought at → decided ≡ false → (if seen then Runs else Filters) ≡ source_of s key
+  rest_told decided seen is sees fails =
+      let older = writes_in s.version in
+      sym (ap (λ b. source_by b seen) fails)
+      ∙ ap (λ b. source_by b seen) (decided_now decided is)
+      ∙ ap (source_by (is_decided_by s.gathered key (last s)))
+      (sees ∙ ap (λ (k : List ℕ). is_seen_among older k at) same ∙ ap (λ (n : ℕ). is_seen_among older key n) now)
 
 front_fails : (a b : Bool) → (a || b) ≡ false → a ≡ false
 front_fails true b e = e

@@ -2,7 +2,7 @@
 ghost use Rattle.std.specs.Prelude.{◌≡◌, IfOk};
 ghost use Rattle.uc_version_state.specs.Versions.{contents_of};
 ghost use Rattle.uc_compact.specs.Inputs.{writes_of};
-ghost use Rattle.uc_live.specs.Sources.{changes, is_seen_among, source_of};
+ghost use Rattle.uc_live.specs.Sources.{changes, is_decided_by, is_seen_among, source_of};
 
 use crate::last_reads::last_sequence;
 use std::alloc::{AllocError, Global};
@@ -38,6 +38,19 @@ fn is_change(alloc: Global, effect: EffectRef<'_>) -> Result<bool, AllocError>
     }
 }
 
+/// Whether a read of a key at a sequence sees one of the gathered writes that puts or deletes it.
+fn is_decided<O: Operator>(
+    alloc: Global,
+    gathered: &FlushableMemtables,
+    key: &SoughtKey<'_>,
+    at: u64,
+) -> Result<bool, AllocError>
+    ensures { IfOk result (λ decided. decided ≡ is_decided_by gathered.now.shown key.now at) }
+{
+    let effect = gathered.effect_of_sought::<O>(alloc, key, at)?;
+    Ok(effect.is_set())
+}
+
 /// Whether a read of a key at a sequence sees a write of the runs. It asks the filters first.
 fn is_in_runs<O: Operator>(
     alloc: Global,
@@ -69,10 +82,12 @@ pub(crate) fn last_source<O: Operator>(
 {
     let last = last_sequence(version, gathered);
     let key = SoughtKey::new(key);
-    if gathered.effect_of_sought::<O>(alloc, &key, last)?.is_set() {
+    let decided = is_decided::<O>(alloc, gathered, &key, last)?;
+    if decided {
         return Ok(LookupSource::Memtable);
     }
-    if is_in_runs::<O>(alloc, version.runs(), &key, last)? {
+    let seen = is_in_runs::<O>(alloc, version.runs(), &key, last)?;
+    if seen {
         return Ok(LookupSource::Runs);
     }
     Ok(LookupSource::Filters)
