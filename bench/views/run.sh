@@ -21,7 +21,7 @@
 #   compacts by two threads of its own. What readers take of processors is there too, since other work takes some.
 # - writes: WRITES keys (3000000) drawn of as many are put one by one, with a clock around each put, beside two threads
 #   that compact by jobs, or RocksDB's own two. Ours flushes by the thread that writes. What is left to compact behind
-#   the last write isn't counted.
+#   the last write isn't counted. Then a million drawn keys are looked up in the runs that there are.
 #
 # All programs check what they read, and all keys in the end. Each runs in a process of its own, in turn, TURNS times
 # (3), and Debian's RocksDB in the first turn alone. Each figure is the median of its turns. RESULTS names a file for
@@ -204,23 +204,26 @@ keep_writes() { # PROGRAM
         keep 'single writes beside jobs' "$share" "$name" ns "$(median "writes.$1" "$column")"
         column=$((column + 1))
     done
+    keep_ms 'lookups behind the writes' all "$name" "$(median "writes.$1" 5)"
+    keep 'memory of the writes' most "$name" MiB "$(($(median "writes.$1" 6) / 1024))"
 }
 
 print_writes() { # PROGRAM
     local column
     printf '%-10s %9.0f' "$(name_of "$1")" "$(as_millions "$(median "writes.$1" 1)")"
     for column in 2 3 4; do printf ' %9s' "$(median "writes.$1" "$column")"; done
-    for column in 1 2 3 4; do printf ' %9s' "$(over "writes.$1" writes.rocksdb "$column")"; done
-    printf '  %s\n' "$(cut -d ' ' -f 5- "$folder/row.writes.$1" | sort -u | paste -s -d ',')"
+    printf ' %9.0f %9s' "$(as_millions "$(median "writes.$1" 5)")" "$(($(median "writes.$1" 6) / 1024))"
+    for column in 1 2 3 4 5 6; do printf ' %9s' "$(over "writes.$1" writes.rocksdb "$column")"; done
+    printf '  %s\n' "$(cut -d ' ' -f 7- "$folder/row.writes.$1" | sort -u | paste -s -d ',')"
 }
 
 writes() {
     local rows=() program
     for program in $(programs); do rows+=("writes.$program:$program:writes $writes"); done
     measure "${rows[@]}"
-    echo "$writes single writes, all in ms, each in ns, and shares of RocksDB's; and what the longest was"
+    echo "$writes single writes and a million lookups, each all in ms, a write in ns, MiB, shares of RocksDB's; what the longest was"
     printf '%-10s' ''
-    printf ' %9s' all median 99.9 longest '/ all' '/ median' '/ 99.9' '/ longest'
+    printf ' %9s' all median 99.9 longest lookups MiB '/ all' '/ median' '/ 99.9' '/ longest' '/ lookups' '/ MiB'
     printf '\n'
     for program in $(programs); do
         keep_writes "$program"
@@ -239,6 +242,8 @@ set_goals() {
     for share in median 99 99.9; do goal 'lookups on views' "* $share" RocksDB ns 'at most' 0.3; done
     goal 'single writes beside jobs' all RocksDB ms 'at most' 0.4
     goal 'single writes beside jobs' 99.9 RocksDB ns 'at most' 1
+    goal 'lookups behind the writes' all RocksDB ms 'at most' 0.4
+    goal 'memory of the writes' most RocksDB MiB 'at most' 1
 }
 
 if [ $# -eq 0 ]; then set -- views jobs lookups writes; fi

@@ -8,8 +8,9 @@
  * lookups. It prints the lookups and the writes a second, and of a lookup the nanoseconds of the median, the 99th and
  * the 99.9th percent, the longest, and what one took of processors, all else that readers do included.
  *
- * `writes`: one thread sets WRITES keys drawn of as many, one by one, while two compact. It prints the nanoseconds of
- * all, the median, the 99.9th percent, the longest, and what that one was.
+ * `writes`: one thread sets WRITES keys drawn of as many, one by one, while two compact. Then it looks a million of the
+ * keys up, in the runs that there are. It prints the nanoseconds of all, the median, the 99.9th percent, the longest, the
+ * nanoseconds of all lookups, the KiB that the process had at most before them, and what the longest write was.
  *
  * A value is the number of its write, from which its key is drawn. So each lookup is checked, and each key at last. */
 #define _POSIX_C_SOURCE 200112L
@@ -20,8 +21,9 @@
 
 #include <inttypes.h>
 #include <pthread.h>
+#include <sys/resource.h>
 
-enum { FILLED = 300000, PER_ROUND = 1000, MOST_READERS = 16 };
+enum { FILLED = 300000, PER_ROUND = 1000, MOST_READERS = 16, BEHIND = 1000000 };
 
 /* The writes before any thread is started, each of a key of its own, and how many keys there are. */
 static uint64_t filled, keys;
@@ -177,10 +179,37 @@ static void measure_lookups(size_t count, uint64_t seconds) {
            time_at(&times, 999), times.longest, spent / (int64_t)times.count);
 }
 
+/* The KiB that the process had at most. */
+static long most_memory(void) {
+    struct rusage usage;
+    expect(getrusage(RUSAGE_SELF, &usage) == 0, "the memory isn't told");
+    return usage.ru_maxrss;
+}
+
+/* Looks drawn keys up, of which some were never written, and returns how long that took. */
+static int64_t time_lookups(void) {
+    struct reader *reader;
+    int64_t begin;
+    show();
+    reader = open_reader();
+    renew(reader);
+    begin = now();
+    for (uint64_t place = 0; place < BEHIND; place++) {
+        uint8_t key[KEY], number[NUMBER];
+        uint64_t wanted = drawn((UINT64_C(1) << 48) + place) % keys;
+        put_key(key, wanted);
+        expect(!look_up(reader, key, number) || key_of(number_of(number)) == wanted, "a key has another one's value");
+    }
+    begin = now() - begin;
+    close_reader(reader);
+    return begin;
+}
+
 static void measure_writes(uint64_t count) {
     static struct times times;
     const char *longest = "";
-    int64_t begin, spent;
+    int64_t begin, spent, lookups;
+    long memory;
     keys = count;
     open_shared();
     start_compactors(2);
@@ -195,9 +224,11 @@ static void measure_writes(uint64_t count) {
     }
     spent = now() - begin;
     stop_compactors();
+    memory = most_memory();
+    lookups = time_lookups();
     check_all(count);
-    printf("%" PRId64 " %" PRId64 " %" PRId64 " %" PRId64 " %s\n", spent, time_at(&times, 500), time_at(&times, 999),
-           times.longest, longest);
+    printf("%" PRId64 " %" PRId64 " %" PRId64 " %" PRId64 " %" PRId64 " %ld %s\n", spent, time_at(&times, 500),
+           time_at(&times, 999), times.longest, lookups, memory, longest);
 }
 
 /* A number of the command line, at least 1. */

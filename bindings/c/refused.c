@@ -178,7 +178,7 @@ enum {
     PUT, DELETE, MERGE, DELETE_RANGE, BATCH_PUT, BATCH_DELETE, BATCH_MERGE, BATCH_DELETE_RANGE, WRITE, WRITE_BYTES, PREPARE,
     PREPARE_BYTES, FLUSH, SNAPSHOT, RELEASE, GET, SOURCE, GET_AT, GET_MANY, SCAN, SCAN_AT, VIEW, VIEW_AGAIN, VIEW_GET, VIEW_SOURCE,
     VIEW_GET_AT, VIEW_GET_MANY, VIEW_SCAN, VIEW_SCAN_AT, VIEW_CLOSE, CHECKPOINT, CHECKPOINT_NEXT, JOB, JOB_RUN, JOB_END, COMPACT, OPEN,
-    NEXT, KINDS
+    REPLAY, NEXT, KINDS
 };
 
 static size_t draw_text(uint8_t *text, size_t most) {
@@ -255,6 +255,28 @@ static int32_t open_log(void) {
     status = ucstore_open(&opened, UCSTORE_APPEND, &options, history, history_length, &ended);
     CHECK((status == UCSTORE_OK) == (opened.at != NULL));
     CHECK(status != UCSTORE_OK || (ended.kind == UCSTORE_CLEAN && ucstore_close(&opened) == UCSTORE_OK));
+    return status;
+}
+
+/* Writes the log's batches to a store behind another handle, and closes it. A batch that is refused isn't written. */
+static int32_t replay_log(void) {
+    struct ucstore again = {0};
+    struct ucstore_options options;
+    struct ucstore_log_place place = {0, 0, 0};
+    struct ucstore_ended ended = {7, 7, 7};
+    uint64_t last = 7;
+    int32_t status;
+    CHECK(ucstore_options_init(&options) == UCSTORE_OK);
+    options.write_buffer_size = 1000;
+    status = ucstore_create(&again, UCSTORE_APPEND, &options);
+    while (status == UCSTORE_OK) {
+        status = ucstore_replay(&again, history, history_length, &place, false, &ended);
+    }
+    if (again.at != NULL) {
+        CHECK(ucstore_last(&again, &last) == UCSTORE_OK && last == place.last);
+        CHECK(ucstore_close(&again) == UCSTORE_OK);
+    }
+    CHECK(status != UCSTORE_LOG_ENDS || (ended.kind == UCSTORE_CLEAN && place.offset == history_length));
     return status;
 }
 
@@ -356,6 +378,8 @@ static int32_t try_call(const struct call *call) {
         return ucstore_compact(&store, &told);
     case OPEN:
         return open_log();
+    case REPLAY:
+        return replay_log();
     default:
         return ucstore_log_next(history, history_length, &place, room, ROOM, &size, &number, &ended);
     }
@@ -378,7 +402,7 @@ static int32_t with_refusals(const struct call *call, struct held *held) {
     size_t before = 0;
     long blocks = live;
     while (try_refused(call, before++, &status) && status == UCSTORE_OUT_OF_MEMORY) {
-        CHECK(call->kind == OPEN || call->kind == NEXT ? live == blocks : true);
+        CHECK(call->kind == OPEN || call->kind == REPLAY || call->kind == NEXT ? live == blocks : true);
         look(&found);
         CHECK(is_same(&found, held));
     }

@@ -760,6 +760,49 @@ static void check_store(struct ucstore *opened, uint64_t last) {
     CHECK(size == wanted.size && found == wanted.count && memcmp(room, wanted.bytes, size) == 0);
 }
 
+/* Writes the batches of the log's first bytes to a store, which end as a walk says. */
+static void replay(size_t length, const struct ucstore_log_place *end, const struct ucstore_ended *walked) {
+    struct ucstore again = {0};
+    struct ucstore_options options;
+    struct ucstore_log_place place = {0}, before;
+    struct ucstore_ended ended = {7, 7, 7};
+    int32_t status = UCSTORE_OK;
+    CHECK(ucstore_options_init(&options) == UCSTORE_OK);
+    CHECK(ucstore_create(&again, merge_operator, &options) == UCSTORE_OK);
+    while (status == UCSTORE_OK) {
+        before = place;
+        status = ucstore_replay(&again, history, length, &place, draw(2) == 0, &ended);
+        CHECK(status == UCSTORE_OK ? place.offset > before.offset : memcmp(&before, &place, sizeof place) == 0);
+    }
+    CHECK(status == UCSTORE_LOG_ENDS && memcmp(&place, end, sizeof place) == 0);
+    CHECK(ended.kind == walked->kind && ended.fault == walked->fault && ended.place == walked->place);
+    check_store(&again, place.last);
+    CHECK(ucstore_close(&again) == UCSTORE_OK);
+}
+
+/* The batch of a log that begins later than right behind the last sequence is written if it may skip some. */
+static void skip(void) {
+    const uint8_t later[] = {9, 0, 0, 0, 0, 0, 0, 0, 1, 0, 0, 0, 1, 1, 'a', 1, 'b'};
+    struct ucstore made = {0}, again = {0};
+    struct ucstore_options options;
+    struct ucstore_log_place place = {0, 0, 0};
+    struct ucstore_ended ended = {7, 7, 7};
+    uint8_t log[64];
+    uint64_t last = 99;
+    size_t size = 0;
+    CHECK(ucstore_options_init(&options) == UCSTORE_OK);
+    CHECK(ucstore_create(&made, UCSTORE_APPEND, &options) == UCSTORE_OK);
+    CHECK(ucstore_prepare_bytes(&made, later, sizeof later, 0, log, sizeof log, &size) == UCSTORE_OK);
+    CHECK(ucstore_create(&again, UCSTORE_APPEND, &options) == UCSTORE_OK);
+    CHECK(ucstore_replay(&again, log, size, &place, false, &ended) == UCSTORE_SEQUENCE_GAP);
+    CHECK(place.offset == 0 && ended.kind == 7 && ucstore_last(&again, &last) == UCSTORE_OK && last == 0);
+    CHECK(ucstore_replay(&again, log, size, &place, true, &ended) == UCSTORE_OK);
+    CHECK(place.offset == size && place.last == 9 && ucstore_last(&again, &last) == UCSTORE_OK && last == 9);
+    CHECK(ucstore_put(&again, log, 1, log, 1) == UCSTORE_OK);
+    CHECK(ucstore_replay(&again, log, size, &place, true, &ended) == UCSTORE_BAD_PLACE && place.last == 9);
+    CHECK(ucstore_close(&again) == UCSTORE_OK && ucstore_close(&made) == UCSTORE_OK);
+}
+
 /* Opens the first bytes of the log, which end as a walk says. */
 static struct ucstore_ended reopen(size_t length) {
     struct ucstore opened = {0};
@@ -771,6 +814,7 @@ static struct ucstore_ended reopen(size_t length) {
     CHECK(ended.kind == walked.kind && ended.fault == walked.fault && ended.place == walked.place);
     check_store(&opened, place.last);
     CHECK(ucstore_close(&opened) == UCSTORE_OK);
+    replay(length, &place, &ended);
     return ended;
 }
 
@@ -1065,7 +1109,7 @@ static void without_checkpoint(void) {
     CHECK(ucstore_checkpoint_next(&none, 0, 9, room, sizeof room, &size, &done) == UCSTORE_NO_CHECKPOINT);
     CHECK(ucstore_checkpoint_close(&none) == UCSTORE_NO_CHECKPOINT && room[0] == 0xAA && size == 99 && done);
     CHECK(strcmp(ucstore_status_text(UCSTORE_NO_CHECKPOINT), "the handle has no checkpoint") == 0);
-    CHECK(strcmp(ucstore_status_text(UCSTORE_HAS_CHECKPOINT + 1), ucstore_status_text(-1)) == 0);
+    CHECK(strcmp(ucstore_status_text(UCSTORE_SEQUENCE_GAP + 1), ucstore_status_text(-1)) == 0);
 }
 
 /* A store of 255 runs, which are all compacted next. */
@@ -1187,8 +1231,10 @@ static void refusals(void) {
     options.stop_trigger = 4;
     place.offset = 2;
     CHECK(ucstore_log_next(text, 1, &place, room, sizeof room, &size, &seq, &ended) == UCSTORE_BAD_PLACE && place.offset == 2);
+    CHECK(ucstore_replay(&store, text, 1, &place, true, &ended) == UCSTORE_NO_STORE && ended.kind == 7);
     CHECK(ucstore_open(&store, UCSTORE_TAIL, &options, text, 1, &ended) == UCSTORE_OK);
     CHECK(ended.kind == UCSTORE_TORN && ended.fault == 0 && ended.place == 0);
+    CHECK(ucstore_replay(&store, text, 1, &place, true, &ended) == UCSTORE_BAD_PLACE && place.offset == 2);
     CHECK(ucstore_create(&store, UCSTORE_TAIL, &options) == UCSTORE_HAS_STORE);
     CHECK(ucstore_put(&store, text, 1, text, 0) == UCSTORE_OK);
     CHECK(ucstore_snapshot(&store, &seq) == UCSTORE_OK && seq == 1);
@@ -1222,6 +1268,7 @@ int main(int argc, char **argv) {
     flush_jobs();
     nothing_is_read();
     durable();
+    skip();
     for (uint32_t one = UCSTORE_APPEND; one <= UCSTORE_TAIL; one++) {
         soak(one, operations);
     }

@@ -129,7 +129,8 @@ enum ucstore_status {
     UCSTORE_RUNS_CLAIMED = 24,     /* No run more may be, and jobs have those that would be compacted: end one. */
     UCSTORE_JOB_ENDED = 25,        /* The job has ended. */
     UCSTORE_NO_CHECKPOINT = 26,    /* The handle has no checkpoint. */
-    UCSTORE_HAS_CHECKPOINT = 27    /* The handle has a checkpoint already. */
+    UCSTORE_HAS_CHECKPOINT = 27,   /* The handle has a checkpoint already. */
+    UCSTORE_SEQUENCE_GAP = 28      /* The batch of the log begins later than right behind the last sequence. */
 };
 
 /* Which operator merges a key's operands into its value. */
@@ -178,6 +179,7 @@ static inline const char *ucstore_status_text(int32_t status) {
         "the job has ended",
         "the handle has no checkpoint",
         "the handle has a checkpoint already",
+        "the batch of the log begins later than right behind the last sequence",
     };
     return status >= 0 && (size_t)status < sizeof texts / sizeof texts[0] ? texts[status] : "unknown status";
 }
@@ -527,6 +529,17 @@ int32_t ucstore_report(struct ucstore *store, struct ucstore_report *report);
  * UCSTORE_OUT_OF_MEMORY. */
 int32_t ucstore_log_next(const uint8_t *log, size_t log_length, struct ucstore_log_place *place, uint8_t *room,
                          size_t room_length, size_t *size, uint64_t *writes, struct ucstore_ended *ended);
+
+/* Writes the next batch at a place of a log to the store, with the sequences that it has, and goes to the place behind it.
+ * A walk begins with an offset and batches of 0, and `last` is the store's last sequence. So a log that is read in several
+ * files, or behind a checkpoint, is written batch by batch; `ucstore_open` reads one whole. What is prepared is given up.
+ *
+ * UCSTORE_SEQUENCE_GAP: the batch doesn't begin right behind the last sequence, and `may_skip` is false.
+ * UCSTORE_LOG_ENDS: no batch comes next, and `ended` tells how far the log was read, as `ucstore_log_next` does.
+ * UCSTORE_BAD_PLACE: no walk over the log leads to the place, or its `last` isn't the store's.
+ * UCSTORE_NO_STORE, UCSTORE_IDS_SPENT, UCSTORE_RUNS_CLAIMED, UCSTORE_OUT_OF_MEMORY. */
+int32_t ucstore_replay(struct ucstore *store, const uint8_t *log, size_t log_length, struct ucstore_log_place *place,
+                       bool may_skip, struct ucstore_ended *ended);
 
 #ifdef __cplusplus
 }

@@ -16,4 +16,5 @@ pub mod Compacting
 pub mod LogWrites
 pub mod LogWalk
 pub mod LogSteps
+pub mod Replaying
 pub mod Checkpoints

@@ -20,11 +20,12 @@
 //! [`Readable`](readable::Readable).
 //!
 //! The functions of `logs.rt` need no handle: C keeps a log in a file of its own, appends what they lay out, and walks
-//! over it. Where a walk stops, it tells why through an address.
+//! over it. `replaying.rt` writes the batches of such a walk to a store. Where a walk stops, it tells why through an address.
 //!
 //! Read `status.rt` and `specs/Replies.antt` first, for what the functions answer, then `opening.rt`, `batches.rt`,
 //! `writing.rt`, `snapshots.rt`, `readable.rt`, `reading.rt`, `many.rt`, `scanning.rt`, `views.rt`, `view_reading.rt`,
-//! `sources.rt`, `checkpoints.rt`, `compacting.rt`, `jobs.rt`, `job_laws.rt`, `c_report.rt` and, with `specs/LogWalk.antt`, `logs.rt`.
+//! `sources.rt`, `checkpoints.rt`, `compacting.rt`, `jobs.rt`, `job_laws.rt`, `c_report.rt` and, with `specs/LogWalk.antt`, `logs.rt`
+//! and `replaying.rt`.
 //!
 //! Tests: its own.
 #![tactic(auto)]
@@ -51,6 +52,7 @@ mod many;
 mod opening;
 mod readable;
 mod reading;
+mod replaying;
 mod room;
 mod scanning;
 mod snapshots;

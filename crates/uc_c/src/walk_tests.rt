@@ -3,9 +3,11 @@
 use crate::c_ended::{CEnded, CLEAN};
 use crate::c_log_place::CLogPlace;
 use crate::logs::ucstore_log_next;
-use crate::status::{BAD_PLACE, LOG_ENDS, OK, ROOM};
-use crate::tests::{LOG, untold};
+use crate::replaying::ucstore_replay;
+use crate::status::{BAD_PLACE, LOG_ENDS, NO_STORE, OK, ROOM};
+use crate::tests::{LOG, create, last, put, untold};
 use std::alloc::Global;
+use uc_handle::Handle;
 
 /// The writes of the log as a walk lays them out.
 static WRITES: [u8; 53] = [
@@ -101,4 +103,34 @@ fn refuses_place(alloc: Global, mut place: CLogPlace) -> bool {
 fn no_walk(rt: HostRuntime) {
     assert!(rt; refuses_place(rt.alloc(), place_at(0, 0, 1)));
     assert!(rt; refuses_place(rt.alloc(), place_at(28, 0, 0)));
+}
+
+/// Writes the next batch of the log to the store. Returns the status, and whether an end was told.
+fn replay(alloc: Global, store: &mut Handle, place: &mut CLogPlace, may_skip: bool) -> (i32, bool) {
+    let mut ended = untold();
+    let status = ucstore_replay(alloc, store, &LOG, place, may_skip, &mut ended);
+    (status, ended != untold())
+}
+
+/// Writes the log to a store, walks on to its end, and then writes to the store, which has the log's writes.
+fn replay_all(alloc: Global, store: &mut Handle, place: &mut CLogPlace) -> [bool; 7] {
+    [
+        replay(alloc, store, place, false) == (NO_STORE, false),
+        create(alloc, store) == OK,
+        replay(alloc, store, place, false) == (OK, false),
+        *place == place_at(27, 2, 1),
+        replay(alloc, store, place, false) == (LOG_ENDS, true),
+        put(alloc, store, b'c', b'1') == OK && last(alloc, store) == (OK, 3),
+        replay(alloc, store, place, true) == (BAD_PLACE, false),
+    ]
+}
+
+/// The log of a batch is written to a store.
+#[test]
+fn a_replay(rt: HostRuntime) {
+    let alloc = rt.alloc();
+    let (mut store, mut place) = (Handle::empty(alloc), place_at(0, 0, 0));
+    let steps = replay_all(alloc, &mut store, &mut place);
+    drop(store.into_box());
+    assert_eq!(rt; steps, [true; 7]);
 }

@@ -1,5 +1,8 @@
 //! Writes, in two steps or in one.
 ghost use Rattle.std.specs.Prelude.{◌≡◌, ◌++◌, [], IfOk, IfErr, OnOk};
+ghost use Rattle.uc_batch.specs.Rising.{IsRising};
+ghost use Rattle.uc_live.specs.Compacting.{HasNoRoom};
+ghost use Rattle.uc_live.specs.Going.{GoesOn};
 ghost use Rattle.uc_live.specs.Lives as lives;
 ghost use Rattle.uc_live.specs.Recording.{IsRecorded};
 ghost use Rattle.uc_live.specs.Writing.{IsBatchPrepared, IsBatchWritten, IsWritten, Prepares, Refuses, RefusesBatch, next_batch};
@@ -8,8 +11,9 @@ ghost use Rattle.uc_engine.specs.Engines.{meaning_of, with_live};
 use crate::each_operator::with_each;
 use crate::engine::{AnyStore, Engine};
 use std::alloc::Global;
+use uc_batch::BatchWrites;
 use uc_bytes::OpRef;
-use uc_live::WriteError;
+use uc_live::{RoomError, WriteError};
 
 impl Engine {
     /// Writes an operation: it gets the sequence behind the last one. It is refused as `LiveStore::prepare` says, and
@@ -31,6 +35,19 @@ impl Engine {
             × Prepares (meaning_of self.old.kind) self.old.live self.new.live []) }
     {
         with_each!(AnyStore, &mut self.store, store => store.write_batch(alloc, batch))
+    }
+
+    /// Takes the writes of a batch that come behind the last sequence. It is refused as `LiveStore::write_all` says, and no
+    /// read changes then.
+    pub fn write_all(&mut self, alloc: Global, writes: BatchWrites<'_>) -> Result<(), RoomError>
+        requires rising { IsRising (lives.last self.old.live) writes }
+        ensures kind { self.new.kind ≡ self.old.kind }
+        ensures ok { OnOk result (GoesOn (meaning_of self.old.kind) self.old.live self.new.live writes.entry) }
+        ensures err { IfErr result (λ error. HasNoRoom error self.new.live
+            × GoesOn (meaning_of self.old.kind) self.old.live self.new.live []) }
+        ensures none { self.new.live.prepared ≡ [] }
+    {
+        with_each!(AnyStore, &mut self.store, store => store.write_all(alloc, writes))
     }
 
     /// Prepares a batch, and returns the bytes that make it durable at the end of a log of `length` bytes, as

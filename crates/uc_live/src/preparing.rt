@@ -6,6 +6,7 @@ ghost use Rattle.uc_batch.specs.Batch.{batch_of};
 ghost use Rattle.uc_batch.specs.Rising.{IsRising};
 ghost use Rattle.uc_batch.specs.Spelling.{FitsOp};
 ghost use Rattle.uc_live.specs.Compacting.{HasNoRoom};
+ghost use Rattle.uc_live.specs.Going.{GoesOn};
 ghost use Rattle.uc_live.specs.LiveFlushes.{HasRoom};
 ghost use Rattle.uc_live.specs.Lives as lives;
 ghost use Rattle.uc_live.specs.Lives.{Live};
@@ -195,6 +196,22 @@ impl<O: Operator> LiveStore<O> {
             RefusesBatch (next_batch (lives.last self.old) batch.now) self.new error × Prepares O.meaning self.old self.new []) }
     {
         self.prepare_batch(alloc, batch)?;
+        self.commit();
+        Ok(())
+    }
+
+    /// Takes the writes of a batch that come behind the last sequence, with the sequences that they have. A batch that is
+    /// prepared is given up. Else it goes as [`prepare`](LiveStore::prepare) does.
+    ///
+    /// It is refused if there is no room for them, as [`RoomError`] says. None is taken then, and no read changes.
+    pub fn write_all(&mut self, alloc: Global, writes: BatchWrites<'_>) -> Result<(), RoomError>
+        requires rising { IsRising (lives.last self.old) writes }
+        ensures ok { OnOk result (GoesOn O.meaning self.old self.new writes.entry) }
+        ensures err { IfErr result (λ error. HasNoRoom error self.new × GoesOn O.meaning self.old self.new []) }
+        ensures none { self.new.prepared ≡ [] }
+    {
+        self.active.give_up();
+        self.prepare_writes(alloc, writes)?;
         self.commit();
         Ok(())
     }

@@ -60,6 +60,8 @@ pub const UCSTORE_JOB_ENDED: i32 = 25;
 pub const UCSTORE_NO_CHECKPOINT: i32 = 26;
 /// The handle has a checkpoint already.
 pub const UCSTORE_HAS_CHECKPOINT: i32 = 27;
+/// The batch of the log begins later than right behind the last sequence.
+pub const UCSTORE_SEQUENCE_GAP: i32 = 28;
 
 /// One of the gathered writes puts or deletes the key.
 pub const UCSTORE_MEMTABLE: u32 = 0;
@@ -417,6 +419,14 @@ extern "C" {
         room_length: usize,
         size: *mut usize,
         writes: *mut u64,
+        ended: *mut ucstore_ended,
+    ) -> i32;
+    pub fn ucstore_replay(
+        store: *mut ucstore,
+        log: *const u8,
+        log_length: usize,
+        place: *mut ucstore_log_place,
+        may_skip: bool,
         ended: *mut ucstore_ended,
     ) -> i32;
 }

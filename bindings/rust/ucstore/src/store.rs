@@ -8,6 +8,7 @@ use crate::lookup_source::LookupSource;
 use crate::options::{Operator, Options};
 use crate::reads::{Functions, Reads};
 use crate::record::record_by;
+use crate::replay::Replay;
 use crate::report::Report;
 use crate::scan::{end_of_prefix, Scan};
 use crate::snapshot::Snapshot;
@@ -90,6 +91,25 @@ impl Store {
             )
         })?;
         Ok((store, Ended::of(ended)))
+    }
+
+    /// Writes the batches of a log to the store again, one at a call of [`Replay::write_next`]. [`open`](Store::open) reads one
+    /// log whole; this one reads logs that lie in several files, or behind a checkpoint.
+    ///
+    /// ```
+    /// # use ucstore::{Batch, Operator, Options, Replayed, Store};
+    /// # fn main() -> Result<(), ucstore::Error> {
+    /// # let store = Store::create(Operator::Append, &Options::default())?;
+    /// # let log = store.prepare(0, Batch::new().put("colour", "blue")?)?;
+    /// let again = Store::create(Operator::Append, &Options::default())?;
+    /// let mut replay = again.replay(&log);
+    /// while replay.write_next(false)? == Replayed::Batch {}
+    /// assert_eq!(again.get("colour")?, Some(b"blue".to_vec()));
+    /// # Ok(())
+    /// # }
+    /// ```
+    pub fn replay<'a>(&'a self, log: &'a [u8]) -> Replay<'a> {
+        Replay::of(self, log)
     }
 
     /// Writes the operations of a batch, with the sequences behind the last one.
