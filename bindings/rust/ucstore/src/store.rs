@@ -520,7 +520,7 @@ impl Store {
     }
 
     /// The handle for a call. No call calls back, so there is only one at a time.
-    fn handle(&self) -> *mut sys::ucstore {
+    pub(crate) fn handle(&self) -> *mut sys::ucstore {
         self.handle.get()
     }
 
