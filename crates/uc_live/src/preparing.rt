@@ -210,7 +210,7 @@ impl<O: Operator> LiveStore<O> {
         ensures err { IfErr result (λ error. HasNoRoom error self.new × GoesOn O.meaning self.old self.new []) }
         ensures none { self.new.prepared ≡ [] }
     {
-        self.active.give_up();
+        self.give_up();
         self.prepare_writes(alloc, writes)?;
         self.commit();
         Ok(())
