@@ -4,3 +4,4 @@ pub mod Cutting
 pub mod Taking
 pub mod Owning
 pub mod Ended
+pub mod Again

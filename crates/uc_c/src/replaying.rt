@@ -1,5 +1,5 @@
 //! Logs that C keeps in its files: their batches are written to a store again.
-ghost use Rattle.std.specs.Prelude.{◌≡◌, ◌⊎◌, ◌<◌, ◌≤◌, IfOk, IfErr, List, ℕ};
+ghost use Rattle.std.specs.Prelude.{◌≡◌, ◌≢◌, ◌⊎◌, ◌<◌, ◌≤◌, ◌+◌, true, false, IfOk, IfErr, List, ℕ};
 ghost use Rattle.uc_logrec.specs.Position.{LiesIn};
 ghost use Rattle.uc_live.specs.Compacting.{HasNoRoom};
 ghost use Rattle.uc_live.specs.Lives as lives;
@@ -11,7 +11,7 @@ use crate::c_ended::CEnded;
 use crate::c_log_place::CLogPlace;
 use crate::status::{BAD_PLACE, LOG_ENDS, NO_STORE, OK, SEQUENCE_GAP, room_status};
 use std::alloc::Global;
-use uc_batch::{BatchWrites, Ended, judge_batch};
+use uc_batch::{BatchWrites, Ended, Header, judge_batch};
 use uc_engine::{Engine, RoomError};
 use uc_handle::Handle;
 use uc_logrec::{Next, next_payload};
@@ -25,6 +25,14 @@ pub(crate) enum Replayed {
     Gap,
     /// There is none that may follow: how far the log was read.
     Ended(Ended),
+}
+
+/// Whether a batch whose last sequence this is may follow: it begins right behind the place, unless it may skip some.
+fn may_follow(place: CLogPlace, header: Header, last: u64, may_skip: bool) -> bool
+    ensures yes { result ≡ true → may_skip ≡ false → last ≡ place.last + header.count }
+    ensures no { result ≡ false → (may_skip ≡ false) × (last ≢ place.last + header.count) }
+{
+    may_skip || place.last.checked_add(u64::from(header.count)) == Some(last)
 }
 
 /// Writes the batch that a payload is, which lies between a place and an offset.
@@ -49,7 +57,7 @@ fn replay_payload(
         Err(fault) => return Ok(Replayed::Ended(Ended::BatchFault(number, fault))),
     };
     let last = header.last_used(place.last);
-    if !may_skip && place.last.checked_add(u64::from(header.count)) != Some(last) {
+    if !may_follow(place, header, last, may_skip) {
         return Ok(Replayed::Gap);
     }
     engine.write_all(alloc, BatchWrites::judged(header, payload))?;
