@@ -1,12 +1,11 @@
 -- What a place where a lookup is answered tells of the writes.
-use Rattle.std.proofs.Common.{◌≡◌, ◌≢◌, ℕ, ◌≤◌, Bool, true, false, cond, ◌&&◌, leb, List, [], ◌∷◌, ◌++◌, filter, map, refl, sym, ap, ◌∙◌}
+use Rattle.std.proofs.Common.{◌≡◌, ◌≢◌, ℕ, ◌≤◌, Bool, true, false, cond, ◌&&◌, leb, List, [], ◌∷◌, filter, map, refl, sym, ap, ◌∙◌}
 use Rattle.std.specs.Prelude.{◌||◌, ◌↔◌, IsTrue, IsPermutation, if◌then◌else◌}
 use Rattle.std.specs.List.{AllByRecursion, list_any, flat_map}
 use Rattle.std.proofs.lemmas.Bool.{false≢true, le-leb}
 use Rattle.std.proofs.lemmas.List.Folds.{list_any-append}
 use Rattle.std.proofs.lemmas.List.Sorted.{list_any-IsPermutation}
 use Rattle.uc_bytes.specs.declared.op.Op.TheVariants.{Put, Delete, Merge}
-use Rattle.uc_bytes.specs.declared.write.Write.{Write}
 use Rattle.uc_model.specs.Meaning.{is_seen, touches_key}
 use Rattle.uc_run_entry.specs.Run.{Contents}
 use Rattle.uc_run_entry.specs.declared.entry.Entry.{Entry}
@@ -99,9 +98,10 @@ module _ (key : List ℕ) (at : ℕ)
   unseen_points [] none = tt
   unseen_points (p ∷ ps) none =
       let seen = is_seen key at (point_write p) in
-      let rest = list_any (is_seen key at) (map point_write ps) in
-      (λ le is. both_fail (leb p.seq at) (touches_key key (op_of p.key p.what)) (le-leb p.seq at le) (point_touches p.key p.what is) (front_fails seen rest none),
-      unseen_points ps (back_fails seen rest none))
+      let rest = list_any (is_seen key at) (map point_write ps) in (
+        λ le is. both_fail (leb p.seq at) (touches_key key (op_of p.key p.what)) (le-leb p.seq at le) (point_touches p.key p.what is) (front_fails seen rest none),
+        unseen_points ps (back_fails seen rest none),
+      )
 
   unseen_run : (run : Contents) → list_any (is_seen key at) (plain_list run) ≡ false → has_no_point run
   unseen_run run none =

@@ -1,5 +1,4 @@
-use Rattle.std.proofs.Common.{◌≡◌, ℕ, List, Option, None, sym, ap, ◌∙◌}
-use Rattle.std.specs.Option.{option_map}
+use Rattle.std.proofs.Common.{ℕ, List, Option, None, sym, ap, ◌∙◌}
 use Rattle.uc_oper.specs.Composition.{applied}
 use Rattle.uc_model.specs.Meaning.{is_seen, value_of, effect_on}
 use Rattle.uc_version_state.specs.Versions.{contents_of, writes_in}
