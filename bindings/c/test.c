@@ -498,10 +498,10 @@ static void check_source(struct moment *of) {
     size_t length = key_text(key, text);
     struct ucstore_report report;
     uint32_t source = 7;
-    report.size = sizeof report;
-    CHECK(report_of(of, &report) == UCSTORE_OK);
     int32_t status = of == &live ? ucstore_source(&store, text, length, &source)
                                  : ucstore_view_source(&of->view, text, length, &source);
+    report.size = sizeof report;
+    CHECK(report_of(of, &report) == UCSTORE_OK);
     CHECK(status == UCSTORE_OK && source <= UCSTORE_RUNS);
     CHECK(source != UCSTORE_MEMTABLE || report.gathered > 0);
     CHECK(source != UCSTORE_RUNS || report.runs > 0);
