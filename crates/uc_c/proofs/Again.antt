@@ -38,7 +38,7 @@ module _ (payload : List ℕ) (header : Header) (counted : AreCounted header.cou
         last = is;
         batches = refl;
         first =
-        ap (log_ahead place.last number) lies.comes
-        ∙ ap (λ r. kept (after_batch (λ used. batches_of used (number + 1) rest.payloads) place.last number r) rest.ending) read
-        ∙ ap (λ (n : ℕ). with_batch writes (log_ahead n (number + 1) rest)) (sym is);
+            ap (log_ahead place.last number) lies.comes
+            ∙ ap (λ r. kept (after_batch (λ used. batches_of used (number + 1) rest.payloads) place.last number r) rest.ending) read
+            ∙ ap (λ (n : ℕ). with_batch writes (log_ahead n (number + 1) rest)) (sym is);
       }

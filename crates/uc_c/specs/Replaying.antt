@@ -1,5 +1,5 @@
 -- A log whose batches are written to a store again, one at a call.
-use Rattle.std.specs.Prelude.{◌≡◌, ◌≢◌, ◌⊎◌, ℕ, ℤ, Bool, true, false, ◌+◌, ◌<◌, ◌≤◌, List, [], Option, length}
+use Rattle.std.specs.Prelude.{◌≡◌, ◌≢◌, ◌⊎◌, ℕ, ℤ, Bool, false, ◌+◌, ◌<◌, List, [], length}
 use Rattle.uc_bytes.specs.declared.write.Write.{Write}
 use Rattle.uc_batch.specs.declared.ended.Ended.{Ended}
 use Rattle.uc_live.specs.Compacting.{HasNoRoom}
@@ -10,10 +10,10 @@ use Rattle.uc_c.specs.declared.c_ended.CEnded.{CEnded}
 use Rattle.uc_c.specs.declared.c_log_place.CLogPlace.{CLogPlace}
 use Rattle.uc_c.specs.declared.replaying.Replayed.{Replayed}
 use Rattle.uc_c.specs.declared.replaying.Replayed.TheVariants as replayed
-use Rattle.uc_c.specs.declared.status.TheConstants.{OK, OUT_OF_MEMORY, LOG_ENDS, BAD_PLACE, SEQUENCE_GAP}
+use Rattle.uc_c.specs.declared.status.TheConstants.{OK, LOG_ENDS, BAD_PLACE, SEQUENCE_GAP}
 use Rattle.uc_c.specs.LogWalk.{ComesNext, EndsAt}
 use Rattle.uc_c.specs.Numbers.{ended_in}
-use Rattle.uc_c.specs.Replies.{Becomes, Names}
+use Rattle.uc_c.specs.Replies.{Names}
 use Rattle.uc_c.specs.Statuses.{RoomSays}
 
 -- The engine took these writes. Nothing is prepared.
