@@ -258,7 +258,8 @@ static int32_t open_log(void) {
     return status;
 }
 
-/* Writes the log's batches to a store behind another handle, and closes it. A batch that is refused isn't written. */
+/* Writes the log's batches to a store behind another handle, and closes it. A batch that is refused isn't written. Single
+ * writes aren't in the log. */
 static int32_t replay_log(void) {
     struct ucstore again = {0};
     struct ucstore_options options;
@@ -270,7 +271,7 @@ static int32_t replay_log(void) {
     options.write_buffer_size = 1000;
     status = ucstore_create(&again, UCSTORE_APPEND, &options);
     while (status == UCSTORE_OK) {
-        status = ucstore_replay(&again, history, history_length, &place, false, &ended);
+        status = ucstore_replay(&again, history, history_length, &place, true, &ended);
     }
     if (again.at != NULL) {
         CHECK(ucstore_last(&again, &last) == UCSTORE_OK && last == place.last);
