@@ -20,7 +20,7 @@
 #   reader has the newest again after each 1,000 lookups, both under a lock. RocksDB reads the newest, and flushes and
 #   compacts by two threads of its own. What readers take of processors is there too, since other work takes some.
 # - writes: WRITES keys (3000000) drawn of as many are put one by one, with a clock around each put, beside two threads
-#   that flush and compact by jobs, one of which is kept for flushes, or RocksDB's own two. What is left to compact behind
+#   that compact by jobs, or RocksDB's own two. Ours flushes by the thread that writes. What is left to compact behind
 #   the last write isn't counted. Then a million drawn keys are looked up in the runs that there are.
 #
 # All programs check what they read, and all keys in the end. Each runs in a process of its own, in turn, TURNS times

@@ -18,10 +18,6 @@ static bool is_over;
 static pthread_t compactors[MOST_COMPACTORS];
 static size_t compactor_count;
 
-/* How many of them compact, and from how many gathered writes on a memtable is full. */
-static size_t compacting;
-static uint64_t full;
-
 /* The newest view. */
 static pthread_mutex_t view_lock = PTHREAD_MUTEX_INITIALIZER;
 static struct ucstore_view newest;
@@ -46,53 +42,25 @@ void open_shared(void) {
     struct ucstore_options opening;
     expect_ok(ucstore_options_init(&opening), "there are no options");
     opening.compacts_itself = 0;
-    opening.max_write_buffer_number = 2;
-    /* A write counts as its texts and eight bytes. */
-    full = opening.write_buffer_size / (KEY + NUMBER + 8);
     expect_ok(ucstore_create(&store, UCSTORE_COUNTER, &opening), "the store isn't created");
-}
-
-static struct ucstore_report report_of_store(void) {
-    struct ucstore_report report = {0};
-    report.size = sizeof report;
-    expect_ok(ucstore_report(&store, &report), "there is no report");
-    return report;
-}
-
-/* Takes a job, if there is one. Of several threads the last that is free is kept for flushes, as RocksDB keeps one. */
-static bool take(struct ucstore_job *job) {
-    bool is_last = compactor_count > 1 && compacting + 1 == compactor_count, taken = false;
-    if (!is_last || report_of_store().gathered >= full) {
-        expect_ok(ucstore_job(&store, job, &taken), "no job is taken");
-    }
-    return taken;
-}
-
-static bool is_compaction(struct ucstore_job *job) {
-    uint64_t bytes = 0;
-    expect_ok(ucstore_job_input_bytes(job, &bytes), "a job's bytes aren't told");
-    return bytes > 0;
 }
 
 /* Takes, runs, ends and frees jobs: the runs that one had behind the lock. */
 static void *compact_all(void *unused) {
     struct ucstore_job job = {0};
-    bool compacts = false, installed = false;
+    bool taken = false, installed = false;
     lock(&store_lock);
     while (!is_over) {
-        if (!take(&job)) {
+        expect_ok(ucstore_job(&store, &job, &taken), "no job is taken");
+        if (!taken) {
             expect(pthread_cond_wait(&is_grown, &store_lock) == 0, "a thread doesn't wait");
             continue;
         }
-        compacts = is_compaction(&job);
-        compacting += compacts;
         unlock(&store_lock);
         expect_ok(ucstore_job_run(&job), "a job isn't run");
         lock(&store_lock);
         expect_ok(ucstore_job_end(&store, &job, &installed), "a job isn't ended");
-        expect(installed || !compacts, "a compaction's run is refused");
-        compacting -= compacts;
-        pthread_cond_broadcast(&is_grown);
+        expect(installed, "a job's run is refused");
         pthread_cond_signal(&is_compacted);
         unlock(&store_lock);
         expect_ok(ucstore_job_close(&job), "a job isn't freed");
@@ -140,9 +108,10 @@ void put(const uint8_t *key, const uint8_t *number) {
 }
 
 const char *last_work(void) {
-    struct ucstore_report report;
+    struct ucstore_report report = {0};
+    report.size = sizeof report;
     lock(&store_lock);
-    report = report_of_store();
+    expect_ok(ucstore_report(&store, &report), "there is no report");
     unlock(&store_lock);
     /* A flush leaves the memtable with the write alone that found it full. */
     if (has_waited_for_jobs) {

@@ -12,8 +12,6 @@ struct Taken {
     job: Job,
     /// About how many bytes were gathered when it was taken out.
     gathered: u64,
-    /// How many bytes of runs it compacts; 0 for a flush.
-    read: u64,
 }
 
 impl Shared {
@@ -40,37 +38,17 @@ impl Shared {
             if self.is_closing.load(Ordering::Acquire) {
                 return None;
             }
-            if self.may_take() {
-                if let Ok(Some(taken)) = self.take_job(&store) {
-                    return Some(taken);
-                }
+            match self.take_job(&store) {
+                Ok(Some(taken)) => return Some(taken),
+                _ => store = self.wait_for_work(store),
             }
-            store = self.wait_for_work(store);
         }
-    }
-
-    /// Whether a thread takes a job. The last one that is free is kept for flushes, which writers wait for.
-    fn may_take(&self) -> bool {
-        let is_last = self.options.compactors > 1
-            && self.compacting.load(Ordering::Relaxed) + 1 >= self.options.compactors;
-        !is_last || self.gathered.load(Ordering::Relaxed) >= self.options.store.write_buffer_size
     }
 
     /// Takes out a job, if there is one.
     fn take_job(&self, store: &Store) -> Result<Option<Taken>, Error> {
         let gathered = self.gathered.load(Ordering::Relaxed);
-        let Some(mut job) = store.take_job()? else {
-            return Ok(None);
-        };
-        let read = job.input_bytes();
-        if read > 0 {
-            self.compacting.fetch_add(1, Ordering::Relaxed);
-        }
-        Ok(Some(Taken {
-            job,
-            gathered,
-            read,
-        }))
+        Ok(store.take_job()?.map(|job| Taken { job, gathered }))
     }
 
     /// Runs a job, and ends it. If it is refused, its runs are given back.
@@ -78,10 +56,8 @@ impl Shared {
         let begun = Instant::now();
         let outcome = taken.job.run();
         let store = lock(&self.store);
-        let (before, read) = (store.report(), taken.read);
-        if read > 0 {
-            self.compacting.fetch_sub(1, Ordering::Relaxed);
-        }
+        let before = store.report();
+        let read = taken.job.input_bytes();
         let ended = store.end_job(taken.job).expect("a job of this store");
         self.newest.change(&store);
         let report = store.report();
@@ -161,31 +137,5 @@ mod tests {
         assert_eq!((report.runs, report.gathered, report.last), (1, 1, 3));
         assert!((600..700).contains(&shared.gathered.load(Ordering::Relaxed)));
         assert_eq!(shared.counts.flushes.get(), 1);
-    }
-
-    #[test]
-    fn a_thread_is_kept_for_flushes() {
-        let mut options = Options::default();
-        options.store.write_buffer_size = 1000;
-        options.store.compaction_trigger = 1;
-        let shared = Shared::open(None, &options).unwrap();
-        let bytes = Batch::new().put("k", [b'v'; 600]).unwrap().bytes();
-        for _ in 0..2 {
-            shared.write(bytes.clone(), false).unwrap();
-            shared.flush().unwrap();
-        }
-        let next_job = || shared.take_job(&lock(&shared.store)).unwrap().unwrap();
-        assert!(shared.may_take());
-        let compaction = next_job();
-        assert!(compaction.read > 0 && !shared.may_take());
-        for _ in 0..2 {
-            shared.write(bytes.clone(), false).unwrap();
-        }
-        // A memtable is full.
-        assert!(shared.may_take());
-        let flush = next_job();
-        assert_eq!(flush.read, 0);
-        assert!(shared.run(flush).unwrap() && !shared.may_take());
-        assert!(shared.run(compaction).unwrap() && shared.may_take());
     }
 }

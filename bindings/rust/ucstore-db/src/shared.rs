@@ -12,7 +12,7 @@ use crate::newest::Newest;
 use crate::options::{Options, Sync};
 use crate::patience::Patience;
 use crate::recovery::Recovery;
-use std::sync::atomic::{AtomicBool, AtomicU64, AtomicUsize, Ordering};
+use std::sync::atomic::{AtomicBool, AtomicU64, Ordering};
 use std::sync::{Arc, Condvar, Mutex, MutexGuard, OnceLock, PoisonError};
 use std::thread::{self, Thread};
 use std::time::{Duration, Instant};
@@ -53,8 +53,6 @@ pub(crate) struct Shared {
     is_slowed: AtomicBool,
     /// How many bytes the writes have at most that no run has yet. It is changed while the store is locked, or the log.
     pub(crate) gathered: AtomicU64,
-    /// How many compactions are out of the store. It is changed while that is locked.
-    pub(crate) compacting: AtomicUsize,
     /// How many runs there were behind the last write or compaction.
     pub(crate) runs: AtomicU64,
     pub(crate) is_closing: AtomicBool,
@@ -99,7 +97,6 @@ impl Shared {
             log: Mutex::new(log),
             newest: Newest::default(),
             gathered: AtomicU64::new(gathered),
-            compacting: AtomicUsize::new(0),
             runs: AtomicU64::new(report.runs),
             store: Mutex::new(store),
             work: Condvar::new(),
