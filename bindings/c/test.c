@@ -768,6 +768,8 @@ static void replay(size_t length, const struct ucstore_log_place *end, const str
     struct ucstore_ended ended = {7, 7, 7};
     int32_t status = UCSTORE_OK;
     CHECK(ucstore_options_init(&options) == UCSTORE_OK);
+    /* More memtables than there may be runs. */
+    options.write_buffer_size = 500;
     CHECK(ucstore_create(&again, merge_operator, &options) == UCSTORE_OK);
     while (status == UCSTORE_OK) {
         before = place;
@@ -810,6 +812,7 @@ static struct ucstore_ended reopen(size_t length) {
     struct ucstore_log_place place;
     struct ucstore_ended walked = walk(length, &place), ended = {7, 7, 7};
     CHECK(ucstore_options_init(&options) == UCSTORE_OK);
+    options.write_buffer_size = draw(2) == 0 ? 500 : options.write_buffer_size;
     CHECK(ucstore_open(&opened, merge_operator, &options, history, length, &ended) == UCSTORE_OK);
     CHECK(ended.kind == walked.kind && ended.fault == walked.fault && ended.place == walked.place);
     check_store(&opened, place.last);
