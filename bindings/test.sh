@@ -5,7 +5,8 @@
 #
 # The parts are pages, c, sanitizers, valgrind, refused, threads, rust and python, or all where none is named. They need cc and c++,
 # binutils, pkg-config, valgrind, cargo, and a python3 with pip, setuptools and wheel; no network. CC, CXX and PYTHON name
-# others. `needs` alone says what of that is missing, before anything is built.
+# others; threads needs clang for one of its tries, and leaves that out without it. `needs` alone says what is missing, before anything is
+# built.
 #
 # Each language runs its examples, the cases of bindings/cases, a million puts in a row, and drawn calls beside a plain
 # dictionary: OPERATIONS (50000) for each of the four operators in C. `refused` refuses each allocation of CALLS (1000) drawn
@@ -173,11 +174,16 @@ try_refused() {
     "$work/refused_san" $((calls / 4)) $((seed + 1))
 }
 
-# Threads read, write and compact at once, if there is a program for it.
+# Threads read, write and compact at once: as they are, under helgrind, and under clang's sanitizer of threads, if clang is there. The
+# library isn't compiled for that, which doesn't see how it counts shares: so it looks at C's part alone.
 try_threads() {
-    [ -f "$here/c/threads.c" ] || return 0
     compile_c threads -pthread
     "$work/threads"
+    valgrind --quiet --tool=helgrind --error-exitcode=9 "$work/threads"
+    command -v clang > /dev/null || return 0
+    clang -std=c99 -O1 -g -fsanitize=thread "$here/c/threads.c" "${flags[@]}" -pthread -o "$work/threads_san"
+    echo 'called_from_lib:libucstore.so.2' > "$work/passed_over"
+    TSAN_OPTIONS="suppressions=$work/passed_over" setarch -R "$work/threads_san"
 }
 
 # The crate ucstore-sys declares the functions of the header, and its statuses.
